@@ -1,0 +1,6 @@
+pub mod Held
+pub mod Plain
+pub mod Wire
+pub mod Shape
+pub mod BodyShape
+pub mod Stands

@@ -1,0 +1,17 @@
+//! What stands behind a tag.
+
+use crate::items::Items;
+use crate::varint::Varint;
+
+/// The body of a field, by its wire type.
+#[derive(Debug, Drop)]
+pub enum Body {
+    /// VARINT
+    Number(Varint),
+    /// I64
+    Eight([u8; 8]),
+    /// I32
+    Four([u8; 4]),
+    /// LEN: the bytes, and the least width in which their length is spelled.
+    Bytes { width: u8, bytes: Items<u8> },
+}

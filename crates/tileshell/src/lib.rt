@@ -1,0 +1,2 @@
+//! A line editor for one vector tile, with exact undo.
+#![tactic(auto)]
