@@ -2,11 +2,29 @@
 #![tactic(auto)]
 
 mod body;
+mod copy;
+mod decode;
 mod document;
+mod encode;
+mod faults;
+mod front;
 mod items;
+mod messages;
+mod read;
 mod varint;
+mod write;
 
 pub use body::Body;
 pub use document::{Document, Feature, Field, Layer, LayerItem, TileItem};
+pub use faults::{ReadError, WriteError};
+pub use front::{BodyRef, FieldRef, field_at_front};
 pub use items::Items;
-pub use varint::Varint;
+pub use read::read_document;
+pub use varint::{Varint, read_varint};
+pub use write::{size, write_document};
+
+/// The longest tile in bytes.
+pub const MAX_FILE: usize = 16_777_216;
+
+#[cfg(test)]
+mod tests;

@@ -1,6 +1,10 @@
 //! Numbers in base 128.
 
+ghost use Rattle.std.specs.Prelude.{◌≡◌, ℕ, ◌+◌, ◌*◌, ◌^◌, ◌<◌, ◌≤◌, ◌++◌, List, length, take, IfSome, IfNone, OnOk};
 ghost use Rattle.mvt_wire.specs.Shape.{IsSpelling};
+ghost use Rattle.mvt_wire.specs.Wire.{spell, minimal_width};
+
+use std::alloc::AllocError;
 
 /// A number and the width of its spelling, in bytes.
 #[derive(Clone, Copy, Debug, PartialEq, Eq)]
@@ -8,4 +12,68 @@ pub struct Varint {
     pub value: u64,
     pub width: u8,
     pub ghost spelled: { IsSpelling value width },
+}
+
+impl Varint {
+    /// The number in its shortest spelling.
+    pub fn minimal(value: u64) -> Varint
+        ensures value { result.value ≡ value }
+        ensures width { result.width ≡ minimal_width value }
+        ensures enough { value < 2 ^ (7 * result.width) }
+        ensures least { (width : ℕ) → 1 ≤ width → value < 2 ^ (7 * width) → result.width ≤ width }
+    {
+        Varint {
+            value,
+            width: least_width(value),
+        }
+    }
+}
+
+/// The width of the number's shortest spelling.
+pub(crate) fn least_width(value: u64) -> u8
+    ensures width { result ≡ minimal_width value }
+    ensures some { 1 ≤ result }
+    ensures short { result ≤ 10 }
+{
+    let mut width = 1;
+    let mut rest = value;
+    while rest >= 128 {
+        rest /= 128;
+        width += 1;
+    }
+    width
+}
+
+/// The number at the front, in bytes of which as many as its width are its spelling.
+pub fn read_varint(bytes: &[u8]) -> Option<Varint>
+    ensures within { IfSome result (λ n. n.width ≤ length bytes.now) }
+    ensures found { IfSome result (λ n. take n.width bytes.now ≡ spell n.value n.width) }
+    ensures none { IfNone result ((value width : ℕ) (rest : List ℕ) → IsSpelling value width → bytes.now ≡ spell value width ++ rest → ⊥) }
+{
+    let last = bytes.iter().take(10).position(|byte| *byte < 128)?;
+    if last == 9 && bytes[9] > 1 {
+        return None;
+    }
+    let mut value = u64::from(bytes[last]);
+    for index in (0..last).rev() {
+        value = value * 128 + u64::from(bytes[index] - 128);
+    }
+    Some(Varint {
+        value,
+        width: last as u8 + 1,
+    })
+}
+
+/// Writes the number at the end, in so many bytes.
+pub(crate) fn put_number(out: &mut Vec<u8>, value: u64, width: u8) -> Result<(), AllocError>
+    requires { 1 ≤ width }
+    ensures { OnOk result (out.new.items ≡ out.old.items ++ spell value width) }
+{
+    let mut rest = value;
+    for _ in 1..width {
+        out.push((rest % 128) as u8 + 128)?;
+        rest /= 128;
+    }
+    out.push((rest % 128) as u8)?;
+    Ok(())
 }

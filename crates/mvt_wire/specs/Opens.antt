@@ -1,0 +1,93 @@
+-- What a file opens as.
+use Rattle.std.specs.Prelude.{◌≡◌, ◌≢◌, ℕ, ◌<◌, ◌≤◌, List, length}
+use Rattle.std.specs.List.{flat_map, AllByRecursion}
+use Rattle.mvt_wire.specs.declared.TheConstants.{MAX_FILE}
+use Rattle.mvt_wire.specs.Plain.{Number, Body, Spelled, Eight, Four, Delimited, Field, Feature, LayerItem, OfFeature, PlainInLayer, Layer, TileItem, OfLayer, PlainInTile, Document}
+use Rattle.mvt_wire.specs.Shape.{IsSpelling, IsTag, IsWidth}
+use Rattle.mvt_wire.specs.Wire.{minimal_width, field_bytes, layer_item_bytes, bytes_of}
+
+-- ---- what holds of each value of the types
+
+abbrev pub IsNumber : Number → Type 0
+IsNumber n = IsSpelling n.value n.width
+
+-- Protocol Buffers encoding guide, "Message Structure"
+abbrev pub wire_type : Body → ℕ
+wire_type (Spelled number) = 0
+wire_type (Eight bytes) = 1
+wire_type (Delimited width bytes) = 2
+wire_type (Four bytes) = 5
+
+abbrev pub IsBody : Body → Type 0
+IsBody (Spelled number) = IsNumber number
+IsBody (Eight bytes) = length bytes ≡ 8
+IsBody (Four bytes) = length bytes ≡ 4
+IsBody (Delimited width bytes) = IsWidth width
+
+pub record IsField (f : Field) : Type 0 where
+  pub number : IsNumber f.tag
+  pub tag : IsTag f.tag.value (wire_type f.body)
+  pub body : IsBody f.body
+
+-- Vector Tile Specification 2.1, section 4: a tile's layers are field 3 and a layer's features field 2, both LEN
+pub record IsFeature (f : Feature) : Type 0 where
+  pub number : IsNumber f.tag
+  pub tag : f.tag.value ≡ 18
+  pub width : IsWidth f.width
+  pub fields : AllByRecursion IsField f.fields
+
+-- no plain item of a layer has a feature's tag
+abbrev pub IsLayerItem : LayerItem → Type 0
+IsLayerItem (OfFeature feature) = IsFeature feature
+IsLayerItem (PlainInLayer field) = IsField field × (field.tag.value ≢ 18)
+
+pub record IsLayer (l : Layer) : Type 0 where
+  pub number : IsNumber l.tag
+  pub tag : l.tag.value ≡ 26
+  pub width : IsWidth l.width
+  pub items : AllByRecursion IsLayerItem l.items
+
+-- no plain item of a tile has a layer's tag
+abbrev pub IsTileItem : TileItem → Type 0
+IsTileItem (OfLayer layer) = IsLayer layer
+IsTileItem (PlainInTile field) = IsField field × (field.tag.value ≢ 26)
+
+abbrev pub IsDocument : Document → Type 0
+IsDocument document = AllByRecursion IsTileItem document
+
+-- ---- each stored width is at least the least width of the real length
+
+abbrev pub StoresBody : Body → Type 0
+StoresBody (Spelled number) = Unit {0}
+StoresBody (Eight bytes) = Unit {0}
+StoresBody (Four bytes) = Unit {0}
+StoresBody (Delimited width bytes) = minimal_width (length bytes) ≤ width
+
+abbrev pub StoresField : Field → Type 0
+StoresField f = StoresBody f.body
+
+pub record StoresFeature (f : Feature) : Type 0 where
+  pub own : minimal_width (length (flat_map field_bytes f.fields)) ≤ f.width
+  pub fields : AllByRecursion StoresField f.fields
+
+abbrev pub StoresLayerItem : LayerItem → Type 0
+StoresLayerItem (OfFeature feature) = StoresFeature feature
+StoresLayerItem (PlainInLayer field) = StoresField field
+
+pub record StoresLayer (l : Layer) : Type 0 where
+  pub own : minimal_width (length (flat_map layer_item_bytes l.items)) ≤ l.width
+  pub items : AllByRecursion StoresLayerItem l.items
+
+abbrev pub StoresTileItem : TileItem → Type 0
+StoresTileItem (OfLayer layer) = StoresLayer layer
+StoresTileItem (PlainInTile field) = StoresField field
+
+pub record IsSettled (document : Document) : Type 0 where
+  pub valid : IsDocument document
+  pub stored : AllByRecursion StoresTileItem document
+
+-- the file is the bytes of this document
+pub record OpensAs (file : List ℕ) (document : Document) : Type 0 where
+  pub within : length file ≤ MAX_FILE
+  pub settled : IsSettled document
+  pub spelled : bytes_of document ≡ file

@@ -1,0 +1,109 @@
+//! The field at the front of a message, with its bytes where they lie.
+
+ghost use Rattle.std.specs.Prelude.{◌≡◌, ℕ, ◌≤◌, ◌++◌, List, length, take, IfSome, IfNone, OnOk, IfOk};
+ghost use Rattle.mvt_wire.specs.Plain.{Field as PlainField};
+ghost use Rattle.mvt_wire.specs.Wire.{field_bytes};
+ghost use Rattle.mvt_wire.specs.Opens.{IsField, StoresField};
+ghost use Rattle.mvt_wire.specs.Stands.{field_of};
+ghost use Rattle.mvt_wire.specs.Fronts.{front_of, body_front_of};
+
+use crate::body::Body;
+use crate::document::Field;
+use crate::items::Items;
+use crate::varint::{Varint, read_varint};
+use std::alloc::{AllocError, Global};
+
+/// A field whose bytes lie in the message that it was read from.
+#[derive(Clone, Copy, Debug)]
+pub struct FieldRef<'a> {
+    pub tag: Varint,
+    pub body: BodyRef<'a>,
+}
+
+/// The body of such a field, by its wire type.
+#[derive(Clone, Copy, Debug)]
+pub enum BodyRef<'a> {
+    /// VARINT
+    Number(Varint),
+    /// I64
+    Eight([u8; 8]),
+    /// I32
+    Four([u8; 4]),
+    /// LEN: the bytes, and the width in which their length is spelled.
+    Bytes { width: u8, bytes: &'a [u8] },
+}
+
+/// The field at the front, and how many bytes it takes.
+pub fn field_at_front(bytes: &[u8]) -> Option<(FieldRef<'_>, usize)>
+    ensures within { IfSome result (λ found. found.1 ≤ length bytes.now) }
+    ensures spelled { IfSome result (λ found. take found.1 bytes.now ≡ field_bytes (front_of found.0)) }
+    ensures valid { IfSome result (λ found. IsField (front_of found.0)) }
+    ensures stored { IfSome result (λ found. StoresField (front_of found.0)) }
+    ensures none { IfNone result ((field : PlainField) (rest : List ℕ) → IsField field → StoresField field → bytes.now ≡ field_bytes field ++ rest → ⊥) }
+{
+    let tag = read_varint(bytes)?;
+    if tag.value < 8 || tag.value > 0xffff_ffff {
+        return None;
+    }
+    let start = usize::from(tag.width);
+    let (body, length) = body_at_front(tag.value % 8, &bytes[start..])?;
+    Some((FieldRef { tag, body }, start + length))
+}
+
+/// The body of this wire type at the front, and how many bytes it takes.
+fn body_at_front(wire_type: u64, bytes: &[u8]) -> Option<(BodyRef<'_>, usize)> {
+    match wire_type {
+        0 => {
+            let number = read_varint(bytes)?;
+            Some((BodyRef::Number(number), usize::from(number.width)))
+        }
+        1 => {
+            let eight = bytes.first_chunk::<8>()?;
+            Some((BodyRef::Eight(*eight), 8))
+        }
+        2 => delimited_at_front(bytes),
+        5 => {
+            let four = bytes.first_chunk::<4>()?;
+            Some((BodyRef::Four(*four), 4))
+        }
+        _ => None,
+    }
+}
+
+/// A length and that many bytes at the front, and how many bytes both take.
+fn delimited_at_front(bytes: &[u8]) -> Option<(BodyRef<'_>, usize)> {
+    let length = read_varint(bytes)?;
+    let start = usize::from(length.width);
+    let rest = &bytes[start..];
+    if length.value > rest.len() as u64 {
+        return None;
+    }
+    let content = &rest[..length.value as usize];
+    let body = BodyRef::Bytes {
+        width: length.width,
+        bytes: content,
+    };
+    Some((body, start + content.len()))
+}
+
+impl FieldRef<'_> {
+    /// The same field with bytes of its own.
+    pub(crate) fn to_field(self, alloc: Global) -> Result<Field, AllocError>
+        requires { IsField (front_of self.entry) }
+        ensures { IfOk result (λ field. field_of field ≡ front_of self.entry) }
+    {
+        let body = match self.body {
+            BodyRef::Number(number) => Body::Number(number),
+            BodyRef::Eight(bytes) => Body::Eight(bytes),
+            BodyRef::Four(bytes) => Body::Four(bytes),
+            BodyRef::Bytes { width, bytes } => Body::Bytes {
+                width,
+                bytes: Items::from_vec(Vec::from_slice(alloc, bytes)?),
+            },
+        };
+        Ok(Field {
+            tag: self.tag,
+            body,
+        })
+    }
+}

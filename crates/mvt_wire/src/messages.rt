@@ -1,0 +1,118 @@
+//! The sizes and the bytes of the messages of a tile.
+
+ghost use Rattle.std.specs.Prelude.{◌≡◌, ℕ, ◌≤◌, ◌++◌, length, OnOk};
+ghost use Rattle.std.specs.Option.{SomeIff};
+ghost use Rattle.mvt_wire.specs.declared.TheConstants.{MAX_FILE};
+ghost use Rattle.mvt_wire.specs.Wire.{body_bytes, field_bytes, feature_bytes, layer_item_bytes, layer_bytes, tile_item_bytes};
+ghost use Rattle.mvt_wire.specs.Stands.{body_of, field_of, feature_of, layer_item_of, layer_of, tile_item_of};
+
+use crate::body::Body;
+use crate::document::{Feature, Field, Layer, LayerItem, TileItem};
+use crate::encode::{Encode, delimited_size, put_all, put_length, size_of_all, sum_within};
+use std::alloc::AllocError;
+
+impl Encode for Body {
+    ghost bytes = { λ b. body_bytes (body_of b) };
+
+    fn size(&self) -> Option<usize> {
+        match self {
+            Body::Number(number) => number.size(),
+            Body::Eight(_) => Some(8),
+            Body::Four(_) => Some(4),
+            Body::Bytes { width, bytes } => delimited_size(*width, bytes.len()),
+        }
+    }
+
+    fn put(&self, out: &mut Vec<u8>) -> Result<(), AllocError> {
+        match self {
+            Body::Number(number) => number.put(out),
+            Body::Eight(bytes) => out.extend_from_slice(bytes),
+            Body::Four(bytes) => out.extend_from_slice(bytes),
+            Body::Bytes { width, bytes } => {
+                put_length(out, *width, bytes.len())?;
+                out.extend_from_slice(bytes.as_slice())
+            }
+        }
+    }
+}
+
+impl Encode for Field {
+    ghost bytes = { λ f. field_bytes (field_of f) };
+
+    fn size(&self) -> Option<usize> {
+        sum_within(self.tag.size()?, self.body.size()?)
+    }
+
+    fn put(&self, out: &mut Vec<u8>) -> Result<(), AllocError> {
+        self.tag.put(out)?;
+        self.body.put(out)
+    }
+}
+
+impl Encode for Feature {
+    ghost bytes = { λ f. feature_bytes (feature_of f) };
+
+    fn size(&self) -> Option<usize> {
+        let length = size_of_all(self.fields.as_slice())?;
+        sum_within(self.tag.size()?, delimited_size(self.width, length)?)
+    }
+
+    fn put(&self, out: &mut Vec<u8>) -> Result<(), AllocError> {
+        let length = size_of_all(self.fields.as_slice()).unwrap();
+        self.tag.put(out)?;
+        put_length(out, self.width, length)?;
+        put_all(self.fields.as_slice(), out)
+    }
+}
+
+impl Encode for LayerItem {
+    ghost bytes = { λ i. layer_item_bytes (layer_item_of i) };
+
+    fn size(&self) -> Option<usize> {
+        match self {
+            LayerItem::Feature(feature) => feature.size(),
+            LayerItem::Plain(field) => field.size(),
+        }
+    }
+
+    fn put(&self, out: &mut Vec<u8>) -> Result<(), AllocError> {
+        match self {
+            LayerItem::Feature(feature) => feature.put(out),
+            LayerItem::Plain(field) => field.put(out),
+        }
+    }
+}
+
+impl Encode for Layer {
+    ghost bytes = { λ l. layer_bytes (layer_of l) };
+
+    fn size(&self) -> Option<usize> {
+        let length = size_of_all(self.items.as_slice())?;
+        sum_within(self.tag.size()?, delimited_size(self.width, length)?)
+    }
+
+    fn put(&self, out: &mut Vec<u8>) -> Result<(), AllocError> {
+        let length = size_of_all(self.items.as_slice()).unwrap();
+        self.tag.put(out)?;
+        put_length(out, self.width, length)?;
+        put_all(self.items.as_slice(), out)
+    }
+}
+
+impl Encode for TileItem {
+    ghost bytes = { λ i. tile_item_bytes (tile_item_of i) };
+
+    fn size(&self) -> Option<usize> {
+        match self {
+            TileItem::Layer(layer) => layer.size(),
+            TileItem::Plain(field) => field.size(),
+        }
+    }
+
+    fn put(&self, out: &mut Vec<u8>) -> Result<(), AllocError> {
+        match self {
+            TileItem::Layer(layer) => layer.put(out),
+            TileItem::Plain(field) => field.put(out),
+        }
+    }
+}

@@ -1,0 +1,28 @@
+//! The document that a file opens as.
+
+ghost use Rattle.std.specs.Prelude.{◌≡◌, ℕ, ◌≤◌, ◌<◌, ◌↔◌, List, length, IfOk, IsErrOf};
+ghost use Rattle.mvt_wire.specs.declared.TheConstants.{MAX_FILE};
+ghost use Rattle.mvt_wire.specs.Opens.{OpensAs};
+ghost use Rattle.mvt_wire.specs.Stands.{document_of};
+
+use crate::MAX_FILE;
+use crate::decode::decode_all;
+use crate::document::Document;
+use crate::faults::ReadError;
+use crate::items::Items;
+use std::alloc::Global;
+
+/// The document that the file opens as. The place of a fault is the length of the longest
+/// prefix of the file that is the bytes of some document.
+pub fn read_document(alloc: Global, file: &[u8]) -> Result<Document, ReadError>
+    ensures opens { IfOk result (λ document. OpensAs file.now (document_of document)) }
+    ensures too_large { IsErrOf result ReadError.FileTooLarge ↔ (MAX_FILE < length file.now) }
+{
+    if file.len() > MAX_FILE {
+        return Err(ReadError::FileTooLarge);
+    }
+    let items = decode_all(alloc, file)?;
+    Ok(Document {
+        items: Items::from_vec(items),
+    })
+}
