@@ -4,5 +4,6 @@ pub mod Wire
 pub mod Shape
 pub mod Opens
 pub mod BodyShape
+pub mod Lending
 pub mod Stands
 pub mod Fronts
