@@ -1,10 +1,13 @@
 //! Numbers in base 128.
 
-ghost use Rattle.std.specs.Prelude.{◌≡◌, ℕ, ◌+◌, ◌*◌, ◌^◌, ◌<◌, ◌≤◌, ◌++◌, List, length, take, IfSome, IfNone, OnOk};
+ghost use Rattle.std.specs.Prelude.{◌≡◌, ℕ, ◌+◌, ◌*◌, ◌^◌, ◌<◌, ◌≤◌, ◌++◌, List, length, take, IfSome, IfNone, OnOk, nat_lt, position};
 ghost use Rattle.mvt_wire.specs.Shape.{IsSpelling};
 ghost use Rattle.mvt_wire.specs.Wire.{spell, minimal_width};
 
 use std::alloc::AllocError;
+
+// Nine bytes hold 63 of a number's 64 bits.
+const TENTH_BYTE_MAX: u8 = 1;
 
 /// A number and the width of its spelling, in bytes.
 #[derive(Clone, Copy, Debug, PartialEq, Eq)]
@@ -44,14 +47,15 @@ pub(crate) fn least_width(value: u64) -> u8
     width
 }
 
-/// The number at the front, in bytes of which as many as its width are its spelling.
+/// The number at the front, whose spelling is as many bytes as its width. There is none where
+/// each of the first ten bytes has its top bit set, or where the number takes more than 64 bits.
 pub fn read_varint(bytes: &[u8]) -> Option<Varint>
     ensures within { IfSome result (λ n. n.width ≤ length bytes.now) }
     ensures found { IfSome result (λ n. take n.width bytes.now ≡ spell n.value n.width) }
     ensures none { IfNone result ((value width : ℕ) (rest : List ℕ) → IsSpelling value width → bytes.now ≡ spell value width ++ rest → ⊥) }
 {
-    let last = bytes.iter().take(10).position(|byte| *byte < 128)?;
-    if last == 9 && bytes[9] > 1 {
+    let last = last_byte(bytes)?;
+    if last == 9 && bytes[9] > TENTH_BYTE_MAX {
         return None;
     }
     let mut value = u64::from(bytes[last]);
@@ -62,6 +66,13 @@ pub fn read_varint(bytes: &[u8]) -> Option<Varint>
         value,
         width: last as u8 + 1,
     })
+}
+
+/// The place of the first byte without the top bit, among the ten that a number may take.
+fn last_byte(bytes: &[u8]) -> Option<usize>
+    ensures { result ≡ position (λ byte. nat_lt byte 128) (take 10 bytes.now) }
+{
+    bytes.iter().take(10).position(|byte| *byte < 128)
 }
 
 /// Writes the number at the end, in so many bytes.
