@@ -74,6 +74,30 @@ pub(crate) fn put_length(out: &mut Vec<u8>, width: u8, length: usize) -> Result<
     put_number(out, length, width.max(least_width(length)))
 }
 
+/// The size of a tag and the items behind it under one length, where a file may have so many bytes.
+pub(crate) fn message_size<T: Encode>(tag: Varint, width: u8, items: &[T]) -> Option<usize>
+    ensures { let message = spell tag.value tag.width ++ delimited width (flat_map T.bytes items.now) in SomeIff result (length message ≤ MAX_FILE) (length message) }
+{
+    let length = size_of_all(items)?;
+    sum_within(tag.size()?, delimited_size(width, length)?)
+}
+
+/// Writes a tag at the end, and the items behind it under one length.
+pub(crate) fn put_message<T: Encode>(
+    out: &mut Vec<u8>,
+    tag: Varint,
+    width: u8,
+    items: &[T],
+) -> Result<(), AllocError>
+    requires { length (spell tag.value tag.width ++ delimited width (flat_map T.bytes items.now)) ≤ MAX_FILE }
+    ensures { OnOk result (out.new.items ≡ out.old.items ++ (spell tag.value tag.width ++ delimited width (flat_map T.bytes items.now))) }
+{
+    let length = size_of_all(items).unwrap();
+    tag.put(out)?;
+    put_length(out, width, length)?;
+    put_all(items, out)
+}
+
 impl Encode for Varint {
     ghost bytes = { λ n. spell n.value n.width };
 

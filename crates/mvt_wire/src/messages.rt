@@ -8,7 +8,7 @@ ghost use Rattle.mvt_wire.specs.Stands.{body_of, field_of, feature_of, layer_ite
 
 use crate::body::Body;
 use crate::document::{Feature, Field, Layer, LayerItem, TileItem};
-use crate::encode::{Encode, delimited_size, put_all, put_length, size_of_all, sum_within};
+use crate::encode::{Encode, delimited_size, message_size, put_length, put_message, sum_within};
 use std::alloc::AllocError;
 
 impl Encode for Body {
@@ -17,8 +17,8 @@ impl Encode for Body {
     fn size(&self) -> Option<usize> {
         match self {
             Body::Number(number) => number.size(),
-            Body::Eight(_) => Some(8),
-            Body::Four(_) => Some(4),
+            Body::Eight(bytes) => Some(bytes[..].len()),
+            Body::Four(bytes) => Some(bytes[..].len()),
             Body::Bytes { width, bytes } => delimited_size(*width, bytes.len()),
         }
     }
@@ -53,15 +53,11 @@ impl Encode for Feature {
     ghost bytes = { λ f. feature_bytes (feature_of f) };
 
     fn size(&self) -> Option<usize> {
-        let length = size_of_all(self.fields.as_slice())?;
-        sum_within(self.tag.size()?, delimited_size(self.width, length)?)
+        message_size(self.tag, self.width, self.fields.as_slice())
     }
 
     fn put(&self, out: &mut Vec<u8>) -> Result<(), AllocError> {
-        let length = size_of_all(self.fields.as_slice()).unwrap();
-        self.tag.put(out)?;
-        put_length(out, self.width, length)?;
-        put_all(self.fields.as_slice(), out)
+        put_message(out, self.tag, self.width, self.fields.as_slice())
     }
 }
 
@@ -87,15 +83,11 @@ impl Encode for Layer {
     ghost bytes = { λ l. layer_bytes (layer_of l) };
 
     fn size(&self) -> Option<usize> {
-        let length = size_of_all(self.items.as_slice())?;
-        sum_within(self.tag.size()?, delimited_size(self.width, length)?)
+        message_size(self.tag, self.width, self.items.as_slice())
     }
 
     fn put(&self, out: &mut Vec<u8>) -> Result<(), AllocError> {
-        let length = size_of_all(self.items.as_slice()).unwrap();
-        self.tag.put(out)?;
-        put_length(out, self.width, length)?;
-        put_all(self.items.as_slice(), out)
+        put_message(out, self.tag, self.width, self.items.as_slice())
     }
 }
 
