@@ -1,7 +1,7 @@
 -- The sizes of what is written one after the other.
-use Rattle.std.proofs.Common.{◌≡◌, ◌≤◌, ◌<◌, ◌+◌, ℕ, List, ◌++◌, length, length-append, get_or, take, map, max, refl, ap, arith}
+use Rattle.std.proofs.Common.{◌≡◌, ◌≤◌, ◌<◌, ◌+◌, ℕ, List, ◌++◌, length, length-append, get_or, take, max, refl}
 use Rattle.std.specs.List.{flat_map}
-use Rattle.std.proofs.lemmas.List.Folds.{flat_map-map, length-flat_map-take}
+use Rattle.std.proofs.lemmas.List.Folds.{length-flat_map-take}
 use Rattle.mvt_wire.specs.Wire.{spell, minimal_width, delimited}
 use Rattle.mvt_wire.proofs.Spelling.{length-spell}
 

@@ -1,15 +1,14 @@
 //! How values of a document are measured and written.
 
-ghost use Rattle.std.specs.Prelude.{◌≡◌, ℕ, ◌+◌, ◌≤◌, ◌<◌, ◌++◌, List, length, max, IfOk, OnOk, IsErrOf, ◌↔◌};
+ghost use Rattle.std.specs.Prelude.{◌≡◌, ℕ, ◌+◌, ◌≤◌, ◌++◌, List, length, max, OnOk};
 ghost use Rattle.std.specs.Option.{SomeIff};
 ghost use Rattle.std.specs.List.{flat_map};
 ghost use Rattle.mvt_wire.specs.declared.TheConstants.{MAX_FILE};
-ghost use Rattle.mvt_wire.specs.Wire.{spell, minimal_width, delimited, bytes_of};
-ghost use Rattle.mvt_wire.specs.Stands.{document_of};
+ghost use Rattle.mvt_wire.specs.Wire.{spell, minimal_width, delimited};
 
 use crate::MAX_FILE;
 use crate::varint::{Varint, least_width, put_number};
-use std::alloc::{AllocError, Global};
+use std::alloc::AllocError;
 
 /// A value that is written as bytes.
 pub(crate) trait Encode {
@@ -90,7 +89,7 @@ pub(crate) fn put_message<T: Encode>(
     items: &[T],
 ) -> Result<(), AllocError>
     requires { length (spell tag.value tag.width ++ delimited width (flat_map T.bytes items.now)) ≤ MAX_FILE }
-    ensures { OnOk result (out.new.items ≡ out.old.items ++ (spell tag.value tag.width ++ delimited width (flat_map T.bytes items.now))) }
+    ensures { let message = spell tag.value tag.width ++ delimited width (flat_map T.bytes items.now) in OnOk result (out.new.items ≡ out.old.items ++ message) }
 {
     let length = size_of_all(items).unwrap();
     tag.put(out)?;

@@ -1,8 +1,5 @@
 //! The sizes and the bytes of the messages of a tile.
 
-ghost use Rattle.std.specs.Prelude.{◌≡◌, ℕ, ◌≤◌, ◌++◌, length, OnOk};
-ghost use Rattle.std.specs.Option.{SomeIff};
-ghost use Rattle.mvt_wire.specs.declared.TheConstants.{MAX_FILE};
 ghost use Rattle.mvt_wire.specs.Wire.{body_bytes, field_bytes, feature_bytes, layer_item_bytes, layer_bytes, tile_item_bytes};
 ghost use Rattle.mvt_wire.specs.Stands.{body_of, field_of, feature_of, layer_item_of, layer_of, tile_item_of};
 
