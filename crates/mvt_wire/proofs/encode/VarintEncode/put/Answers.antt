@@ -1,5 +1,4 @@
-use Rattle.std.proofs.Common.{◌≤◌, arith}
-use Rattle.mvt_wire.specs.Wire.{minimal_width}
+use Rattle.std.proofs.Common.{arith}
 use Rattle.mvt_wire.proofs.Spelling.{minimal_width_some}
 use Rattle.mvt_wire.proofs.encode.VarintEncode.put.Goals as goal
 
