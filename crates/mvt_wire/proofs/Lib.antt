@@ -1,2 +1,3 @@
 pub mod Spelling
 pub mod Steps
+pub mod Sizes
