@@ -1,0 +1,25 @@
+# Proves, builds and checks tileshell. It needs the Rattle toolchain, whose command is `rt`.
+
+PREFIX ?= /usr/local
+
+.PHONY: all check install clean toolchain
+
+all: toolchain
+	cd crates/tileshell_program && rt run -- --help > /dev/null
+	mkdir -p build
+	cp crates/tileshell_program/out/tileshell_program build/tileshell
+
+# Every proof, test, wrong body and stored run, from nothing.
+check: toolchain
+	rt ci
+
+install: all
+	install -d $(DESTDIR)$(PREFIX)/bin
+	install -m 755 build/tileshell $(DESTDIR)$(PREFIX)/bin/tileshell
+
+clean:
+	rm -rf build crates/*/out
+
+toolchain:
+	@command -v rt > /dev/null || { echo "tileshell needs the Rattle toolchain: its command rt is not on the PATH" >&2; exit 1; }
+	@grep -qF "$$(rt version)" README.md || { echo "README.md names another Rattle toolchain than this one: $$(rt version)" >&2; exit 1; }
