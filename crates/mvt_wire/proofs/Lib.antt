@@ -1,1 +1,3 @@
 pub mod Spelling
+pub mod Prefixes
+pub mod Begins

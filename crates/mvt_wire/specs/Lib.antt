@@ -6,3 +6,4 @@ pub mod Opens
 pub mod BodyShape
 pub mod Stands
 pub mod Fronts
+pub mod Parts
