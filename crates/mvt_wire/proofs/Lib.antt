@@ -1,3 +1,4 @@
 pub mod Spelling
 pub mod Prefixes
 pub mod Begins
+pub mod Reaches

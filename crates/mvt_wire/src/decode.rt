@@ -6,6 +6,7 @@ ghost use Rattle.mvt_wire.specs.Plain.{Field as PlainField};
 ghost use Rattle.mvt_wire.specs.Wire.{field_bytes};
 ghost use Rattle.mvt_wire.specs.Parts.{IsWholeField, IsWholeLayerItem, IsWholeTileItem, layer_item_field, tile_item_field, MakesLayerItem, MakesTileItem, StopsAt, IsStop};
 ghost use Rattle.mvt_wire.specs.Fronts.{front_of};
+ghost use Rattle.mvt_wire.specs.declared.decode.Fault.TheVariants as faults;
 ghost use Rattle.mvt_wire.specs.Stands.{field_of, layer_item_of, tile_item_of};
 
 use crate::document::{Feature, Field, Layer, LayerItem, TileItem};
@@ -29,6 +30,8 @@ pub(crate) enum Fault {
 }
 
 impl From<AllocError> for Fault {
+    ghost from_gives = { λ _ e. e ≡ faults.NoMemory };
+
     fn from(_e: AllocError) -> Fault {
         Fault::NoMemory
     }
