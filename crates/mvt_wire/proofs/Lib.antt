@@ -2,3 +2,4 @@ pub mod Spelling
 pub mod Prefixes
 pub mod Begins
 pub mod Reaches
+pub mod Wholes

@@ -27,19 +27,19 @@ same_fronts (g ∷ a) (h ∷ b) x y l e =
 pub stored_width : (length width : ℕ) → IsSpelling length width → max width (minimal_width length) ≡ width
 stored_width length width s = omega (arith, s.wide)
 
-abbrev number : ℕ → ℕ → Number
-number value width = record { value = value; width = width }
+abbrev number_with : ℕ → ℕ → Number
+number_with value width = record { value = value; width = width }
 
-abbrev field : Number → Body → Field
-field tag body = record { tag = tag; body = body }
+abbrev pub field_with : Number → Body → Field
+field_with tag body = record { tag = tag; body = body }
 
 pub same_number : (a b : Number) → a.value ≡ b.value → a.width ≡ b.width → a ≡ b
 same_number a b e f =
-    ap (λ (v : ℕ). number v a.width) e ∙ ap (λ (w : ℕ). number b.value w) f
+    ap (λ (v : ℕ). number_with v a.width) e ∙ ap (λ (w : ℕ). number_with b.value w) f
 
 pub same_field : (f g : Field) → f.tag ≡ g.tag → f.body ≡ g.body → f ≡ g
 same_field f g e d =
-    ap (λ (t : Number). field t f.body) e ∙ ap (λ (b : Body). field g.tag b) d
+    ap (λ (t : Number). field_with t f.body) e ∙ ap (λ (b : Body). field_with g.tag b) d
 
 pub one_number : (a b : Number) (x y : List ℕ) → IsNumber a → IsNumber b → spelling a ++ x ≡ spelling b ++ y → (a ≡ b) × (x ≡ y)
 one_number a b x y p q e =
