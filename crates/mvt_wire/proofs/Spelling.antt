@@ -1,5 +1,5 @@
 -- Numbers in base 128: how wide a spelling is, and that no spelling begins another.
-use Rattle.std.proofs.Common.{◌≡◌, ℕ, zero, suc, ◌+◌, ◌-◌, ◌*◌, ◌/◌, ◌%◌, ◌^◌, ◌<◌, ◌≤◌, List, [], ◌∷◌, ◌++◌, length, get_or, ltb, true, false, cond, refl, sym, ap, ◌∙◌, subst, arith, rules}
+use Rattle.std.proofs.Common.{◌≡◌, ℕ, zero, suc, ◌+◌, ◌-◌, ◌*◌, ◌/◌, ◌%◌, ◌^◌, ◌<◌, ◌≤◌, List, [], ◌∷◌, ◌++◌, length, get_or, ltb, true, false, cond, refl, sym, ap, ◌∙◌, subst, append_assoc, arith, rules}
 use Rattle.std.proofs.lemmas.Bool.{cond_both, cond-true, cond-false, ltb-true, ltb-false, lt-ltb, le-ltb}
 use Rattle.std.proofs.lemmas.Nat.{pow-add, pow_pos, div_below}
 use Rattle.std.proofs.Math.Nat.{pow-le-pow_right}
@@ -175,3 +175,23 @@ one_spelling v (suc w) v' (suc w') x y s t e =
     let r : (v ≡ v') × (w ≡ w') × (x ≡ y) =
         apart w w' v v' x y (spelling_below v (suc w) s) (spelling_below v' (suc w') t) e in
     (r.0, ap suc r.1, r.2)
+
+-- ---- a number at the end of a list, byte by byte
+
+pub put-start : (front : List ℕ) (v width : ℕ) → 1 ≤ width → front ++ spell v (suc (width - 1)) ≡ front ++ spell v width
+put-start front v width some =
+    let e : suc (width - 1) ≡ width = omega arith in
+    ap (λ n. front ++ spell v n) e
+
+pub put-more : (front whole : List ℕ) (rest width counter : ℕ) → counter < width → front ++ spell rest (suc (width - counter)) ≡ whole → (front ++ (rest % 128 + 128) ∷ []) ++ spell (rest / 128) (suc (width - (counter + 1))) ≡ whole
+put-more front whole rest width counter h e =
+    let n : width - counter ≡ suc (width - (counter + 1)) = omega arith in
+    append_assoc front ((rest % 128 + 128) ∷ []) (spell (rest / 128) (suc (width - (counter + 1))))
+    ∙ ap (λ t. front ++ t) (sym (spell-more rest (width - (counter + 1))))
+    ∙ ap (λ k. front ++ spell rest (suc k)) (sym n)
+    ∙ e
+
+pub put-end : (front whole : List ℕ) (rest width counter : ℕ) → width ≤ counter → front ++ spell rest (suc (width - counter)) ≡ whole → front ++ (rest % 128) ∷ [] ≡ whole
+put-end front whole rest width counter h e =
+    let n : suc (width - counter) ≡ 1 = omega arith in
+    ap (λ t. front ++ t) (sym (spell-one rest)) ∙ ap (λ k. front ++ spell rest k) (sym n) ∙ e
