@@ -1,8 +1,10 @@
 -- Numbers in base 128: how wide a spelling is, and that no spelling begins another.
-use Rattle.std.proofs.Common.{◌≡◌, ℕ, zero, suc, ◌+◌, ◌-◌, ◌*◌, ◌/◌, ◌%◌, ◌^◌, ◌<◌, ◌≤◌, List, [], ◌∷◌, ◌++◌, length, get_or, ltb, true, false, cond, refl, sym, ap, ◌∙◌, subst, append_assoc, arith, rules}
-use Rattle.std.proofs.lemmas.Bool.{cond_both, cond-true, cond-false, ltb-true, ltb-false, lt-ltb, le-ltb}
+use Rattle.std.proofs.Common.{◌≡◌, ℕ, zero, suc, ◌+◌, ◌-◌, ◌*◌, ◌/◌, ◌%◌, ◌^◌, ◌<◌, ◌≤◌, List, [], ◌∷◌, ◌++◌, length, take, drop, get_or, inl, inr, ltb, true, false, cond, refl, sym, ap, ◌∙◌, subst, append_assoc, arith, rules}
+use Rattle.std.proofs.lemmas.Bool.{cond_both, cond-true, cond-false, ltb-true, ltb-false, lt-ltb, le-ltb, cases_lt}
 use Rattle.std.proofs.lemmas.Nat.{pow-add, pow_pos, div_below}
-use Rattle.std.proofs.Math.Nat.{pow-le-pow_right}
+use Rattle.std.proofs.lemmas.List.{take_more, drop_more, drop_at, length-take-le, get_or-take}
+use Rattle.std.proofs.lemmas.List.Prefix.{front_fits, front_reads}
+use Rattle.std.proofs.Math.Nat.{pow-le-pow_right, mul_assoc}
 use Rattle.mvt_wire.specs.Wire.{spell, width_within, minimal_width}
 use Rattle.mvt_wire.specs.Shape.{IsSpelling}
 
@@ -20,6 +22,9 @@ rest_below v w h =
 
 pub below_from_rest : (v w : ℕ) → v / 128 < 2 ^ (7 * w) → v < 2 ^ (7 * suc w)
 below_from_rest v w h = let e = pow_more w in omega (arith, pow_more w)
+
+pub pow_le : (i j : ℕ) → i ≤ j → 2 ^ i ≤ 2 ^ j
+pow_le i j h = pow-le-pow_right {n = 2} (omega arith) {i = i} {j = j} h
 
 -- ---- the bytes
 
@@ -136,7 +141,7 @@ pub spelling_below : (v w : ℕ) → IsSpelling v w → v < 2 ^ (7 * w)
 spelling_below v w s =
     let a : v < 2 ^ (7 * minimal_width v) = minimal_width_holds v (omega (arith, s.fits)) in
     let l : 7 * minimal_width v ≤ 7 * w = omega (arith, s.wide) in
-    let b : 2 ^ (7 * minimal_width v) ≤ 2 ^ (7 * w) = pow-le-pow_right {n = 2} (omega arith) l in
+    let b : 2 ^ (7 * minimal_width v) ≤ 2 ^ (7 * w) = pow_le (7 * minimal_width v) (7 * w) l in
     omega arith
 
 pub minimal_spelling : (v : ℕ) → v < 2 ^ 64 → IsSpelling v (minimal_width v)
@@ -195,3 +200,113 @@ pub put-end : (front whole : List ℕ) (rest width counter : ℕ) → width ≤ 
 put-end front whole rest width counter h e =
     let n : suc (width - counter) ≡ 1 = omega arith in
     ap (λ t. front ++ t) (sym (spell-one rest)) ∙ ap (λ k. front ++ spell rest k) (sym n) ∙ e
+
+-- ---- a number read from its last byte down to its first
+
+pub record IsReadFrom (bytes : List ℕ) (last value index : ℕ) : Type 0 where
+  pub spelled : spell value (suc last - index) ≡ drop index (take (suc last) bytes)
+  pub below : value < 2 ^ (64 - 7 * index)
+  pub narrow : value < 2 ^ (7 * (suc last - index))
+
+pub read-start : (bytes : List ℕ) (last : ℕ) → last < length bytes → get_or bytes last 0 < 128 → last < 10 → (last ≡ 9 → get_or bytes last 0 ≤ 1) → IsReadFrom bytes last (get_or bytes last 0) last
+read-start bytes last within low ten nine =
+    let one : suc last - last ≡ 1 = omega arith in
+    let next : suc last ≡ last + 1 = omega arith in
+    let byte : get_or bytes last 0 % 128 ≡ get_or bytes last 0 = omega arith in
+    let short : length (take last bytes) ≡ last = length-take-le last bytes (omega arith) in
+    record {
+      spelled =
+        ap (λ w. spell (get_or bytes last 0) w) one
+        ∙ spell-one (get_or bytes last 0)
+        ∙ ap (λ b. b ∷ []) byte
+        ∙ sym (drop_at (take last bytes) (get_or bytes last 0 ∷ []) last short)
+        ∙ ap (λ xs. drop last xs) (sym (take_more bytes last 0 within))
+        ∙ ap (λ n. drop last (take n bytes)) (sym next);
+      below = elim (cases_lt last 9) [
+        inl h ↦ omega (arith, pow_le 7 (64 - 7 * last) (omega arith))
+      | inr h ↦
+        let e : 64 - 7 * last ≡ 1 = omega arith in
+        subst (λ n. get_or bytes last 0 < 2 ^ n) (sym e) (omega (arith, nine (omega arith)))
+      ];
+      narrow = subst (λ n. get_or bytes last 0 < 2 ^ (7 * n)) (sym one) low;
+    }
+
+more_bits : (i : ℕ) → i < 9 → 2 ^ (64 - 7 * i) ≡ 2 ^ (64 - 7 * (i + 1)) * 128
+more_bits i h =
+    let e : 64 - 7 * i ≡ 64 - 7 * (i + 1) + 7 = omega arith in
+    ap (λ n. 2 ^ n) e ∙ pow-add 2 (64 - 7 * (i + 1)) 7
+
+pub read-more : (bytes : List ℕ) (last value i byte : ℕ) → last < length bytes → last < 10 → i < last → byte ≡ get_or bytes i 0 → 128 ≤ byte → byte < 256 → IsReadFrom bytes last value (i + 1) → IsReadFrom bytes last (value * 128 + (byte - 128)) i
+read-more bytes last value i byte within ten h is high fits r =
+    let k : suc last - i ≡ suc (suc (last - (i + 1))) = omega arith in
+    let k' : suc last - (i + 1) ≡ suc (last - (i + 1)) = omega arith in
+    let low : (value * 128 + (byte - 128)) % 128 + 128 ≡ byte = omega arith in
+    let rest : (value * 128 + (byte - 128)) / 128 ≡ value = omega arith in
+    let long : i < length (take (suc last) bytes) = omega (arith, length-take-le (suc last) bytes (omega arith)) in
+    let here : get_or (take (suc last) bytes) i 0 ≡ byte = get_or-take (suc last) bytes i 0 (omega arith) ∙ sym is in
+    record {
+      spelled =
+        ap (λ w. spell (value * 128 + (byte - 128)) w) k
+        ∙ spell-more (value * 128 + (byte - 128)) (last - (i + 1))
+        ∙ ap (λ b. b ∷ spell ((value * 128 + (byte - 128)) / 128) (suc (last - (i + 1)))) low
+        ∙ ap (λ v. byte ∷ spell v (suc (last - (i + 1)))) rest
+        ∙ ap (λ w. byte ∷ spell value w) (sym k')
+        ∙ ap (λ xs. byte ∷ xs) r.spelled
+        ∙ ap (λ b. b ∷ drop (i + 1) (take (suc last) bytes)) (sym here)
+        ∙ sym (drop_more (take (suc last) bytes) i 0 long);
+      below = omega (arith, r.below, more_bits i (omega arith));
+      narrow =
+        let n : suc last - i ≡ suc (suc last - (i + 1)) = omega arith in
+        subst (λ w. value * 128 + (byte - 128) < 2 ^ (7 * w)) (sym n) (omega (arith, r.narrow, pow_more (suc last - (i + 1))));
+    }
+
+pub read_fits : (bytes : List ℕ) (last value i byte : ℕ) → i < 9 → byte < 256 → IsReadFrom bytes last value (i + 1) → value * 128 + (byte - 128) < 2 ^ 64
+read_fits bytes last value i byte h fits r =
+    omega (arith, r.below, more_bits i h, pow_le (64 - 7 * i) 64 (omega arith))
+
+pub read_spelling : (bytes : List ℕ) (last value : ℕ) → last < 10 → IsReadFrom bytes last value 0 → IsSpelling value (suc last)
+read_spelling bytes last value ten r =
+    let all : suc last - 0 ≡ suc last = omega arith in
+    spelling_from value (suc last) (omega arith) (omega arith) r.below (subst (λ w. value < 2 ^ (7 * w)) all r.narrow)
+
+pub read_is : (bytes : List ℕ) (last value : ℕ) → IsReadFrom bytes last value 0 → take (suc last) bytes ≡ spell value (suc last)
+read_is bytes last value r =
+    let all : suc last - 0 ≡ suc last = omega arith in
+    sym r.spelled ∙ ap (λ w. spell value w) all
+
+-- ---- where no spelling stands at the front
+
+last_low : (w v : ℕ) → get_or (spell v (suc w)) w 0 < 128
+unfolding spell
+last_low zero v = omega arith
+last_low (suc w) v = last_low w (v / 128)
+
+last_below : (w v m : ℕ) → v < m * 2 ^ (7 * w) → get_or (spell v (suc w)) w 0 < m
+unfolding spell
+last_below zero v m h = omega arith
+last_below (suc w) v m h =
+    let b : v < m * 2 ^ (7 * w) * 128 = omega (arith, pow_more w, ap (λ n. m * n) (pow_more w), mul_assoc m (2 ^ (7 * w)) 128) in
+    last_below w (v / 128) m (div_below v 128 (m * 2 ^ (7 * w)) (omega arith) b)
+
+pub none_ends : (bytes : List ℕ) → ((k : ℕ) → k < 10 → k < length bytes → 128 ≤ get_or bytes k 0) → (v w : ℕ) (rest : List ℕ) → IsSpelling v w → bytes ≡ spell v w ++ rest → ⊥
+none_ends bytes high v zero rest s e = omega (arith, spelling_some v 0 s)
+none_ends bytes high v (suc w) rest s e =
+    let fits : length (spell v (suc w)) ≤ length bytes = front_fits bytes (spell v (suc w)) rest e in
+    let size : length (spell v (suc w)) ≡ suc w = length-spell v (suc w) in
+    let same : get_or bytes w 0 ≡ get_or (spell v (suc w)) w 0 = front_reads 0 bytes (spell v (suc w)) rest e w (omega arith) in
+    omega (arith, last_low w v, high w (omega (arith, s.short)) (omega arith))
+
+pub none_fits : (bytes : List ℕ) → ((k : ℕ) → k < 9 → 128 ≤ get_or bytes k 0) → 1 < get_or bytes 9 0 → (v w : ℕ) (rest : List ℕ) → IsSpelling v w → bytes ≡ spell v w ++ rest → ⊥
+none_fits bytes high top v zero rest s e = omega (arith, spelling_some v 0 s)
+none_fits bytes high top v (suc w) rest s e =
+    let size : length (spell v (suc w)) ≡ suc w = length-spell v (suc w) in
+    let same : get_or bytes w 0 ≡ get_or (spell v (suc w)) w 0 = front_reads 0 bytes (spell v (suc w)) rest e w (omega arith) in
+    elim (cases_lt w 9) [
+      inl h ↦ omega (arith, last_low w v, high w h)
+    | inr h ↦
+      let nine : w ≡ 9 = omega (arith, s.short) in
+      let low : get_or (spell v (suc w)) w 0 < 2 =
+          last_below w v 2 (subst (λ n. v < 2 * 2 ^ (7 * n)) (sym nine) s.fits) in
+      let at : get_or bytes w 0 ≡ get_or bytes 9 0 = ap (λ n. get_or bytes n 0) nine in
+      omega arith
+    ]

@@ -1,6 +1,6 @@
 //! Numbers in base 128.
 
-ghost use Rattle.std.specs.Prelude.{◌≡◌, ℕ, ◌+◌, ◌*◌, ◌^◌, ◌<◌, ◌≤◌, ◌++◌, List, length, take, IfSome, IfNone, OnOk};
+ghost use Rattle.std.specs.Prelude.{◌≡◌, ℕ, ◌+◌, ◌*◌, ◌^◌, ◌<◌, ◌≤◌, ◌++◌, List, length, take, IfSome, IfNone, OnOk, nat_lt, position};
 ghost use Rattle.mvt_wire.specs.Shape.{IsSpelling};
 ghost use Rattle.mvt_wire.specs.Wire.{spell, minimal_width};
 
@@ -50,7 +50,7 @@ pub fn read_varint(bytes: &[u8]) -> Option<Varint>
     ensures found { IfSome result (λ n. take n.width bytes.now ≡ spell n.value n.width) }
     ensures none { IfNone result ((value width : ℕ) (rest : List ℕ) → IsSpelling value width → bytes.now ≡ spell value width ++ rest → ⊥) }
 {
-    let last = bytes.iter().take(10).position(|byte| *byte < 128)?;
+    let last = last_byte(bytes)?;
     if last == 9 && bytes[9] > 1 {
         return None;
     }
@@ -62,6 +62,13 @@ pub fn read_varint(bytes: &[u8]) -> Option<Varint>
         value,
         width: last as u8 + 1,
     })
+}
+
+/// The place of the first byte without the top bit, among the ten that a number may take.
+fn last_byte(bytes: &[u8]) -> Option<usize>
+    ensures { result ≡ position (λ byte. nat_lt byte 128) (take 10 bytes.now) }
+{
+    bytes.iter().take(10).position(|byte| *byte < 128)
 }
 
 /// Writes the number at the end, in so many bytes.
