@@ -1,8 +1,11 @@
 -- Numbers in base 128: how wide a spelling is, and that no spelling begins another.
-use Rattle.std.proofs.Common.{◌≡◌, ℕ, zero, suc, ◌+◌, ◌-◌, ◌*◌, ◌/◌, ◌%◌, ◌^◌, ◌<◌, ◌≤◌, List, [], ◌∷◌, ◌++◌, length, take, drop, get_or, inl, inr, ltb, true, false, cond, refl, sym, ap, ◌∙◌, subst, append_assoc, arith, rules}
+use Rattle.std.proofs.Common.{◌≡◌, ℕ, zero, suc, ◌+◌, ◌-◌, ◌*◌, ◌/◌, ◌%◌, ◌^◌, ◌<◌, ◌≤◌, List, [], ◌∷◌, ◌++◌, length, take, drop, get_or, inl, inr, min, Bool, ltb, true, false, cond, Some, None, position, refl, sym, ap, ◌∙◌, subst, append_assoc, arith, rules}
 use Rattle.std.proofs.lemmas.Bool.{cond_both, cond-true, cond-false, ltb-true, ltb-false, lt-ltb, le-ltb, cases_lt}
 use Rattle.std.proofs.lemmas.Nat.{pow-add, pow_pos, div_below}
-use Rattle.std.proofs.lemmas.List.{take_more, drop_more, drop_at, length-take-le, get_or-take}
+use Rattle.std.proofs.lemmas.List.{take_more, drop_more, drop_at, length-take, length-take-le, get_or-take}
+use Rattle.std.proofs.lemmas.List.Quantifiers.{position-Some}
+use Rattle.std.proofs.lemmas.List.Sums.{fails_before_first}
+use Rattle.std.specs.List.{position_or_len}
 use Rattle.std.proofs.lemmas.List.Prefix.{front_fits, front_reads}
 use Rattle.std.proofs.Math.Nat.{pow-le-pow_right, mul_assoc}
 use Rattle.mvt_wire.specs.Wire.{spell, width_within, minimal_width}
@@ -203,13 +206,50 @@ put-end front whole rest width counter h e =
 
 -- ---- a number read from its last byte down to its first
 
+-- the place of the first byte without the top bit, among the first ten
+pub record EndsAt (bytes : List ℕ) (last : ℕ) : Type 0 where
+  pub ten : last < 10
+  pub within : last < length bytes
+  pub low : get_or bytes last 0 < 128
+  pub high : (k : ℕ) → k < last → 128 ≤ get_or bytes k 0
+
+pub ends_at : (bytes : List ℕ) (last : ℕ) → Some last ≡ position (λ byte. ltb byte 128) (take 10 bytes) → EndsAt bytes last
+ends_at bytes last e =
+    let found : (last < length (take 10 bytes)) × (ltb (get_or (take 10 bytes) last 0) 128 ≡ true) × ((k : ℕ) → k < last → ltb (get_or (take 10 bytes) k 0) 128 ≡ false) =
+        position-Some (λ byte. ltb byte 128) (take 10 bytes) last 0 (sym e) in
+    let size : length (take 10 bytes) ≡ min 10 (length bytes) = length-take 10 bytes in
+    let inside : last < length (take 10 bytes) = found.0 in
+    let ten : last < 10 = omega arith in
+    record {
+      ten = ten;
+      within = omega arith;
+      low = subst (λ b. b < 128) (get_or-take 10 bytes last 0 ten) (ltb-true (get_or (take 10 bytes) last 0) 128 found.1);
+      high = λ k h. subst (λ b. 128 ≤ b) (get_or-take 10 bytes k 0 (omega arith)) (ltb-false (get_or (take 10 bytes) k 0) 128 (found.2 k h));
+    }
+
+pub ends_nowhere : (bytes : List ℕ) → None ≡ position (λ byte. ltb byte 128) (take 10 bytes) → (k : ℕ) → k < 10 → k < length bytes → 128 ≤ get_or bytes k 0
+ends_nowhere bytes e k ten within =
+    let test : ℕ → Bool = λ byte. ltb byte 128 in
+    let end : ℕ = position_or_len test (take 10 bytes) in
+    let size : length (take 10 bytes) ≡ min 10 (length bytes) = length-take 10 bytes in
+    elim (cases_lt (position_or_len test (take 10 bytes)) (length (take 10 bytes))) [
+      inl h ↦
+      let some : position test (take 10 bytes) ≡ Some (position_or_len test (take 10 bytes)) = cond-true _ _ _ (lt-ltb _ _ h) in
+      cc
+    | inr h ↦
+      subst (λ b. 128 ≤ b) (get_or-take 10 bytes k 0 ten) (ltb-false (get_or (take 10 bytes) k 0) 128 (fails_before_first test (take 10 bytes) k 0 (omega arith)))
+    ]
+
 pub record IsReadFrom (bytes : List ℕ) (last value index : ℕ) : Type 0 where
   pub spelled : spell value (suc last - index) ≡ drop index (take (suc last) bytes)
   pub below : value < 2 ^ (64 - 7 * index)
   pub narrow : value < 2 ^ (7 * (suc last - index))
 
-pub read-start : (bytes : List ℕ) (last : ℕ) → last < length bytes → get_or bytes last 0 < 128 → last < 10 → (last ≡ 9 → get_or bytes last 0 ≤ 1) → IsReadFrom bytes last (get_or bytes last 0) last
-read-start bytes last within low ten nine =
+pub read-start : (bytes : List ℕ) (last : ℕ) → EndsAt bytes last → (last ≡ 9 → get_or bytes last 0 ≤ 1) → IsReadFrom bytes last (get_or bytes last 0) last
+read-start bytes last ends nine =
+    let low : get_or bytes last 0 < 128 = ends.low in
+    let within : last < length bytes = ends.within in
+    let ten : last < 10 = ends.ten in
     let one : suc last - last ≡ 1 = omega arith in
     let next : suc last ≡ last + 1 = omega arith in
     let byte : get_or bytes last 0 % 128 ≡ get_or bytes last 0 = omega arith in
@@ -236,8 +276,11 @@ more_bits i h =
     let e : 64 - 7 * i ≡ 64 - 7 * (i + 1) + 7 = omega arith in
     ap (λ n. 2 ^ n) e ∙ pow-add 2 (64 - 7 * (i + 1)) 7
 
-pub read-more : (bytes : List ℕ) (last value i byte : ℕ) → last < length bytes → last < 10 → i < last → byte ≡ get_or bytes i 0 → 128 ≤ byte → byte < 256 → IsReadFrom bytes last value (i + 1) → IsReadFrom bytes last (value * 128 + (byte - 128)) i
-read-more bytes last value i byte within ten h is high fits r =
+pub read-more : (bytes : List ℕ) (last value i byte : ℕ) → EndsAt bytes last → i < last → byte ≡ get_or bytes i 0 → byte < 256 → IsReadFrom bytes last value (i + 1) → IsReadFrom bytes last (value * 128 + (byte - 128)) i
+read-more bytes last value i byte ends h is fits r =
+    let within : last < length bytes = ends.within in
+    let ten : last < 10 = ends.ten in
+    let high : 128 ≤ byte = subst (λ b. 128 ≤ b) (sym is) (ends.high i h) in
     let k : suc last - i ≡ suc (suc (last - (i + 1))) = omega arith in
     let k' : suc last - (i + 1) ≡ suc (last - (i + 1)) = omega arith in
     let low : (value * 128 + (byte - 128)) % 128 + 128 ≡ byte = omega arith in
@@ -264,8 +307,24 @@ pub read_fits : (bytes : List ℕ) (last value i byte : ℕ) → i < 9 → byte 
 read_fits bytes last value i byte h fits r =
     omega (arith, r.below, more_bits i h, pow_le (64 - 7 * i) 64 (omega arith))
 
-pub read_spelling : (bytes : List ℕ) (last value : ℕ) → last < 10 → IsReadFrom bytes last value 0 → IsSpelling value (suc last)
-read_spelling bytes last value ten r =
+at_next : (bytes : List ℕ) (last value index : ℕ) → 0 < index → IsReadFrom bytes last value index → IsReadFrom bytes last value (index - 1 + 1)
+at_next bytes last value index some r =
+    let e : index ≡ index - 1 + 1 = omega arith in
+    subst (λ i. IsReadFrom bytes last value i) e r
+
+pub read-down : (bytes : List ℕ) (last value index digit : ℕ) → EndsAt bytes last → 0 < index → index ≤ last → digit ≡ get_or bytes (index - 1) 0 - 128 → get_or bytes (index - 1) 0 < 256 → IsReadFrom bytes last value index → IsReadFrom bytes last (value * 128 + digit) (index - 1)
+read-down bytes last value index digit ends some down is fits r =
+    subst (λ d. IsReadFrom bytes last (value * 128 + d) (index - 1)) (sym is) (read-more bytes last value (index - 1) (get_or bytes (index - 1) 0) ends (omega arith) refl fits (at_next bytes last value index some r))
+
+pub read_down_fits : (bytes : List ℕ) (last value index digit : ℕ) → EndsAt bytes last → 0 < index → index ≤ last → digit < 128 → IsReadFrom bytes last value index → value * 128 + digit < 2 ^ 64
+read_down_fits bytes last value index digit ends some down low r =
+    let fits : value * 128 + (digit + 128 - 128) < 2 ^ 64 =
+        read_fits bytes last value (index - 1) (digit + 128) (omega (arith, ends.ten)) (omega arith) (at_next bytes last value index some r) in
+    omega arith
+
+pub read_spelling : (bytes : List ℕ) (last value : ℕ) → EndsAt bytes last → IsReadFrom bytes last value 0 → IsSpelling value (suc last)
+read_spelling bytes last value ends r =
+    let ten : last < 10 = ends.ten in
     let all : suc last - 0 ≡ suc last = omega arith in
     spelling_from value (suc last) (omega arith) (omega arith) r.below (subst (λ w. value < 2 ^ (7 * w)) all r.narrow)
 

@@ -1,7 +1,10 @@
-use Rattle.std.proofs.Common.{◌≡◌, ℕ, ◌+◌, ◌*◌, ◌^◌, ◌<◌, ◌≤◌, ◌++◌, List, length, take, IfSome, IfNone, OnOk, nat_lt, position, ◌-◌}
-use Rattle.mvt_wire.specs.Shape.{IsSpelling}
-use Rattle.mvt_wire.specs.Wire.{spell, minimal_width}
+use Rattle.std.proofs.Common.{◌≤◌}
+use Rattle.mvt_wire.proofs.Spelling.{EndsAt, IsReadFrom}
 use Rattle.mvt_wire.proofs.varint.read_varint.Given as goal
 
 abbrev pub invariant-loop-index : goal.invariant-loop-index
-invariant-loop-index l = ?
+invariant-loop-index l = record {
+  ends : EndsAt l.bytes l.last;
+  down : l.index ≤ l.last;
+  read : IsReadFrom l.bytes l.last l.value l.index
+}
