@@ -3,3 +3,4 @@ pub mod Prefixes
 pub mod Begins
 pub mod Reaches
 pub mod Wholes
+pub mod Steps

@@ -44,7 +44,8 @@ pub(crate) fn least_width(value: u64) -> u8
     width
 }
 
-/// The number at the front, in bytes of which as many as its width are its spelling.
+/// The number at the front, whose spelling is as many bytes as its width. There is none where
+/// each of the first ten bytes has its top bit set, or where the number takes more than 64 bits.
 pub fn read_varint(bytes: &[u8]) -> Option<Varint>
     ensures within { IfSome result (λ n. n.width ≤ length bytes.now) }
     ensures found { IfSome result (λ n. take n.width bytes.now ≡ spell n.value n.width) }

@@ -1,5 +1,5 @@
-use Rattle.std.proofs.Common.{◌+◌, ◌-◌, ◌/◌, ◌≡◌, ap, subst, arith}
-use Rattle.mvt_wire.proofs.Spelling.{IsLeastFrom, least_from-more, least_from-end}
+use Rattle.std.proofs.Common.{◌+◌, ◌-◌, ◌/◌, ◌≡◌, subst, arith}
+use Rattle.mvt_wire.proofs.Steps.{IsLeastFrom, least_from-more, least_from-end}
 use Rattle.mvt_wire.proofs.varint.least_width.Goals as goal
 
 pub loop-rest-preserved : goal.loop-rest-preserved

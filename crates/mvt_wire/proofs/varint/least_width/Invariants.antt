@@ -1,5 +1,5 @@
-use Rattle.std.proofs.Common.{◌+◌, ◌-◌, ◌≤◌}
-use Rattle.mvt_wire.proofs.Spelling.{IsLeastFrom}
+use Rattle.std.proofs.Common.{◌-◌, ◌≤◌}
+use Rattle.mvt_wire.proofs.Steps.{IsLeastFrom}
 use Rattle.mvt_wire.proofs.varint.least_width.Given as goal
 
 abbrev pub invariant-loop-rest : goal.invariant-loop-rest

@@ -1,6 +1,6 @@
-use Rattle.std.proofs.Common.{◌≡◌, ◌++◌, ◌∷◌, [], ◌+◌, ◌%◌, ◌-◌, suc, ◌/◌, subst, sym, ap, ◌∙◌, arith}
+use Rattle.std.proofs.Common.{◌++◌, ◌+◌, ◌-◌, suc, ◌/◌, ap, ◌∙◌, arith}
 use Rattle.mvt_wire.specs.Wire.{spell}
-use Rattle.mvt_wire.proofs.Spelling.{put-start, put-more, put-end}
+use Rattle.mvt_wire.proofs.Steps.{put-start, put-more, put-end}
 use Rattle.mvt_wire.proofs.varint.put_number.Goals as goal
 
 pub loop-init : goal.loop-init

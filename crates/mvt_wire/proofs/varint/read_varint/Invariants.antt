@@ -1,10 +1,10 @@
 use Rattle.std.proofs.Common.{◌≤◌}
-use Rattle.mvt_wire.proofs.Spelling.{EndsAt, IsReadFrom}
+use Rattle.mvt_wire.proofs.Steps.{EndsAt, IsReadFrom}
 use Rattle.mvt_wire.proofs.varint.read_varint.Given as goal
 
 abbrev pub invariant-loop-index : goal.invariant-loop-index
 invariant-loop-index l = record {
   ends : EndsAt l.bytes l.last;
   down : l.index ≤ l.last;
-  read : IsReadFrom l.bytes l.last l.value l.index
+  read : IsReadFrom l.bytes l.last l.value l.index;
 }

@@ -1,4 +1,4 @@
-use Rattle.std.proofs.Common.{◌≡◌, ◌*◌, ◌^◌, ◌<◌, ap, sym, subst, arith}
+use Rattle.std.proofs.Common.{◌*◌, ◌^◌, ◌<◌, sym, subst, arith}
 use Rattle.mvt_wire.proofs.Spelling.{minimal_width_holds, minimal_width_least}
 use Rattle.mvt_wire.proofs.varint.Varint.minimal.Goals as goal
 
