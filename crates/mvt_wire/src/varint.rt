@@ -6,6 +6,9 @@ ghost use Rattle.mvt_wire.specs.Wire.{spell, minimal_width};
 
 use std::alloc::AllocError;
 
+// Nine bytes hold 63 of a number's 64 bits.
+const TENTH_BYTE_MAX: u8 = 1;
+
 /// A number and the width of its spelling, in bytes.
 #[derive(Clone, Copy, Debug, PartialEq, Eq)]
 pub struct Varint {
@@ -52,7 +55,7 @@ pub fn read_varint(bytes: &[u8]) -> Option<Varint>
     ensures none { IfNone result ((value width : ℕ) (rest : List ℕ) → IsSpelling value width → bytes.now ≡ spell value width ++ rest → ⊥) }
 {
     let last = last_byte(bytes)?;
-    if last == 9 && bytes[9] > 1 {
+    if last == 9 && bytes[9] > TENTH_BYTE_MAX {
         return None;
     }
     let mut value = u64::from(bytes[last]);

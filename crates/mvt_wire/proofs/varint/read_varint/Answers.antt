@@ -3,24 +3,24 @@ use Rattle.mvt_wire.specs.Wire.{spell}
 use Rattle.mvt_wire.specs.Shape.{IsSpelling}
 use Rattle.mvt_wire.proofs.Steps.{EndsAt, IsReadFrom, ends_at, ends_nowhere, none_ends, none_fits, read-start, read-down, read_down_fits, read_spelling, read_is}
 use Rattle.mvt_wire.proofs.varint.read_varint.Goals as goal
-use Rattle.mvt_wire.proofs.varint.read_varint.Goals.{else-last-eq9-via-then-last-eq9+else-bytes-gt1, else-last-eq9-via-else-last-eq9}
+use Rattle.mvt_wire.proofs.varint.read_varint.Goals.{else-last-eq9-via-then-last-eq9+else-bytes-gt-TENTH_BYTE_MAX, else-last-eq9-via-else-last-eq9}
 
 pub returns-in_err-last-clause-none : goal.returns-in_err-last-clause-none
 returns-in_err-last-clause-none c =
     rw c.from_residual.ensures (none_ends c.args.bytes.now (ends_nowhere c.args.bytes.now c.in_err-last.ensures))
 
-pub returns-then-bytes-gt1-clause-none : goal.returns-then-bytes-gt1-clause-none
-returns-then-bytes-gt1-clause-none c =
+pub returns-then-bytes-gt-TENTH_BYTE_MAX-clause-none : goal.returns-then-bytes-gt-TENTH_BYTE_MAX-clause-none
+returns-then-bytes-gt-TENTH_BYTE_MAX-clause-none c =
     let ends : EndsAt c.args.bytes.now c.in_ok-last.last = ends_at c.args.bytes.now c.in_ok-last.last c.in_ok-last.ensures in
-    none_fits c.args.bytes.now (λ k h. ends.high k (omega arith)) c.if-bytes-gt1.true
+    none_fits c.args.bytes.now (λ k h. ends.high k (omega arith)) c.if-bytes-gt-TENTH_BYTE_MAX.true
 
 pub loop-index-init : goal.loop-index-init
 loop-index-init c =
     let ends : EndsAt c.args.bytes.now c.in_ok-last.last = ends_at c.args.bytes.now c.in_ok-last.last c.in_ok-last.ensures in
     let nine : c.in_ok-last.last ≡ 9 → get_or c.args.bytes.now c.in_ok-last.last 0 ≤ 1 =
     elim c.else-last-eq9.branch [
-      | else-last-eq9-via-then-last-eq9+else-bytes-gt1 w ↦
-          λ e. subst (λ n. get_or c.args.bytes.now n 0 ≤ 1) (sym e) w.if-bytes-gt1.false
+      | else-last-eq9-via-then-last-eq9+else-bytes-gt-TENTH_BYTE_MAX w ↦
+          λ e. subst (λ n. get_or c.args.bytes.now n 0 ≤ 1) (sym e) w.if-bytes-gt-TENTH_BYTE_MAX.false
       | else-last-eq9-via-else-last-eq9 w ↦ λ e. absurd (w.if-last-eq9.false e)
     ] in
     record {
