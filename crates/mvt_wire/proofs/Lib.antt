@@ -4,3 +4,4 @@ pub mod Begins
 pub mod Reaches
 pub mod Wholes
 pub mod Steps
+pub mod Documents

@@ -1,5 +1,5 @@
 -- What a file opens as.
-use Rattle.std.specs.Prelude.{◌≡◌, ◌≢◌, ℕ, ◌<◌, ◌≤◌, List, length}
+use Rattle.std.specs.Prelude.{◌≡◌, ◌≢◌, ℕ, ◌<◌, ◌≤◌, List, length, take}
 use Rattle.std.specs.List.{flat_map, AllByRecursion}
 use Rattle.mvt_wire.specs.declared.TheConstants.{MAX_FILE}
 use Rattle.mvt_wire.specs.Plain.{Number, Body, Spelled, Eight, Four, Delimited, Field, Feature, LayerItem, OfFeature, PlainInLayer, Layer, TileItem, OfLayer, PlainInTile, Document}
@@ -91,3 +91,10 @@ pub record OpensAs (file : List ℕ) (document : Document) : Type 0 where
   pub within : length file ≤ MAX_FILE
   pub settled : IsSettled document
   pub spelled : bytes_of document ≡ file
+
+-- the longest front of the file that opens as a document has this length
+pub record IsPlace (file : List ℕ) (place : ℕ) : Type 0 where
+  pub within : place ≤ length file
+  pub document : Document
+  pub opens : OpensAs (take place file) document
+  pub longest : (n : ℕ) (longer : Document) → place < n → n ≤ length file → OpensAs (take n file) longer → ⊥
