@@ -7,3 +7,4 @@ pub mod BodyShape
 pub mod Lending
 pub mod Stands
 pub mod Fronts
+pub mod Parts

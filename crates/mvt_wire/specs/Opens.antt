@@ -1,10 +1,10 @@
 -- What a file opens as.
-use Rattle.std.specs.Prelude.{◌≡◌, ◌≢◌, ℕ, ◌<◌, ◌≤◌, List, length}
+use Rattle.std.specs.Prelude.{◌≡◌, ◌≢◌, ℕ, ◌<◌, ◌≤◌, List, length, take}
 use Rattle.std.specs.List.{flat_map, AllByRecursion}
 use Rattle.mvt_wire.specs.declared.TheConstants.{MAX_FILE}
 use Rattle.mvt_wire.specs.Plain.{Number, Body, Spelled, Eight, Four, Delimited, Field, Feature, LayerItem, OfFeature, PlainInLayer, Layer, TileItem, OfLayer, PlainInTile, Document}
 use Rattle.mvt_wire.specs.Shape.{IsSpelling, IsTag, IsWidth}
-use Rattle.mvt_wire.specs.Wire.{minimal_width, field_bytes, layer_item_bytes, bytes_of}
+use Rattle.mvt_wire.specs.Wire.{field_bytes, layer_item_bytes, bytes_of}
 
 -- ---- what holds of each value of the types
 
@@ -55,19 +55,19 @@ IsTileItem (PlainInTile field) = IsField field × (field.tag.value ≢ 26)
 abbrev pub IsDocument : Document → Type 0
 IsDocument document = AllByRecursion IsTileItem document
 
--- ---- each stored width is at least the least width of the real length
+-- ---- each length is spelled in its stored width
 
 abbrev pub StoresBody : Body → Type 0
 StoresBody (Spelled number) = Unit {0}
 StoresBody (Eight bytes) = Unit {0}
 StoresBody (Four bytes) = Unit {0}
-StoresBody (Delimited width bytes) = minimal_width (length bytes) ≤ width
+StoresBody (Delimited width bytes) = IsSpelling (length bytes) width
 
 abbrev pub StoresField : Field → Type 0
 StoresField f = StoresBody f.body
 
 pub record StoresFeature (f : Feature) : Type 0 where
-  pub own : minimal_width (length (flat_map field_bytes f.fields)) ≤ f.width
+  pub own : IsSpelling (length (flat_map field_bytes f.fields)) f.width
   pub fields : AllByRecursion StoresField f.fields
 
 abbrev pub StoresLayerItem : LayerItem → Type 0
@@ -75,7 +75,7 @@ StoresLayerItem (OfFeature feature) = StoresFeature feature
 StoresLayerItem (PlainInLayer field) = StoresField field
 
 pub record StoresLayer (l : Layer) : Type 0 where
-  pub own : minimal_width (length (flat_map layer_item_bytes l.items)) ≤ l.width
+  pub own : IsSpelling (length (flat_map layer_item_bytes l.items)) l.width
   pub items : AllByRecursion StoresLayerItem l.items
 
 abbrev pub StoresTileItem : TileItem → Type 0
@@ -91,3 +91,10 @@ pub record OpensAs (file : List ℕ) (document : Document) : Type 0 where
   pub within : length file ≤ MAX_FILE
   pub settled : IsSettled document
   pub spelled : bytes_of document ≡ file
+
+-- the longest front of the file that opens as a document has this length
+pub record IsPlace (file : List ℕ) (place : ℕ) : Type 0 where
+  pub within : place ≤ length file
+  pub document : Document
+  pub opens : OpensAs (take place file) document
+  pub longest : (n : ℕ) (longer : Document) → place < n → n ≤ length file → OpensAs (take n file) longer → ⊥

@@ -1,5 +1,14 @@
 //! How the items of a message are read from its bytes.
 
+ghost use Rattle.std.specs.Prelude.{◌≡◌, ℕ, ◌++◌, List, length, IfOk, IfErr, IsErrOf};
+ghost use Rattle.std.specs.List.{flat_map, AllByRecursion};
+ghost use Rattle.mvt_wire.specs.Plain.{Field as PlainField};
+ghost use Rattle.mvt_wire.specs.Wire.{field_bytes};
+ghost use Rattle.mvt_wire.specs.Parts.{IsWholeField, IsWholeLayerItem, IsWholeTileItem, layer_item_field, tile_item_field, MakesLayerItem, MakesTileItem, StopsAt, IsStop};
+ghost use Rattle.mvt_wire.specs.Fronts.{front_of};
+ghost use Rattle.mvt_wire.specs.declared.decode.Fault.TheVariants as faults;
+ghost use Rattle.mvt_wire.specs.Stands.{field_of, layer_item_of, tile_item_of};
+
 use crate::document::{Feature, Field, Layer, LayerItem, TileItem};
 use crate::faults::ReadError;
 use crate::front::{BodyRef, FieldRef, field_at_front};
@@ -21,6 +30,8 @@ pub(crate) enum Fault {
 }
 
 impl From<AllocError> for Fault {
+    ghost from_gives = { λ _ e. e ≡ faults.NoMemory };
+
     fn from(_e: AllocError) -> Fault {
         Fault::NoMemory
     }
@@ -28,12 +39,29 @@ impl From<AllocError> for Fault {
 
 /// An item of a message, made of the field that stands in its place.
 pub(crate) trait Decode: Drop + Sized {
-    fn decode(alloc: Global, front: FieldRef<'_>) -> Result<Self, Fault>;
+    /// The field that the item is.
+    ghost as_field: { Self → PlainField };
+
+    /// It is valid, and each of its lengths is spelled in its stored width.
+    ghost is_whole: { Self → Type 0 };
+
+    /// The field is such an item.
+    ghost makes: { PlainField → Type 0 };
+
+    fn decode(alloc: Global, front: FieldRef<'_>) -> Result<Self, Fault>
+        requires { IsWholeField (front_of front) }
+        ensures made { IfOk result (λ item. as_field item ≡ front_of front.entry) }
+        ensures whole { IfOk result is_whole }
+        ensures broken { IsErrOf result Fault.Broken → makes (front_of front.entry) → ⊥ };
 }
 
 /// The items whose bytes are the content of a message.
 /// The place of a fault is where the first item that is none begins.
-pub(crate) fn decode_all<T: Decode>(alloc: Global, content: &[u8]) -> Result<Vec<T>, ReadError> {
+pub(crate) fn decode_all<T: Decode>(alloc: Global, content: &[u8]) -> Result<Vec<T>, ReadError>
+    ensures spelled { IfOk result (λ items. content.now ≡ flat_map (λ i. field_bytes (T.as_field i)) items.items) }
+    ensures whole { IfOk result (λ items. AllByRecursion T.is_whole items.items) }
+    ensures stops { IfErr result (IsStop (StopsAt T.as_field T.is_whole T.makes content.now)) }
+{
     let mut items = Vec::new(alloc);
     let mut place = 0;
     while place < content.len() {
@@ -51,7 +79,11 @@ pub(crate) fn decode_all<T: Decode>(alloc: Global, content: &[u8]) -> Result<Vec
 }
 
 /// The items of a message inside an item.
-fn decode_inside<T: Decode>(alloc: Global, content: &[u8]) -> Result<Items<T>, Fault> {
+fn decode_inside<T: Decode>(alloc: Global, content: &[u8]) -> Result<Items<T>, Fault>
+    ensures spelled { IfOk result (λ items. content.now ≡ flat_map (λ i. field_bytes (T.as_field i)) items.items) }
+    ensures whole { IfOk result (λ items. AllByRecursion T.is_whole items.items) }
+    ensures broken { IsErrOf result Fault.Broken → (fields : List PlainField) → AllByRecursion IsWholeField fields → AllByRecursion T.makes fields → content.now ≡ flat_map field_bytes fields → ⊥ }
+{
     match decode_all(alloc, content) {
         Ok(items) => Ok(Items::from_vec(items)),
         Err(ReadError::NoMemory) => Err(Fault::NoMemory),
@@ -60,12 +92,24 @@ fn decode_inside<T: Decode>(alloc: Global, content: &[u8]) -> Result<Items<T>, F
 }
 
 impl Decode for Field {
+    ghost as_field = { field_of };
+
+    ghost is_whole = { λ f. IsWholeField (field_of f) };
+
+    ghost makes = { IsWholeField };
+
     fn decode(alloc: Global, front: FieldRef<'_>) -> Result<Self, Fault> {
         Ok(front.to_field(alloc)?)
     }
 }
 
 impl Decode for LayerItem {
+    ghost as_field = { λ i. layer_item_field (layer_item_of i) };
+
+    ghost is_whole = { λ i. IsWholeLayerItem (layer_item_of i) };
+
+    ghost makes = { MakesLayerItem };
+
     fn decode(alloc: Global, front: FieldRef<'_>) -> Result<Self, Fault> {
         match front.body {
             BodyRef::Bytes { width, bytes } if front.tag.value == FEATURE_TAG => {
@@ -81,6 +125,12 @@ impl Decode for LayerItem {
 }
 
 impl Decode for TileItem {
+    ghost as_field = { λ i. tile_item_field (tile_item_of i) };
+
+    ghost is_whole = { λ i. IsWholeTileItem (tile_item_of i) };
+
+    ghost makes = { MakesTileItem };
+
     fn decode(alloc: Global, front: FieldRef<'_>) -> Result<Self, Fault> {
         match front.body {
             BodyRef::Bytes { width, bytes } if front.tag.value == LAYER_TAG => {

@@ -1,9 +1,10 @@
 //! The field at the front of a message, with its bytes where they lie.
 
 ghost use Rattle.std.specs.Prelude.{◌≡◌, ℕ, ◌≤◌, ◌++◌, List, length, take, IfSome, IfNone, OnOk, IfOk};
-ghost use Rattle.mvt_wire.specs.Plain.{Field as PlainField};
-ghost use Rattle.mvt_wire.specs.Wire.{field_bytes};
+ghost use Rattle.mvt_wire.specs.Plain.{Field as PlainField, Body as PlainBody};
+ghost use Rattle.mvt_wire.specs.Wire.{body_bytes, field_bytes};
 ghost use Rattle.mvt_wire.specs.Opens.{IsField, StoresField};
+ghost use Rattle.mvt_wire.specs.Parts.{IsWholeBody};
 ghost use Rattle.mvt_wire.specs.Stands.{field_of};
 ghost use Rattle.mvt_wire.specs.Fronts.{front_of, body_front_of};
 
@@ -51,7 +52,12 @@ pub fn field_at_front(bytes: &[u8]) -> Option<(FieldRef<'_>, usize)>
 }
 
 /// The body of this wire type at the front, and how many bytes it takes.
-fn body_at_front(wire_type: u64, bytes: &[u8]) -> Option<(BodyRef<'_>, usize)> {
+fn body_at_front(wire_type: u64, bytes: &[u8]) -> Option<(BodyRef<'_>, usize)>
+    ensures within { IfSome result (λ found. found.1 ≤ length bytes.now) }
+    ensures spelled { IfSome result (λ found. take found.1 bytes.now ≡ body_bytes (body_front_of found.0)) }
+    ensures whole { IfSome result (λ found. IsWholeBody wire_type (body_front_of found.0)) }
+    ensures none { IfNone result ((body : PlainBody) (rest : List ℕ) → IsWholeBody wire_type body → bytes.now ≡ body_bytes body ++ rest → ⊥) }
+{
     match wire_type {
         0 => {
             let number = read_varint(bytes)?;
@@ -71,7 +77,12 @@ fn body_at_front(wire_type: u64, bytes: &[u8]) -> Option<(BodyRef<'_>, usize)> {
 }
 
 /// A length and that many bytes at the front, and how many bytes both take.
-fn delimited_at_front(bytes: &[u8]) -> Option<(BodyRef<'_>, usize)> {
+fn delimited_at_front(bytes: &[u8]) -> Option<(BodyRef<'_>, usize)>
+    ensures within { IfSome result (λ found. found.1 ≤ length bytes.now) }
+    ensures spelled { IfSome result (λ found. take found.1 bytes.now ≡ body_bytes (body_front_of found.0)) }
+    ensures whole { IfSome result (λ found. IsWholeBody 2 (body_front_of found.0)) }
+    ensures none { IfNone result ((body : PlainBody) (rest : List ℕ) → IsWholeBody 2 body → bytes.now ≡ body_bytes body ++ rest → ⊥) }
+{
     let length = read_varint(bytes)?;
     let start = usize::from(length.width);
     let rest = &bytes[start..];

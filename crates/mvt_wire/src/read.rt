@@ -2,7 +2,8 @@
 
 ghost use Rattle.std.specs.Prelude.{◌≡◌, ℕ, ◌≤◌, ◌<◌, ◌↔◌, List, length, IfOk, IsErrOf};
 ghost use Rattle.mvt_wire.specs.declared.TheConstants.{MAX_FILE};
-ghost use Rattle.mvt_wire.specs.Opens.{OpensAs};
+ghost use Rattle.mvt_wire.specs.Plain.{Document as PlainDocument};
+ghost use Rattle.mvt_wire.specs.Opens.{OpensAs, IsPlace};
 ghost use Rattle.mvt_wire.specs.Stands.{document_of};
 
 use crate::MAX_FILE;
@@ -17,6 +18,8 @@ use std::alloc::Global;
 pub fn read_document(alloc: Global, file: &[u8]) -> Result<Document, ReadError>
     ensures opens { IfOk result (λ document. OpensAs file.now (document_of document)) }
     ensures too_large { IsErrOf result ReadError.FileTooLarge ↔ (MAX_FILE < length file.now) }
+    ensures bad_wire { (place : ℕ) → IsErrOf result (ReadError.BadWire place) → (document : PlainDocument) → OpensAs file.now document → ⊥ }
+    ensures place { (place : ℕ) → IsErrOf result (ReadError.BadWire place) → IsPlace file.now place }
 {
     if file.len() > MAX_FILE {
         return Err(ReadError::FileTooLarge);

@@ -1,0 +1,66 @@
+-- Each item of a message as the field that stands in its place.
+use Rattle.std.specs.Prelude.{◌≡◌, ℕ, ◌<◌, ◌≤◌, List, length, take}
+use Rattle.std.specs.List.{flat_map, AllByRecursion}
+use Rattle.mvt_wire.specs.Plain.{Body, Delimited, Field, Feature, LayerItem, OfFeature, PlainInLayer, Layer, TileItem, OfLayer, PlainInTile}
+use Rattle.mvt_wire.specs.Wire.{field_bytes, layer_item_bytes}
+use Rattle.mvt_wire.specs.Opens.{wire_type, IsBody, IsField, IsLayerItem, IsTileItem, StoresBody, StoresField, StoresLayerItem, StoresTileItem}
+use Rattle.mvt_wire.specs.declared.faults.ReadError.{ReadError}
+use Rattle.mvt_wire.specs.declared.faults.ReadError.TheVariants.{BadWire, FileTooLarge, NoMemory}
+
+abbrev pub feature_field : Feature → Field
+feature_field f = record { tag = f.tag; body = Delimited f.width (flat_map field_bytes f.fields) }
+
+abbrev pub layer_item_field : LayerItem → Field
+layer_item_field (OfFeature feature) = feature_field feature
+layer_item_field (PlainInLayer field) = field
+
+abbrev pub layer_field : Layer → Field
+layer_field l = record { tag = l.tag; body = Delimited l.width (flat_map layer_item_bytes l.items) }
+
+abbrev pub tile_item_field : TileItem → Field
+tile_item_field (OfLayer layer) = layer_field layer
+tile_item_field (PlainInTile field) = field
+
+-- ---- valid, with each length spelled in its stored width
+
+-- a body of this wire type
+pub record IsWholeBody (kind : ℕ) (body : Body) : Type 0 where
+  pub typed : wire_type body ≡ kind
+  pub valid : IsBody body
+  pub stored : StoresBody body
+
+pub record IsWholeField (f : Field) : Type 0 where
+  pub valid : IsField f
+  pub stored : StoresField f
+
+pub record IsWholeLayerItem (i : LayerItem) : Type 0 where
+  pub valid : IsLayerItem i
+  pub stored : StoresLayerItem i
+
+pub record IsWholeTileItem (i : TileItem) : Type 0 where
+  pub valid : IsTileItem i
+  pub stored : StoresTileItem i
+
+-- ---- which fields are items
+
+abbrev pub MakesLayerItem : Field → Type 0
+MakesLayerItem f = (i : LayerItem) × IsWholeLayerItem i × (layer_item_field i ≡ f)
+
+abbrev pub MakesTileItem : Field → Type 0
+MakesTileItem f = (i : TileItem) × IsWholeTileItem i × (tile_item_field i ≡ f)
+
+-- ---- where reading stops
+
+-- The content up to this place is made of items, and up to no later place.
+pub record StopsAt {T : Type 0} (as_field : T → Field) (is_whole : T → Type 0) (makes : Field → Type 0) (content : List ℕ) (place : ℕ) : Type 0 where
+  pub before : place < length content
+  pub items : List T
+  pub whole : AllByRecursion is_whole items
+  pub spelled : take place content ≡ flat_map (λ i. field_bytes (as_field i)) items
+  pub longest : (n : ℕ) (fields : List Field) → place < n → n ≤ length content → AllByRecursion IsWholeField fields → AllByRecursion makes fields → take n content ≡ flat_map field_bytes fields → ⊥
+
+-- a reader's refusal: the wire is bad at a place of this kind, or memory ran out
+abbrev pub IsStop : (ℕ → Type 0) → ReadError → Type 0
+IsStop stops (BadWire place) = stops place
+IsStop stops FileTooLarge = ⊥
+IsStop stops NoMemory = Unit {0}
