@@ -1,0 +1,151 @@
+//! The words of a line.
+
+ghost use Rattle.std.specs.Prelude.{◌≡◌, ◌<◌, length, option_map, IfOk, IfSome};
+ghost use Rattle.tileshell.specs.Words.{is_blank, is_bare, after_blanks, ends_word, hex_byte, byte_at, text_at, quoted_at, bare_at, word_at};
+ghost use Rattle.tileshell.specs.Spelled.{word_of};
+
+use crate::parse_error::ParseError;
+use std::alloc::{AllocError, Global};
+
+/// A word of a line, which it borrows.
+#[derive(Clone, Copy, Debug)]
+pub enum Word<'a> {
+    /// The bytes of a bare word.
+    Bare(&'a [u8]),
+    /// The line behind the opening quote: the text goes up to the closing one.
+    Quoted(&'a [u8]),
+}
+
+fn is_blank(byte: u8) -> bool
+    ensures { result ≡ is_blank byte }
+{
+    matches!(byte, b' ' | b'\t' | b'\r')
+}
+
+fn is_bare(byte: u8) -> bool
+    ensures { result ≡ is_bare byte }
+{
+    !is_blank(byte) && byte != b'"'
+}
+
+/// The bytes behind the blanks at the front.
+pub fn after_blanks(bytes: &[u8]) -> &[u8]
+    ensures { result.now ≡ after_blanks bytes.now }
+{
+    let start = bytes
+        .iter()
+        .position(|byte| !is_blank(*byte))
+        .unwrap_or(bytes.len());
+    &bytes[start..]
+}
+
+fn ends_word(rest: &[u8]) -> bool
+    ensures { result ≡ ends_word rest.now }
+{
+    match rest {
+        [] => true,
+        [byte, ..] => is_blank(*byte),
+    }
+}
+
+fn hex_byte(high: u8, low: u8) -> Option<u8>
+    ensures { result ≡ hex_byte high low }
+{
+    let high = char::from(high).to_digit(16)?;
+    let low = char::from(low).to_digit(16)?;
+    if high < 8 {
+        Some((16 * high + low) as u8)
+    } else {
+        None
+    }
+}
+
+/// The byte that is spelled at the front of a text, and the bytes behind its spelling.
+fn byte_at(bytes: &[u8]) -> Option<(u8, &[u8])>
+    ensures value { option_map (λ found. (found.0, found.1.now)) result ≡ byte_at bytes.now }
+    ensures shorter { IfSome result (λ found. length found.1.now < length bytes.now) }
+{
+    match bytes {
+        [b'\\', b'x', high, low, rest @ ..] => Some((hex_byte(*high, *low)?, rest)),
+        [b'\\', byte @ (b'"' | b'\\'), rest @ ..] => Some((*byte, rest)),
+        [] | [b'"' | b'\\', ..] => None,
+        [byte, rest @ ..] => Some((*byte, rest)),
+    }
+}
+
+/// What stands behind the text at the front.
+fn after_text(bytes: &[u8]) -> &[u8]
+    ensures { result.now ≡ (text_at bytes.now).1 }
+{
+    let mut rest = bytes;
+    while let Some((_, after)) = byte_at(rest) {
+        rest = after;
+    }
+    rest
+}
+
+/// The text at the front, without its escapes.
+pub fn text(alloc: Global, bytes: &[u8]) -> Result<Vec<u8>, AllocError>
+    ensures { IfOk result (λ text. text.items ≡ (text_at bytes.now).0) }
+{
+    let mut text = Vec::new(alloc);
+    let mut rest = bytes;
+    while let Some((byte, after)) = byte_at(rest) {
+        text.push(byte)?;
+        rest = after;
+    }
+    Ok(text)
+}
+
+/// The word behind an opening quote, and what follows it.
+fn quoted_at(bytes: &[u8]) -> Option<(Word<'_>, &[u8])>
+    ensures { option_map (λ found. (word_of found.0, found.1.now)) result ≡ quoted_at bytes.now }
+{
+    match after_text(bytes) {
+        [b'"', rest @ ..] if ends_word(rest) => Some((Word::Quoted(bytes), rest)),
+        _ => None,
+    }
+}
+
+/// The bare word at the front, and what follows it.
+fn bare_at(bytes: &[u8]) -> Option<(Word<'_>, &[u8])>
+    ensures { option_map (λ found. (word_of found.0, found.1.now)) result ≡ bare_at bytes.now }
+{
+    let end = bytes
+        .iter()
+        .position(|byte| !is_bare(*byte))
+        .unwrap_or(bytes.len());
+    let (word, rest) = bytes.split_at(end);
+    if ends_word(rest) {
+        Some((Word::Bare(word), rest))
+    } else {
+        None
+    }
+}
+
+/// The first word, and what follows it.
+fn word_at(bytes: &[u8]) -> Option<(Word<'_>, &[u8])>
+    ensures value { option_map (λ found. (word_of found.0, found.1.now)) result ≡ word_at bytes.now }
+    ensures shorter { IfSome result (λ found. length found.1.now < length bytes.now) }
+{
+    match after_blanks(bytes) {
+        [] => None,
+        [b'"', rest @ ..] => quoted_at(rest),
+        word => bare_at(word),
+    }
+}
+
+/// The words of a line.
+pub fn words(alloc: Global, line: &[u8]) -> Result<Vec<Word<'_>>, ParseError> {
+    let mut words = Vec::new(alloc);
+    let mut rest = line;
+    while let Some((word, after)) = word_at(rest) {
+        words.push(word)?;
+        rest = after;
+    }
+    if after_blanks(rest).is_empty() {
+        Ok(words)
+    } else {
+        Err(ParseError::BadWord)
+    }
+}
