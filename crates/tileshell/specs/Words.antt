@@ -1,7 +1,7 @@
 -- The words of a line. Blanks stand between them: spaces, tabs and carriage returns.
-use Rattle.std.specs.Prelude.{ℕ, zero, suc, ◌+◌, ◌*◌, Bool, true, ◌&&◌, ◌||◌, not, List, [], ◌∷◌, length, drop, take_while, Option, Some, None, option_map, ◌==◌, nat_lt, if◌then◌else◌}
+use Rattle.std.specs.Prelude.{ℕ, zero, suc, ◌+◌, ◌*◌, Bool, true, ◌&&◌, ◌||◌, not, List, [], ◌∷◌, length, drop, Option, Some, None, option_map, ◌==◌, nat_lt, if◌then◌else◌}
 use Rattle.std.specs.Option.{option_map_or}
-use Rattle.std.specs.List.{prefix_len}
+use Rattle.std.specs.List.{position_or_len, before_first}
 use Rattle.std.specs.Char.{digit_value}
 
 -- a word: its bytes, or the text that its quotes hold
@@ -13,12 +13,13 @@ pub data Word : Type 0 where
 abbrev pub is_blank : ℕ → Bool
 is_blank b = (b == 32 || b == 9) || b == 13
 
--- what a bare word is made of: anything but blanks and quotes
-abbrev pub is_bare : ℕ → Bool
-is_bare b = not (is_blank b || b == 34)
+-- where a bare word ends at the latest: at a blank or a quote
+abbrev pub ends_bare : ℕ → Bool
+ends_bare b = is_blank b || b == 34
 
+-- the bytes behind the blanks at the front
 abbrev pub after_blanks : List ℕ → List ℕ
-after_blanks bytes = drop (prefix_len is_blank bytes) bytes
+after_blanks bytes = drop (position_or_len (λ b. not (is_blank b)) bytes) bytes
 
 -- a word ends where the line does, and at a blank
 abbrev pub ends_word : List ℕ → Bool
@@ -70,7 +71,7 @@ abbrev pub quoted_at : List ℕ → Option (Word × List ℕ)
 quoted_at bytes = closed (text_at bytes).0 (text_at bytes).1
 
 abbrev pub bare_at : List ℕ → Option (Word × List ℕ)
-bare_at bytes = let rest = drop (prefix_len is_bare bytes) bytes in if ends_word rest then Some (Bare (take_while is_bare bytes), rest) else None
+bare_at bytes = let rest = drop (position_or_len ends_bare bytes) bytes in if ends_word rest then Some (Bare (before_first ends_bare bytes), rest) else None
 
 abbrev pub first_word : List ℕ → Option (Word × List ℕ)
 first_word [] = None

@@ -1,7 +1,8 @@
 //! The words of a line.
 
-ghost use Rattle.std.specs.Prelude.{◌≡◌, ◌<◌, length, option_map, IfOk, IfSome};
-ghost use Rattle.tileshell.specs.Words.{is_blank, is_bare, after_blanks, ends_word, hex_byte, byte_at, text_at, quoted_at, bare_at, word_at};
+ghost use Rattle.std.specs.Prelude.{◌≡◌, ◌<◌, ◌≤◌, not, length, option_map, IfOk, IfSome};
+ghost use Rattle.std.specs.List.{position, position_or_len};
+ghost use Rattle.tileshell.specs.Words.{is_blank, ends_bare, after_blanks, ends_word, hex_byte, byte_at, text_at, quoted_at, bare_at, word_at};
 ghost use Rattle.tileshell.specs.Spelled.{word_of};
 
 use crate::parse_error::ParseError;
@@ -22,21 +23,46 @@ fn is_blank(byte: u8) -> bool
     matches!(byte, b' ' | b'\t' | b'\r')
 }
 
-fn is_bare(byte: u8) -> bool
-    ensures { result ≡ is_bare byte }
+fn ends_bare(byte: u8) -> bool
+    ensures { result ≡ ends_bare byte }
 {
-    !is_blank(byte) && byte != b'"'
+    is_blank(byte) || byte == b'"'
+}
+
+fn first_word(bytes: &[u8]) -> Option<usize>
+    ensures { result ≡ position (λ b. not (is_blank b)) bytes.now }
+{
+    bytes.iter().position(|byte| !is_blank(*byte))
+}
+
+fn first_end(bytes: &[u8]) -> Option<usize>
+    ensures { result ≡ position ends_bare bytes.now }
+{
+    bytes.iter().position(|byte| ends_bare(*byte))
+}
+
+/// How many blanks stand at the front.
+fn count_blanks(bytes: &[u8]) -> usize
+    ensures place { result ≡ position_or_len (λ b. not (is_blank b)) bytes.now }
+    ensures within { result ≤ length bytes.now }
+{
+    first_word(bytes).unwrap_or(bytes.len())
+}
+
+/// How long the bare word at the front is.
+fn bare_len(bytes: &[u8]) -> usize
+    ensures place { result ≡ position_or_len ends_bare bytes.now }
+    ensures within { result ≤ length bytes.now }
+{
+    first_end(bytes).unwrap_or(bytes.len())
 }
 
 /// The bytes behind the blanks at the front.
 pub fn after_blanks(bytes: &[u8]) -> &[u8]
     ensures { result.now ≡ after_blanks bytes.now }
 {
-    let start = bytes
-        .iter()
-        .position(|byte| !is_blank(*byte))
-        .unwrap_or(bytes.len());
-    &bytes[start..]
+    let (_, rest) = bytes.split_at(count_blanks(bytes));
+    rest
 }
 
 fn ends_word(rest: &[u8]) -> bool
@@ -61,6 +87,7 @@ fn hex_byte(high: u8, low: u8) -> Option<u8>
 }
 
 /// The byte that is spelled at the front of a text, and the bytes behind its spelling.
+#[tactic(auto, unfolding(crate::specs::Words::byte_at))]
 fn byte_at(bytes: &[u8]) -> Option<(u8, &[u8])>
     ensures value { option_map (λ found. (found.0, found.1.now)) result ≡ byte_at bytes.now }
     ensures shorter { IfSome result (λ found. length found.1.now < length bytes.now) }
@@ -111,11 +138,7 @@ fn quoted_at(bytes: &[u8]) -> Option<(Word<'_>, &[u8])>
 fn bare_at(bytes: &[u8]) -> Option<(Word<'_>, &[u8])>
     ensures { option_map (λ found. (word_of found.0, found.1.now)) result ≡ bare_at bytes.now }
 {
-    let end = bytes
-        .iter()
-        .position(|byte| !is_bare(*byte))
-        .unwrap_or(bytes.len());
-    let (word, rest) = bytes.split_at(end);
+    let (word, rest) = bytes.split_at(bare_len(bytes));
     if ends_word(rest) {
         Some((Word::Bare(word), rest))
     } else {
@@ -124,6 +147,7 @@ fn bare_at(bytes: &[u8]) -> Option<(Word<'_>, &[u8])>
 }
 
 /// The first word, and what follows it.
+#[tactic(auto, unfolding(crate::specs::Words::word_at))]
 fn word_at(bytes: &[u8]) -> Option<(Word<'_>, &[u8])>
     ensures value { option_map (λ found. (word_of found.0, found.1.now)) result ≡ word_at bytes.now }
     ensures shorter { IfSome result (λ found. length found.1.now < length bytes.now) }
