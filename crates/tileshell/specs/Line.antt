@@ -1,5 +1,5 @@
 -- What a line of a script asks for.
-use Rattle.std.specs.Prelude.{ℕ, ◌^◌, Bool, true, ◌&&◌, not, List, [], ◌∷◌, length, Option, Some, None, Result, Ok, Err, ◌==◌, nat_lt, if◌then◌else◌, codes}
+use Rattle.std.specs.Prelude.{ℕ, ◌^◌, Bool, true, ◌&&◌, not, List, [], ◌∷◌, length, Option, Some, None, Result, Ok, Err, ◌==◌, nat_lt, if◌then◌else◌, codes, ok_or}
 use Rattle.std.specs.Str.{bytes_eq, all_ascii_digits}
 use Rattle.std.specs.Str.Parse.{digits_value}
 use Rattle.std.specs.Str.Lossy.{utf8_valid_len}
@@ -76,9 +76,9 @@ is_remark line = is_remark_behind (after_blanks line)
 abbrev pub is_utf8 : List ℕ → Bool
 is_utf8 bytes = utf8_valid_len bytes == length bytes
 
-abbrev pub some_request : Option (List Word) → Result (Option Request) ParseError
-some_request None = Err BadWord
-some_request (Some words) = asked_by words >>= λ request. Ok (Some request)
+-- what a line of words asks for
+unfoldable pub request_in : List ℕ → Result Request ParseError
+request_in line = ok_or (words_of line) BadWord >>= asked_by
 
 -- what a line of at most 65,536 bytes asks for: nothing, a request, or the first of the refusals in this order
 unfoldable pub answer_to : List ℕ → Result (Option Request) ParseError
@@ -86,4 +86,4 @@ answer_to line =
     if nat_lt 65536 (length line) then Err LineTooLong
     else (if not (is_utf8 line) then Err BadUtf8
     else (if is_remark line then Ok None
-    else some_request (words_of line)))
+    else (request_in line >>= λ request. Ok (Some request))))

@@ -1,5 +1,4 @@
 -- Which plain word a word of the program stands for.
-use Rattle.std.specs.Prelude.{List, map}
 use Rattle.tileshell.specs.Words as plain
 use Rattle.tileshell.specs.declared.words.Word.{Word}
 use Rattle.tileshell.specs.declared.words.Word.TheVariants.{Bare, Quoted}
@@ -7,6 +6,3 @@ use Rattle.tileshell.specs.declared.words.Word.TheVariants.{Bare, Quoted}
 abbrev pub word_of : Word → plain.Word
 word_of (Bare bytes) = plain.Bare bytes.now
 word_of (Quoted bytes) = plain.Quoted (plain.text_at bytes.now).0
-
-abbrev pub words_of : List Word → List plain.Word
-words_of words = map word_of words

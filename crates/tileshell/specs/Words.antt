@@ -81,6 +81,10 @@ first_word (b ∷ more) = if b == 34 then quoted_at more else bare_at (b ∷ mor
 unfoldable pub word_at : List ℕ → Option (Word × List ℕ)
 word_at bytes = first_word (after_blanks bytes)
 
+-- all words that were found, where blanks alone are left
+abbrev pub all_found : List Word × List ℕ → Option (List Word)
+all_found found = if length (after_blanks found.1) == 0 then Some found.0 else None
+
 -- the words of a line, or none where something is no word
 unfoldable pub words_of : List ℕ → Option (List Word)
-words_of line = let found = taken word_at line in if length (after_blanks found.1) == 0 then Some found.0 else None
+words_of line = all_found (taken word_at line)

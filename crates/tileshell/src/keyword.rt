@@ -1,6 +1,7 @@
 //! The words that a request begins with.
 
 ghost use Rattle.std.specs.Prelude.{◌≡◌};
+ghost use Rattle.tileshell.specs.Line.{keyword_of};
 
 #[derive(Clone, Copy, Debug, PartialEq, Eq)]
 pub enum Keyword {
@@ -9,7 +10,10 @@ pub enum Keyword {
 }
 
 /// The request that begins with this word.
-pub fn keyword_of(name: &[u8]) -> Option<Keyword> {
+#[tactic(auto, unfolding(crate::specs::Line::keyword_of))]
+pub fn keyword_of(name: &[u8]) -> Option<Keyword>
+    ensures { result ≡ keyword_of name.now }
+{
     match name {
         b"rename-layer" => Some(Keyword::RenameLayer),
         b"undo" => Some(Keyword::Undo),

@@ -1,8 +1,10 @@
 //! The words of a line.
 
-ghost use Rattle.std.specs.Prelude.{◌≡◌, ◌<◌, ◌≤◌, not, length, option_map, IfOk, IfSome};
+ghost use Rattle.std.specs.Prelude.{◌≡◌, ◌<◌, ◌≤◌, not, length, map, option_map, ok_or, IfOk, IfSome};
 ghost use Rattle.std.specs.List.{position, position_or_len};
-ghost use Rattle.tileshell.specs.Words.{is_blank, ends_bare, after_blanks, ends_word, hex_byte, byte_at, text_at, quoted_at, bare_at, word_at};
+ghost use Rattle.tileshell.specs.Words.{is_blank, ends_bare, after_blanks, ends_word, hex_byte, byte_at, text_at, quoted_at, bare_at, word_at, words_of};
+ghost use Rattle.tileshell.specs.Answers.{Gives};
+ghost use Rattle.tileshell.specs.declared.parse_error.ParseError.TheVariants.{BadWord};
 ghost use Rattle.tileshell.specs.Spelled.{word_of};
 
 use crate::parse_error::ParseError;
@@ -160,7 +162,10 @@ fn word_at(bytes: &[u8]) -> Option<(Word<'_>, &[u8])>
 }
 
 /// The words of a line.
-pub fn words(alloc: Global, line: &[u8]) -> Result<Vec<Word<'_>>, ParseError> {
+#[tactic(auto, unfolding(crate::specs::Words::words_of))]
+pub fn words(alloc: Global, line: &[u8]) -> Result<Vec<Word<'_>>, ParseError>
+    ensures { Gives (λ words. map word_of words.items) result (ok_or (words_of line.now) BadWord) }
+{
     let mut words = Vec::new(alloc);
     let mut rest = line;
     while let Some((word, after)) = word_at(rest) {
