@@ -1,3 +1,4 @@
 pub mod Places
 pub mod Repeats
 pub mod Short
+pub mod Numbers

@@ -1,8 +1,7 @@
 -- What a line of a script asks for.
 use Rattle.std.specs.Prelude.{ℕ, ◌^◌, Bool, true, ◌&&◌, not, List, [], ◌∷◌, length, Option, Some, None, Result, Ok, Err, ◌==◌, nat_lt, if◌then◌else◌, codes, ok_or}
-use Rattle.std.specs.Str.{bytes_eq, all_ascii_digits}
+use Rattle.std.specs.Str.{bytes_eq, is_utf8, all_ascii_digits}
 use Rattle.std.specs.Str.Parse.{digits_value}
-use Rattle.std.specs.Str.Lossy.{utf8_valid_len}
 use Rattle.tileshell.specs.Command.{LayerChoice, AtOrdinal, Named, RenameLayer, Request, Edit, Undo}
 use Rattle.tileshell.specs.Words.{Word, Bare, Quoted, after_blanks, words_of}
 use Rattle.tileshell.specs.declared.keyword.Keyword.{Keyword}
@@ -72,9 +71,6 @@ is_remark_behind (b ∷ more) = b == 35
 
 abbrev pub is_remark : List ℕ → Bool
 is_remark line = is_remark_behind (after_blanks line)
-
-abbrev pub is_utf8 : List ℕ → Bool
-is_utf8 bytes = utf8_valid_len bytes == length bytes
 
 -- what a line of words asks for
 unfoldable pub request_in : List ℕ → Result Request ParseError

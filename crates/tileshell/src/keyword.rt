@@ -14,9 +14,11 @@ pub enum Keyword {
 pub fn keyword_of(name: &[u8]) -> Option<Keyword>
     ensures { result ≡ keyword_of name.now }
 {
-    match name {
-        b"rename-layer" => Some(Keyword::RenameLayer),
-        b"undo" => Some(Keyword::Undo),
-        _ => None,
+    if name == b"rename-layer".as_slice() {
+        Some(Keyword::RenameLayer)
+    } else if name == b"undo".as_slice() {
+        Some(Keyword::Undo)
+    } else {
+        None
     }
 }

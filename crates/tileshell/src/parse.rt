@@ -2,9 +2,10 @@
 
 ghost use Rattle.std.specs.Prelude.{◌≡◌, ◌+◌, ◌*◌, ◌^◌, ◌<◌, map, option_map};
 ghost use Rattle.std.specs.Option.{SomeIff};
+ghost use Rattle.std.specs.Str.{is_utf8};
 ghost use Rattle.tileshell.specs.Answers.{Gives};
 ghost use Rattle.tileshell.specs.Asked.{layer_choice_of, request_of};
-ghost use Rattle.tileshell.specs.Line.{number_of, text_of, layer_of, rename_layer_of, undo_of, asked_by, request_in, is_remark, is_utf8, answer_to};
+ghost use Rattle.tileshell.specs.Line.{number_of, text_of, layer_of, rename_layer_of, undo_of, asked_by, request_in, is_remark, answer_to};
 ghost use Rattle.tileshell.specs.Spelled.{word_of};
 
 use crate::command::{Command, LayerChoice, Request};
@@ -126,7 +127,10 @@ fn number(digits: &[u8]) -> Result<u64, ParseError>
         if !digit.is_ascii_digit() {
             return Err(ParseError::BadNumber);
         }
-        value = with_digit(value, *digit - b'0').ok_or(ParseError::BadNumber)?;
+        let Some(next) = with_digit(value, *digit - b'0') else {
+            return Err(ParseError::BadNumber);
+        };
+        value = next;
     }
     Ok(value)
 }
