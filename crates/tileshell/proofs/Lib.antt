@@ -2,3 +2,4 @@ pub mod Places
 pub mod Repeats
 pub mod Short
 pub mod Numbers
+pub mod LineCuts

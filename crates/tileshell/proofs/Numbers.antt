@@ -1,11 +1,11 @@
 -- A number as a loop over its digits reads it.
-use Rattle.std.proofs.Common.{◌≡◌, ℕ, zero, suc, ◌+◌, ◌-◌, ◌*◌, ◌<◌, ◌≤◌, ◌^◌, Bool, true, false, cond, ltb, eqb, not, List, [], ◌∷◌, ◌++◌, length, take, drop, get_or, map, Ok, Err, refl, sym, ap, subst, ◌∙◌, arith}
+use Rattle.std.proofs.Common.{◌≡◌, ℕ, zero, suc, ◌+◌, ◌-◌, ◌*◌, ◌<◌, ◌≤◌, ◌^◌, Bool, true, false, cond, ltb, eqb, not, List, [], ◌∷◌, ◌++◌, length, take, drop, get_or, map, Ok, Err, refl, sym, ap, ◌∙◌, arith}
 use Rattle.std.specs.Prelude.{◌&&◌}
 use Rattle.std.specs.Str.{all_ascii_digits}
 use Rattle.std.specs.Str.Parse.{digits_value}
 use Rattle.std.specs.Char.{is_ascii_digit, digit_value}
 use Rattle.std.specs.Int.Digits.{number_from_digits, number_from_digits_after}
-use Rattle.std.proofs.lemmas.Bool.{ltb-true, ltb-false, lt-ltb, le-ltb}
+use Rattle.std.proofs.lemmas.Bool.{ltb-true, lt-ltb}
 use Rattle.std.proofs.lemmas.Bool.Decides.{nat_tests}
 use Rattle.std.proofs.lemmas.List.{take-append-drop, map-append}
 use Rattle.std.proofs.lemmas.Int.Digits.{digits_value_is, digits_value_more, number_after_append, number_after_ge}
@@ -19,7 +19,7 @@ value_le bytes k =
     let rest = map digit_value (drop k bytes) in
     let whole : map digit_value bytes ≡ map digit_value front ++ rest = ap (map digit_value) (sym (take-append-drop k bytes)) ∙ map-append digit_value front (drop k bytes) in
     let value : digits_value 10 bytes ≡ number_from_digits_after 10 (digits_value 10 front) rest =
-        digits_value_is 10 bytes ∙ ap (number_from_digits 10) whole ∙ number_after_append 10 0 (map digit_value front) rest ∙ ap (λ (n : ℕ). number_from_digits_after 10 n rest) (sym (digits_value_is 10 front)) in
+    digits_value_is 10 bytes ∙ ap (number_from_digits 10) whole ∙ number_after_append 10 0 (map digit_value front) rest ∙ ap (λ (n : ℕ). number_from_digits_after 10 n rest) (sym (digits_value_is 10 front)) in
     omega (arith, value, number_after_ge 10 (digits_value 10 front) rest (omega arith))
 
 pub all_digits : (bytes : List ℕ) → ((k : ℕ) → k < length bytes → is_ascii_digit (get_or bytes k 0) ≡ true) → all_ascii_digits bytes ≡ true
@@ -39,9 +39,9 @@ pub no_number : (bytes : List ℕ) → (is_number bytes ≡ true → ⊥) → nu
 unfolding number_of
 no_number bytes never = refuted (is_number bytes) refl
   where
-  refuted : (b : Bool) → is_number bytes ≡ b → cond b (Ok (digits_value 10 bytes)) (Err BadNumber) ≡ Err BadNumber
-  refuted true e = absurd (never e)
-  refuted false e = refl
+    refuted : (b : Bool) → is_number bytes ≡ b → cond b (Ok (digits_value 10 bytes)) (Err BadNumber) ≡ Err BadNumber
+    refuted true e = absurd (never e)
+    refuted false e = refl
 
 pub is_number_parts : (bytes : List ℕ) → is_number bytes ≡ true → (0 < length bytes) × (all_ascii_digits bytes ≡ true) × (digits_value 10 bytes < 2 ^ 64)
 is_number_parts bytes e =

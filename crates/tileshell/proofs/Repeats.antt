@@ -1,5 +1,5 @@
 -- A step that is repeated as long as it takes something, for steps that take at least a byte.
-use Rattle.std.proofs.Common.{◌≡◌, ℕ, zero, suc, ◌+◌, ◌<◌, ◌≤◌, List, [], ◌∷◌, ◌++◌, length, Option, Some, None, refl, sym, ap, ◌∙◌, arith, append_assoc}
+use Rattle.std.proofs.Common.{◌≡◌, ℕ, zero, suc, ◌<◌, ◌≤◌, List, [], ◌∷◌, ◌++◌, length, Option, Some, None, refl, sym, ap, ◌∙◌, arith, append_assoc}
 use Rattle.std.specs.Prelude.{IfSome}
 use Rattle.std.specs.Option.{option_map_or}
 use Rattle.std.proofs.lemmas.List.{append-nil}
@@ -64,6 +64,6 @@ unfolding repeated
 rest_le step short zero bytes = omega arith
 rest_le step short (suc n) bytes = left_le (λ found. onto found.0 (repeated step n found.1)) bytes (step bytes) (short bytes) (λ x. rest_le step short n x.1)
   where
-  left_le : {A : Type 0} (f : A × List ℕ → List A × List ℕ) (bytes : List ℕ) (o : Option (A × List ℕ)) → IfSome o (λ found. length found.1 < length bytes) → ((x : A × List ℕ) → length (f x).1 ≤ length x.1) → length (option_map_or f o ([], bytes)).1 ≤ length bytes
-  left_le f bytes None h le = omega arith
-  left_le f bytes (Some x) h le = omega (arith, h, le x)
+    left_le : {A : Type 0} (f : A × List ℕ → List A × List ℕ) (bytes : List ℕ) (o : Option (A × List ℕ)) → IfSome o (λ found. length found.1 < length bytes) → ((x : A × List ℕ) → length (f x).1 ≤ length x.1) → length (option_map_or f o ([], bytes)).1 ≤ length bytes
+    left_le f bytes None h le = omega arith
+    left_le f bytes (Some x) h le = omega (arith, h, le x)

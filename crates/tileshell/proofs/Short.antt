@@ -1,10 +1,10 @@
 -- A byte of a text and a word of a line leave less than they were read from.
-use Rattle.std.proofs.Common.{◌≡◌, ℕ, zero, suc, ◌+◌, ◌-◌, ◌<◌, ◌≤◌, Bool, true, false, cond, eqb, List, [], ◌∷◌, length, drop, get_or, not, ◌||◌, Option, Some, None, refl, sym, ap, ◌∙◌, subst, arith}
-use Rattle.std.specs.Prelude.{IfSome, ◌&&◌, option_map, nat_lt}
-use Rattle.std.specs.List.{position_or_len, before_first, prefix_len}
+use Rattle.std.proofs.Common.{◌≡◌, ℕ, suc, ◌+◌, ◌<◌, ◌≤◌, Bool, true, false, cond, eqb, List, [], ◌∷◌, length, drop, get_or, not, ◌||◌, Option, Some, None, refl, sym, ap, ◌∙◌, subst, arith}
+use Rattle.std.specs.Prelude.{IfSome, ◌&&◌, option_map}
+use Rattle.std.specs.List.{position_or_len, before_first}
 use Rattle.std.proofs.lemmas.List.{length-drop, get_or-drop}
-use Rattle.std.proofs.lemmas.List.Sums.{prefix_len-le-length, prefix_len_stops}
-use Rattle.tileshell.specs.Words.{Word, Bare, Quoted, is_blank, ends_bare, after_blanks, ends_word, hex_byte, hex_at, escape_at, byte_at, text_at, closed, quoted_at, bare_at, first_word, word_at}
+use Rattle.std.proofs.lemmas.List.Sums.{prefix_len_stops}
+use Rattle.tileshell.specs.Words.{Bare, Quoted, is_blank, ends_bare, after_blanks, ends_word, hex_byte, hex_at, escape_at, byte_at, text_at, closed, quoted_at, bare_at, first_word, word_at}
 use Rattle.tileshell.proofs.Repeats.{Shortens, rest_le}
 
 -- a fact of both branches
@@ -76,9 +76,9 @@ first_short : (bytes : List ℕ) (n : ℕ) → length bytes ≤ n → ((b : ℕ)
 first_short [] n le no_blank = tt
 first_short (b ∷ more) n le no_blank = quote_or_not (eqb b 34) refl
   where
-  quote_or_not : (q : Bool) → eqb b 34 ≡ q → IfSome (cond q (quoted_at more) (bare_at (b ∷ more))) (λ found. length found.1 < n)
-  quote_or_not true e = quoted_short more n (omega arith)
-  quote_or_not false e = bare_short b more n le (none_of_two (is_blank b) (eqb b 34) (no_blank b more refl) e)
+    quote_or_not : (q : Bool) → eqb b 34 ≡ q → IfSome (cond q (quoted_at more) (bare_at (b ∷ more))) (λ found. length found.1 < n)
+    quote_or_not true e = quoted_short more n (omega arith)
+    quote_or_not false e = bare_short b more n le (none_of_two (is_blank b) (eqb b 34) (no_blank b more refl) e)
 
 pub word_short : Shortens word_at
 unfolding word_at

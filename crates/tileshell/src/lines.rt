@@ -1,7 +1,14 @@
 //! The lines of a script.
 
 ghost use Rattle.std.specs.Prelude.{◌≡◌, ◌∷◌, [], ◌<◌, length, MatchOption, IfSome};
-ghost use Rattle.tileshell.specs.Lines.{lines_of};
+ghost use Rattle.std.specs.List.{position};
+ghost use Rattle.tileshell.specs.Lines.{is_line_feed, lines_of};
+
+fn line_feed(script: &[u8]) -> Option<usize>
+    ensures { result ≡ position is_line_feed script.now }
+{
+    script.iter().position(|byte| *byte == b'\n')
+}
 
 /// The first line, without its line feed, and what stands behind that.
 pub fn first_line(script: &[u8]) -> Option<(&[u8], &[u8])>
@@ -12,7 +19,7 @@ pub fn first_line(script: &[u8]) -> Option<(&[u8], &[u8])>
     if script.is_empty() {
         return None;
     }
-    match script.iter().position(|byte| *byte == b'\n') {
+    match line_feed(script) {
         Some(end) => Some((&script[..end], &script[end + 1..])),
         None => Some((script, &[])),
     }

@@ -95,13 +95,14 @@ fn undo(arguments: &[Word<'_>]) -> Result<Request, ParseError>
     }
 }
 
-#[tactic(auto, unfolding(crate::specs::Line::layer_of))]
+#[tactic(auto, unfolding(crate::specs::Line::layer_of, crate::specs::Line::text_of))]
 fn layer_choice(alloc: Global, word: Word<'_>) -> Result<LayerChoice, ParseError>
     ensures { Gives layer_choice_of result (layer_of (word_of word.entry)) }
 {
     match word {
         Word::Bare([b'#', digits @ ..]) => Ok(LayerChoice::Ordinal(number(digits)?)),
-        name => Ok(LayerChoice::Name(text_argument(alloc, name)?)),
+        Word::Bare(_) => Err(ParseError::BadArguments),
+        Word::Quoted(_) => Ok(LayerChoice::Name(text_argument(alloc, word)?)),
     }
 }
 

@@ -1,9 +1,8 @@
-use Rattle.std.proofs.Common.{◌≡◌, ℕ, ◌+◌, ◌-◌, ◌*◌, ◌<◌, ◌^◌, true, false, get_or, length, take, Ok, refl, sym, ap, subst, ◌∙◌, below_more, arith}
+use Rattle.std.proofs.Common.{◌≡◌, ℕ, ◌<◌, true, false, get_or, length, Ok, sym, ap, ◌∙◌, below_more, arith}
 use Rattle.std.specs.Char.{is_ascii_digit}
 use Rattle.std.specs.Str.Parse.{digits_value}
 use Rattle.std.proofs.lemmas.List.{take_all}
 use Rattle.std.proofs.lemmas.Bool.Decides.{nat_tests}
-use Rattle.tileshell.specs.Line.{number_of}
 use Rattle.tileshell.proofs.Numbers.{stops_at_other, stops_at_limit, next_value, all_digits, is_a_number}
 use Rattle.tileshell.proofs.parse.number.Goals as goal
 

@@ -7,5 +7,5 @@ abbrev pub invariant-loop-digit : goal.invariant-loop-digit
 invariant-loop-digit l = record {
   so_far : l.value ≡ digits_value 10 (take l.digit-index l.digits);
   fits : l.value < 2 ^ 64;
-  digits : (k : ℕ) → k < l.digit-index → is_ascii_digit (get_or l.digits k 0) ≡ true
+  digits : (k : ℕ) → k < l.digit-index → is_ascii_digit (get_or l.digits k 0) ≡ true;
 }

@@ -1,5 +1,3 @@
-use Rattle.std.proofs.Common.{◌≡◌, rules}
-use Rattle.std.specs.List.{position}
 use Rattle.tileshell.specs.Words.{ends_bare}
 use Rattle.tileshell.proofs.Places.{place_le, place_from_position}
 use Rattle.tileshell.proofs.words.bare_len.Goals as goal

@@ -1,5 +1,4 @@
-use Rattle.std.proofs.Common.{◌≡◌, not, rules}
-use Rattle.std.specs.List.{position}
+use Rattle.std.proofs.Common.{not}
 use Rattle.tileshell.specs.Words.{is_blank}
 use Rattle.tileshell.proofs.Places.{place_le, place_from_position}
 use Rattle.tileshell.proofs.words.count_blanks.Goals as goal

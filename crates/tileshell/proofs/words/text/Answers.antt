@@ -1,6 +1,6 @@
-use Rattle.std.proofs.Common.{◌≡◌, ℕ, List, []  , ◌∷◌, ◌++◌, sym, ap}
+use Rattle.std.proofs.Common.{ℕ, List, sym, ap}
 use Rattle.tileshell.specs.Words.{byte_at, text_at}
-use Rattle.tileshell.proofs.Repeats.{behind, goes_on, ends}
+use Rattle.tileshell.proofs.Repeats.{goes_on, ends}
 use Rattle.tileshell.proofs.Short.{byte_short}
 use Rattle.tileshell.proofs.words.text.Goals as goal
 

@@ -4,7 +4,7 @@ use Rattle.tileshell.specs.declared.parse_error.ParseError.TheVariants.{BadWord}
 use Rattle.std.proofs.lemmas.List.{map_push}
 use Rattle.tileshell.specs.Words.{Word, word_at, taken, all_found, after_blanks, words_of}
 use Rattle.tileshell.specs.Spelled.{word_of}
-use Rattle.tileshell.proofs.Repeats.{behind, goes_on, ends}
+use Rattle.tileshell.proofs.Repeats.{goes_on, ends}
 use Rattle.tileshell.proofs.Short.{word_short}
 use Rattle.tileshell.proofs.words.words.Goals as goal
 
