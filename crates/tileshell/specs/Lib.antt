@@ -1,0 +1,7 @@
+pub mod Command
+pub mod Asked
+pub mod Words
+pub mod Spelled
+pub mod Line
+pub mod Answers
+pub mod Lines

@@ -1,2 +1,17 @@
 //! A line editor for one vector tile, with exact undo.
 #![tactic(auto)]
+
+mod command;
+mod keyword;
+mod lines;
+mod parse;
+mod parse_error;
+mod words;
+
+pub use command::{Command, LayerChoice, Request};
+pub use lines::first_line;
+pub use parse::parse_line;
+pub use parse_error::ParseError;
+
+#[cfg(test)]
+mod tests;

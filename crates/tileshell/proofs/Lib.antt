@@ -1,0 +1,5 @@
+pub mod Places
+pub mod Repeats
+pub mod Short
+pub mod Numbers
+pub mod LineCuts

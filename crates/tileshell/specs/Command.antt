@@ -1,0 +1,14 @@
+-- What a script can ask for, as plain values.
+use Rattle.std.specs.Prelude.{ℕ, List}
+
+-- the layer that a command means: the one at that place among the layers, or the one of that name
+pub data LayerChoice : Type 0 where
+  AtOrdinal : (ordinal : ℕ) → LayerChoice
+  Named : (name : List ℕ) → LayerChoice
+
+pub data Command : Type 0 where
+  RenameLayer : (layer : LayerChoice) (name : List ℕ) → Command
+
+pub data Request : Type 0 where
+  Edit : (command : Command) → Request
+  Undo : Request

@@ -1,0 +1,21 @@
+-- The lines of a script.
+use Rattle.std.specs.Prelude.{ℕ, Bool, List, [], ◌∷◌, ◌==◌}
+use Rattle.std.specs.List.{slice_split}
+
+-- the bytes behind the last line feed are a line where there is one at least
+abbrev pub last_line : List ℕ → List (List ℕ)
+last_line [] = []
+last_line (b ∷ line) = (b ∷ line) ∷ []
+
+-- the parts between line feeds, without a last one that is empty
+abbrev pub without_empty_end : List (List ℕ) → List (List ℕ)
+without_empty_end [] = []
+without_empty_end (line ∷ []) = last_line line
+without_empty_end (line ∷ next ∷ more) = line ∷ without_empty_end (next ∷ more)
+
+abbrev pub is_line_feed : ℕ → Bool
+is_line_feed b = b == 10
+
+-- the lines of a script: what stands before each line feed, and behind the last one where a byte does
+unfoldable pub lines_of : List ℕ → List (List ℕ)
+lines_of script = without_empty_end (slice_split is_line_feed script)

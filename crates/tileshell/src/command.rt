@@ -1,0 +1,25 @@
+//! What a script can ask for.
+
+use mvt_wire::Items;
+
+/// The layer that a command means.
+#[derive(Debug, Drop)]
+pub enum LayerChoice {
+    /// The place among the layers, from 0.
+    Ordinal(u64),
+    /// The bytes of the name.
+    Name(Items<u8>),
+}
+
+/// A change of the tile.
+#[derive(Debug, Drop)]
+pub enum Command {
+    RenameLayer { layer: LayerChoice, name: Items<u8> },
+}
+
+/// What a line of a script asks for.
+#[derive(Debug, Drop)]
+pub enum Request {
+    Edit(Command),
+    Undo,
+}
