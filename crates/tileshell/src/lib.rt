@@ -1,2 +1,11 @@
 //! A line editor for one vector tile, with exact undo.
 #![tactic(auto)]
+
+mod device;
+mod std_device;
+mod transfer;
+
+pub use device::{Sink, Source, Trouble};
+pub use std_device::{FromRead, FromWrite};
+pub use transfer::{ReadFault, append_to_limit, read_to_limit, write_all};
+
