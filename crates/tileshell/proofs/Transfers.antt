@@ -21,7 +21,7 @@ reads_nothing t left before limit = record {
   appended = sym (append-nil before);
   counted = omega arith;
   still = λ h. h;
-  consumed = λ h. Consumes-nil left
+  consumed = λ h. Consumes-nil left;
 }
 
 pub reads_more : (t0 t1 t2 : Bool) (l0 l1 l2 : Option (List ℕ)) (before after grown piece : List ℕ) (limit room n : ℕ)
@@ -34,7 +34,7 @@ reads_more t0 t1 t2 l0 l1 l2 before after grown piece limit room n r still consu
   appended = e ∙ ap (λ (t : List ℕ). t ++ piece) r.appended ∙ append_assoc before r.more piece;
   counted = let c = r.counted in omega (arith, length-append r.more piece);
   still = λ h. r.still (still h);
-  consumed = λ h. Consumes-trans l0 l1 l2 r.more piece (r.consumed (still h)) (consumed h)
+  consumed = λ h. Consumes-trans l0 l1 l2 r.more piece (r.consumed (still h)) (consumed h);
 }
 
 -- a call that gave nothing
@@ -46,7 +46,7 @@ reads_kept t0 t1 t2 l0 l1 l2 before after limit room r still kept = record {
   appended = r.appended;
   counted = r.counted;
   still = λ h. r.still (still h);
-  consumed = λ h. Consumes-kept l0 l1 l2 r.more (r.consumed (still h)) (kept h)
+  consumed = λ h. Consumes-kept l0 l1 l2 r.more (r.consumed (still h)) (kept h);
 }
 
 module _ (told tells : Bool) (left rest : Option (List ℕ)) (before after : List ℕ) (limit room : ℕ) (r : Reads told tells left rest before after limit room) where
@@ -77,7 +77,7 @@ writes_nothing t w all = record {
   done = [];
   split = refl;
   still = λ h. h;
-  appended = λ h. Appends-nil w
+  appended = λ h. Appends-nil w;
 }
 
 pub writes_more : (t0 t1 t2 : Bool) (w0 w1 w2 : Option (List ℕ)) (all rest less : List ℕ) (n : ℕ)
@@ -87,9 +87,9 @@ pub writes_more : (t0 t1 t2 : Bool) (w0 w1 w2 : Option (List ℕ)) (all rest les
 writes_more t0 t1 t2 w0 w1 w2 all rest less n w still appended e = record {
   done = w.done ++ take n rest;
   split = w.split ∙ ap (λ (t : List ℕ). w.done ++ t) (sym (take-append-drop n rest) ∙ ap (λ (t : List ℕ). take n rest ++ t) (sym e))
-    ∙ sym (append_assoc w.done (take n rest) less);
+      ∙ sym (append_assoc w.done (take n rest) less);
   still = λ h. w.still (still h);
-  appended = λ h. Appends-trans w0 w1 w2 w.done (take n rest) (w.appended (still h)) (appended h)
+  appended = λ h. Appends-trans w0 w1 w2 w.done (take n rest) (w.appended (still h)) (appended h);
 }
 
 -- nothing is left to write
@@ -103,10 +103,11 @@ pub wrote_front : (t0 t1 t2 : Bool) (w0 w1 w2 : Option (List ℕ)) (all rest : L
     → Writes t0 t1 w0 w1 all rest → 0 < length rest → (IsTrue t2 → IsTrue t1) → (IsTrue t2 → Keeps w1 w2)
     → IsTrue t2 → (n : ℕ) × (n < length all) × Appends w0 w2 (take n all)
 wrote_front t0 t1 t2 w0 w1 w2 all rest w some still kept h =
-    let front : take (length w.done) all ≡ w.done = ap (take (length w.done)) w.split ∙ take_at w.done rest (length w.done) refl in
-    (length w.done,
-     omega (arith, ap length w.split, length-append w.done rest),
-     subst (Appends w0 w2) (sym front) (Appends-kept w0 w1 w2 w.done (w.appended (still h)) (kept h)))
+    let front : take (length w.done) all ≡ w.done = ap (take (length w.done)) w.split ∙ take_at w.done rest (length w.done) refl in (
+      length w.done,
+      omega (arith, ap length w.split, length-append w.done rest),
+      subst (Appends w0 w2) (sym front) (Appends-kept w0 w1 w2 w.done (w.appended (still h)) (kept h)),
+    )
 
 pub on_err : {A E P : Type 0} (r : Result A E) → P → OnErr r P
 on_err (Ok a) p = tt

@@ -27,6 +27,7 @@ pub trait Source {
 
     // How many of its calls were interrupted, and how many failed. Both stay at 2^64 - 1.
     ghost interruptions: { Self → ℕ };
+
     ghost failures: { Self → ℕ };
 
     /// Reads into the front of the buffer. None, with room for one, is the end.
@@ -50,6 +51,7 @@ pub trait Sink {
 
     // How many of its calls were interrupted, and how many failed. Both stay at 2^64 - 1.
     ghost interruptions: { Self → ℕ };
+
     ghost failures: { Self → ℕ };
 
     /// Writes the front of the bytes.

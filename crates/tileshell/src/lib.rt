@@ -7,5 +7,6 @@ mod transfer;
 
 pub use device::{Sink, Source, Trouble};
 pub use std_device::{FromRead, FromWrite};
-pub use transfer::{ReadFault, append_to_limit, read_to_limit, write_all};
 
+#[cfg(test)]
+mod tests;

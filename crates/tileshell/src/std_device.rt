@@ -159,7 +159,8 @@ fn trouble_of(error: &io::Error) -> Trouble
     }
 }
 
-fn count(trouble: Trouble, interruptions: &mut u64, failures: &mut u64)
+/// Counts a trouble.
+pub(crate) fn count(trouble: Trouble, interruptions: &mut u64, failures: &mut u64)
     ensures interruptions { interruptions.new ≡ interruptions_after (Some trouble) interruptions.old }
     ensures failures { failures.new ≡ failures_after (Some trouble) failures.old }
 {

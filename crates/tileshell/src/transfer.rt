@@ -45,16 +45,13 @@ pub fn append_to_limit<S: Source>(
     let mut room = limit;
     while room > 0 {
         let size = room.min(PIECE);
-        if bytes.reserve(size).is_err() {
-            return Err(ReadFault::NoMemory);
-        }
+        bytes.reserve(size).map_err(|_| ReadFault::NoMemory)?;
         let count = source.read(&mut piece[..size]).map_err(ReadFault::Device)?;
         if count == 0 {
             return Ok(());
         }
-        if bytes.extend_from_slice(&piece[..count]).is_err() {
-            return Err(ReadFault::NoMemory);
-        }
+        // The room was made before the read, so that no byte is lost.
+        bytes.extend_from_slice(&piece[..count]).unwrap();
         room -= count;
     }
     Ok(())

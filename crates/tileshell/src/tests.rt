@@ -1,0 +1,4 @@
+//! What the contracts of devices leave to tests.
+
+mod devices;
+mod drip;
