@@ -69,7 +69,13 @@ fn keeps_what_was_read_before_a_trouble(rt: HostRuntime) -> Result<(), Fail> {
             assert_eq!(rt; result, Err(ReadFault::Device(trouble)));
             assert_eq!(rt; &bytes[..2], b"> ".as_slice());
             assert_eq!(rt; &bytes[2..], &TEXT[..call]);
-            assert_eq!(rt; source.calls.interruptions + source.calls.failures, 1);
+            let counts = (source.calls.interruptions, source.calls.failures);
+            let want = if trouble == Trouble::Interrupted {
+                (1, 0)
+            } else {
+                (0, 1)
+            };
+            assert_eq!(rt; counts, want);
         }
     }
     Ok(())
