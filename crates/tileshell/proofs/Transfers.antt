@@ -1,10 +1,10 @@
 -- What a loop that reads or writes piece by piece keeps, over plain values.
 use Rattle.std.proofs.Common.{◌≡◌, ℕ, ◌+◌, ◌-◌, ◌<◌, ◌≤◌, Bool, List, [], ◌++◌, IsTrue, length, take, drop, sym, ap, subst, ◌∙◌, arith, append_assoc, append-nil, length-append, take-append-drop, refl}
-use Rattle.std.proofs.lemmas.List.{drop_at, take_at, length-take-le}
+use Rattle.std.proofs.lemmas.List.{drop_at, take_at}
 use Rattle.std.specs.Prelude.{Result, Ok, Err, OnErr}
 use Rattle.std.specs.declared.option.Option.{Option}
 use Rattle.std.specs.Io.{StartsWith, appended_bytes}
-use Rattle.std.specs.Io.KnownBytes.{Appends, Consumes, Keeps, IsAtEnd}
+use Rattle.std.specs.Io.KnownBytes.{Appends, Consumes, Keeps}
 use Rattle.std.proofs.KnownBytes.{Appends-nil, Appends-trans, Appends-kept, Consumes-nil, Consumes-trans, Consumes-kept}
 
 -- the bytes `more` went from a source, told before and now, to the end of a buffer

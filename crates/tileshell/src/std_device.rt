@@ -8,7 +8,7 @@ use crate::device::{Sink, Source, Trouble};
 use std::io::{self, ErrorKind, Read, Write};
 use std::marker::Model;
 
-/// A reader of std as a source.
+/// A reader of std as a source. It tells its bytes, where the reader does, until its first trouble.
 #[derive(Debug, Drop)]
 pub struct FromRead<R> {
     reader: R,
@@ -19,7 +19,11 @@ pub struct FromRead<R> {
 impl<R> Model for FromRead<R> {
     ghost Value = { Counted R };
 
-    ghost view = { λ d. record { device = d.reader; interruptions = d.interruptions; failures = d.failures } };
+    ghost view = { λ d. record {
+      device = d.reader;
+      interruptions = d.interruptions;
+      failures = d.failures;
+    } };
 }
 
 impl<R> FromRead<R> {
@@ -74,7 +78,9 @@ impl<R: Read> Source for FromRead<R> {
     }
 }
 
-/// A writer of std as a sink.
+/// A writer of std as a sink. It tells its bytes, where the writer does, until its first trouble.
+/// A write that takes none of at least one byte has failed, and so has every flush that answers an
+/// error.
 #[derive(Debug, Drop)]
 pub struct FromWrite<W> {
     writer: W,
@@ -85,7 +91,11 @@ pub struct FromWrite<W> {
 impl<W> Model for FromWrite<W> {
     ghost Value = { Counted W };
 
-    ghost view = { λ d. record { device = d.writer; interruptions = d.interruptions; failures = d.failures } };
+    ghost view = { λ d. record {
+      device = d.writer;
+      interruptions = d.interruptions;
+      failures = d.failures;
+    } };
 }
 
 impl<W> FromWrite<W> {
@@ -161,7 +171,8 @@ fn trouble_of(error: &io::Error) -> Trouble
 
 /// Counts a trouble.
 pub(crate) fn count(trouble: Trouble, interruptions: &mut u64, failures: &mut u64)
-    ensures interruptions { interruptions.new ≡ interruptions_after (Some trouble) interruptions.old }
+    ensures interruptions { interruptions.new
+        ≡ interruptions_after (Some trouble) interruptions.old }
     ensures failures { failures.new ≡ failures_after (Some trouble) failures.old }
 {
     match trouble {

@@ -1,4 +1,4 @@
-use Rattle.std.proofs.Common.{rules, arith, ◌≡◌, ◌-◌, length, take, drop}
+use Rattle.std.proofs.Common.{rules}
 use Rattle.std.proofs.lemmas.List.{take_rest}
 use Rattle.tileshell.proofs.Transfers.{on_err, writes_more, wrote_front}
 use Rattle.tileshell.proofs.transfer.write_all.Goals as goal
