@@ -13,7 +13,7 @@ use thiserror::Error;
 /// Why a source was not read to its end.
 #[derive(Clone, Copy, Debug, PartialEq, Eq, Error)]
 pub enum ReadFault {
-    #[error("the device {0}")]
+    #[error("the device: {0}")]
     Device(Trouble),
     #[error("no memory")]
     NoMemory,
