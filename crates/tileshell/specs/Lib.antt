@@ -5,3 +5,10 @@ pub mod Spelled
 pub mod Line
 pub mod Answers
 pub mod Lines
+pub mod Selection
+pub mod Meaning
+pub mod History
+pub mod Replies
+pub mod Run
+pub mod Device
+pub mod Transfer

@@ -2,16 +2,34 @@
 #![tactic(auto)]
 
 mod command;
+mod created;
+mod device;
+mod edit;
 mod keyword;
 mod lines;
+mod outcome;
 mod parse;
 mod parse_error;
+mod program;
+mod refused;
+mod reply;
+mod runs;
+mod select;
+mod session;
+mod std_device;
+mod transfer;
 mod words;
 
 pub use command::{Command, LayerChoice, Request};
-pub use lines::first_line;
+pub use device::{Sink, Source, Trouble};
+pub use edit::Refusal;
+pub use outcome::{DeviceName, Options, Outcome, TileFault};
 pub use parse::parse_line;
 pub use parse_error::ParseError;
+pub use program::shell;
+pub use refused::Refused;
+pub use runs::{MAX_SCRIPT, run};
+pub use std_device::{FromRead, FromWrite};
 
 #[cfg(test)]
 mod tests;

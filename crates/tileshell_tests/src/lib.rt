@@ -1,0 +1,9 @@
+//! The tests that cross crates: whole runs over memory, and the program over files.
+#![tactic(auto)]
+
+#[cfg(test)]
+mod memory;
+#[cfg(test)]
+mod rows;
+#[cfg(test)]
+mod tiles;
