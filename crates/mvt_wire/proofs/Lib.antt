@@ -1,7 +1,8 @@
 pub mod Spelling
+pub mod Steps
+pub mod Sizes
 pub mod Prefixes
 pub mod Begins
-pub mod Reaches
 pub mod Wholes
-pub mod Steps
+pub mod Reaches
 pub mod Documents

@@ -4,6 +4,7 @@ pub mod Wire
 pub mod Shape
 pub mod Opens
 pub mod BodyShape
+pub mod Lending
 pub mod Stands
 pub mod Fronts
 pub mod Parts

@@ -1,6 +1,6 @@
 //! Copies of a document.
 
-ghost use Rattle.std.specs.Prelude.{◌≡◌, IfOk, map};
+ghost use Rattle.std.specs.Prelude.{◌≡◌, IfOk};
 ghost use Rattle.mvt_wire.specs.Stands.{body_of, field_of, feature_of, layer_item_of, layer_of, tile_item_of, document_of};
 
 use crate::body::Body;

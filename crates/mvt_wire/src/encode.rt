@@ -1,15 +1,14 @@
 //! How values of a document are measured and written.
 
-ghost use Rattle.std.specs.Prelude.{◌≡◌, ℕ, ◌+◌, ◌≤◌, ◌<◌, ◌++◌, List, length, max, IfOk, OnOk, IsErrOf, ◌↔◌};
+ghost use Rattle.std.specs.Prelude.{◌≡◌, ℕ, ◌+◌, ◌≤◌, ◌++◌, List, length, max, OnOk};
 ghost use Rattle.std.specs.Option.{SomeIff};
 ghost use Rattle.std.specs.List.{flat_map};
 ghost use Rattle.mvt_wire.specs.declared.TheConstants.{MAX_FILE};
-ghost use Rattle.mvt_wire.specs.Wire.{spell, minimal_width, delimited, bytes_of};
-ghost use Rattle.mvt_wire.specs.Stands.{document_of};
+ghost use Rattle.mvt_wire.specs.Wire.{spell, minimal_width, delimited};
 
 use crate::MAX_FILE;
 use crate::varint::{Varint, least_width, put_number};
-use std::alloc::{AllocError, Global};
+use std::alloc::AllocError;
 
 /// A value that is written as bytes.
 pub(crate) trait Encode {
@@ -72,6 +71,30 @@ pub(crate) fn put_length(out: &mut Vec<u8>, width: u8, length: usize) -> Result<
 {
     let length = length as u64;
     put_number(out, length, width.max(least_width(length)))
+}
+
+/// The size of a tag and the items behind it under one length, where a file may have so many bytes.
+pub(crate) fn message_size<T: Encode>(tag: Varint, width: u8, items: &[T]) -> Option<usize>
+    ensures { let message = spell tag.value tag.width ++ delimited width (flat_map T.bytes items.now) in SomeIff result (length message ≤ MAX_FILE) (length message) }
+{
+    let length = size_of_all(items)?;
+    sum_within(tag.size()?, delimited_size(width, length)?)
+}
+
+/// Writes a tag at the end, and the items behind it under one length.
+pub(crate) fn put_message<T: Encode>(
+    out: &mut Vec<u8>,
+    tag: Varint,
+    width: u8,
+    items: &[T],
+) -> Result<(), AllocError>
+    requires { length (spell tag.value tag.width ++ delimited width (flat_map T.bytes items.now)) ≤ MAX_FILE }
+    ensures { let message = spell tag.value tag.width ++ delimited width (flat_map T.bytes items.now) in OnOk result (out.new.items ≡ out.old.items ++ message) }
+{
+    let length = size_of_all(items).unwrap();
+    tag.put(out)?;
+    put_length(out, width, length)?;
+    put_all(items, out)
 }
 
 impl Encode for Varint {

@@ -2,6 +2,7 @@
 
 ghost use Rattle.std.specs.Prelude.{◌≡◌, length};
 
+use std::alloc::AllocFailed;
 use std::marker::Model;
 
 /// A list over a `Vec`. Contracts see its items, and beside them its room.
@@ -20,6 +21,11 @@ impl<T> Model for Items<T> {
 }
 
 impl<T> Items<T> {
+    ghost use Rattle.std.specs.Prelude.{Some, slice_get, ◌∷◌, [], ◌++◌, if◌then◌else◌, is_ok};
+    ghost use Rattle.std.specs.Borrow.{sem};
+    ghost use Rattle.std.specs.Option.{option_copied_mut};
+    ghost use Rattle.mvt_wire.specs.Lending.{LendsItemIf};
+
     /// The list of a vector's items, in the vector's own memory.
     pub fn from_vec(inner: Vec<T>) -> Self
         ensures { result.items ≡ inner.items }
@@ -27,6 +33,7 @@ impl<T> Items<T> {
         Items { inner }
     }
 
+    /// The items in a vector, in the list's own memory.
     pub fn into_vec(self) -> Vec<T>
         ensures { result.items ≡ self.items }
     {
@@ -44,5 +51,19 @@ impl<T> Items<T> {
         ensures { result ≡ length self.now.items }
     {
         self.inner.len()
+    }
+
+    pub fn get_mut(&mut self, index: usize) -> Option<&mut T>
+        ensures* writes_back { sem 𝓛 (LendsItemIf T.row self.entry index result) }
+        ensures value { option_copied_mut result ≡ slice_get self.old.items index }
+    {
+        self.inner.get_mut(index)
+    }
+
+    /// Adds an item at the end. An `Err` changes nothing.
+    pub fn push(&mut self, item: T) -> Result<(), AllocFailed<T>>
+        ensures items { self.new.items ≡ (if is_ok result then self.old.items ++ item ∷ [] else self.old.items) }
+    {
+        self.inner.push(item)
     }
 }

@@ -1,14 +1,11 @@
 //! The sizes and the bytes of the messages of a tile.
 
-ghost use Rattle.std.specs.Prelude.{◌≡◌, ℕ, ◌≤◌, ◌++◌, length, OnOk};
-ghost use Rattle.std.specs.Option.{SomeIff};
-ghost use Rattle.mvt_wire.specs.declared.TheConstants.{MAX_FILE};
 ghost use Rattle.mvt_wire.specs.Wire.{body_bytes, field_bytes, feature_bytes, layer_item_bytes, layer_bytes, tile_item_bytes};
 ghost use Rattle.mvt_wire.specs.Stands.{body_of, field_of, feature_of, layer_item_of, layer_of, tile_item_of};
 
 use crate::body::Body;
 use crate::document::{Feature, Field, Layer, LayerItem, TileItem};
-use crate::encode::{Encode, delimited_size, put_all, put_length, size_of_all, sum_within};
+use crate::encode::{Encode, delimited_size, message_size, put_length, put_message, sum_within};
 use std::alloc::AllocError;
 
 impl Encode for Body {
@@ -17,8 +14,8 @@ impl Encode for Body {
     fn size(&self) -> Option<usize> {
         match self {
             Body::Number(number) => number.size(),
-            Body::Eight(_) => Some(8),
-            Body::Four(_) => Some(4),
+            Body::Eight(bytes) => Some(bytes[..].len()),
+            Body::Four(bytes) => Some(bytes[..].len()),
             Body::Bytes { width, bytes } => delimited_size(*width, bytes.len()),
         }
     }
@@ -53,15 +50,11 @@ impl Encode for Feature {
     ghost bytes = { λ f. feature_bytes (feature_of f) };
 
     fn size(&self) -> Option<usize> {
-        let length = size_of_all(self.fields.as_slice())?;
-        sum_within(self.tag.size()?, delimited_size(self.width, length)?)
+        message_size(self.tag, self.width, self.fields.as_slice())
     }
 
     fn put(&self, out: &mut Vec<u8>) -> Result<(), AllocError> {
-        let length = size_of_all(self.fields.as_slice()).unwrap();
-        self.tag.put(out)?;
-        put_length(out, self.width, length)?;
-        put_all(self.fields.as_slice(), out)
+        put_message(out, self.tag, self.width, self.fields.as_slice())
     }
 }
 
@@ -87,15 +80,11 @@ impl Encode for Layer {
     ghost bytes = { λ l. layer_bytes (layer_of l) };
 
     fn size(&self) -> Option<usize> {
-        let length = size_of_all(self.items.as_slice())?;
-        sum_within(self.tag.size()?, delimited_size(self.width, length)?)
+        message_size(self.tag, self.width, self.items.as_slice())
     }
 
     fn put(&self, out: &mut Vec<u8>) -> Result<(), AllocError> {
-        let length = size_of_all(self.items.as_slice()).unwrap();
-        self.tag.put(out)?;
-        put_length(out, self.width, length)?;
-        put_all(self.items.as_slice(), out)
+        put_message(out, self.tag, self.width, self.items.as_slice())
     }
 }
 

@@ -1,0 +1,6 @@
+use Rattle.std.proofs.Common.{◌≡◌, map, take}
+use Rattle.mvt_wire.specs.Stands.{layer_item_of}
+use Rattle.mvt_wire.proofs.copy.copy_layer.Given as goal
+
+abbrev pub invariant-loop-item : goal.invariant-loop-item
+invariant-loop-item l = map layer_item_of l.copies.items ≡ map layer_item_of (take l.item-index l.items)

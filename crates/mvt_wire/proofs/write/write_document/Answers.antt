@@ -1,0 +1,36 @@
+use Rattle.std.proofs.Common.{◌≡◌, Result, Err, arith, refl}
+use Rattle.std.specs.Result.{IsErrAnd}
+use Rattle.std.proofs.lemmas.Result.{err_from_is_err_and}
+use Rattle.std.proofs.lemmas.List.Folds.{flat_map-map}
+use Rattle.mvt_wire.specs.declared.faults.WriteError.{WriteError}
+use Rattle.mvt_wire.specs.declared.faults.WriteError.TheVariants.{TooLarge, NoMemory}
+use Rattle.mvt_wire.proofs.write.write_document.Goals as goal
+
+no_memory-too_large : {T : Type 0} (r : Result T WriteError) → IsErrAnd r (λ e. e ≡ NoMemory) → r ≡ Err TooLarge → ⊥
+no_memory-too_large r none same = let found = err_from_is_err_and r none in cc (found.1, found.2)
+
+pub returns-in_default-clause-too_large : goal.returns-in_default-clause-too_large
+returns-in_default-clause-too_large c = (λ e. rw (flat_map-map, ← c.as_slice-items.ensures) (omega (arith, c.in_default.ensures)), λ h. refl)
+
+pub returns-in_err-file-clause-too_large : goal.returns-in_err-file-clause-too_large
+returns-in_err-file-clause-too_large c = (
+  λ e. absurd (no_memory-too_large c.from_residual.result c.from_residual.ensures.1 e),
+  λ h. absurd (let over = rw (flat_map-map, ← c.as_slice-items.ensures) at h in omega (arith, c.in-Some.ensures.0)),
+)
+
+pub returns-in_err-put_all-clause-too_large : goal.returns-in_err-put_all-clause-too_large
+returns-in_err-put_all-clause-too_large c = (
+  λ e. absurd (no_memory-too_large c.from_residual-in_err-put_all.result c.from_residual-in_err-put_all.ensures.1 e),
+  λ h. absurd (let over = rw (flat_map-map, ← c.as_slice-items.ensures) at h in omega (arith, c.in-Some.ensures.0)),
+)
+
+pub returns-clause-bytes : goal.returns-clause-bytes
+returns-clause-bytes c =
+    let bytes = rw c.in_ok-file.ensures.items at c.in_ok-put_all.ensures in
+    rw (flat_map-map, ← c.as_slice-items.ensures) bytes
+
+pub returns-clause-too_large : goal.returns-clause-too_large
+returns-clause-too_large c = (
+  λ e. absurd (cc),
+  λ h. absurd (let over = rw (flat_map-map, ← c.as_slice-items.ensures) at h in omega (arith, c.in-Some.ensures.0)),
+)
