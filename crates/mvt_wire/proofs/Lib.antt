@@ -6,3 +6,5 @@ pub mod Begins
 pub mod Wholes
 pub mod Reaches
 pub mod Documents
+pub mod SameBytes
+pub mod Settling
