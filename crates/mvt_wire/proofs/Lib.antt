@@ -1,8 +1,10 @@
+pub mod Begins
+pub mod Documents
+pub mod Prefixes
+pub mod Reaches
+pub mod SameBytes
+pub mod Settling
+pub mod Sizes
 pub mod Spelling
 pub mod Steps
-pub mod Sizes
-pub mod Prefixes
-pub mod Begins
-pub mod Reaches
 pub mod Wholes
-pub mod Documents

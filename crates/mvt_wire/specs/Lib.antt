@@ -8,3 +8,4 @@ pub mod Lending
 pub mod Stands
 pub mod Fronts
 pub mod Parts
+pub mod Settle
