@@ -1,8 +1,8 @@
 use super::drip::{Calls, DripSink, DripSource};
-use crate::transfer::{ReadFault, append_to_limit, read_to_limit, write_all};
+use crate::transfer::{ReadFault, append_to_limit, read_to_limit, write_all, write_and_flush};
 use crate::{FromRead, FromWrite, Sink, Source, Trouble};
 use std::io;
-use std::io::{ErrorKind, Read, Write};
+use std::io::{BufWriter, ErrorKind, Read, Write};
 use std::test::*;
 
 const TEXT: &[u8] = b"one two";
@@ -83,27 +83,39 @@ fn keeps_what_was_read_before_a_trouble(rt: HostRuntime) -> Result<(), Fail> {
 
 #[test]
 fn writes_all_or_up_to_a_trouble(rt: HostRuntime) {
-    for call in 0..9 {
-        let calls = Calls::new(call as u64, Trouble::Interrupted);
-        let mut sink = DripSink {
-            taken: Vec::new(rt.alloc()),
-            calls,
-        };
-        let result = write_all(&mut sink, TEXT);
-        assert_eq!(rt; result.is_ok(), call >= 7);
-        assert_eq!(rt; sink.taken.as_slice(), &TEXT[..call.min(7)]);
-        assert_eq!(rt; sink.calls.interruptions, if call < 7 { 1 } else { 0 });
-        assert_eq!(rt; sink.flush(), Ok(()));
+    for trouble in [Trouble::Interrupted, Trouble::Failed] {
+        for call in 0..9 {
+            let calls = Calls::new(call as u64, trouble);
+            let mut sink = DripSink {
+                taken: Vec::new(rt.alloc()),
+                calls,
+            };
+            let want = if call < 7 {
+                Err(trouble)
+            } else if call == 7 {
+                Err(Trouble::Failed)
+            } else {
+                Ok(())
+            };
+            assert_eq!(rt; write_and_flush(&mut sink, TEXT), want);
+            assert_eq!(rt; sink.taken.as_slice(), &TEXT[..call.min(7)]);
+            let counts = match want {
+                Ok(()) => (0, 0),
+                Err(Trouble::Interrupted) => (1, 0),
+                Err(Trouble::Failed) => (0, 1),
+            };
+            assert_eq!(rt; (sink.calls.interruptions, sink.calls.failures), counts);
+        }
     }
 }
 
 #[test]
 fn writes_to_a_vector(rt: HostRuntime) -> Result<(), Fail> {
-    let mut sink = FromWrite::new(Vec::new(rt.alloc()));
-    assert_eq!(rt; write_all(&mut sink, TEXT), Ok(()));
-    assert_eq!(rt; sink.flush(), Ok(()));
+    let buffered = BufWriter::with_capacity(rt.alloc(), 64, Vec::new(rt.alloc()))?;
+    let mut sink = FromWrite::new(buffered);
+    assert_eq!(rt; write_and_flush(&mut sink, TEXT), Ok(()));
     assert_eq!(rt; (sink.interruptions(), sink.failures()), (0, 0));
-    assert_eq!(rt; sink.into_inner().as_slice(), TEXT);
+    assert_eq!(rt; sink.into_inner().get_ref().as_slice(), TEXT);
     Ok(())
 }
 

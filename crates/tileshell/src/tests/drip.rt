@@ -64,7 +64,7 @@ impl Source for DripSource<'_> {
     }
 }
 
-/// Takes one byte a call.
+/// Takes one byte a call. A flush is a call too.
 #[derive(Drop)]
 pub struct DripSink {
     pub taken: Vec<u8>,
@@ -101,6 +101,16 @@ impl Sink for DripSink {
     }
 
     fn flush(&mut self) -> Result<(), Trouble> {
+        let call = self.calls.made;
+        self.calls.made = call.saturating_add(1);
+        if call == self.calls.troubled {
+            count(
+                Trouble::Failed,
+                &mut self.calls.interruptions,
+                &mut self.calls.failures,
+            );
+            return Err(Trouble::Failed);
+        }
         Ok(())
     }
 }
