@@ -3,3 +3,5 @@ pub mod Repeats
 pub mod Short
 pub mod Numbers
 pub mod LineCuts
+pub mod Again
+pub mod Found

@@ -3,12 +3,14 @@
 
 mod command;
 mod keyword;
+mod laws;
 mod lines;
 mod parse;
 mod parse_error;
 mod words;
 
 pub use command::{Command, LayerChoice, Request};
+pub use laws::words_are_spelled;
 pub use lines::first_line;
 pub use parse::parse_line;
 pub use parse_error::ParseError;
