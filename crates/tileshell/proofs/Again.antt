@@ -1,8 +1,8 @@
 -- What is spelled so is read.
-use Rattle.std.proofs.Common.{◌≡◌, ◌≢◌, ◌⊎◌, inl, inr, ℕ, zero, suc, ◌+◌, ◌-◌, ◌*◌, ◌<◌, ◌≤◌, Bool, true, false, cond, ltb, eqb, not, ◌||◌, List, [], ◌∷◌, ◌++◌, length, take, drop, Option, Some, None, refl, sym, ap, subst, ◌∙◌, append_assoc, arith}
+use Rattle.std.proofs.Common.{◌≡◌, ◌≢◌, ◌⊎◌, inl, inr, ℕ, ◌+◌, ◌*◌, ◌<◌, Bool, true, false, cond, ltb, eqb, not, ◌||◌, List, [], ◌∷◌, ◌++◌, length, take, drop, Option, Some, None, refl, sym, ap, ◌∙◌, append_assoc, arith}
 use Rattle.std.specs.Prelude.{◌&&◌, option_map}
 use Rattle.std.specs.Char.{digit_value}
-use Rattle.std.specs.List.{AllByRecursion, position_or_len, prefix_len, before_first}
+use Rattle.std.specs.List.{AllByRecursion, position_or_len}
 use Rattle.std.proofs.Math.Seq.{take-append_seam, drop-append_seam}
 use Rattle.std.proofs.lemmas.Bool.{lt-ltb}
 use Rattle.std.proofs.lemmas.Bool.Decides.{nat_tests}
@@ -28,8 +28,8 @@ hex_again high low c rest h l e =
     let byte : hex_byte high low ≡ Some c = hex_is (digit_value high) (digit_value low) c h l e in
     ap (λ (o : Option ℕ). option_map (λ b. (b, rest)) o) byte
   where
-  hex_is : (a b c : ℕ) → a < 8 → b < 16 → c ≡ 16 * a + b → cond (ltb a 8 && ltb b 16) (Some (16 * a + b)) None ≡ Some c
-  hex_is a b c h l e = rw (lt-ltb a 8 h, lt-ltb b 16 l, e) refl
+    hex_is : (a b c : ℕ) → a < 8 → b < 16 → c ≡ 16 * a + b → cond (ltb a 8 && ltb b 16) (Some (16 * a + b)) None ≡ Some c
+    hex_is a b c h l e = rw (lt-ltb a 8 h, lt-ltb b 16 l, e) refl
 
 slash : (b : ℕ) (rest : List ℕ) → b ≡ 92 → byte_at (b ∷ rest) ≡ escape_at rest
 unfolding byte_at
@@ -86,8 +86,8 @@ bare_again name rest each e =
     let place : position_or_len ends_bare (name ++ rest) ≡ length name = stops_at ends_bare name rest each (end_of_word rest e) in
     cut (position_or_len ends_bare (name ++ rest)) place
   where
-  cut : (k : ℕ) → k ≡ length name → cond {A = Option (Word × List ℕ)} (ends_word (drop k (name ++ rest))) (Some (Bare (take k (name ++ rest)), drop k (name ++ rest))) None ≡ Some (Bare name, rest)
-  cut k is = rw (is, take-append_seam name rest, drop-append_seam name rest, e) refl
+    cut : (k : ℕ) → k ≡ length name → cond {A = Option (Word × List ℕ)} (ends_word (drop k (name ++ rest))) (Some (Bare (take k (name ++ rest)), drop k (name ++ rest))) None ≡ Some (Bare name, rest)
+    cut k is = rw (is, take-append_seam name rest, drop-append_seam name rest, e) refl
 
 no_words : (bytes : List ℕ) → AreBlanks bytes → AllByRecursion (λ b. not (is_blank b) ≡ false) bytes
 no_words [] blanks = tt
@@ -96,8 +96,8 @@ no_words (b ∷ bytes) blanks = (ap not blanks.0, no_words bytes blanks.1)
 behind_blanks : (gap bytes : List ℕ) → AreBlanks gap → position_or_len (λ b. not (is_blank b)) bytes ≡ 0 → after_blanks (gap ++ bytes) ≡ bytes
 behind_blanks gap bytes blanks e = cut (position_or_len (λ b. not (is_blank b)) (gap ++ bytes)) (stops_at (λ b. not (is_blank b)) gap bytes (no_words gap blanks) e)
   where
-  cut : (k : ℕ) → k ≡ length gap → drop k (gap ++ bytes) ≡ bytes
-  cut k is = rw is (drop-append_seam gap bytes)
+    cut : (k : ℕ) → k ≡ length gap → drop k (gap ++ bytes) ≡ bytes
+    cut k is = rw is (drop-append_seam gap bytes)
 
 blanks_end : (bytes : List ℕ) → AreBlanks bytes → after_blanks bytes ≡ []
 blanks_end bytes blanks = ap after_blanks (sym (append-nil bytes)) ∙ behind_blanks bytes [] blanks refl

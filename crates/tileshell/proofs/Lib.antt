@@ -5,3 +5,4 @@ pub mod Numbers
 pub mod LineCuts
 pub mod Again
 pub mod Found
+pub mod LineLaws

@@ -10,7 +10,7 @@ mod parse_error;
 mod words;
 
 pub use command::{Command, LayerChoice, Request};
-pub use laws::words_are_spelled;
+pub use laws::{lines_make_up_the_script, words_are_spelled};
 pub use lines::first_line;
 pub use parse::parse_line;
 pub use parse_error::ParseError;
