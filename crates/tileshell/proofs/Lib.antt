@@ -1,7 +1,10 @@
+pub mod Again
+pub mod Found
+pub mod LineCuts
+pub mod LineLaws
+pub mod Numbers
 pub mod Places
 pub mod Repeats
 pub mod Short
-pub mod Numbers
-pub mod LineCuts
 pub mod Transfers
 pub mod Troubles

@@ -21,7 +21,7 @@ stays true line c parts = refl
 stays false line c [] = refl
 stays false line c (part ∷ parts) = refl
 
-first_stays : (line rest : List ℕ) → without_empty_end (line ∷ slice_split is_line_feed rest) ≡ line ∷ without_empty_end (slice_split is_line_feed rest)
+pub first_stays : (line rest : List ℕ) → without_empty_end (line ∷ slice_split is_line_feed rest) ≡ line ∷ without_empty_end (slice_split is_line_feed rest)
 first_stays line [] = refl
 first_stays line (b ∷ rest) = stays (is_line_feed b) line b (slice_split is_line_feed rest)
 
@@ -38,7 +38,7 @@ not_true : (b : Bool) → not b ≡ true → b ≡ false
 not_true true e = absurd cc
 not_true false e = refl
 
-one_line : (script : List ℕ) → 0 < length script → without_empty_end (script ∷ []) ≡ script ∷ []
+pub one_line : (script : List ℕ) → 0 < length script → without_empty_end (script ∷ []) ≡ script ∷ []
 one_line [] lt = absurd (omega arith)
 one_line (b ∷ script) lt = refl
 

@@ -63,7 +63,7 @@ head_behind bytes b more e =
 none_of_two : (a b : Bool) → a ≡ false → b ≡ false → (a || b) ≡ false
 none_of_two a b p q = rw (p, q) refl
 
-bare_long : (b : ℕ) (more : List ℕ) → ends_bare b ≡ false → 1 ≤ position_or_len ends_bare (b ∷ more)
+pub bare_long : (b : ℕ) (more : List ℕ) → ends_bare b ≡ false → 1 ≤ position_or_len ends_bare (b ∷ more)
 bare_long b more e = rw e (omega arith)
 
 bare_short : (b : ℕ) (more : List ℕ) (n : ℕ) → suc (length more) ≤ n → ends_bare b ≡ false → IfSome (bare_at (b ∷ more)) (λ found. length found.1 < n)

@@ -1,6 +1,6 @@
 -- The lines of a script.
-use Rattle.std.specs.Prelude.{ℕ, Bool, List, [], ◌∷◌, ◌==◌}
-use Rattle.std.specs.List.{slice_split}
+use Rattle.std.specs.Prelude.{◌≡◌, ◌⊎◌, ℕ, ◌<◌, Bool, false, List, [], ◌∷◌, ◌++◌, length, ◌==◌}
+use Rattle.std.specs.List.{slice_split, AllByRecursion}
 
 -- the bytes behind the last line feed are a line where there is one at least
 abbrev pub last_line : List ℕ → List (List ℕ)
@@ -19,3 +19,12 @@ is_line_feed b = b == 10
 -- the lines of a script: what stands before each line feed, and behind the last one where a byte does
 unfoldable pub lines_of : List ℕ → List (List ℕ)
 lines_of script = without_empty_end (slice_split is_line_feed script)
+
+abbrev pub HasNoLineFeed : List ℕ → Type 0
+HasNoLineFeed line = AllByRecursion (λ b. is_line_feed b ≡ false) line
+
+-- How lines make up a script: behind each stands a line feed, and then the others. Behind the last one nothing may
+-- stand, where it has a byte at least.
+abbrev pub SpellsLines : List ℕ → List (List ℕ) → Type 0
+SpellsLines script [] = script ≡ []
+SpellsLines script (line ∷ lines) = HasNoLineFeed line × (((rest : List ℕ) × (script ≡ line ++ 10 ∷ rest) × SpellsLines rest lines) ⊎ ((script ≡ line) × (0 < length line) × (lines ≡ [])))
