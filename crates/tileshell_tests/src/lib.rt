@@ -2,7 +2,11 @@
 #![tactic(auto)]
 
 #[cfg(test)]
+mod console;
+#[cfg(test)]
 mod memory;
+#[cfg(test)]
+mod program;
 #[cfg(test)]
 mod rows;
 #[cfg(test)]
