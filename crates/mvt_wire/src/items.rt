@@ -21,10 +21,10 @@ impl<T> Model for Items<T> {
 }
 
 impl<T> Items<T> {
-    ghost use Rattle.std.specs.Prelude.{Some, slice_get, ◌∷◌, [], ◌++◌, if◌then◌else◌, is_ok};
+    ghost use Rattle.std.specs.Prelude.{Some, slice_get, ◌<◌, ◌∷◌, [], ◌++◌, if◌then◌else◌, is_ok};
     ghost use Rattle.std.specs.Borrow.{sem};
     ghost use Rattle.std.specs.Option.{option_copied_mut};
-    ghost use Rattle.mvt_wire.specs.Lending.{LendsItemIf};
+    ghost use Rattle.mvt_wire.specs.Lending.{LendsItem, LendsItemIf};
 
     /// The list of a vector's items, in the vector's own memory.
     pub fn from_vec(inner: Vec<T>) -> Self
@@ -58,6 +58,14 @@ impl<T> Items<T> {
         ensures value { option_copied_mut result ≡ slice_get self.old.items index }
     {
         self.inner.get_mut(index)
+    }
+
+    pub fn item_mut(&mut self, index: usize) -> &mut T
+        requires { index < length self.old.items }
+        ensures* writes_back { sem 𝓛 (LendsItem T.row self.entry index result) }
+        ensures value { slice_get self.old.items index ≡ Some result.now }
+    {
+        &mut self.inner[index]
     }
 
     /// Adds an item at the end. An `Err` changes nothing.

@@ -8,3 +8,5 @@ pub mod Repeats
 pub mod Short
 pub mod Transfers
 pub mod Troubles
+pub mod Layers
+pub mod Positions

@@ -2,10 +2,10 @@
 use Rattle.std.specs.Prelude.{ℕ, zero, suc, Bool, ◌&&◌, not, List, [], ◌∷◌, ◌++◌, length, Result, Ok, Err, is_some, ◌==◌, nat_lt, if◌then◌else◌}
 use Rattle.std.specs.List.{list_any}
 use Rattle.mvt_wire.specs.declared.TheConstants.{MAX_FILE}
-use Rattle.mvt_wire.specs.Plain.{Number, Body, Spelled, Eight, Four, Delimited, Field, LayerItem, OfFeature, PlainInLayer, Layer, TileItem, OfLayer, PlainInTile, Document}
+use Rattle.mvt_wire.specs.Plain.{Body, Spelled, Eight, Four, Delimited, LayerItem, OfFeature, PlainInLayer, Layer, OfLayer, PlainInTile, Document}
 use Rattle.mvt_wire.specs.Wire.{bytes_of}
 use Rattle.tileshell.specs.Command.{Command, RenameLayer}
-use Rattle.tileshell.specs.Selection.{NAME, text_in, selected, ordinals_of}
+use Rattle.tileshell.specs.Selection.{text_in, selected, ordinals_of, positions_of}
 use Rattle.tileshell.specs.declared.edit.Refusal.{Refusal}
 use Rattle.tileshell.specs.declared.edit.Refusal.TheVariants.{NameTaken, TooLarge}
 
@@ -22,7 +22,11 @@ change_last passes change (x ∷ xs) = if passes x && not (list_any passes xs) t
 -- ---- a name
 
 abbrev pub is_name : LayerItem → Bool
-is_name item = is_some (text_in NAME item)
+is_name item = is_some (text_in 1 item)
+
+-- where the name fields stand in a layer
+abbrev pub name_positions : List LayerItem → List ℕ
+name_positions items = positions_of is_name items
 
 -- a LEN body keeps its stored width
 abbrev pub with_content : List ℕ → Body → Body

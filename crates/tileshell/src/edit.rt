@@ -5,7 +5,7 @@ ghost use Rattle.tileshell.specs.declared.edit.Refusal.TheVariants.{NoMemory};
 
 use crate::command::{Command, LayerChoice};
 use crate::select::{last_name, layer_position, name_is_taken, selected_layer};
-use mvt_wire::{Body, Document, Field, Items, Layer, LayerItem, TileItem, Varint, size};
+use mvt_wire::{Body, Document, Field, Items, LayerItem, TileItem, Varint, size};
 use std::alloc::{AllocError, AllocFailed, Global};
 use thiserror::Error;
 
@@ -64,47 +64,43 @@ fn rename_layer(
     if name_is_taken(items, name, ordinal) {
         return Err(Refusal::NameTaken);
     }
+    let position = layer_position(items, ordinal).ok_or(Refusal::NoLayer)?;
     let mut renamed = document.copy(alloc)?;
-    if let Some(position) = layer_position(items, ordinal) {
-        put_name_at(alloc, &mut renamed, position, name)?;
-    }
+    put_name(alloc, renamed.items.item_mut(position), name)?;
     match size(&renamed) {
         Some(_) => Ok(renamed),
         None => Err(Refusal::TooLarge),
     }
 }
 
-/// Gives the name to the layer at this position of the tile.
-fn put_name_at(
-    alloc: Global,
-    document: &mut Document,
-    position: usize,
-    name: &[u8],
-) -> Result<(), AllocError> {
-    if let Some(TileItem::Layer(layer)) = document.items.get_mut(position) {
-        put_name(alloc, layer, name)?;
+/// Gives the name to a layer.
+fn put_name(alloc: Global, item: &mut TileItem, name: &[u8]) -> Result<(), AllocError> {
+    match item {
+        TileItem::Layer(layer) => put_last_name(alloc, &mut layer.items, name),
+        TileItem::Plain(_) => Ok(()),
     }
-    Ok(())
 }
 
 /// The last name field gets the name, or a name field comes at the end where there is none.
-fn put_name(alloc: Global, layer: &mut Layer, name: &[u8]) -> Result<(), AllocError> {
+fn put_last_name(
+    alloc: Global,
+    items: &mut Items<LayerItem>,
+    name: &[u8],
+) -> Result<(), AllocError> {
     let text = Items::from_vec(Vec::from_slice(alloc, name)?);
-    match last_name(layer.items.as_slice()) {
-        Some(position) => {
-            if let Some(LayerItem::Plain(field)) = layer.items.get_mut(position) {
-                put_text(field, text);
-            }
-        }
-        None => layer.items.push(name_field(text))?,
+    match last_name(items.as_slice()) {
+        Some(position) => put_text(items.item_mut(position), text),
+        None => items.push(name_field(text))?,
     }
     Ok(())
 }
 
 /// Gives a LEN field these bytes. Its tag and its stored width stay.
-fn put_text(field: &mut Field, text: Items<u8>) {
-    if let Body::Bytes { width, .. } = field.body {
-        field.body = Body::Bytes { width, bytes: text };
+fn put_text(item: &mut LayerItem, text: Items<u8>) {
+    if let LayerItem::Plain(field) = item {
+        if let Body::Bytes { width, .. } = field.body {
+            field.body = Body::Bytes { width, bytes: text };
+        }
     }
 }
 
