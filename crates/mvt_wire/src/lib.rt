@@ -28,5 +28,3 @@ pub use write::{size, write_document};
 /// The longest tile in bytes.
 pub const MAX_FILE: usize = 16_777_216;
 
-#[cfg(test)]
-mod tests;

@@ -11,3 +11,5 @@ mod program;
 mod rows;
 #[cfg(test)]
 mod tiles;
+#[cfg(test)]
+mod wire;
