@@ -10,3 +10,6 @@ pub mod Transfers
 pub mod Troubles
 pub mod Layers
 pub mod Positions
+pub mod Commands
+pub mod Renaming
+pub mod Selecting

@@ -13,3 +13,4 @@ pub mod Replies
 pub mod Run
 pub mod Device
 pub mod Transfer
+pub mod Memory

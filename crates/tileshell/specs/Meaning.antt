@@ -2,7 +2,7 @@
 use Rattle.std.specs.Prelude.{ℕ, zero, suc, Bool, ◌&&◌, not, List, [], ◌∷◌, ◌++◌, length, Result, Ok, Err, is_some, ◌==◌, nat_lt, if◌then◌else◌}
 use Rattle.std.specs.List.{list_any}
 use Rattle.mvt_wire.specs.declared.TheConstants.{MAX_FILE}
-use Rattle.mvt_wire.specs.Plain.{Body, Spelled, Eight, Four, Delimited, LayerItem, OfFeature, PlainInLayer, Layer, OfLayer, PlainInTile, Document}
+use Rattle.mvt_wire.specs.Plain.{Body, Spelled, Eight, Four, Delimited, LayerItem, OfFeature, PlainInLayer, Layer, TileItem, OfLayer, PlainInTile, Document}
 use Rattle.mvt_wire.specs.Wire.{bytes_of}
 use Rattle.tileshell.specs.Command.{Command, RenameLayer}
 use Rattle.tileshell.specs.Selection.{text_in, selected, ordinals_of, positions_of}
@@ -51,6 +51,11 @@ abbrev pub renamed : List ℕ → Layer → Layer
 renamed name layer = record { tag = layer.tag; width = layer.width; items = named_items name layer.items }
 
 -- ---- a layer of the tile
+
+-- the item, where it is a layer with that layer changed
+abbrev pub in_layer : (Layer → Layer) → TileItem → TileItem
+in_layer change (OfLayer layer) = OfLayer (change layer)
+in_layer change (PlainInTile field) = PlainInTile field
 
 -- the tile with the layer at this place among the layers changed
 abbrev pub change_layer : (Layer → Layer) → ℕ → Document → Document

@@ -1,6 +1,11 @@
 //! How a command is carried out.
 
-ghost use Rattle.std.specs.Prelude.{◌≡◌};
+ghost use Rattle.std.specs.Prelude.{◌≡◌, map, OnOk, OnErr};
+ghost use Rattle.mvt_wire.specs.Stands.{document_of, layer_item_of, tile_item_of};
+ghost use Rattle.tileshell.specs.Asked.{command_of, layer_choice_of};
+ghost use Rattle.tileshell.specs.Command.{RenameLayer};
+ghost use Rattle.tileshell.specs.Meaning.{applied, in_layer, name_field, named_items, renamed, with_text};
+ghost use Rattle.tileshell.specs.Memory.{GivesUnless};
 ghost use Rattle.tileshell.specs.declared.edit.Refusal.TheVariants.{NoMemory};
 
 use crate::command::{Command, LayerChoice};
@@ -45,7 +50,9 @@ pub(crate) fn apply(
     alloc: Global,
     document: &Document,
     command: &Command,
-) -> Result<Document, Refusal> {
+) -> Result<Document, Refusal>
+    ensures { GivesUnless NoMemory document_of result (applied (command_of command.now) (document_of document.now)) }
+{
     match command {
         Command::RenameLayer { layer, name } => {
             rename_layer(alloc, document, layer, name.as_slice())
@@ -58,7 +65,9 @@ fn rename_layer(
     document: &Document,
     choice: &LayerChoice,
     name: &[u8],
-) -> Result<Document, Refusal> {
+) -> Result<Document, Refusal>
+    ensures { GivesUnless NoMemory document_of result (applied (RenameLayer (layer_choice_of choice.now) name.now) (document_of document.now)) }
+{
     let items = document.items.as_slice();
     let ordinal = selected_layer(items, choice)?;
     if name_is_taken(items, name, ordinal) {
@@ -74,7 +83,10 @@ fn rename_layer(
 }
 
 /// Gives the name to a layer.
-fn put_name(alloc: Global, item: &mut TileItem, name: &[u8]) -> Result<(), AllocError> {
+fn put_name(alloc: Global, item: &mut TileItem, name: &[u8]) -> Result<(), AllocError>
+    ensures ok { OnOk result (tile_item_of item.new ≡ in_layer (renamed name.now) (tile_item_of item.old)) }
+    ensures err { OnErr result (tile_item_of item.new ≡ tile_item_of item.old) }
+{
     match item {
         TileItem::Layer(layer) => put_last_name(alloc, &mut layer.items, name),
         TileItem::Plain(_) => Ok(()),
@@ -82,11 +94,10 @@ fn put_name(alloc: Global, item: &mut TileItem, name: &[u8]) -> Result<(), Alloc
 }
 
 /// The last name field gets the name, or a name field comes at the end where there is none.
-fn put_last_name(
-    alloc: Global,
-    items: &mut Items<LayerItem>,
-    name: &[u8],
-) -> Result<(), AllocError> {
+fn put_last_name(alloc: Global, items: &mut Items<LayerItem>, name: &[u8]) -> Result<(), AllocError>
+    ensures ok { OnOk result (map layer_item_of items.new.items ≡ named_items name.now (map layer_item_of items.old.items)) }
+    ensures err { OnErr result (map layer_item_of items.new.items ≡ map layer_item_of items.old.items) }
+{
     let text = Items::from_vec(Vec::from_slice(alloc, name)?);
     match last_name(items.as_slice()) {
         Some(position) => put_text(items.item_mut(position), text),
@@ -96,7 +107,9 @@ fn put_last_name(
 }
 
 /// Gives a LEN field these bytes. Its tag and its stored width stay.
-fn put_text(item: &mut LayerItem, text: Items<u8>) {
+fn put_text(item: &mut LayerItem, text: Items<u8>)
+    ensures { layer_item_of item.new ≡ with_text text.items (layer_item_of item.old) }
+{
     if let LayerItem::Plain(field) = item {
         if let Body::Bytes { width, .. } = field.body {
             field.body = Body::Bytes { width, bytes: text };
@@ -105,7 +118,9 @@ fn put_text(item: &mut LayerItem, text: Items<u8>) {
 }
 
 /// A name field in its shortest spelling.
-fn name_field(text: Items<u8>) -> LayerItem {
+fn name_field(text: Items<u8>) -> LayerItem
+    ensures { layer_item_of result ≡ name_field text.items }
+{
     LayerItem::Plain(Field {
         tag: Varint::minimal(10),
         body: Body::Bytes {
