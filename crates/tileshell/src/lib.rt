@@ -7,13 +7,15 @@ mod laws;
 mod lines;
 mod parse;
 mod parse_error;
+mod request;
 mod words;
 
-pub use command::{Command, LayerChoice, Request};
+pub use command::{Command, LayerChoice};
 pub use laws::{lines_make_up_the_script, words_are_spelled};
 pub use lines::first_line;
 pub use parse::parse_line;
 pub use parse_error::ParseError;
+pub use request::Request;
 
 #[cfg(test)]
 mod tests;
