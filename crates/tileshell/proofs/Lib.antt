@@ -6,3 +6,4 @@ pub mod LineCuts
 pub mod Again
 pub mod Found
 pub mod LineLaws
+pub mod Asking

@@ -1,6 +1,6 @@
 -- What a line of a script asks for.
-use Rattle.std.specs.Prelude.{ℕ, ◌^◌, Bool, true, ◌&&◌, not, List, [], ◌∷◌, length, Option, Some, None, Result, Ok, Err, ◌==◌, nat_lt, if◌then◌else◌, codes, ok_or}
-use Rattle.std.specs.Str.{bytes_eq, is_utf8, all_ascii_digits}
+use Rattle.std.specs.Prelude.{ℕ, ◌^◌, ◌≤◌, Bool, true, ◌&&◌, not, List, [], ◌∷◌, length, Option, Some, None, Result, Ok, Err, ◌==◌, nat_lt, if◌then◌else◌, codes, ok_or}
+use Rattle.std.specs.Str.{bytes_eq, is_utf8, IsUtf8, all_ascii_digits}
 use Rattle.std.specs.Str.Parse.{digits_value}
 use Rattle.tileshell.specs.Command.{LayerChoice, AtOrdinal, Named, RenameLayer}
 use Rattle.tileshell.specs.Request.{Request, Edit, Undo}
@@ -90,3 +90,7 @@ answer_to line =
     else (if not (is_utf8 line) then Err BadUtf8
     else (if is_remark line then Ok None
     else (request_in line >>= λ request. Ok (Some request))))
+
+-- a line that is neither too long nor other than UTF-8
+abbrev pub IsReadable : List ℕ → Type 0
+IsReadable line = (length line ≤ 65536) × IsUtf8 line

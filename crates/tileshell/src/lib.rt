@@ -11,7 +11,7 @@ mod request;
 mod words;
 
 pub use command::{Command, LayerChoice};
-pub use laws::{lines_make_up_the_script, words_are_spelled};
+pub use laws::{lines_make_up_the_script, words_are_spelled, words_ask_for_requests};
 pub use lines::first_line;
 pub use parse::parse_line;
 pub use parse_error::ParseError;
