@@ -93,7 +93,7 @@ no_words : (bytes : List ℕ) → AreBlanks bytes → AllByRecursion (λ b. not 
 no_words [] blanks = tt
 no_words (b ∷ bytes) blanks = (ap not blanks.0, no_words bytes blanks.1)
 
-behind_blanks : (gap bytes : List ℕ) → AreBlanks gap → position_or_len (λ b. not (is_blank b)) bytes ≡ 0 → after_blanks (gap ++ bytes) ≡ bytes
+pub behind_blanks : (gap bytes : List ℕ) → AreBlanks gap → position_or_len (λ b. not (is_blank b)) bytes ≡ 0 → after_blanks (gap ++ bytes) ≡ bytes
 behind_blanks gap bytes blanks e = cut (position_or_len (λ b. not (is_blank b)) (gap ++ bytes)) (stops_at (λ b. not (is_blank b)) gap bytes (no_words gap blanks) e)
   where
     cut : (k : ℕ) → k ≡ length gap → drop k (gap ++ bytes) ≡ bytes
@@ -114,7 +114,7 @@ word_again bytes (Bare (b ∷ name)) rest s e =
 word_again bytes (Quoted text) rest s e =
     ap (λ (bs : List ℕ). first_word (bs ++ rest)) s.1 ∙ ap quoted_at (append_assoc s.0 (34 ∷ []) rest) ∙ quoted_again s.0 text rest s.2 e
 
-no_gap : (bytes : List ℕ) (word : Word) (rest : List ℕ) → SpellsWord bytes word → position_or_len (λ b. not (is_blank b)) (bytes ++ rest) ≡ 0
+pub no_gap : (bytes : List ℕ) (word : Word) (rest : List ℕ) → SpellsWord bytes word → position_or_len (λ b. not (is_blank b)) (bytes ++ rest) ≡ 0
 no_gap bytes (Bare []) rest s = absurd (omega (arith, s.1))
 no_gap bytes (Bare (b ∷ name)) rest s =
     let no_blank : is_blank b ≡ false = or_left (is_blank b) (eqb b 34) s.2.0 in

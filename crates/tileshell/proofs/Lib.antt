@@ -13,3 +13,4 @@ pub mod Positions
 pub mod Commands
 pub mod Renaming
 pub mod Selecting
+pub mod Asking

@@ -1,4 +1,4 @@
--- What a script can ask for, as plain values.
+-- The commands that change a tile, as plain values.
 use Rattle.std.specs.Prelude.{ℕ, List}
 
 -- the layer that a command means: the one at that place among the layers, or the one of that name
@@ -6,9 +6,6 @@ pub data LayerChoice : Type 0 where
   AtOrdinal : (ordinal : ℕ) → LayerChoice
   Named : (name : List ℕ) → LayerChoice
 
+-- a command with its arguments
 pub data Command : Type 0 where
   RenameLayer : (layer : LayerChoice) (name : List ℕ) → Command
-
-pub data Request : Type 0 where
-  Edit : (command : Command) → Request
-  Undo : Request

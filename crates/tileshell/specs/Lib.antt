@@ -1,7 +1,9 @@
 pub mod Command
-pub mod Asked
+pub mod CommandStands
+pub mod Request
+pub mod RequestStands
 pub mod Words
-pub mod Spelled
+pub mod WordStands
 pub mod Spelling
 pub mod Line
 pub mod Answers

@@ -1,14 +1,16 @@
 -- What a line of a script asks for.
-use Rattle.std.specs.Prelude.{ℕ, ◌^◌, Bool, true, ◌&&◌, not, List, [], ◌∷◌, length, Option, Some, None, Result, Ok, Err, ◌==◌, nat_lt, if◌then◌else◌, codes, ok_or}
-use Rattle.std.specs.Str.{bytes_eq, is_utf8, all_ascii_digits}
+use Rattle.std.specs.Prelude.{ℕ, ◌^◌, ◌≤◌, Bool, true, ◌&&◌, not, List, [], ◌∷◌, length, Option, Some, None, Result, Ok, Err, ◌==◌, nat_lt, if◌then◌else◌, codes, ok_or}
+use Rattle.std.specs.Str.{bytes_eq, is_utf8, IsUtf8, all_ascii_digits}
 use Rattle.std.specs.Str.Parse.{digits_value}
-use Rattle.tileshell.specs.Command.{LayerChoice, AtOrdinal, Named, RenameLayer, Request, Edit, Undo}
+use Rattle.tileshell.specs.Command.{LayerChoice, AtOrdinal, Named, RenameLayer}
+use Rattle.tileshell.specs.Request.{Request, Edit, Undo}
 use Rattle.tileshell.specs.Words.{Word, Bare, Quoted, after_blanks, words_of}
 use Rattle.tileshell.specs.declared.keyword.Keyword.{Keyword}
 use Rattle.tileshell.specs.declared.keyword.Keyword.TheVariants as keywords
 use Rattle.tileshell.specs.declared.parse_error.ParseError.{ParseError}
 use Rattle.tileshell.specs.declared.parse_error.ParseError.TheVariants.{LineTooLong, BadUtf8, BadWord, UnknownCommand, BadArguments, BadNumber}
 
+-- what follows, unless there was a refusal
 infixl 10 ◌>>=◌
 abbrev pub ◌>>=◌ : {A B : Type 0} → Result A ParseError → (A → Result B ParseError) → Result B ParseError
 (Ok x) >>= f = f x
@@ -25,6 +27,7 @@ keyword_of name =
 abbrev pub is_number : List ℕ → Bool
 is_number bytes = (not (length bytes == 0) && all_ascii_digits bytes) && nat_lt (digits_value 10 bytes) (2 ^ 64)
 
+-- the number that the digits write
 unfoldable pub number_of : List ℕ → Result ℕ ParseError
 number_of bytes = if is_number bytes then Ok (digits_value 10 bytes) else Err BadNumber
 
@@ -39,6 +42,7 @@ layer_of (Bare []) = Err BadArguments
 layer_of (Bare (b ∷ digits)) = if b == 35 then (number_of digits >>= λ n. Ok (AtOrdinal n)) else Err BadArguments
 layer_of (Quoted text) = Ok (Named text)
 
+-- two arguments: the layer, and its new name as a text
 unfoldable pub rename_layer_of : List Word → Result Request ParseError
 rename_layer_of [] = Err BadArguments
 rename_layer_of (layer ∷ []) = Err BadArguments
@@ -48,6 +52,7 @@ rename_layer_of (layer ∷ name ∷ []) = do
   Ok (Edit (RenameLayer choice text))
 rename_layer_of (layer ∷ name ∷ more ∷ others) = Err BadArguments
 
+-- no argument
 unfoldable pub undo_of : List Word → Result Request ParseError
 undo_of [] = Ok Undo
 undo_of (more ∷ others) = Err BadArguments
@@ -58,17 +63,19 @@ with_arguments None arguments = Err UnknownCommand
 with_arguments (Some keywords.RenameLayer) arguments = rename_layer_of arguments
 with_arguments (Some keywords.Undo) arguments = undo_of arguments
 
--- what the words of a line ask for
+-- What the words of a line ask for: the first one is bare, and says which request it is. A line of no words has been
+-- left out before.
 unfoldable pub asked_by : List Word → Result Request ParseError
 asked_by [] = Err UnknownCommand
 asked_by (Quoted text ∷ arguments) = Err UnknownCommand
 asked_by (Bare name ∷ arguments) = with_arguments (keyword_of name) arguments
 
--- blanks alone, or a `#` behind them
+-- behind the blanks at the front: nothing, or a `#`
 abbrev pub is_remark_behind : List ℕ → Bool
 is_remark_behind [] = true
 is_remark_behind (b ∷ more) = b == 35
 
+-- a line that asks for nothing
 abbrev pub is_remark : List ℕ → Bool
 is_remark line = is_remark_behind (after_blanks line)
 
@@ -83,3 +90,7 @@ answer_to line =
     else (if not (is_utf8 line) then Err BadUtf8
     else (if is_remark line then Ok None
     else (request_in line >>= λ request. Ok (Some request))))
+
+-- a line that is neither too long nor other than UTF-8
+abbrev pub IsReadable : List ℕ → Type 0
+IsReadable line = (length line ≤ 65536) × IsUtf8 line

@@ -13,6 +13,7 @@ without_empty_end [] = []
 without_empty_end (line ∷ []) = last_line line
 without_empty_end (line ∷ next ∷ more) = line ∷ without_empty_end (next ∷ more)
 
+-- what ends a line
 abbrev pub is_line_feed : ℕ → Bool
 is_line_feed b = b == 10
 
@@ -20,6 +21,7 @@ is_line_feed b = b == 10
 unfoldable pub lines_of : List ℕ → List (List ℕ)
 lines_of script = without_empty_end (slice_split is_line_feed script)
 
+-- a line without the line feed behind it
 abbrev pub HasNoLineFeed : List ℕ → Type 0
 HasNoLineFeed line = AllByRecursion (λ b. is_line_feed b ≡ false) line
 

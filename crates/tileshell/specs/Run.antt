@@ -2,7 +2,7 @@
 use Rattle.std.specs.Prelude.{◌≡◌, ℕ, ◌+◌, Bool, true, false, List, [], ◌∷◌, ◌++◌, Option, Some, None, Result, Ok, Err, ◌⊎◌}
 use Rattle.mvt_wire.specs.Plain.{Document}
 use Rattle.mvt_wire.specs.Wire.{bytes_of}
-use Rattle.tileshell.specs.Command.{Request}
+use Rattle.tileshell.specs.Request.{Request}
 use Rattle.tileshell.specs.Line.{answer_to}
 use Rattle.tileshell.specs.Lines.{lines_of}
 use Rattle.tileshell.specs.History.{History, begun, present_document, carried_out}

@@ -24,6 +24,7 @@ abbrev pub SpellsWord : List ℕ → Word → Type 0
 SpellsWord bytes (Bare name) = (bytes ≡ name) × (0 < length name) × AllByRecursion (λ b. ends_bare b ≡ false) name
 SpellsWord bytes (Quoted text) = (inner : List ℕ) × (bytes ≡ 34 ∷ (inner ++ 34 ∷ [])) × SpellsText inner text
 
+-- nothing but blanks
 abbrev pub AreBlanks : List ℕ → Type 0
 AreBlanks bytes = AllByRecursion (λ b. is_blank b ≡ true) bytes
 

@@ -43,17 +43,18 @@ taken step bytes = repeated step (length bytes) bytes
 abbrev pub hex_byte : ℕ → ℕ → Option ℕ
 hex_byte high low = if nat_lt (digit_value high) 8 && nat_lt (digit_value low) 16 then Some (16 * digit_value high + digit_value low) else None
 
--- Behind a backslash: `x` and two digits, a quote or a backslash. The byte, and the bytes after it.
+-- two hexadecimal digits: the byte, and what follows it
 abbrev pub hex_at : List ℕ → Option (ℕ × List ℕ)
 hex_at [] = None
 hex_at (high ∷ []) = None
 hex_at (high ∷ low ∷ more) = option_map (λ b. (b, more)) (hex_byte high low)
 
+-- behind a backslash: `x` and two digits, a quote or a backslash
 abbrev pub escape_at : List ℕ → Option (ℕ × List ℕ)
 escape_at [] = None
 escape_at (b ∷ more) = if b == 120 then hex_at more else (if b == 34 || b == 92 then Some (b, more) else None)
 
--- a byte of a quoted text, by itself or by an escape; none at the closing quote
+-- a byte of a quoted text, by itself or by an escape, and what follows it; none at the closing quote
 unfoldable pub byte_at : List ℕ → Option (ℕ × List ℕ)
 byte_at [] = None
 byte_at (b ∷ more) = if b == 92 then escape_at more else (if b == 34 then None else Some (b, more))
@@ -67,12 +68,19 @@ abbrev pub closed : List ℕ → List ℕ → Option (Word × List ℕ)
 closed text [] = None
 closed text (b ∷ more) = if b == 34 && ends_word more then Some (Quoted text, more) else None
 
+-- a word behind its opening quote
 abbrev pub quoted_at : List ℕ → Option (Word × List ℕ)
 quoted_at bytes = closed (text_at bytes).0 (text_at bytes).1
 
-abbrev pub bare_at : List ℕ → Option (Word × List ℕ)
-bare_at bytes = let rest = drop (position_or_len ends_bare bytes) bytes in if ends_word rest then Some (Bare (before_first ends_bare bytes), rest) else None
+-- a bare word, where it may end before the rest
+abbrev pub bare_before : List ℕ → List ℕ → Option (Word × List ℕ)
+bare_before name rest = if ends_word rest then Some (Bare name, rest) else None
 
+-- a bare word goes up to the first blank or quote
+abbrev pub bare_at : List ℕ → Option (Word × List ℕ)
+bare_at bytes = bare_before (before_first ends_bare bytes) (drop (position_or_len ends_bare bytes) bytes)
+
+-- the word at the front
 abbrev pub first_word : List ℕ → Option (Word × List ℕ)
 first_word [] = None
 first_word (b ∷ more) = if b == 34 then quoted_at more else bare_at (b ∷ more)

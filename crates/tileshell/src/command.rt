@@ -1,4 +1,4 @@
-//! What a script can ask for.
+//! The commands that change a tile.
 
 use mvt_wire::Items;
 
@@ -15,11 +15,4 @@ pub enum LayerChoice {
 #[derive(Debug, Drop)]
 pub enum Command {
     RenameLayer { layer: LayerChoice, name: Items<u8> },
-}
-
-/// What a line of a script asks for.
-#[derive(Debug, Drop)]
-pub enum Request {
-    Edit(Command),
-    Undo,
 }

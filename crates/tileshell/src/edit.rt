@@ -2,7 +2,7 @@
 
 ghost use Rattle.std.specs.Prelude.{◌≡◌, map, OnOk, OnErr};
 ghost use Rattle.mvt_wire.specs.Stands.{document_of, layer_item_of, tile_item_of};
-ghost use Rattle.tileshell.specs.Asked.{command_of, layer_choice_of};
+ghost use Rattle.tileshell.specs.CommandStands.{command_of, layer_choice_of};
 ghost use Rattle.tileshell.specs.Command.{RenameLayer};
 ghost use Rattle.tileshell.specs.Meaning.{applied, in_layer, name_field, named_items, renamed, with_text};
 ghost use Rattle.tileshell.specs.Memory.{GivesUnless};

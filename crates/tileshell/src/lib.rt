@@ -14,6 +14,7 @@ mod parse_error;
 mod program;
 mod refused;
 mod reply;
+mod request;
 mod runs;
 mod select;
 mod session;
@@ -21,15 +22,16 @@ mod std_device;
 mod transfer;
 mod words;
 
-pub use command::{Command, LayerChoice, Request};
+pub use command::{Command, LayerChoice};
 pub use device::{Sink, Source, Trouble};
 pub use edit::Refusal;
-pub use laws::{lines_make_up_the_script, words_are_spelled};
+pub use laws::{lines_make_up_the_script, words_are_spelled, words_ask_for_requests};
 pub use outcome::{DeviceName, Options, Outcome, TileFault};
 pub use parse::parse_line;
 pub use parse_error::ParseError;
 pub use program::shell;
 pub use refused::Refused;
+pub use request::Request;
 pub use runs::{MAX_SCRIPT, run};
 pub use std_device::{FromRead, FromWrite};
 

@@ -4,13 +4,15 @@ ghost use Rattle.std.specs.Prelude.{◌≡◌, ◌+◌, ◌*◌, ◌^◌, ◌<�
 ghost use Rattle.std.specs.Option.{SomeIff};
 ghost use Rattle.std.specs.Str.{is_utf8};
 ghost use Rattle.tileshell.specs.Answers.{Gives};
-ghost use Rattle.tileshell.specs.Asked.{layer_choice_of, request_of};
+ghost use Rattle.tileshell.specs.CommandStands.{layer_choice_of};
 ghost use Rattle.tileshell.specs.Line.{number_of, text_of, layer_of, rename_layer_of, undo_of, asked_by, request_in, is_remark, answer_to};
-ghost use Rattle.tileshell.specs.Spelled.{word_of};
+ghost use Rattle.tileshell.specs.RequestStands.{request_of};
+ghost use Rattle.tileshell.specs.WordStands.{word_of};
 
-use crate::command::{Command, LayerChoice, Request};
+use crate::command::{Command, LayerChoice};
 use crate::keyword::{Keyword, keyword_of};
 use crate::parse_error::ParseError;
+use crate::request::Request;
 use crate::words::{Word, after_blanks, text, words};
 use mvt_wire::Items;
 use simdutf8::basic::from_utf8;

@@ -4,7 +4,7 @@ ghost use Rattle.std.specs.Prelude.{◌≡◌, length, map, slice_get};
 ghost use Rattle.std.specs.List.{last_or};
 ghost use Rattle.std.specs.Option.{option_copied};
 ghost use Rattle.mvt_wire.specs.Stands.{layer_item_of, layer_of, tile_item_of};
-ghost use Rattle.tileshell.specs.Asked.{layer_choice_of};
+ghost use Rattle.tileshell.specs.CommandStands.{layer_choice_of};
 ghost use Rattle.tileshell.specs.Command.{AtOrdinal, Named};
 ghost use Rattle.tileshell.specs.Selection.{is_layer, layers, layer_positions, text_in, name_of, is_named, selected};
 ghost use Rattle.tileshell.specs.Meaning.{name_positions, is_taken};

@@ -1,8 +1,9 @@
 //! A document, and what undo brings back.
 
-use crate::command::{Command, Request};
+use crate::command::Command;
 use crate::edit::{Refusal, apply};
 use crate::refused::Refused;
+use crate::request::Request;
 use mvt_wire::Document;
 use std::alloc::Global;
 use std::mem;

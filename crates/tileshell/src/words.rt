@@ -5,7 +5,7 @@ ghost use Rattle.std.specs.List.{position, position_or_len};
 ghost use Rattle.tileshell.specs.Words.{is_blank, ends_bare, after_blanks, ends_word, hex_byte, byte_at, text_at, quoted_at, bare_at, word_at, words_of};
 ghost use Rattle.tileshell.specs.Answers.{Gives};
 ghost use Rattle.tileshell.specs.declared.parse_error.ParseError.TheVariants.{BadWord};
-ghost use Rattle.tileshell.specs.Spelled.{word_of};
+ghost use Rattle.tileshell.specs.WordStands.{word_of};
 
 use crate::parse_error::ParseError;
 use std::alloc::{AllocError, Global};
@@ -31,13 +31,13 @@ fn ends_bare(byte: u8) -> bool
     is_blank(byte) || byte == b'"'
 }
 
-fn first_word(bytes: &[u8]) -> Option<usize>
+fn word_start(bytes: &[u8]) -> Option<usize>
     ensures { result ≡ position (λ b. not (is_blank b)) bytes.now }
 {
     bytes.iter().position(|byte| !is_blank(*byte))
 }
 
-fn first_end(bytes: &[u8]) -> Option<usize>
+fn word_end(bytes: &[u8]) -> Option<usize>
     ensures { result ≡ position ends_bare bytes.now }
 {
     bytes.iter().position(|byte| ends_bare(*byte))
@@ -48,7 +48,7 @@ fn count_blanks(bytes: &[u8]) -> usize
     ensures place { result ≡ position_or_len (λ b. not (is_blank b)) bytes.now }
     ensures within { result ≤ length bytes.now }
 {
-    first_word(bytes).unwrap_or(bytes.len())
+    word_start(bytes).unwrap_or(bytes.len())
 }
 
 /// How long the bare word at the front is.
@@ -56,7 +56,7 @@ fn bare_len(bytes: &[u8]) -> usize
     ensures place { result ≡ position_or_len ends_bare bytes.now }
     ensures within { result ≤ length bytes.now }
 {
-    first_end(bytes).unwrap_or(bytes.len())
+    word_end(bytes).unwrap_or(bytes.len())
 }
 
 /// The bytes behind the blanks at the front.

@@ -63,10 +63,8 @@ fn reads_undo(rt: HostRuntime) -> Result<(), Fail> {
 
 #[test]
 fn reads_rename_layer(rt: HostRuntime) -> Result<(), Fail> {
-    match parse_line(
-        rt.alloc(),
-        b"rename-layer #007 \"q\\\"\\\\\\x0a\\x7F # \xc3\xa9\"",
-    )? {
+    let line = b"rename-layer #007 \"q\\\"\\\\\\x0a\\x7F # \xc3\xa9\"";
+    match &parse_line(rt.alloc(), line)? {
         Some(
             Request::Edit(
                 Command::RenameLayer {
@@ -75,12 +73,12 @@ fn reads_rename_layer(rt: HostRuntime) -> Result<(), Fail> {
                 },
             ),
         ) => {
-            assert_eq!(rt; ordinal, 7);
+            assert_eq!(rt; *ordinal, 7);
             assert_eq!(rt; name.as_slice(), b"q\"\\\n\x7f # \xc3\xa9".as_slice());
         }
         _ => assert!(rt; false),
     }
-    match parse_line(rt.alloc(), b"rename-layer \"\" \"b\"")? {
+    match &parse_line(rt.alloc(), b"rename-layer \"\" \"b\"")? {
         Some(
             Request::Edit(
                 Command::RenameLayer {

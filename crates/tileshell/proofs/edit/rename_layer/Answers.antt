@@ -1,6 +1,6 @@
 use Rattle.std.proofs.Common.{◌≡◌, None, sym, ap, ◌∙◌, inr, arith}
 use Rattle.mvt_wire.specs.Stands.{document_of}
-use Rattle.tileshell.specs.Asked.{layer_choice_of}
+use Rattle.tileshell.specs.CommandStands.{layer_choice_of}
 use Rattle.tileshell.specs.Meaning.{change_layer, renamed, within_limit}
 use Rattle.tileshell.proofs.Selecting.{selected_found}
 use Rattle.tileshell.proofs.Commands.{found_in_copy, copy_within, rename_applied, within_limit_ok, within_limit_err, change_stands}

@@ -1,4 +1,4 @@
-use Rattle.std.proofs.Common.{◌≡◌, ℕ, ◌<◌, true, false, get_or, length, Ok, sym, ap, ◌∙◌, below_more, arith}
+use Rattle.std.proofs.Common.{inr, ◌≡◌, ℕ, ◌<◌, true, false, get_or, length, Ok, sym, ap, ◌∙◌, below_more, arith}
 use Rattle.std.specs.Char.{is_ascii_digit}
 use Rattle.std.specs.Str.Parse.{digits_value}
 use Rattle.std.proofs.lemmas.List.{take_all}
@@ -9,12 +9,12 @@ use Rattle.tileshell.proofs.parse.number.Goals as goal
 pub returns-then-not-is_ascii_digit : goal.returns-then-not-is_ascii_digit
 returns-then-not-is_ascii_digit c =
     let other : is_ascii_digit (get_or c.args.digits.now c.loop-digit.digit-index 0) ≡ false = grind arith in
-    stops_at_other c.args.digits.now c.loop-digit.digit-index c.loop-digit-test.true other
+    inr (stops_at_other c.args.digits.now c.loop-digit.digit-index c.loop-digit-test.true other)
 
 pub returns-in_default : goal.returns-in_default
 returns-in_default c =
     let digit : is_ascii_digit (get_or c.args.digits.now c.loop-digit.digit-index 0) ≡ true = grind arith in
-    stops_at_limit c.args.digits.now c.loop-digit.digit-index c.loop-digit.value c.loop-digit-test.true digit c.loop-digit.invariant.so_far c.in_default.ensures
+    inr (stops_at_limit c.args.digits.now c.loop-digit.digit-index c.loop-digit.value c.loop-digit-test.true digit c.loop-digit.invariant.so_far c.in_default.ensures)
 
 pub loop-digit-preserved : goal.loop-digit-preserved
 loop-digit-preserved c =

@@ -4,5 +4,5 @@ use Rattle.tileshell.proofs.words.bare_len.Goals as goal
 
 pub returns : goal.returns
 returns c =
-    let is = place_from_position ends_bare c.args.bytes.now c.first_end.result c.unwrap_or.result c.first_end.ensures c.unwrap_or.ensures in
+    let is = place_from_position ends_bare c.args.bytes.now c.word_end.result c.unwrap_or.result c.word_end.ensures c.unwrap_or.ensures in
     record { place = is; within = rw is (place_le ends_bare c.args.bytes.now) }

@@ -5,5 +5,5 @@ use Rattle.tileshell.proofs.words.count_blanks.Goals as goal
 
 pub returns : goal.returns
 returns c =
-    let is = place_from_position (λ b. not (is_blank b)) c.args.bytes.now c.first_word.result c.unwrap_or.result c.first_word.ensures c.unwrap_or.ensures in
+    let is = place_from_position (λ b. not (is_blank b)) c.args.bytes.now c.word_start.result c.unwrap_or.result c.word_start.ensures c.unwrap_or.ensures in
     record { place = is; within = rw is (place_le (λ b. not (is_blank b)) c.args.bytes.now) }

@@ -3,7 +3,7 @@ use Rattle.std.specs.List.{position_or_len}
 use Rattle.std.specs.Prelude.{not}
 use Rattle.std.proofs.lemmas.List.{length-drop, length-take}
 use Rattle.tileshell.specs.Words.{Word, is_blank, quoted_at}
-use Rattle.tileshell.specs.Spelled.{word_of}
+use Rattle.tileshell.specs.WordStands.{word_of}
 use Rattle.tileshell.proofs.Short.{quoted_short, if_seen}
 use Rattle.tileshell.proofs.words.word_at.Goals as goal
 

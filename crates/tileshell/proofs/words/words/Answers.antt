@@ -1,9 +1,9 @@
-use Rattle.std.proofs.Common.{◌≡◌, ℕ, List, [], ◌∷◌, ◌++◌, map, sym, ap, ◌∙◌, refl, eqb, length, true, false, Ok, Err}
+use Rattle.std.proofs.Common.{inr, ◌≡◌, ℕ, List, [], ◌∷◌, ◌++◌, map, sym, ap, ◌∙◌, refl, eqb, length, true, false, Ok, Err}
 use Rattle.std.specs.Prelude.{ok_or}
 use Rattle.tileshell.specs.declared.parse_error.ParseError.TheVariants.{BadWord}
 use Rattle.std.proofs.lemmas.List.{map_push}
 use Rattle.tileshell.specs.Words.{Word, word_at, taken, all_found, after_blanks, words_of}
-use Rattle.tileshell.specs.Spelled.{word_of}
+use Rattle.tileshell.specs.WordStands.{word_of}
 use Rattle.tileshell.proofs.Repeats.{goes_on, ends}
 use Rattle.tileshell.proofs.Short.{word_short}
 use Rattle.tileshell.proofs.words.words.Goals as goal
@@ -31,4 +31,4 @@ unfolding words_of
 returns c =
     let all = ends word_at word_short (map word_of c.loop-word.words.items) c.loop-word.rest.now (taken word_at c.args.line.now) (sym c.in_default.ensures.value) c.loop-word.invariant in
     let blank = ap (λ (xs : List ℕ). eqb (length xs) 0) (sym c.after_blanks.ensures) ∙ sym c.is_empty.ensures ∙ c.if-is_empty.false in
-    ap (λ (found : List Word × List ℕ). ok_or (all_found found) BadWord) all ∙ found_more (map word_of c.loop-word.words.items) c.loop-word.rest.now blank
+    inr (ap (λ (found : List Word × List ℕ). ok_or (all_found found) BadWord) all ∙ found_more (map word_of c.loop-word.words.items) c.loop-word.rest.now blank)

@@ -1,6 +1,6 @@
 use Rattle.std.proofs.Common.{◌≡◌, length, map}
 use Rattle.tileshell.specs.Words.{word_at, taken}
-use Rattle.tileshell.specs.Spelled.{word_of}
+use Rattle.tileshell.specs.WordStands.{word_of}
 use Rattle.tileshell.proofs.Repeats.{behind}
 use Rattle.tileshell.proofs.words.words.Given as goal
 
