@@ -1,10 +1,10 @@
 -- What reading says of whole files: the document that one opens as, or the place where it breaks.
-use Rattle.std.proofs.Common.{◌≡◌, ℕ, ◌<◌, ◌≤◌, List, length, map, take, refl, sym, ap, ◌∙◌, subst, arith}
+use Rattle.std.proofs.Common.{◌≡◌, ℕ, ◌≤◌, List, length, map, take, sym, ◌∙◌, subst, arith}
 use Rattle.std.specs.List.{flat_map, AllByRecursion}
 use Rattle.std.proofs.lemmas.List.{length-take, take_all}
 use Rattle.mvt_wire.specs.declared.TheConstants.{MAX_FILE}
-use Rattle.mvt_wire.specs.Plain.{Field, TileItem, Document}
-use Rattle.mvt_wire.specs.Wire.{field_bytes, tile_item_bytes}
+use Rattle.mvt_wire.specs.Plain.{TileItem, Document}
+use Rattle.mvt_wire.specs.Wire.{field_bytes}
 use Rattle.mvt_wire.specs.Opens.{IsTileItem, StoresTileItem, OpensAs, IsPlace}
 use Rattle.mvt_wire.specs.Parts.{tile_item_field, IsWholeField, IsWholeTileItem, MakesTileItem, StopsAt, IsStop}
 use Rattle.mvt_wire.specs.declared.faults.ReadError.{ReadError}
@@ -43,8 +43,8 @@ stop_is_place f file place within s =
       document = map f s.items;
       opens = opens_from f s.items (take place file) (omega (arith, length-take place file)) s.spelled s.whole;
       longest = λ n longer after short o.
-        let fields = as_fields (take n file) longer o in
-        s.longest n (map tile_item_field longer) after short fields.0 fields.1 fields.2;
+          let fields = as_fields (take n file) longer o in
+          s.longest n (map tile_item_field longer) after short fields.0 fields.1 fields.2;
     }
 
 pub stop_is_broken : {T : Type 0} (f : T → TileItem) (file : List ℕ) (place : ℕ) → StopsInFile f file place → (document : Document) → OpensAs file document → ⊥
