@@ -1,12 +1,12 @@
 -- What stands at the front of bytes: a number, a body, a field.
-use Rattle.std.proofs.Common.{◌≡◌, ℕ, ◌+◌, ◌-◌, ◌%◌, ◌^◌, ◌<◌, ◌≤◌, List, [], ◌∷◌, ◌++◌, length, take, drop, refl, sym, ap, ◌∙◌, subst, append_assoc, arith}
-use Rattle.std.proofs.lemmas.List.{length-append, length-take, length-take-le, length-drop, take-append-drop, take_rest}
+use Rattle.std.proofs.Common.{◌≡◌, ℕ, ◌+◌, ◌-◌, ◌%◌, ◌<◌, ◌≤◌, List, ◌++◌, length, take, drop, refl, sym, ap, ◌∙◌, subst, arith}
+use Rattle.std.proofs.lemmas.List.{length-append, length-take-le, take-append-drop, take_rest}
 use Rattle.std.proofs.Math.Seq.{take-add}
-use Rattle.mvt_wire.specs.Plain.{Number, Body, Spelled, Eight, Four, Delimited, Field}
-use Rattle.mvt_wire.specs.Shape.{IsSpelling, IsWidth}
+use Rattle.mvt_wire.specs.Plain.{Body, Spelled, Eight, Four, Delimited, Field}
+use Rattle.mvt_wire.specs.Shape.{IsSpelling}
 use Rattle.mvt_wire.specs.Wire.{spell, body_bytes, field_bytes}
 use Rattle.mvt_wire.specs.Opens.{IsField, StoresField}
-use Rattle.mvt_wire.specs.Parts.{IsWholeBody, IsWholeField}
+use Rattle.mvt_wire.specs.Parts.{IsWholeBody}
 use Rattle.mvt_wire.proofs.Spelling.{one_spelling, spelling_some}
 use Rattle.mvt_wire.proofs.Prefixes.{delimited-bytes, field-bytes, stored_width}
 

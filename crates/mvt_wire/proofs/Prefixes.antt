@@ -1,12 +1,11 @@
 -- No field begins another, so a list of fields is known by its bytes.
-use Rattle.std.proofs.Common.{◌≡◌, ℕ, zero, suc, ◌+◌, ◌-◌, ◌%◌, ◌<◌, ◌≤◌, max, List, [], ◌∷◌, ◌++◌, length, take, drop, refl, sym, ap, ◌∙◌, subst, append_assoc, arith, rules}
+use Rattle.std.proofs.Common.{◌≡◌, ℕ, ◌%◌, ◌≤◌, max, List, [], ◌∷◌, ◌++◌, length, refl, sym, ap, ◌∙◌, subst, append_assoc, arith}
 use Rattle.std.specs.List.{flat_map, AllByRecursion}
-use Rattle.std.proofs.lemmas.List.{length-append, append-nil, take_at, drop_at, take-append-drop, nil_from_length}
-use Rattle.std.proofs.lemmas.List.Concat.{flat_map-cons}
+use Rattle.std.proofs.lemmas.List.{length-append, append-nil}
 use Rattle.mvt_wire.specs.Plain.{Number, Body, Spelled, Eight, Four, Delimited, Field}
-use Rattle.mvt_wire.specs.Shape.{IsSpelling, IsTag}
+use Rattle.mvt_wire.specs.Shape.{IsSpelling}
 use Rattle.mvt_wire.specs.Wire.{spell, minimal_width, spelling, body_bytes, field_bytes}
-use Rattle.mvt_wire.specs.Opens.{IsNumber, IsField, StoresField, wire_type}
+use Rattle.mvt_wire.specs.Opens.{IsNumber}
 use Rattle.mvt_wire.specs.Parts.{IsWholeBody, IsWholeField}
 use Rattle.mvt_wire.proofs.Spelling.{length-spell, one_spelling, spelling_some}
 

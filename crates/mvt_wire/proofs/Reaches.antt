@@ -1,7 +1,7 @@
 -- Reading fields from the front of a content: how far it has come, and where it stops.
-use Rattle.std.proofs.Common.{◌≡◌, ℕ, zero, suc, ◌+◌, ◌-◌, ◌<◌, ◌≤◌, min, List, [], ◌∷◌, ◌++◌, length, map, take, drop, refl, sym, ap, ◌∙◌, subst, append_assoc, arith}
+use Rattle.std.proofs.Common.{◌≡◌, ℕ, ◌+◌, ◌-◌, ◌<◌, ◌≤◌, min, List, [], ◌∷◌, ◌++◌, length, map, take, drop, refl, sym, ap, ◌∙◌, subst, append_assoc, arith}
 use Rattle.std.specs.List.{flat_map, AllByRecursion}
-use Rattle.std.proofs.lemmas.List.{length-append, length-take, length-drop, take-append-drop, take_rest, take_all, append-nil}
+use Rattle.std.proofs.lemmas.List.{length-take, length-drop, take-append-drop, take_rest, take_all, append-nil}
 use Rattle.std.proofs.lemmas.List.Folds.{flat_map-map}
 use Rattle.std.proofs.lemmas.Grind.{flat_map-append}
 use Rattle.std.proofs.Math.Seq.{take-add}
@@ -48,10 +48,10 @@ reaches_more f w content place items x field size r h e p =
     record {
       within = omega (arith, r.within, h.within, length-take (length content - place) (drop place content), length-drop place content);
       spelled =
-        take-add place size content
-        ∙ ap (λ (b : List ℕ). b ++ take size (drop place content)) r.spelled
-        ∙ ap (λ (b : List ℕ). bytes_by f items ++ b) (ap (take size) (sym (take_rest content place)) ∙ h.spelled ∙ ap field_bytes (sym e))
-        ∙ sym (bytes_push f items x);
+          take-add place size content
+          ∙ ap (λ (b : List ℕ). b ++ take size (drop place content)) r.spelled
+          ∙ ap (λ (b : List ℕ). bytes_by f items ++ b) (ap (take size) (sym (take_rest content place)) ∙ h.spelled ∙ ap field_bytes (sym e))
+          ∙ sym (bytes_push f items x);
       fields = all_push (λ i. IsWholeField (f i)) items x r.fields (subst IsWholeField (sym e) h.whole);
       whole = all_push w items x r.whole p;
     }
@@ -94,15 +94,15 @@ stops_at f w makes content place items r before none =
       whole = r.whole;
       spelled = r.spelled;
       longest = λ n fields after within p m e.
-        let k : place + (n - place) ≡ n = omega arith in
-        let parts : bytes_by f items ++ take (n - place) (drop place content) ≡ flat_map field_bytes fields =
-            ap (λ (b : List ℕ). b ++ take (n - place) (drop place content)) (sym r.spelled)
-            ∙ sym (take-add place (n - place) content) ∙ ap (λ (j : ℕ). take j content) k ∙ e in
-        let regrouped : flat_map field_bytes (map f items) ++ take (n - place) (drop place content) ≡ flat_map field_bytes fields =
-            ap (λ (b : List ℕ). b ++ take (n - place) (drop place content)) (flat_map-map field_bytes f items) ∙ parts in
-        let more = fields_begin makes (map f items) fields (take (n - place) (drop place content)) (all_map f IsWholeField items r.fields) p m regrouped in
-        let some : 0 < n - place = omega arith in
-        let enough : n - place ≤ length (from place content) = omega (arith, length-take (length content - place) (drop place content), length-drop place content) in
-        nothing_more makes (from place content) (n - place) more.0 none some enough more.3 more.4
-        (ap (take (n - place)) (take_rest content place) ∙ more.2);
+          let k : place + (n - place) ≡ n = omega arith in
+          let parts : bytes_by f items ++ take (n - place) (drop place content) ≡ flat_map field_bytes fields =
+          ap (λ (b : List ℕ). b ++ take (n - place) (drop place content)) (sym r.spelled)
+          ∙ sym (take-add place (n - place) content) ∙ ap (λ (j : ℕ). take j content) k ∙ e in
+          let regrouped : flat_map field_bytes (map f items) ++ take (n - place) (drop place content) ≡ flat_map field_bytes fields =
+          ap (λ (b : List ℕ). b ++ take (n - place) (drop place content)) (flat_map-map field_bytes f items) ∙ parts in
+          let more = fields_begin makes (map f items) fields (take (n - place) (drop place content)) (all_map f IsWholeField items r.fields) p m regrouped in
+          let some : 0 < n - place = omega arith in
+          let enough : n - place ≤ length (from place content) = omega (arith, length-take (length content - place) (drop place content), length-drop place content) in
+          nothing_more makes (from place content) (n - place) more.0 none some enough more.3 more.4
+          (ap (take (n - place)) (take_rest content place) ∙ more.2);
     }

@@ -1,7 +1,7 @@
 -- Settled documents with the same bytes are equal.
-use Rattle.std.proofs.Common.{◌≡◌, ℕ, List, [], ◌∷◌, ◌++◌, map, refl, sym, ap, ◌∙◌, arith}
+use Rattle.std.proofs.Common.{◌≡◌, ℕ, List, [], ◌∷◌, map, refl, sym, ap, ◌∙◌}
 use Rattle.std.specs.List.{flat_map, AllByRecursion}
-use Rattle.mvt_wire.specs.Plain.{Number, Body, Delimited, Field, Feature, LayerItem, OfFeature, PlainInLayer, Layer, TileItem, OfLayer, PlainInTile, Document}
+use Rattle.mvt_wire.specs.Plain.{Number, Delimited, Field, Feature, LayerItem, OfFeature, PlainInLayer, Layer, TileItem, OfLayer, PlainInTile, Document}
 use Rattle.mvt_wire.specs.Wire.{field_bytes, layer_item_bytes, bytes_of}
 use Rattle.mvt_wire.specs.Opens.{IsField, StoresField, IsSettled}
 use Rattle.mvt_wire.specs.Parts.{feature_field, layer_item_field, layer_field, tile_item_field, IsWholeField, IsWholeLayerItem, IsWholeTileItem}
@@ -60,8 +60,8 @@ one_layer l m p q e =
     let whole_l = layer_items_whole l.items p.valid.items p.stored.items in
     let whole_m = layer_items_whole m.items q.valid.items q.stored.items in
     let fields : map layer_item_field l.items ≡ map layer_item_field m.items =
-        one_list (map layer_item_field l.items) (map layer_item_field m.items) (layer_items_are_fields l.items whole_l) (layer_items_are_fields m.items whole_m)
-        (layer_items-bytes_as_fields l.items ∙ contents ∙ sym (layer_items-bytes_as_fields m.items)) in
+    one_list (map layer_item_field l.items) (map layer_item_field m.items) (layer_items_are_fields l.items whole_l) (layer_items_are_fields m.items whole_m)
+    (layer_items-bytes_as_fields l.items ∙ contents ∙ sym (layer_items-bytes_as_fields m.items)) in
     let items : l.items ≡ m.items = same_by layer_item_field IsWholeLayerItem one_layer_item l.items m.items whole_l whole_m fields in
     let rebuilt : layer_with l.tag l.width l.items ≡ layer_with m.tag m.width m.items = (cc) in
     rebuilt
@@ -77,6 +77,6 @@ one_document_by_bytes d e p q same =
     let whole_d = tile_items_whole d p.valid p.stored in
     let whole_e = tile_items_whole e q.valid q.stored in
     let fields : map tile_item_field d ≡ map tile_item_field e =
-        one_list (map tile_item_field d) (map tile_item_field e) (tile_items_are_fields d whole_d) (tile_items_are_fields e whole_e)
-        (tile_items-bytes_as_fields d ∙ same ∙ sym (tile_items-bytes_as_fields e)) in
+    one_list (map tile_item_field d) (map tile_item_field e) (tile_items_are_fields d whole_d) (tile_items_are_fields e whole_e)
+    (tile_items-bytes_as_fields d ∙ same ∙ sym (tile_items-bytes_as_fields e)) in
     same_by tile_item_field IsWholeTileItem one_tile_item d e whole_d whole_e fields

@@ -1,15 +1,15 @@
 -- Raising stored widths to the written ones: the document is settled, and its bytes stay.
-use Rattle.std.proofs.Common.{◌≡◌, ℕ, ◌+◌, ◌^◌, ◌<◌, ◌≤◌, max, List, [], ◌∷◌, ◌++◌, length, map, refl, sym, ap, ◌∙◌, subst, arith}
+use Rattle.std.proofs.Common.{◌≡◌, ℕ, ◌≤◌, max, List, [], ◌∷◌, ◌++◌, length, map, refl, sym, ap, ◌∙◌, subst, arith}
 use Rattle.std.specs.List.{flat_map, AllByRecursion}
 use Rattle.std.proofs.lemmas.List.{length-append}
 use Rattle.std.proofs.lemmas.List.Folds.{flat_map-map}
 use Rattle.mvt_wire.specs.declared.TheConstants.{MAX_FILE}
-use Rattle.mvt_wire.specs.Plain.{Body, Spelled, Eight, Four, Delimited, Field, Feature, LayerItem, OfFeature, PlainInLayer, Layer, TileItem, OfLayer, PlainInTile, Document}
+use Rattle.mvt_wire.specs.Plain.{Body, Spelled, Eight, Four, Delimited, Field, LayerItem, OfFeature, PlainInLayer, TileItem, OfLayer, PlainInTile, Document}
 use Rattle.mvt_wire.specs.Shape.{IsSpelling, IsWidth, IsTag}
-use Rattle.mvt_wire.specs.Wire.{spell, minimal_width, spelling, delimited, body_bytes, field_bytes, feature_bytes, layer_item_bytes, layer_bytes, tile_item_bytes, bytes_of}
-use Rattle.mvt_wire.specs.Opens.{wire_type, IsBody, IsField, IsFeature, IsLayerItem, IsLayer, IsTileItem, IsDocument, StoresBody, StoresField, StoresFeature, StoresLayerItem, StoresLayer, StoresTileItem, IsSettled, OpensAs}
-use Rattle.mvt_wire.specs.Settle.{written_width, settle_body, settle_field, settle_feature, settle_layer_item, settle_layer, settle_tile_item, settle, IsShort, IsShortBody, IsShortField, IsShortFeature, IsShortLayerItem, IsShortLayer, IsShortTileItem, HasShortLengths}
-use Rattle.mvt_wire.proofs.Spelling.{minimal_width_some, minimal_width_short}
+use Rattle.mvt_wire.specs.Wire.{spell, minimal_width, spelling, delimited, body_bytes, field_bytes, layer_item_bytes, tile_item_bytes, bytes_of}
+use Rattle.mvt_wire.specs.Opens.{wire_type, IsBody, IsField, IsLayerItem, IsTileItem, IsDocument, StoresBody, StoresField, StoresLayerItem, StoresTileItem, IsSettled, OpensAs}
+use Rattle.mvt_wire.specs.Settle.{written_width, settle_body, settle_field, settle_layer_item, settle_tile_item, settle, IsShort, IsShortBody, IsShortField, IsShortLayerItem, IsShortTileItem, HasShortLengths}
+use Rattle.mvt_wire.proofs.Spelling.{minimal_width_short}
 use Rattle.mvt_wire.proofs.Wholes.{all_by, all_of_map, all_with, same_bytes}
 use Rattle.mvt_wire.proofs.SameBytes.{one_document_by_bytes}
 

@@ -10,19 +10,16 @@ ghost use Rattle.mvt_wire.specs.Settle.{settle, HasShortLengths};
 /// Settled documents with the same bytes are equal, so a file opens as one document at most.
 pub fn one_document()
     ensures { (d e : PlainDocument) → IsSettled d → IsSettled e → bytes_of d ≡ bytes_of e → d ≡ e }
-{
-}
+{}
 
 /// A document whose stored widths are raised to the written ones is settled, and its bytes stay.
 pub fn settles()
     ensures settled { (d : PlainDocument) → IsDocument d → HasShortLengths d → IsSettled (settle d) }
     ensures bytes { (d : PlainDocument) → bytes_of (settle d) ≡ bytes_of d }
-{
-}
+{}
 
 /// A settled document stays as it is. What is written of a document opens as the settled one.
 pub fn opens_again()
     ensures kept { (d : PlainDocument) → IsSettled d → settle d ≡ d }
     ensures opens { (d : PlainDocument) → IsDocument d → length (bytes_of d) ≤ MAX_FILE → OpensAs (bytes_of d) (settle d) }
-{
-}
+{}

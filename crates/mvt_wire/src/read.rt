@@ -1,6 +1,6 @@
 //! The document that a file opens as.
 
-ghost use Rattle.std.specs.Prelude.{◌≡◌, ℕ, ◌≤◌, ◌<◌, ◌↔◌, List, length, IfOk, IsErrOf};
+ghost use Rattle.std.specs.Prelude.{◌≡◌, ℕ, ◌≤◌, ◌<◌, ◌↔◌, List, length, IfOk, IsErrOf, MatchResult};
 ghost use Rattle.mvt_wire.specs.declared.TheConstants.{MAX_FILE};
 ghost use Rattle.mvt_wire.specs.Plain.{Document as PlainDocument};
 ghost use Rattle.mvt_wire.specs.Opens.{OpensAs, IsPlace};
@@ -17,6 +17,7 @@ use std::alloc::Global;
 /// prefix of the file that is the bytes of some document.
 pub fn read_document(alloc: Global, file: &[u8]) -> Result<Document, ReadError>
     ensures opens { IfOk result (λ document. OpensAs file.now (document_of document)) }
+    ensures only { (document : PlainDocument) → OpensAs file.now document → MatchResult result (λ read. document_of read ≡ document) (λ e. e ≡ ReadError.NoMemory) }
     ensures too_large { IsErrOf result ReadError.FileTooLarge ↔ (MAX_FILE < length file.now) }
     ensures bad_wire { (place : ℕ) → IsErrOf result (ReadError.BadWire place) → (document : PlainDocument) → OpensAs file.now document → ⊥ }
     ensures place { (place : ℕ) → IsErrOf result (ReadError.BadWire place) → IsPlace file.now place }

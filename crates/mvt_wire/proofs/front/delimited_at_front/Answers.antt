@@ -1,4 +1,3 @@
-use Rattle.std.proofs.Common.{arith}
 use Rattle.mvt_wire.proofs.Begins.{IsNumberAt, content_taken, content_whole, content_cut}
 use Rattle.mvt_wire.proofs.front.delimited_at_front.Goals as goal
 

@@ -1,4 +1,4 @@
-use Rattle.std.proofs.Common.{arith, None}
+use Rattle.std.proofs.Common.{arith}
 use Rattle.mvt_wire.proofs.Begins.{IsNumberAt, tag_front, body_front, field_taken}
 use Rattle.mvt_wire.specs.Fronts.{body_front_of}
 use Rattle.mvt_wire.proofs.front.field_at_front.Goals as goal

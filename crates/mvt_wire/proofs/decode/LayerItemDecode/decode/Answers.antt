@@ -1,7 +1,7 @@
-use Rattle.std.proofs.Common.{◌≡◌, ap, sym, ◌∙◌, subst, map}
-use Rattle.mvt_wire.specs.Parts.{IsWholeField, feature_field}
-use Rattle.mvt_wire.specs.Fronts.{front_of, body_front_of}
-use Rattle.mvt_wire.specs.Stands.{number_of, field_of, feature_of}
+use Rattle.std.proofs.Common.{ap, sym, ◌∙◌, subst}
+use Rattle.mvt_wire.specs.Parts.{IsWholeField}
+use Rattle.mvt_wire.specs.Fronts.{body_front_of}
+use Rattle.mvt_wire.specs.Stands.{number_of, field_of}
 use Rattle.mvt_wire.proofs.Wholes.{fields-bytes, same_content, all_of_map, feature_whole}
 use Rattle.mvt_wire.proofs.decode.LayerItemDecode.decode.Goals as goal
 

@@ -1,7 +1,7 @@
-use Rattle.std.proofs.Common.{◌≡◌, ap, sym, ◌∙◌, subst, map}
-use Rattle.mvt_wire.specs.Parts.{IsWholeField, IsWholeLayerItem, layer_field}
+use Rattle.std.proofs.Common.{ap, sym, ◌∙◌, subst}
+use Rattle.mvt_wire.specs.Parts.{IsWholeField, IsWholeLayerItem}
 use Rattle.mvt_wire.specs.Fronts.{front_of, body_front_of}
-use Rattle.mvt_wire.specs.Stands.{number_of, layer_item_of, layer_of}
+use Rattle.mvt_wire.specs.Stands.{number_of, layer_item_of}
 use Rattle.std.proofs.lemmas.Result.{err_from_is_err_and}
 use Rattle.mvt_wire.proofs.Wholes.{layer_items-bytes, same_content, all_of_map, layer_whole, no_layer}
 use Rattle.mvt_wire.proofs.decode.TileItemDecode.decode.Goals as goal
