@@ -14,3 +14,6 @@ pub mod Commands
 pub mod Renaming
 pub mod Selecting
 pub mod Asking
+pub mod Histories
+pub mod LawLemmas
+pub mod Sessions

@@ -1,5 +1,5 @@
 -- Which commands stand, and the document that they make of the tile read at the start.
-use Rattle.std.specs.Prelude.{ℕ, ◌+◌, ◌-◌, max, List, [], ◌∷◌, ◌++◌, take, Result, Ok, Err, ◌==◌, if◌then◌else◌}
+use Rattle.std.specs.Prelude.{ℕ, ◌+◌, ◌-◌, ◌≤◌, max, List, [], ◌∷◌, ◌++◌, length, take, Result, Ok, Err, ◌==◌, if◌then◌else◌}
 use Rattle.std.specs.Result.{result_unwrap_or}
 use Rattle.mvt_wire.specs.Plain.{Document}
 use Rattle.tileshell.specs.Command.{Command}
@@ -17,6 +17,13 @@ pub record History : Type 0 where
   pub present : ℕ
   pub floor : ℕ
   pub depth : ℕ
+
+-- how its numbers lie to one another
+pub record IsSound (history : History) : Type 0 where
+  pub some_depth : 1 ≤ history.depth
+  pub above_floor : history.floor ≤ history.present
+  pub within_depth : history.present ≤ history.floor + history.depth
+  pub within_commands : history.present ≤ length history.commands
 
 abbrev pub begun : Document → ℕ → History
 begun start depth = record { start = start; commands = []; present = 0; floor = 0; depth = depth }

@@ -16,3 +16,5 @@ pub mod Run
 pub mod Device
 pub mod Transfer
 pub mod Memory
+pub mod Session
+pub mod Laws

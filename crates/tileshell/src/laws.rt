@@ -1,28 +1,18 @@
-//! Laws on how a script is read.
+//! Laws of commands and undo. Each function does nothing: its contract is the law.
 
-ghost use Rattle.std.specs.Prelude.{◌≡◌, ℕ, List, [], ◌∷◌, Some, Ok, codes};
-ghost use Rattle.tileshell.specs.Command.{Named, RenameLayer};
-ghost use Rattle.tileshell.specs.Line.{IsReadable, answer_to};
-ghost use Rattle.tileshell.specs.Lines.{lines_of, SpellsLines};
-ghost use Rattle.tileshell.specs.Request.{Edit, Undo};
-ghost use Rattle.tileshell.specs.Spelling.{SpellsWords};
-ghost use Rattle.tileshell.specs.Words.{Word, Bare, Quoted, words_of};
+ghost use Rattle.tileshell.specs.Laws.{UndoAtOnce, StaysSound, StaysWithinLimit};
 
-/// A line that is read as words is spelled so, and a line that is spelled so is read as these words. So no line has
-/// two lists of words.
-pub fn words_are_spelled()
-    ensures found { (line : List ℕ) (words : List Word) → words_of line ≡ Some words → SpellsWords line words }
-    ensures only { (line : List ℕ) (words : List Word) → SpellsWords line words → words_of line ≡ Some words }
+/// An undo right after a command brings back the tile that stood before it.
+pub fn undo_at_once()
+    ensures { UndoAtOnce }
 {}
 
-/// A script is made up of its lines, and of no others.
-pub fn lines_make_up_the_script()
-    ensures found { (script : List ℕ) → SpellsLines script (lines_of script) }
-    ensures only { (script : List ℕ) (lines : List (List ℕ)) → SpellsLines script lines → lines_of script ≡ lines }
+/// In each history that requests make, the undo of the last command is at hand.
+pub fn stays_sound()
+    ensures { StaysSound }
 {}
 
-/// A line of the right words asks for a request: `undo`, and `rename-layer` with the old name and the new one.
-pub fn words_ask_for_requests()
-    ensures undo { (line : List ℕ) → IsReadable line → SpellsWords line (Bare (codes "undo") ∷ []) → answer_to line ≡ Ok (Some Undo) }
-    ensures rename_layer { (line old new : List ℕ) → IsReadable line → SpellsWords line (Bare (codes "rename-layer") ∷ Quoted old ∷ Quoted new ∷ []) → answer_to line ≡ Ok (Some (Edit (RenameLayer (Named old) new))) }
+/// A command never makes a tile that is too large to be written.
+pub fn stays_within_limit()
+    ensures { StaysWithinLimit }
 {}

@@ -16,6 +16,7 @@ mod refused;
 mod reply;
 mod request;
 mod runs;
+mod script_laws;
 mod select;
 mod session;
 mod std_device;
@@ -25,7 +26,7 @@ mod words;
 pub use command::{Command, LayerChoice};
 pub use device::{Sink, Source, Trouble};
 pub use edit::Refusal;
-pub use laws::{lines_make_up_the_script, words_are_spelled, words_ask_for_requests};
+pub use laws::{stays_sound, stays_within_limit, undo_at_once};
 pub use outcome::{DeviceName, Options, Outcome, TileFault};
 pub use parse::parse_line;
 pub use parse_error::ParseError;
@@ -33,6 +34,7 @@ pub use program::shell;
 pub use refused::Refused;
 pub use request::Request;
 pub use runs::{MAX_SCRIPT, run};
+pub use script_laws::{lines_make_up_the_script, words_are_spelled, words_ask_for_requests};
 pub use std_device::{FromRead, FromWrite};
 
 #[cfg(test)]

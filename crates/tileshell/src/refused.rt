@@ -2,6 +2,7 @@
 
 ghost use Rattle.std.specs.Prelude.{◌≡◌};
 ghost use Rattle.tileshell.specs.Replies.{refusal_number, refusal_name, parse_number, parse_name, edit_number, edit_name};
+ghost use Rattle.tileshell.specs.declared.refused.Refused.TheVariants.{Edit};
 
 use crate::edit::Refusal;
 use crate::parse_error::ParseError;
@@ -16,6 +17,14 @@ pub enum Refused {
     Edit(Refusal),
     #[error("there is nothing to undo")]
     NothingToUndo,
+}
+
+impl From<Refusal> for Refused {
+    ghost from_gives = { λ refusal refused. refused ≡ Edit refusal };
+
+    fn from(refusal: Refusal) -> Refused {
+        Refused::Edit(refusal)
+    }
 }
 
 impl Refused {

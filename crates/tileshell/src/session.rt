@@ -1,7 +1,16 @@
 //! A document, and what undo brings back.
 
+ghost use Rattle.std.specs.Prelude.{◌≡◌, OnErr};
+ghost use Rattle.mvt_wire.specs.Stands.{document_of};
+ghost use Rattle.tileshell.specs.CommandStands.{command_of};
+ghost use Rattle.tileshell.specs.RequestStands.{request_of};
+ghost use Rattle.tileshell.specs.Request.{Edit, Undo};
+ghost use Rattle.tileshell.specs.History.{History, begun, present_document};
+ghost use Rattle.tileshell.specs.Memory.{GivesUnless};
+ghost use Rattle.tileshell.specs.Session.{StandsFor, HoldsSame, Answers};
+
 use crate::command::Command;
-use crate::edit::{Refusal, apply};
+use crate::edit::apply;
 use crate::refused::Refused;
 use crate::request::Request;
 use mvt_wire::Document;
@@ -17,7 +26,9 @@ pub(crate) struct Session {
 }
 
 impl Session {
-    pub(crate) fn start(alloc: Global, document: Document) -> Session {
+    pub(crate) fn start(alloc: Global, document: Document) -> Session
+        ensures { StandsFor result (begun (document_of document) 1) }
+    {
         Session {
             alloc,
             document,
@@ -25,25 +36,36 @@ impl Session {
         }
     }
 
-    pub(crate) fn document(&self) -> &Document {
+    pub(crate) fn document(&self) -> &Document
+        ensures { (history : History) → StandsFor self.now history → document_of result.now ≡ present_document history }
+    {
         &self.document
     }
 
-    /// Carries out a request. An `Err` changes nothing.
-    pub(crate) fn carry_out(&mut self, request: &Request) -> Result<(), Refused> {
+    /// Carries out a request.
+    pub(crate) fn carry_out(&mut self, request: &Request) -> Result<(), Refused>
+        ensures answer { (history : History) → StandsFor self.old history → Answers (request_of request.now) history result self.new }
+        ensures err { OnErr result (HoldsSame self.old self.new) }
+    {
         match request {
-            Request::Edit(command) => self.command(command).map_err(Refused::Edit),
+            Request::Edit(command) => self.command(command),
             Request::Undo => self.undo(),
         }
     }
 
-    fn command(&mut self, command: &Command) -> Result<(), Refusal> {
+    fn command(&mut self, command: &Command) -> Result<(), Refused>
+        ensures answer { (history : History) → StandsFor self.old history → Answers (Edit (command_of command.now)) history result self.new }
+        ensures err { OnErr result (HoldsSame self.old self.new) }
+    {
         let document = apply(self.alloc, &self.document, command)?;
         self.before = Some(mem::replace(&mut self.document, document));
         Ok(())
     }
 
-    fn undo(&mut self) -> Result<(), Refused> {
+    fn undo(&mut self) -> Result<(), Refused>
+        ensures answer { (history : History) → StandsFor self.old history → Answers Undo history result self.new }
+        ensures err { OnErr result (HoldsSame self.old self.new) }
+    {
         match self.before.take() {
             Some(document) => {
                 self.document = document;

@@ -1,5 +1,5 @@
 use Rattle.tileshell.proofs.Asking.{asks_undo, asks_rename}
-use Rattle.tileshell.proofs.laws.words_ask_for_requests.Goals as goal
+use Rattle.tileshell.proofs.script_laws.words_ask_for_requests.Goals as goal
 
 pub returns-clause-undo : goal.returns-clause-undo
 returns-clause-undo c = asks_undo

@@ -1,0 +1,5 @@
+use Rattle.tileshell.proofs.LawLemmas.{undo_at_once}
+use Rattle.tileshell.proofs.laws.undo_at_once.Goals as goal
+
+pub returns : goal.returns
+returns c = undo_at_once

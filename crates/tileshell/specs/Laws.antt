@@ -1,0 +1,45 @@
+-- Laws of commands and undo, in the words of a tile and its history.
+use Rattle.std.specs.Prelude.{◌≡◌, ◌≢◌, ℕ, ◌≤◌, Bool, not, List, length, filter, Option, Some, None, option_map, slice_get, Result, Ok}
+use Rattle.std.specs.List.{filter_map}
+use Rattle.mvt_wire.specs.declared.TheConstants.{MAX_FILE}
+use Rattle.mvt_wire.specs.Plain.{Field, Layer, TileItem, OfLayer, PlainInTile, Document}
+use Rattle.mvt_wire.specs.Wire.{bytes_of}
+use Rattle.tileshell.specs.Command.{LayerChoice, Named, Command, RenameLayer}
+use Rattle.tileshell.specs.Request.{Request, Edit, Undo}
+use Rattle.tileshell.specs.Selection.{layers, layer_positions, name_of, selected}
+use Rattle.tileshell.specs.Meaning.{applied, is_name}
+use Rattle.tileshell.specs.History.{History, IsSound, begun, present_document, carried_out}
+
+-- An undo right after an accepted command is accepted, and the document is the one before the command.
+abbrev pub UndoAtOnce : Type 0
+UndoAtOnce = (command : Command) (history edited : History) → IsSound history → carried_out (Edit command) history ≡ Ok edited → (back : History) × (carried_out Undo edited ≡ Ok back) × (present_document back ≡ present_document history)
+
+-- A history begins sound, and each accepted request keeps it so.
+abbrev pub StaysSound : Type 0
+StaysSound = ((document : Document) (depth : ℕ) → 1 ≤ depth → IsSound (begun document depth)) × ((request : Request) (history after : History) → IsSound history → carried_out request history ≡ Ok after → IsSound after)
+
+-- An accepted command makes a tile that a file can hold.
+abbrev pub StaysWithinLimit : Type 0
+StaysWithinLimit = (command : Command) (document after : Document) → applied command document ≡ Ok after → length (bytes_of after) ≤ MAX_FILE
+
+-- a field of the tile that is no layer
+abbrev pub field_in : TileItem → Option Field
+field_in (OfLayer layer) = None
+field_in (PlainInTile field) = Some field
+
+-- a layer without its names
+abbrev pub without_names : Layer → Layer
+without_names layer = record { tag = layer.tag; width = layer.width; items = filter (λ item. not (is_name item)) layer.items }
+
+-- a tile and the tile in which the layer at this place has this name, and no other layer has it
+pub record IsRenamed (name : List ℕ) (ordinal : ℕ) (old new : Document) : Type 0 where
+  pub named : option_map name_of (slice_get (layers new) ordinal) ≡ Some (Some name)
+  pub alone : selected (Named name) new ≡ Ok ordinal
+  pub rest : option_map without_names (slice_get (layers new) ordinal) ≡ option_map without_names (slice_get (layers old) ordinal)
+  pub others : (other : ℕ) → other ≢ ordinal → slice_get (layers new) other ≡ slice_get (layers old) other
+  pub fields : filter_map field_in new ≡ filter_map field_in old
+  pub places : layer_positions new ≡ layer_positions old
+
+-- A rename that is accepted names the layer that was meant, and nothing else changes.
+abbrev pub RenameNames : Type 0
+RenameNames = (choice : LayerChoice) (name : List ℕ) (old new : Document) → applied (RenameLayer choice name) old ≡ Ok new → (ordinal : ℕ) × (selected choice old ≡ Ok ordinal) × IsRenamed name ordinal old new
