@@ -27,4 +27,3 @@ pub use write::{size, write_document};
 
 /// The longest tile in bytes.
 pub const MAX_FILE: usize = 16_777_216;
-

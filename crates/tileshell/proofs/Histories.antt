@@ -1,12 +1,12 @@
 -- What a command and an undo make of a history.
-use Rattle.std.proofs.Common.{◌≡◌, ℕ, ◌+◌, ◌-◌, ◌<◌, ◌≤◌, max, Bool, true, false, Option, Some, None, Result, Ok, Err, List, [], ◌∷◌, ◌++◌, length, take, nat_lt, cond, refl, sym, ap, ◌∙◌, arith, length-append, length-take-le, ◌==◌}
+use Rattle.std.proofs.Common.{◌≡◌, ◌+◌, ◌<◌, ◌≤◌, false, Ok, List, [], ◌∷◌, ◌++◌, length, take, refl, ap, ◌∙◌, arith, length-append, length-take-le, ◌==◌}
 use Rattle.std.proofs.lemmas.Bool.Decides.{nat_tests}
 use Rattle.std.proofs.lemmas.List.{take_all, take_at}
 use Rattle.mvt_wire.specs.Plain.{Document}
 use Rattle.tileshell.specs.Command.{Command}
-use Rattle.tileshell.specs.Request.{Edit, Undo}
+use Rattle.tileshell.specs.Request.{Undo}
 use Rattle.tileshell.specs.Meaning.{applied}
-use Rattle.tileshell.specs.History.{History, IsSound, after, after_all, document_at, present_document, with_command, undone, edited, carried_out}
+use Rattle.tileshell.specs.History.{History, IsSound, after, after_all, document_at, present_document, with_command, undone, carried_out}
 
 after_all-append : (commands more : List Command) (document : Document) → after_all (commands ++ more) document ≡ after_all more (after_all commands document)
 after_all-append [] more document = refl

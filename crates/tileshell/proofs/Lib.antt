@@ -17,3 +17,4 @@ pub mod Asking
 pub mod Histories
 pub mod LawLemmas
 pub mod Sessions
+pub mod NameLemmas

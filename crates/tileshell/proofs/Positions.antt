@@ -95,11 +95,11 @@ last_here passes n k x xs none e =
 
 -- ---- a change of the last item that passes
 
-change_later : {A : Type 0} (passes : A → Bool) (change : A → A) (x : A) (xs : List A) → list_any passes xs ≡ true → change_last passes change (x ∷ xs) ≡ x ∷ change_last passes change xs
+pub change_later : {A : Type 0} (passes : A → Bool) (change : A → A) (x : A) (xs : List A) → list_any passes xs ≡ true → change_last passes change (x ∷ xs) ≡ x ∷ change_last passes change xs
 change_later passes change x xs later =
     let no : (passes x && not (list_any passes xs)) ≡ false = and_right (passes x) (not (list_any passes xs)) (not_from_true (list_any passes xs) later) in rw no refl
 
-change_here : {A : Type 0} (passes : A → Bool) (change : A → A) (x : A) (xs : List A) → passes x ≡ true → list_any passes xs ≡ false → change_last passes change (x ∷ xs) ≡ change x ∷ xs
+pub change_here : {A : Type 0} (passes : A → Bool) (change : A → A) (x : A) (xs : List A) → passes x ≡ true → list_any passes xs ≡ false → change_last passes change (x ∷ xs) ≡ change x ∷ xs
 change_here passes change x xs pass none =
     let yes : (passes x && not (list_any passes xs)) ≡ true = and_from (passes x) (not (list_any passes xs)) pass (not_from_false (list_any passes xs) none) in rw yes refl
 

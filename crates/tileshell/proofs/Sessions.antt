@@ -1,5 +1,5 @@
 -- What a session stands for after a request.
-use Rattle.std.proofs.Common.{◌≡◌, ℕ, ◌+◌, ◌-◌, ◌<◌, ◌≤◌, max, Bool, true, false, Option, Some, None, option_map, Result, Ok, Err, nat_lt, refl, sym, ap, ◌∙◌, inl, inr, arith}
+use Rattle.std.proofs.Common.{◌≡◌, ◌+◌, ◌-◌, ◌<◌, ◌≤◌, true, false, Some, None, option_map, Ok, nat_lt, refl, sym, ap, ◌∙◌, inl, inr, arith}
 use Rattle.std.proofs.lemmas.Bool.{cases_Bool}
 use Rattle.std.proofs.lemmas.Bool.Decides.{nat_tests}
 use Rattle.mvt_wire.specs.Plain as plain
@@ -8,7 +8,7 @@ use Rattle.mvt_wire.specs.declared.document.Document.{Document}
 use Rattle.tileshell.specs.Command.{Command}
 use Rattle.tileshell.specs.Request.{Edit, Undo}
 use Rattle.tileshell.specs.Meaning.{applied}
-use Rattle.tileshell.specs.History.{History, IsSound, document_at, present_document, with_command, undone, edited, carried_out}
+use Rattle.tileshell.specs.History.{History, document_at, present_document, with_command, undone, carried_out}
 use Rattle.tileshell.specs.Session.{StandsFor, document_before}
 use Rattle.tileshell.specs.declared.session.Session.{Session}
 use Rattle.tileshell.proofs.Histories.{point_before, present_after, after_accepted, sound_with_command, sound_undone, undo_carried_out}

@@ -1,5 +1,5 @@
 -- Laws of commands and undo, in the words of a tile and its history.
-use Rattle.std.specs.Prelude.{◌≡◌, ◌≢◌, ℕ, ◌≤◌, Bool, not, List, length, filter, Option, Some, None, option_map, slice_get, Result, Ok}
+use Rattle.std.specs.Prelude.{◌≡◌, ◌≢◌, ℕ, ◌≤◌, not, List, length, filter, Option, Some, None, option_map, slice_get, Ok}
 use Rattle.std.specs.List.{filter_map}
 use Rattle.mvt_wire.specs.declared.TheConstants.{MAX_FILE}
 use Rattle.mvt_wire.specs.Plain.{Field, Layer, TileItem, OfLayer, PlainInTile, Document}

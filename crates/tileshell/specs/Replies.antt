@@ -1,5 +1,5 @@
 -- What is written in reply to a line.
-use Rattle.std.specs.Prelude.{ℕ, List, [], ◌∷◌, ◌++◌, codes, decimal}
+use Rattle.std.specs.Prelude.{ℕ, List, ◌++◌, codes, decimal}
 use Rattle.tileshell.specs.declared.parse_error.ParseError.{ParseError}
 use Rattle.tileshell.specs.declared.parse_error.ParseError.TheVariants as parse
 use Rattle.tileshell.specs.declared.edit.Refusal.{Refusal}

@@ -1,5 +1,5 @@
 -- What a session holds of a history in which undo goes back one step.
-use Rattle.std.specs.Prelude.{◌≡◌, ℕ, ◌-◌, nat_lt, Option, Some, None, option_map, Result, Ok, Err, if◌then◌else◌, ◌⊎◌}
+use Rattle.std.specs.Prelude.{◌≡◌, ◌-◌, nat_lt, Option, Some, None, option_map, Result, Ok, Err, if◌then◌else◌, ◌⊎◌}
 use Rattle.mvt_wire.specs.Plain as plain
 use Rattle.mvt_wire.specs.Stands.{document_of}
 use Rattle.tileshell.specs.Request.{Request}

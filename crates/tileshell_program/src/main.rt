@@ -1,10 +1,9 @@
 //! The program: its words go to the library, whose status it ends with.
 #![tactic(auto)]
 
-use std::env;
-use std::io;
 use std::process::ExitCode;
 use std::rt::{Env, Files};
+use std::{env, io};
 use tileshell::shell;
 
 /// The status of a command line that is refused.

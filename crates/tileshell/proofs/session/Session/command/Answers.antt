@@ -1,4 +1,3 @@
-use Rattle.std.proofs.Common.{sym, ◌∙◌}
 use Rattle.tileshell.specs.CommandStands.{command_of}
 use Rattle.tileshell.proofs.Sessions.{command_stands}
 use Rattle.tileshell.proofs.session.Session.command.Goals as goal

@@ -1,4 +1,4 @@
-use Rattle.std.proofs.Common.{sym, ◌∙◌}
+use Rattle.std.proofs.Common.{sym}
 use Rattle.tileshell.proofs.Sessions.{undo_stands}
 use Rattle.tileshell.proofs.session.Session.undo.Goals as goal
 
