@@ -36,4 +36,11 @@ found_in_copy seen items copy o ordinal position e same equal found =
     rw (equal, ← same) (sym e ∙ some)
 
 pub copy_within : (copy : List TileItem) (ordinal position : ℕ) → slice_get (layer_positions (map tile_item_of copy)) ordinal ≡ Some position → position < length copy
-copy_within copy ordinal position e = let h = position_within (map tile_item_of copy) ordinal position e in omega (arith, length-map copy tile_item_of)
+copy_within copy ordinal position e = let bounds = position_within (map tile_item_of copy) ordinal position e in omega (arith, length-map copy tile_item_of)
+
+-- what is made of the copy is what the command makes of the tile, but for the limit
+pub rename_made : (choice : LayerChoice) (name : List ℕ) (seen items copy : List TileItem) (o : Option ℕ) (ordinal position : ℕ) (old new : TileItem) → seen ≡ items → map tile_item_of copy ≡ map tile_item_of items → Ok ordinal ≡ selected choice (map tile_item_of seen) → is_taken name ordinal (map tile_item_of seen) ≡ false → o ≡ slice_get (layer_positions (map tile_item_of seen)) ordinal → Ok position ≡ ok_or o NoLayer → slice_get copy position ≡ Some old → tile_item_of new ≡ in_layer (renamed name) (tile_item_of old) → applied (RenameLayer choice name) (map tile_item_of items) ≡ within_limit (map tile_item_of (slice_set copy position new))
+rename_made choice name seen items copy o ordinal position old new same equal chosen free place found there put =
+    let at_position = found_in_copy seen items copy o ordinal position place same equal found in
+    let changed = change_stands (renamed name) copy ordinal position old new at_position there put in
+    rename_applied choice name (map tile_item_of items) ordinal (rw same at (sym chosen)) (rw same at free) ∙ ap within_limit (sym (changed ∙ ap (change_layer (renamed name) ordinal) equal))

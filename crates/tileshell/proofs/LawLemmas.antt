@@ -1,8 +1,9 @@
 -- What the laws of commands and undo rest on.
-use Rattle.std.proofs.Common.{◌≡◌, ◌≢◌, ℕ, zero, suc, ◌+◌, ◌-◌, ◌<◌, ◌≤◌, Bool, true, false, not, ◌==◌, Some, option_map, Result, Ok, Err, List, [], ◌∷◌, length, slice_get, nat_lt, refl, ap, ◌∙◌, inl, inr, subst, arith}
+use Rattle.std.proofs.Common.{◌≡◌, ◌≢◌, ℕ, zero, suc, ◌+◌, ◌-◌, ◌<◌, ◌≤◌, Bool, true, false, not, ◌==◌, Some, option_map, Result, Ok, Err, List, [], ◌∷◌, length, slice_get, take, nat_lt, rules, refl, ap, ◌∙◌, inl, inr, subst, arith}
 use Rattle.std.proofs.lemmas.Bool.{cases_Bool, or_parts}
 use Rattle.std.proofs.lemmas.Bool.Decides.{nat_tests}
 use Rattle.std.proofs.lemmas.Slice.Eq.{bytes_eq-Decides}
+use Rattle.std.specs.Result.{result_unwrap_or}
 use Rattle.std.specs.List.{filter_map, list_any}
 use Rattle.mvt_wire.specs.declared.TheConstants.{MAX_FILE}
 use Rattle.mvt_wire.specs.Plain.{Layer, OfLayer, PlainInTile, Document}
@@ -11,8 +12,8 @@ use Rattle.tileshell.specs.Command.{Command}
 use Rattle.tileshell.specs.Request.{Request, Edit, Undo}
 use Rattle.tileshell.specs.Selection.{is_layer, is_named, layers, name_of, selected, the_one}
 use Rattle.tileshell.specs.Meaning.{◌>>=◌, applied, change_layer, is_taken, renamed, within_limit, unless_taken}
-use Rattle.tileshell.specs.History.{History, IsSound, begun, present_document, with_command, undone, edited, carried_out}
-use Rattle.tileshell.specs.Laws.{UndoAtOnce, StaysSound, IsRenamed, RenameNames, field_in, without_names}
+use Rattle.tileshell.specs.History.{History, IsSound, after, after_all, begun, present_document, with_command, undone, edited, carried_out}
+use Rattle.tileshell.specs.Laws.{UndoAtOnce, StaysSound, CommandFits, HistoryFits, IsRenamed, RenameNames, field_in, without_names}
 use Rattle.tileshell.specs.declared.edit.Refusal.{Refusal}
 use Rattle.tileshell.proofs.Selecting.{selected_within}
 use Rattle.tileshell.proofs.Positions.{positions_from, positions_pass, positions_skip}
@@ -56,6 +57,25 @@ begins_sound document depth some = record { some_depth = some; above_floor = ome
 
 pub stays_sound : StaysSound
 stays_sound = (begins_sound, sound_after)
+
+-- ---- the limit
+
+within_limit_fits : (document after : Document) → within_limit document ≡ Ok after → length (bytes_of after) ≤ MAX_FILE
+within_limit_fits document after e = grind (arith, nat_tests)
+
+command_fits : CommandFits
+command_fits command document after e = search rules
+
+after_fits : (document : Document) (made : Result Document Refusal) → length (bytes_of document) ≤ MAX_FILE → ((after : Document) → made ≡ Ok after → length (bytes_of after) ≤ MAX_FILE) → length (bytes_of (result_unwrap_or made document)) ≤ MAX_FILE
+after_fits document (Ok after) fits made_fits = made_fits after refl
+after_fits document (Err refusal) fits made_fits = fits
+
+all_fit : (commands : List Command) (document : Document) → length (bytes_of document) ≤ MAX_FILE → length (bytes_of (after_all commands document)) ≤ MAX_FILE
+all_fit [] document fits = fits
+all_fit (command ∷ commands) document fits = all_fit commands (after command document) (after_fits document (applied command document) fits (command_fits command document))
+
+pub history_fits : HistoryFits
+history_fits history fits point = all_fit (take point history.commands) history.start fits
 
 -- ---- a list with the item at one place changed
 

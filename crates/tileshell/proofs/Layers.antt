@@ -1,8 +1,7 @@
 -- The layers of a tile, item by item.
-use Rattle.std.proofs.Common.{◌≡◌, ◌+◌, List, [], ◌∷◌, length, map, refl, sym, Option, arith, cond}
+use Rattle.std.proofs.Common.{◌≡◌, ◌+◌, List, ◌∷◌, length, map, refl, sym, arith, cond}
 use Rattle.std.proofs.lemmas.List.Recursion.{is_count_by}
 use Rattle.std.specs.Prelude.{count_by}
-use Rattle.std.specs.List.{filter_map}
 use Rattle.mvt_wire.specs.Stands.{tile_item_of}
 use Rattle.mvt_wire.specs.declared.document.TileItem.{TileItem}
 use Rattle.mvt_wire.specs.declared.document.TileItem.TheVariants as in_tile
@@ -14,7 +13,3 @@ layer_counted (in_tile.Plain field) items = refl
 
 pub count_layers : (items : List TileItem) → count_by (λ item. is_layer (tile_item_of item)) items ≡ length (layers (map tile_item_of items))
 count_layers items = sym (is_count_by (λ items. length (layers (map tile_item_of items))) (λ item. is_layer (tile_item_of item)) refl layer_counted items)
-
-pub filter_map-map : {X Y Z : Type 0} (h : Y → Option Z) (f : X → Y) (xs : List X) → filter_map h (map f xs) ≡ filter_map (λ x. h (f x)) xs
-filter_map-map h f [] = refl
-filter_map-map h f (x ∷ xs) = rw (filter_map-map h f xs) refl

@@ -16,7 +16,7 @@ positions_skip passes n x xs e = rw e refl
 
 first_or_later : (n i k len : ℕ) (rest : List ℕ) → slice_get (n ∷ rest) i ≡ Some k → ((j : ℕ) → slice_get rest j ≡ Some k → (n + 1 ≤ k) × (k < n + 1 + len)) → (n ≤ k) × (k < n + suc len)
 first_or_later n zero k len rest e later = let same : n ≡ k = cc in (omega arith, omega arith)
-first_or_later n (suc j) k len rest e later = let h = later j e in (omega arith, omega arith)
+first_or_later n (suc j) k len rest e later = let bounds = later j e in (omega arith, omega arith)
 
 -- they lie among the items
 pub positions_within : {A : Type 0} (passes : A → Bool) (n : ℕ) (xs : List A) (i k : ℕ) → slice_get (positions_from passes n xs) i ≡ Some k → (n ≤ k) × (k < n + length xs)
@@ -24,7 +24,7 @@ positions_within passes n [] i k e = absurd cc
 positions_within passes n (x ∷ xs) i k e =
     elim (cases_Bool (passes x)) [
       | inl pass ↦ first_or_later n i k (length xs) (positions_from passes (n + 1) xs) (rw (positions_pass passes n x xs pass) at e) (λ j h. positions_within passes (n + 1) xs j k h)
-      | inr skip ↦ let h = positions_within passes (n + 1) xs i k (rw (positions_skip passes n x xs skip) at e) in (omega arith, omega arith)
+      | inr skip ↦ let bounds = positions_within passes (n + 1) xs i k (rw (positions_skip passes n x xs skip) at e) in (omega arith, omega arith)
     ]
 
 pub no_positions : {A : Type 0} (passes : A → Bool) (n : ℕ) (xs : List A) → list_any passes xs ≡ false → positions_from passes n xs ≡ []

@@ -10,7 +10,7 @@ use Rattle.tileshell.specs.Meaning.{is_name, name_positions, named_items, with_t
 use Rattle.tileshell.proofs.Positions.{last_within, no_last, some_last, change_last_set}
 
 pub last_name_within : (items : List LayerItem) (k : ℕ) → last_or None (name_positions (map layer_item_of items)) ≡ Some k → k < length items
-last_name_within items k e = let h = last_within is_name 0 (map layer_item_of items) k e in omega (arith, length-map items layer_item_of)
+last_name_within items k e = let bounds = last_within is_name 0 (map layer_item_of items) k e in omega (arith, length-map items layer_item_of)
 
 -- the list with a new text in the last name
 name_changed : (name : List ℕ) (items : List plain.LayerItem) (k : ℕ) (item : plain.LayerItem) → last_or None (name_positions items) ≡ Some k → slice_get items k ≡ Some item → named_items name items ≡ slice_set items k (with_text name item)

@@ -14,13 +14,13 @@ the_one_first (x ∷ y ∷ more) ordinal e = absurd cc
 
 pub selected_within : (choice : LayerChoice) (document : Document) (ordinal : ℕ) → selected choice document ≡ Ok ordinal → ordinal < length (layers document)
 selected_within (AtOrdinal n) document ordinal e = grind (arith, nat_tests)
-selected_within (Named name) document ordinal e = let h = positions_within (is_named name) 0 (layers document) 0 ordinal (the_one_first (ordinals_of name document) ordinal e) in omega arith
+selected_within (Named name) document ordinal e = let bounds = positions_within (is_named name) 0 (layers document) 0 ordinal (the_one_first (ordinals_of name document) ordinal e) in omega arith
 
 no_layer_past : (n : ℕ) (document : Document) (ordinal : ℕ) → slice_get (positions_from is_layer n document) ordinal ≡ None → length (layers document) ≤ ordinal
 no_layer_past n [] ordinal e = omega arith
 no_layer_past n (PlainInTile field ∷ document) ordinal e = no_layer_past (n + 1) document ordinal e
 no_layer_past n (OfLayer layer ∷ document) zero e = absurd cc
-no_layer_past n (OfLayer layer ∷ document) (suc ordinal) e = let h = no_layer_past (n + 1) document ordinal e in omega arith
+no_layer_past n (OfLayer layer ∷ document) (suc ordinal) e = let bounds = no_layer_past (n + 1) document ordinal e in omega arith
 
 -- a layer that is selected has a position
 pub selected_found : (choice : LayerChoice) (document : Document) (ordinal : ℕ) → selected choice document ≡ Ok ordinal → slice_get (layer_positions document) ordinal ≡ None → ⊥
@@ -30,7 +30,7 @@ selected_found choice document ordinal e none =
     omega arith
 
 pub position_within : (document : Document) (ordinal position : ℕ) → slice_get (layer_positions document) ordinal ≡ Some position → position < length document
-position_within document ordinal position e = let h = positions_within is_layer 0 document ordinal position e in omega arith
+position_within document ordinal position e = let bounds = positions_within is_layer 0 document ordinal position e in omega arith
 
 plain_first : (n j k ordinal : ℕ) (change : Layer → Layer) (first : TileItem) (document : Document) (item : TileItem) → n + 1 ≤ k → k ≡ n + j → slice_get (first ∷ document) j ≡ Some item → ((i : ℕ) → k ≡ n + 1 + i → slice_get document i ≡ Some item → change_layer change ordinal document ≡ slice_set document i (in_layer change item)) → first ∷ change_layer change ordinal document ≡ slice_set (first ∷ document) j (in_layer change item)
 plain_first n zero k ordinal change first document item low at is more = absurd (omega arith)

@@ -6,10 +6,13 @@ use Rattle.mvt_wire.specs.Plain as plain
 use Rattle.mvt_wire.specs.Stands.{document_of}
 use Rattle.mvt_wire.specs.declared.document.Document.{Document}
 use Rattle.tileshell.specs.Command.{Command}
-use Rattle.tileshell.specs.Request.{Edit, Undo}
+use Rattle.tileshell.specs.Request.{Request, Edit, Undo}
 use Rattle.tileshell.specs.Meaning.{applied}
 use Rattle.tileshell.specs.History.{History, document_at, present_document, with_command, undone, carried_out}
-use Rattle.tileshell.specs.Session.{StandsFor, document_before}
+use Rattle.tileshell.specs.Session.{StandsFor, IsWant, document_before}
+use Rattle.tileshell.specs.declared.edit.Refusal.TheVariants.{NoMemory}
+use Rattle.tileshell.specs.declared.refused.Refused.{Refused}
+use Rattle.tileshell.specs.declared.refused.Refused.TheVariants as refused
 use Rattle.tileshell.specs.declared.session.Session.{Session}
 use Rattle.tileshell.proofs.Histories.{point_before, present_after, after_accepted, sound_with_command, sound_undone, undo_carried_out}
 
@@ -57,3 +60,7 @@ undo_stands history session document stands e =
         before = sym (none_before (undone history) (omega arith));
       },
     )
+
+pub want_is : (request : Request) (reason : Refused) → IsWant request reason → reason ≡ refused.Edit NoMemory
+want_is (Edit command) reason e = e
+want_is Undo reason e = absurd e

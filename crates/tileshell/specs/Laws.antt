@@ -8,7 +8,7 @@ use Rattle.tileshell.specs.Command.{LayerChoice, Named, Command, RenameLayer}
 use Rattle.tileshell.specs.Request.{Request, Edit, Undo}
 use Rattle.tileshell.specs.Selection.{layers, layer_positions, name_of, selected}
 use Rattle.tileshell.specs.Meaning.{applied, is_name}
-use Rattle.tileshell.specs.History.{History, IsSound, begun, present_document, carried_out}
+use Rattle.tileshell.specs.History.{History, IsSound, begun, document_at, present_document, carried_out}
 
 -- An undo right after an accepted command is accepted, and the document is the one before the command.
 abbrev pub UndoAtOnce : Type 0
@@ -19,8 +19,12 @@ abbrev pub StaysSound : Type 0
 StaysSound = ((document : Document) (depth : ℕ) → 1 ≤ depth → IsSound (begun document depth)) × ((request : Request) (history after : History) → IsSound history → carried_out request history ≡ Ok after → IsSound after)
 
 -- An accepted command makes a tile that a file can hold.
-abbrev pub StaysWithinLimit : Type 0
-StaysWithinLimit = (command : Command) (document after : Document) → applied command document ≡ Ok after → length (bytes_of after) ≤ MAX_FILE
+abbrev pub CommandFits : Type 0
+CommandFits = (command : Command) (document after : Document) → applied command document ≡ Ok after → length (bytes_of after) ≤ MAX_FILE
+
+-- Where a file can hold the tile at the start, it can hold each tile of the history.
+abbrev pub HistoryFits : Type 0
+HistoryFits = (history : History) → length (bytes_of history.start) ≤ MAX_FILE → (point : ℕ) → length (bytes_of (document_at point history)) ≤ MAX_FILE
 
 -- a field of the tile that is no layer
 abbrev pub field_in : TileItem → Option Field

@@ -2,11 +2,11 @@
 use Rattle.std.specs.Prelude.{◌≡◌, ◌-◌, nat_lt, Option, Some, None, option_map, Result, Ok, Err, if◌then◌else◌, ◌⊎◌}
 use Rattle.mvt_wire.specs.Plain as plain
 use Rattle.mvt_wire.specs.Stands.{document_of}
-use Rattle.tileshell.specs.Request.{Request}
+use Rattle.tileshell.specs.Request.{Request, Edit, Undo}
 use Rattle.tileshell.specs.History.{History, IsSound, document_at, present_document, carried_out}
 use Rattle.tileshell.specs.declared.edit.Refusal.TheVariants.{NoMemory}
 use Rattle.tileshell.specs.declared.refused.Refused.{Refused}
-use Rattle.tileshell.specs.declared.refused.Refused.TheVariants.{Edit}
+use Rattle.tileshell.specs.declared.refused.Refused.TheVariants as refused
 use Rattle.tileshell.specs.declared.session.Session.{Session}
 
 -- the document to which undo goes back
@@ -24,8 +24,13 @@ pub record HoldsSame (old new : Session) : Type 0 where
   pub document : document_of new.document ≡ document_of old.document
   pub before : option_map document_of new.before ≡ option_map document_of old.before
 
+-- want of memory, which a command alone may meet
+abbrev pub IsWant : Request → Refused → Type 0
+IsWant (Edit command) reason = reason ≡ refused.Edit NoMemory
+IsWant Undo reason = ⊥
+
 -- The request is carried out on the history as it is defined, or refused as it is defined.
 -- Want of memory, and no other refusal, may come in its place. After a refusal the history is as before.
 abbrev pub Answers : Request → History → Result (Unit {0}) Refused → Session → Type 0
 Answers request history (Ok done) new = (after : History) × (carried_out request history ≡ Ok after) × StandsFor new after
-Answers request history (Err reason) new = ((reason ≡ Edit NoMemory) ⊎ (carried_out request history ≡ Err reason)) × StandsFor new history
+Answers request history (Err reason) new = (IsWant request reason ⊎ (carried_out request history ≡ Err reason)) × StandsFor new history

@@ -51,7 +51,8 @@ pub(crate) fn apply(
     document: &Document,
     command: &Command,
 ) -> Result<Document, Refusal>
-    ensures { GivesUnless NoMemory document_of result (applied (command_of command.now) (document_of document.now)) }
+    ensures { GivesUnless NoMemory document_of result
+        (applied (command_of command.now) (document_of document.now)) }
 {
     match command {
         Command::RenameLayer { layer, name } => {
@@ -66,7 +67,8 @@ fn rename_layer(
     choice: &LayerChoice,
     name: &[u8],
 ) -> Result<Document, Refusal>
-    ensures { GivesUnless NoMemory document_of result (applied (RenameLayer (layer_choice_of choice.now) name.now) (document_of document.now)) }
+    ensures { GivesUnless NoMemory document_of result
+        (applied (RenameLayer (layer_choice_of choice.now) name.now) (document_of document.now)) }
 {
     let items = document.items.as_slice();
     let ordinal = selected_layer(items, choice)?;
@@ -95,8 +97,10 @@ fn put_name(alloc: Global, item: &mut TileItem, name: &[u8]) -> Result<(), Alloc
 
 /// The last name field gets the name, or a name field comes at the end where there is none.
 fn put_last_name(alloc: Global, items: &mut Items<LayerItem>, name: &[u8]) -> Result<(), AllocError>
-    ensures ok { OnOk result (map layer_item_of items.new.items ≡ named_items name.now (map layer_item_of items.old.items)) }
-    ensures err { OnErr result (map layer_item_of items.new.items ≡ map layer_item_of items.old.items) }
+    ensures ok { let old = map layer_item_of items.old.items in
+        OnOk result (map layer_item_of items.new.items ≡ named_items name.now old) }
+    ensures err { let old = map layer_item_of items.old.items in
+        OnErr result (map layer_item_of items.new.items ≡ old) }
 {
     let text = Items::from_vec(Vec::from_slice(alloc, name)?);
     match last_name(items.as_slice()) {

@@ -1,6 +1,6 @@
 //! Laws of commands and undo. Each function does nothing: its contract is the law.
 
-ghost use Rattle.tileshell.specs.Laws.{UndoAtOnce, StaysSound, StaysWithinLimit, RenameNames};
+ghost use Rattle.tileshell.specs.Laws.{UndoAtOnce, StaysSound, CommandFits, HistoryFits, RenameNames};
 
 /// An undo right after a command brings back the tile that stood before it.
 pub fn undo_at_once()
@@ -13,8 +13,13 @@ pub fn stays_sound()
 {}
 
 /// A command never makes a tile that is too large to be written.
-pub fn stays_within_limit()
-    ensures { StaysWithinLimit }
+pub fn command_fits()
+    ensures { CommandFits }
+{}
+
+/// Neither a command nor an undo leads from a tile that can be written to one that can not.
+pub fn history_fits()
+    ensures { HistoryFits }
 {}
 
 /// A rename gives the name to the layer that is meant, and to that layer alone.

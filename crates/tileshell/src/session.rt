@@ -37,14 +37,16 @@ impl Session {
     }
 
     pub(crate) fn document(&self) -> &Document
-        ensures { (history : History) → StandsFor self.now history → document_of result.now ≡ present_document history }
+        ensures { (history : History) → StandsFor self.now history →
+            document_of result.now ≡ present_document history }
     {
         &self.document
     }
 
     /// Carries out a request.
     pub(crate) fn carry_out(&mut self, request: &Request) -> Result<(), Refused>
-        ensures answer { (history : History) → StandsFor self.old history → Answers (request_of request.now) history result self.new }
+        ensures answer { (history : History) → StandsFor self.old history →
+            Answers (request_of request.now) history result self.new }
         ensures err { OnErr result (HoldsSame self.old self.new) }
     {
         match request {
@@ -54,7 +56,8 @@ impl Session {
     }
 
     fn command(&mut self, command: &Command) -> Result<(), Refused>
-        ensures answer { (history : History) → StandsFor self.old history → Answers (Edit (command_of command.now)) history result self.new }
+        ensures answer { (history : History) → StandsFor self.old history →
+            Answers (Edit (command_of command.now)) history result self.new }
         ensures err { OnErr result (HoldsSame self.old self.new) }
     {
         let document = apply(self.alloc, &self.document, command)?;
@@ -63,7 +66,8 @@ impl Session {
     }
 
     fn undo(&mut self) -> Result<(), Refused>
-        ensures answer { (history : History) → StandsFor self.old history → Answers Undo history result self.new }
+        ensures answer { (history : History) → StandsFor self.old history →
+            Answers Undo history result self.new }
         ensures err { OnErr result (HoldsSame self.old self.new) }
     {
         match self.before.take() {

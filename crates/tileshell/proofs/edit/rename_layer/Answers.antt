@@ -1,9 +1,8 @@
-use Rattle.std.proofs.Common.{◌≡◌, None, sym, ap, ◌∙◌, inr, arith}
+use Rattle.std.proofs.Common.{◌≡◌, None, sym, ◌∙◌, inr, arith}
 use Rattle.mvt_wire.specs.Stands.{document_of}
 use Rattle.tileshell.specs.CommandStands.{layer_choice_of}
-use Rattle.tileshell.specs.Meaning.{change_layer, renamed, within_limit}
 use Rattle.tileshell.proofs.Selecting.{selected_found}
-use Rattle.tileshell.proofs.Commands.{found_in_copy, copy_within, rename_applied, within_limit_ok, within_limit_err, change_stands}
+use Rattle.tileshell.proofs.Commands.{found_in_copy, copy_within, rename_made, within_limit_ok, within_limit_err}
 use Rattle.tileshell.proofs.edit.rename_layer.Goals as goal
 
 pub returns-in_err-position : goal.returns-in_err-position
@@ -20,24 +19,10 @@ item_mut-requires c =
 
 pub returns-in-Some : goal.returns-in-Some
 returns-in-Some c =
-    let document = document_of c.args.document.now in
-    let copy = c.in_ok-renamed.renamed.items.items in
-    let ordinal = c.in_ok-ordinal.ordinal in
-    let chosen = rw c.as_slice-items.ensures at (sym c.in_ok-ordinal.ensures) in
-    let free = rw c.as_slice-items.ensures at (sym c.name_is_taken.ensures ∙ c.if-name_is_taken.false) in
-    let found = found_in_copy c.as_slice-items.result.now c.args.document.now.items.items copy c.layer_position.result ordinal c.in_ok-position.position c.layer_position.ensures c.as_slice-items.ensures c.in_ok-renamed.ensures c.in_ok-position.ensures.value in
-    let changed = change_stands (renamed c.args.name.now) copy ordinal c.in_ok-position.position c.item_mut.result.now c.put_name.new.item found c.item_mut.ensures.value c.in_ok-put_name.ensures.ok in
-    let stands = changed ∙ ap (change_layer (renamed c.args.name.now) ordinal) c.in_ok-renamed.ensures in
-    rename_applied (layer_choice_of c.args.choice.now) c.args.name.now document ordinal chosen free ∙ ap within_limit (sym stands) ∙ within_limit_ok _ c.in-Some.ensures.0
+    let made = rename_made (layer_choice_of c.args.choice.now) c.args.name.now c.as_slice-items.result.now c.args.document.now.items.items c.in_ok-renamed.renamed.items.items c.layer_position.result c.in_ok-ordinal.ordinal c.in_ok-position.position c.item_mut.result.now c.put_name.new.item c.as_slice-items.ensures c.in_ok-renamed.ensures c.in_ok-ordinal.ensures (sym c.name_is_taken.ensures ∙ c.if-name_is_taken.false) c.layer_position.ensures c.in_ok-position.ensures.value c.item_mut.ensures.value c.in_ok-put_name.ensures.ok in
+    made ∙ within_limit_ok _ c.in-Some.ensures.0
 
 pub returns-in-None : goal.returns-in-None
 returns-in-None c =
-    let document = document_of c.args.document.now in
-    let copy = c.in_ok-renamed.renamed.items.items in
-    let ordinal = c.in_ok-ordinal.ordinal in
-    let chosen = rw c.as_slice-items.ensures at (sym c.in_ok-ordinal.ensures) in
-    let free = rw c.as_slice-items.ensures at (sym c.name_is_taken.ensures ∙ c.if-name_is_taken.false) in
-    let found = found_in_copy c.as_slice-items.result.now c.args.document.now.items.items copy c.layer_position.result ordinal c.in_ok-position.position c.layer_position.ensures c.as_slice-items.ensures c.in_ok-renamed.ensures c.in_ok-position.ensures.value in
-    let changed = change_stands (renamed c.args.name.now) copy ordinal c.in_ok-position.position c.item_mut.result.now c.put_name.new.item found c.item_mut.ensures.value c.in_ok-put_name.ensures.ok in
-    let stands = changed ∙ ap (change_layer (renamed c.args.name.now) ordinal) c.in_ok-renamed.ensures in
-    inr (rename_applied (layer_choice_of c.args.choice.now) c.args.name.now document ordinal chosen free ∙ ap within_limit (sym stands) ∙ within_limit_err _ (omega (arith, c.in-None.ensures)))
+    let made = rename_made (layer_choice_of c.args.choice.now) c.args.name.now c.as_slice-items.result.now c.args.document.now.items.items c.in_ok-renamed.renamed.items.items c.layer_position.result c.in_ok-ordinal.ordinal c.in_ok-position.position c.item_mut.result.now c.put_name.new.item c.as_slice-items.ensures c.in_ok-renamed.ensures c.in_ok-ordinal.ensures (sym c.name_is_taken.ensures ∙ c.if-name_is_taken.false) c.layer_position.ensures c.in_ok-position.ensures.value c.item_mut.ensures.value c.in_ok-put_name.ensures.ok in
+    inr (made ∙ within_limit_err _ (omega (arith, c.in-None.ensures)))

@@ -1,0 +1,5 @@
+use Rattle.tileshell.proofs.LawLemmas.{history_fits}
+use Rattle.tileshell.proofs.laws.history_fits.Goals as goal
+
+pub returns : goal.returns
+returns c = history_fits
