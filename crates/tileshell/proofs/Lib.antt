@@ -18,3 +18,7 @@ pub mod Histories
 pub mod LawLemmas
 pub mod Sessions
 pub mod NameLemmas
+pub mod Fronts
+pub mod Replying
+pub mod Standing
+pub mod UndoLines

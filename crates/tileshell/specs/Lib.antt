@@ -18,3 +18,4 @@ pub mod Transfer
 pub mod Memory
 pub mod Session
 pub mod Laws
+pub mod RunLaws

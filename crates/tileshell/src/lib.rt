@@ -15,6 +15,7 @@ mod program;
 mod refused;
 mod reply;
 mod request;
+mod run_laws;
 mod runs;
 mod script_laws;
 mod select;
@@ -33,6 +34,10 @@ pub use parse_error::ParseError;
 pub use program::shell;
 pub use refused::Refused;
 pub use request::Request;
+pub use run_laws::{
+    prefixes_stand, refused_lines_change_nothing, standing_commands, undo_in_a_script,
+    want_is_replied,
+};
 pub use runs::{MAX_SCRIPT, run};
 pub use script_laws::{lines_make_up_the_script, words_are_spelled, words_ask_for_requests};
 pub use std_device::{FromRead, FromWrite};

@@ -1,0 +1,38 @@
+-- A line with a command, and a line that takes it back.
+use Rattle.std.proofs.Common.{◌≡◌, ℕ, List, [], ◌∷◌, ◌++◌, Some, Ok, refl, ap, ◌∙◌, inl, append_assoc}
+use Rattle.mvt_wire.specs.Wire.{bytes_of}
+use Rattle.tileshell.specs.Request.{Request, Edit, Undo}
+use Rattle.tileshell.specs.Line.{answer_to}
+use Rattle.tileshell.specs.Lines.{lines_of, HasNoLineFeed}
+use Rattle.tileshell.specs.History.{History, with_command, edited, carried_out}
+use Rattle.tileshell.specs.Run.{Progress, accepted, answered_by, settled_by, after_line, after_lines, ran, tile_of}
+use Rattle.tileshell.specs.RunLaws.{ended, UndoInARun, UndoInAScript}
+use Rattle.tileshell.proofs.Fronts.{fronts_stand}
+use Rattle.tileshell.proofs.LawLemmas.{undo_at_once}
+use Rattle.tileshell.proofs.LineLaws.{lines_only}
+use Rattle.tileshell.proofs.Standing.{sound_ran}
+
+-- a line whose request is accepted
+accepts : (p : Progress) (line : List ℕ) (request : Request) (after : History) → answer_to line ≡ Ok (Some request) → carried_out request p.history ≡ Ok after → after_line p line ≡ accepted after p
+accepts p line request after asks e = ap (answered_by p) asks ∙ ap (settled_by p) e
+
+pub undo_in_a_run : UndoInARun
+undo_in_a_run p line undo command edited_document sound asks made asks_undo =
+    let done : carried_out (Edit command) p.history ≡ Ok (with_command command p.history) = ap (edited command p.history) made in
+    let back = undo_at_once command p.history (with_command command p.history) sound done in
+    let first = accepts p line (Edit command) (with_command command p.history) asks done in
+    let second = accepts (accepted (with_command command p.history) p) undo Undo back.0 asks_undo back.1 in
+    let both : after_lines p (line ∷ undo ∷ []) ≡ accepted back.0 (accepted (with_command command p.history) p) = ap (λ (q : Progress). after_line q undo) first ∙ second in (
+      ap (λ (q : Progress). q.replies) both,
+      ap tile_of both ∙ ap bytes_of back.2,
+    )
+
+two_lines : (line undo : List ℕ) → HasNoLineFeed line → HasNoLineFeed undo → lines_of (ended line ++ ended undo) ≡ line ∷ undo ∷ []
+two_lines line undo first second = lines_only (ended line ++ ended undo) (line ∷ undo ∷ []) (first, inl (ended undo, append_assoc line (10 ∷ []) (ended undo), (second, inl ([], refl, refl))))
+
+pub undo_in_a_script : UndoInAScript
+undo_in_a_script document depth front line undo command edited_document some ends first second asks made asks_undo =
+    ap (λ (script : List ℕ). tile_of (ran document depth script)) (append_assoc front (ended line) (ended undo))
+    ∙ ap tile_of (fronts_stand document depth front (ended line ++ ended undo) ends)
+    ∙ ap (λ (lines : List (List ℕ)). tile_of (after_lines (ran document depth front) lines)) (two_lines line undo first second)
+    ∙ (undo_in_a_run (ran document depth front) line undo command edited_document (sound_ran document depth front some) asks made asks_undo).1

@@ -1,0 +1,8 @@
+use Rattle.tileshell.proofs.Replying.{walks_are_runs, runs_are_walks}
+use Rattle.tileshell.proofs.run_laws.want_is_replied.Goals as goal
+
+pub returns-clause-without_want : goal.returns-clause-without_want
+returns-clause-without_want c = walks_are_runs
+
+pub returns-clause-with_memory : goal.returns-clause-with_memory
+returns-clause-with_memory c = runs_are_walks

@@ -1,0 +1,93 @@
+-- Laws over whole runs, in the words of scripts, replies and tiles.
+use Rattle.std.specs.Prelude.{◌≡◌, ◌≢◌, ◌⊎◌, ℕ, ◌+◌, ◌≤◌, true, List, [], ◌∷◌, ◌++◌, length, take, Some, Ok}
+use Rattle.mvt_wire.specs.Plain.{Document}
+use Rattle.tileshell.specs.Command.{Command}
+use Rattle.tileshell.specs.Request.{Edit, Undo}
+use Rattle.tileshell.specs.Meaning.{applied}
+use Rattle.tileshell.specs.Line.{answer_to}
+use Rattle.tileshell.specs.Lines.{lines_of, HasNoLineFeed}
+use Rattle.tileshell.specs.History.{History, IsSound, present_document}
+use Rattle.tileshell.specs.Replies.{accepted_reply, refused_reply}
+use Rattle.tileshell.specs.Run.{Progress, after_line, after_lines, ran, tile_of, Walk}
+use Rattle.tileshell.specs.declared.parse_error.ParseError.TheVariants as parse
+use Rattle.tileshell.specs.declared.refused.Refused.{Refused}
+use Rattle.tileshell.specs.declared.refused.Refused.TheVariants as refused
+
+-- ---- fronts
+
+-- bytes with a line feed behind them
+abbrev pub ended : List ℕ → List ℕ
+ended text = text ++ 10 ∷ []
+
+-- a front of a script that ends where a line ends: nothing, or bytes up to a line feed
+abbrev pub EndsWithALine : List ℕ → Type 0
+EndsWithALine front = (front ≡ []) ⊎ ((text : List ℕ) × (front ≡ ended text))
+
+-- The lines of such a front are the first lines of the script.
+abbrev pub FrontsHaveFirstLines : Type 0
+FrontsHaveFirstLines = (front rest : List ℕ) → EndsWithALine front → lines_of (front ++ rest) ≡ lines_of front ++ lines_of rest
+
+-- The run on such a front comes to where the run on the whole script is after those lines, and the others go on from there.
+abbrev pub FrontsStand : Type 0
+FrontsStand = (document : Document) (depth : ℕ) (front rest : List ℕ) → EndsWithALine front → ran document depth (front ++ rest) ≡ after_lines (ran document depth front) (lines_of rest)
+
+-- What was replied to such a front stays at the front of what is replied to the whole script.
+abbrev pub RepliesStand : Type 0
+RepliesStand = (document : Document) (depth : ℕ) (front rest : List ℕ) → EndsWithALine front → (more : List ℕ) × ((ran document depth (front ++ rest)).replies ≡ (ran document depth front).replies ++ more)
+
+-- ---- lines that change nothing
+
+-- A line that is refused changes neither the tile nor what undo takes back. That it was refused is kept.
+abbrev pub RefusedLinesChangeNothing : Type 0
+RefusedLinesChangeNothing = (p : Progress) (line : List ℕ) (reason : Refused) → (after_line p line).replies ≡ p.replies ++ refused_reply (p.lines + 1) reason → ((after_line p line).history ≡ p.history) × (tile_of (after_line p line) ≡ tile_of p) × ((after_line p line).any_refused ≡ true)
+
+-- A line without a reply is counted, and changes nothing else.
+abbrev pub SilentLinesChangeNothing : Type 0
+SilentLinesChangeNothing = (p : Progress) (line : List ℕ) → (after_line p line).replies ≡ p.replies → after_line p line ≡ record p { lines = p.lines + 1 }
+
+-- ---- what stands
+
+-- the commands make the second document of the first one, one after the other, and each is accepted
+abbrev pub Makes : Document → List Command → Document → Type 0
+Makes document [] made = made ≡ document
+Makes document (command ∷ commands) made = (next : Document) × (applied command document ≡ Ok next) × Makes next commands made
+
+-- a history of a tile in which undo goes back at most depth commands
+pub record IsHistoryOf (document : Document) (depth : ℕ) (history : History) : Type 0 where
+  pub start : history.start ≡ document
+  pub within_commands : history.present ≤ length history.commands
+  pub above_floor : history.floor ≤ history.present
+  pub within_depth : history.present ≤ history.floor + depth
+  pub makes : Makes document (take history.present history.commands) (present_document history)
+
+-- After every script the tile is the one at the start with the standing commands carried out in order.
+abbrev pub StandingCommands : Type 0
+StandingCommands = (document : Document) (depth : ℕ) (script : List ℕ) → 1 ≤ depth → IsHistoryOf document depth (ran document depth script).history
+
+-- ---- undo
+
+-- A line whose command is accepted and then a line that asks for undo: both are accepted, and the tile is as before.
+abbrev pub UndoInARun : Type 0
+UndoInARun = (p : Progress) (line undo : List ℕ) (command : Command) (edited : Document) → IsSound p.history → answer_to line ≡ Ok (Some (Edit command)) → applied command (present_document p.history) ≡ Ok edited → answer_to undo ≡ Ok (Some Undo) → ((after_lines p (line ∷ undo ∷ [])).replies ≡ p.replies ++ accepted_reply ++ accepted_reply) × (tile_of (after_lines p (line ∷ undo ∷ [])) ≡ tile_of p)
+
+-- The same of a script: with these two lines behind it, it makes the same tile.
+abbrev pub UndoInAScript : Type 0
+UndoInAScript = (document : Document) (depth : ℕ) (front line undo : List ℕ) (command : Command) (edited : Document) → 1 ≤ depth → EndsWithALine front → HasNoLineFeed line → HasNoLineFeed undo → answer_to line ≡ Ok (Some (Edit command)) → applied command (present_document (ran document depth front).history) ≡ Ok edited → answer_to undo ≡ Ok (Some Undo) → tile_of (ran document depth (front ++ ended line ++ ended undo)) ≡ tile_of (ran document depth front)
+
+-- ---- want of memory
+
+-- the reply to a line that memory was refused to
+abbrev pub want_of_memory : ℕ → List ℕ
+want_of_memory line = refused_reply line (refused.Parse parse.NoMemory)
+
+-- no reply to a line says so
+abbrev pub HasNoWant : List ℕ → Type 0
+HasNoWant replies = (line : ℕ) (front rest : List ℕ) → replies ≢ front ++ want_of_memory line ++ rest
+
+-- Where growths may be refused, and no reply says that one was, all comes as where none is refused.
+abbrev pub WalksWithoutWantAreRuns : Type 0
+WalksWithoutWantAreRuns = (p q : Progress) (lines : List (List ℕ)) (added : List ℕ) → Walk p lines q → q.replies ≡ p.replies ++ added → HasNoWant added → q ≡ after_lines p lines
+
+-- To have all memory is one way that growths may go.
+abbrev pub RunsAreWalks : Type 0
+RunsAreWalks = (p : Progress) (lines : List (List ℕ)) → Walk p lines (after_lines p lines)

@@ -1,0 +1,37 @@
+//! Laws over whole runs. Each function does nothing: its contract is the law.
+
+ghost use Rattle.tileshell.specs.RunLaws.{FrontsHaveFirstLines, FrontsStand, RepliesStand, RefusedLinesChangeNothing, SilentLinesChangeNothing, StandingCommands, UndoInARun, UndoInAScript, WalksWithoutWantAreRuns, RunsAreWalks};
+
+/// After each front of whole lines the run has come to where it comes on that front alone. So the
+/// document, the history and the replies there are those of the front.
+pub fn prefixes_stand()
+    ensures lines { FrontsHaveFirstLines }
+    ensures progress { FrontsStand }
+    ensures replies { RepliesStand }
+{}
+
+/// A line that is refused leaves the tile and the history as they were, and so does a line without
+/// a reply.
+pub fn refused_lines_change_nothing()
+    ensures refused { RefusedLinesChangeNothing }
+    ensures silent { SilentLinesChangeNothing }
+{}
+
+/// After any script the tile is the one read at the start, with the commands that stand carried
+/// out in order. Each of them was accepted, and undo goes back over no more than it may.
+pub fn standing_commands()
+    ensures { StandingCommands }
+{}
+
+/// A line with a command that is accepted, and a line that takes it back, leave the tile as it was.
+pub fn undo_in_a_script()
+    ensures progress { UndoInARun }
+    ensures script { UndoInAScript }
+{}
+
+/// Where growths may be refused, all comes as it would with all memory, unless a reply says that
+/// memory was refused.
+pub fn want_is_replied()
+    ensures without_want { WalksWithoutWantAreRuns }
+    ensures with_memory { RunsAreWalks }
+{}
