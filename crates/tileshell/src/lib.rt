@@ -27,7 +27,7 @@ mod words;
 pub use command::{Command, LayerChoice};
 pub use device::{Sink, Source, Trouble};
 pub use edit::Refusal;
-pub use laws::{rename_names, stays_sound, stays_within_limit, undo_at_once};
+pub use laws::{command_fits, history_fits, rename_names, stays_sound, undo_at_once};
 pub use outcome::{DeviceName, Options, Outcome, TileFault};
 pub use parse::parse_line;
 pub use parse_error::ParseError;
