@@ -97,11 +97,12 @@ fn unknown_fields_stay_in_their_places(rt: HostRuntime) -> Result<(), Fail> {
 
 #[test]
 fn a_cut_tile_is_refused_at_its_last_whole_item(rt: HostRuntime) -> Result<(), Fail> {
-    let twice = joined(rt.alloc(), &[&T0, &T0])?;
     for end in 1..32 {
-        let once = read_document(rt.alloc(), &twice[..end]).err();
+        let front = &T0[..end];
+        let once = read_document(rt.alloc(), front).err();
         assert_eq!(rt; once, Some(ReadError::BadWire { place: 0 }), "cut at {end}");
-        let second = read_document(rt.alloc(), &twice[..32 + end]).err();
+        let twice = joined(rt.alloc(), &[&T0, front])?;
+        let second = read_document(rt.alloc(), &twice).err();
         assert_eq!(rt;
             second,
             Some(ReadError::BadWire { place: 32 }),
