@@ -88,6 +88,10 @@ HasNoWant replies = (line : ℕ) (front rest : List ℕ) → replies ≢ front +
 abbrev pub WalksWithoutWantAreRuns : Type 0
 WalksWithoutWantAreRuns = (p q : Progress) (lines : List (List ℕ)) (added : List ℕ) → Walk p lines q → q.replies ≡ p.replies ++ added → HasNoWant added → q ≡ after_lines p lines
 
--- To have all memory is one way that growths may go.
+-- The run with all memory is one of the walks.
 abbrev pub RunsAreWalks : Type 0
 RunsAreWalks = (p : Progress) (lines : List (List ℕ)) → Walk p lines (after_lines p lines)
+
+-- With all memory no reply says that memory was refused. So a walk is the run exactly where none says so.
+abbrev pub RunsHaveNoWant : Type 0
+RunsHaveNoWant = (document : Document) (depth : ℕ) (script : List ℕ) → HasNoWant (ran document depth script).replies
