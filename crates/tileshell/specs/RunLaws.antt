@@ -70,9 +70,9 @@ StandingCommands = (document : Document) (depth : ℕ) (script : List ℕ) → 1
 abbrev pub UndoInARun : Type 0
 UndoInARun = (p : Progress) (line undo : List ℕ) (command : Command) (edited : Document) → IsSound p.history → answer_to line ≡ Ok (Some (Edit command)) → applied command (present_document p.history) ≡ Ok edited → answer_to undo ≡ Ok (Some Undo) → ((after_lines p (line ∷ undo ∷ [])).replies ≡ p.replies ++ accepted_reply ++ accepted_reply) × (tile_of (after_lines p (line ∷ undo ∷ [])) ≡ tile_of p)
 
--- The same of a script: with these two lines behind it, it makes the same tile.
+-- The same of a script: these two lines behind it are accepted, and it makes the same tile.
 abbrev pub UndoInAScript : Type 0
-UndoInAScript = (document : Document) (depth : ℕ) (front line undo : List ℕ) (command : Command) (edited : Document) → 1 ≤ depth → EndsWithALine front → HasNoLineFeed line → HasNoLineFeed undo → answer_to line ≡ Ok (Some (Edit command)) → applied command (present_document (ran document depth front).history) ≡ Ok edited → answer_to undo ≡ Ok (Some Undo) → tile_of (ran document depth (front ++ ended line ++ ended undo)) ≡ tile_of (ran document depth front)
+UndoInAScript = (document : Document) (depth : ℕ) (front line undo : List ℕ) (command : Command) (edited : Document) → 1 ≤ depth → EndsWithALine front → HasNoLineFeed line → HasNoLineFeed undo → answer_to line ≡ Ok (Some (Edit command)) → applied command (present_document (ran document depth front).history) ≡ Ok edited → answer_to undo ≡ Ok (Some Undo) → ((ran document depth (front ++ ended line ++ ended undo)).replies ≡ (ran document depth front).replies ++ accepted_reply ++ accepted_reply) × (tile_of (ran document depth (front ++ ended line ++ ended undo)) ≡ tile_of (ran document depth front))
 
 -- ---- want of memory
 
