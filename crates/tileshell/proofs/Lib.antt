@@ -22,3 +22,7 @@ pub mod Fronts
 pub mod Replying
 pub mod Standing
 pub mod UndoLines
+pub mod Others
+pub mod ParseRefusals
+pub mod EditRefusals
+pub mod NoWant

@@ -1,12 +1,13 @@
 -- A line with a command, and a line that takes it back.
 use Rattle.std.proofs.Common.{◌≡◌, ℕ, List, [], ◌∷◌, ◌++◌, Some, Ok, refl, ap, ◌∙◌, inl, append_assoc}
+use Rattle.mvt_wire.specs.Plain.{Document}
 use Rattle.mvt_wire.specs.Wire.{bytes_of}
 use Rattle.tileshell.specs.Request.{Request, Edit, Undo}
 use Rattle.tileshell.specs.Line.{answer_to}
 use Rattle.tileshell.specs.Lines.{lines_of, HasNoLineFeed}
 use Rattle.tileshell.specs.History.{History, with_command, edited, carried_out}
 use Rattle.tileshell.specs.Run.{Progress, accepted, answered_by, settled_by, after_line, after_lines, ran, tile_of}
-use Rattle.tileshell.specs.RunLaws.{ended, UndoInARun, UndoInAScript}
+use Rattle.tileshell.specs.RunLaws.{ended, EndsWithALine, UndoInARun, UndoInAScript}
 use Rattle.tileshell.proofs.Fronts.{fronts_stand}
 use Rattle.tileshell.proofs.LawLemmas.{undo_at_once}
 use Rattle.tileshell.proofs.LineLaws.{lines_only}
@@ -30,9 +31,12 @@ undo_in_a_run p line undo command edited_document sound asks made asks_undo =
 two_lines : (line undo : List ℕ) → HasNoLineFeed line → HasNoLineFeed undo → lines_of (ended line ++ ended undo) ≡ line ∷ undo ∷ []
 two_lines line undo first second = lines_only (ended line ++ ended undo) (line ∷ undo ∷ []) (first, inl (ended undo, append_assoc line (10 ∷ []) (ended undo), (second, inl ([], refl, refl))))
 
+two_more : (document : Document) (depth : ℕ) (front line undo : List ℕ) → EndsWithALine front → HasNoLineFeed line → HasNoLineFeed undo → ran document depth (front ++ ended line ++ ended undo) ≡ after_lines (ran document depth front) (line ∷ undo ∷ [])
+two_more document depth front line undo ends first second =
+    ap (ran document depth) (append_assoc front (ended line) (ended undo)) ∙ fronts_stand document depth front (ended line ++ ended undo) ends ∙ ap (after_lines (ran document depth front)) (two_lines line undo first second)
+
 pub undo_in_a_script : UndoInAScript
 undo_in_a_script document depth front line undo command edited_document some ends first second asks made asks_undo =
-    ap (λ (script : List ℕ). tile_of (ran document depth script)) (append_assoc front (ended line) (ended undo))
-    ∙ ap tile_of (fronts_stand document depth front (ended line ++ ended undo) ends)
-    ∙ ap (λ (lines : List (List ℕ)). tile_of (after_lines (ran document depth front) lines)) (two_lines line undo first second)
-    ∙ (undo_in_a_run (ran document depth front) line undo command edited_document (sound_ran document depth front some) asks made asks_undo).1
+    let whole = two_more document depth front line undo ends first second in
+    let both = undo_in_a_run (ran document depth front) line undo command edited_document (sound_ran document depth front some) asks made asks_undo in
+    (ap (λ (q : Progress). q.replies) whole ∙ both.0, ap tile_of whole ∙ both.1)

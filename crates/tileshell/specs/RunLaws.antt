@@ -70,9 +70,9 @@ StandingCommands = (document : Document) (depth : ℕ) (script : List ℕ) → 1
 abbrev pub UndoInARun : Type 0
 UndoInARun = (p : Progress) (line undo : List ℕ) (command : Command) (edited : Document) → IsSound p.history → answer_to line ≡ Ok (Some (Edit command)) → applied command (present_document p.history) ≡ Ok edited → answer_to undo ≡ Ok (Some Undo) → ((after_lines p (line ∷ undo ∷ [])).replies ≡ p.replies ++ accepted_reply ++ accepted_reply) × (tile_of (after_lines p (line ∷ undo ∷ [])) ≡ tile_of p)
 
--- The same of a script: with these two lines behind it, it makes the same tile.
+-- The same of a script: these two lines behind it are accepted, and it makes the same tile.
 abbrev pub UndoInAScript : Type 0
-UndoInAScript = (document : Document) (depth : ℕ) (front line undo : List ℕ) (command : Command) (edited : Document) → 1 ≤ depth → EndsWithALine front → HasNoLineFeed line → HasNoLineFeed undo → answer_to line ≡ Ok (Some (Edit command)) → applied command (present_document (ran document depth front).history) ≡ Ok edited → answer_to undo ≡ Ok (Some Undo) → tile_of (ran document depth (front ++ ended line ++ ended undo)) ≡ tile_of (ran document depth front)
+UndoInAScript = (document : Document) (depth : ℕ) (front line undo : List ℕ) (command : Command) (edited : Document) → 1 ≤ depth → EndsWithALine front → HasNoLineFeed line → HasNoLineFeed undo → answer_to line ≡ Ok (Some (Edit command)) → applied command (present_document (ran document depth front).history) ≡ Ok edited → answer_to undo ≡ Ok (Some Undo) → ((ran document depth (front ++ ended line ++ ended undo)).replies ≡ (ran document depth front).replies ++ accepted_reply ++ accepted_reply) × (tile_of (ran document depth (front ++ ended line ++ ended undo)) ≡ tile_of (ran document depth front))
 
 -- ---- want of memory
 
@@ -88,6 +88,10 @@ HasNoWant replies = (line : ℕ) (front rest : List ℕ) → replies ≢ front +
 abbrev pub WalksWithoutWantAreRuns : Type 0
 WalksWithoutWantAreRuns = (p q : Progress) (lines : List (List ℕ)) (added : List ℕ) → Walk p lines q → q.replies ≡ p.replies ++ added → HasNoWant added → q ≡ after_lines p lines
 
--- To have all memory is one way that growths may go.
+-- The run with all memory is one of the walks.
 abbrev pub RunsAreWalks : Type 0
 RunsAreWalks = (p : Progress) (lines : List (List ℕ)) → Walk p lines (after_lines p lines)
+
+-- With all memory no reply says that memory was refused. So a walk is the run exactly where none says so.
+abbrev pub RunsHaveNoWant : Type 0
+RunsHaveNoWant = (document : Document) (depth : ℕ) (script : List ℕ) → HasNoWant (ran document depth script).replies

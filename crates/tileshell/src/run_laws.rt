@@ -1,6 +1,6 @@
 //! Laws over whole runs. Each function does nothing: its contract is the law.
 
-ghost use Rattle.tileshell.specs.RunLaws.{FrontsHaveFirstLines, FrontsStand, RepliesStand, RefusedLinesChangeNothing, SilentLinesChangeNothing, StandingCommands, UndoInARun, UndoInAScript, WalksWithoutWantAreRuns, RunsAreWalks};
+ghost use Rattle.tileshell.specs.RunLaws.{FrontsHaveFirstLines, FrontsStand, RepliesStand, RefusedLinesChangeNothing, SilentLinesChangeNothing, StandingCommands, UndoInARun, UndoInAScript, WalksWithoutWantAreRuns, RunsAreWalks, RunsHaveNoWant};
 
 /// After each front of whole lines the run has come to where it comes on that front alone. So the
 /// document, the history and the replies there are those of the front.
@@ -30,8 +30,9 @@ pub fn undo_in_a_script()
 {}
 
 /// Where growths may be refused, all comes as it would with all memory, unless a reply says that
-/// memory was refused.
+/// memory was refused. With all memory no reply says so.
 pub fn want_is_replied()
     ensures without_want { WalksWithoutWantAreRuns }
     ensures with_memory { RunsAreWalks }
+    ensures never { RunsHaveNoWant }
 {}
