@@ -26,3 +26,4 @@ pub mod Others
 pub mod ParseRefusals
 pub mod EditRefusals
 pub mod NoWant
+pub mod SelectionLemmas

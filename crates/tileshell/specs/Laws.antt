@@ -1,5 +1,5 @@
 -- Laws of commands and undo, in the words of a tile and its history.
-use Rattle.std.specs.Prelude.{◌≡◌, ◌≢◌, ℕ, ◌≤◌, not, List, length, filter, Option, Some, None, option_map, slice_get, Ok}
+use Rattle.std.specs.Prelude.{◌≡◌, ◌≢◌, ◌↔◌, ℕ, ◌≤◌, not, List, length, filter, Option, Some, None, option_map, slice_get, Ok, Err}
 use Rattle.std.specs.List.{filter_map}
 use Rattle.mvt_wire.specs.declared.TheConstants.{MAX_FILE}
 use Rattle.mvt_wire.specs.Plain.{Field, Layer, TileItem, OfLayer, PlainInTile, Document}
@@ -8,7 +8,20 @@ use Rattle.tileshell.specs.Command.{LayerChoice, Named, Command, RenameLayer}
 use Rattle.tileshell.specs.Request.{Request, Edit, Undo}
 use Rattle.tileshell.specs.Selection.{layers, layer_positions, name_of, selected}
 use Rattle.tileshell.specs.Meaning.{applied, is_name}
+use Rattle.tileshell.specs.declared.edit.Refusal.TheVariants.{NoLayer}
 use Rattle.tileshell.specs.History.{History, IsSound, begun, document_at, present_document, carried_out}
+
+-- the layer at this place has this name
+abbrev pub HasName : List ℕ → ℕ → Document → Type 0
+HasName name ordinal document = option_map name_of (slice_get (layers document) ordinal) ≡ Some (Some name)
+
+-- A name means the layer at a place exactly where that layer has the name, and no other layer has it.
+abbrev pub NameMeansTheOne : Type 0
+NameMeansTheOne = (name : List ℕ) (document : Document) (ordinal : ℕ) → (selected (Named name) document ≡ Ok ordinal) ↔ ((other : ℕ) → HasName name other document ↔ (other ≡ ordinal))
+
+-- A name means no layer exactly where none has it.
+abbrev pub NameMeansNone : Type 0
+NameMeansNone = (name : List ℕ) (document : Document) → (selected (Named name) document ≡ Err NoLayer) ↔ ((other : ℕ) → ¬ HasName name other document)
 
 -- An undo right after an accepted command is accepted, and the document is the one before the command.
 abbrev pub UndoAtOnce : Type 0
@@ -44,6 +57,6 @@ pub record IsRenamed (name : List ℕ) (ordinal : ℕ) (old new : Document) : Ty
   pub fields : filter_map field_in new ≡ filter_map field_in old
   pub places : layer_positions new ≡ layer_positions old
 
--- A rename that is accepted names the layer that was meant, and nothing else changes.
+-- A rename that is accepted names the layer that was meant, and keeps all but the names of that layer.
 abbrev pub RenameNames : Type 0
 RenameNames = (choice : LayerChoice) (name : List ℕ) (old new : Document) → applied (RenameLayer choice name) old ≡ Ok new → (ordinal : ℕ) × (selected choice old ≡ Ok ordinal) × IsRenamed name ordinal old new

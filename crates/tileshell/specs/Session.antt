@@ -13,6 +13,7 @@ use Rattle.tileshell.specs.declared.session.Session.{Session}
 abbrev pub document_before : History → Option plain.Document
 document_before history = if nat_lt history.floor history.present then Some (document_at (history.present - 1) history) else None
 
+-- the session holds the present tile of the history, and the one to which undo goes back
 pub record StandsFor (session : Session) (history : History) : Type 0 where
   pub sound : IsSound history
   pub one_step : history.depth ≡ 1

@@ -1,6 +1,16 @@
 //! Laws of commands and undo. Each function does nothing: its contract is the law.
 
-ghost use Rattle.tileshell.specs.Laws.{UndoAtOnce, StaysSound, CommandFits, HistoryFits, RenameNames};
+ghost use Rattle.tileshell.specs.Laws.{NameMeansTheOne, NameMeansNone, UndoAtOnce, StaysSound, CommandFits, HistoryFits, RenameNames};
+
+/// A name means a layer where that layer alone has it.
+pub fn name_means_the_one()
+    ensures { NameMeansTheOne }
+{}
+
+/// A name means no layer where none has it; otherwise several have it.
+pub fn name_means_none()
+    ensures { NameMeansNone }
+{}
 
 /// An undo right after a command brings back the tile that stood before it.
 pub fn undo_at_once()
