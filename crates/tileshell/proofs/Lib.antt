@@ -27,3 +27,10 @@ pub mod ParseRefusals
 pub mod EditRefusals
 pub mod NoWant
 pub mod SelectionLemmas
+pub mod Sending
+pub mod Supplying
+pub mod WholeLines
+pub mod Walks
+pub mod Running
+pub mod Courses
+pub mod Headlines

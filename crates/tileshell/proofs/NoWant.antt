@@ -10,9 +10,9 @@ use Rattle.tileshell.specs.Line.{answer_to}
 use Rattle.tileshell.specs.Lines.{is_line_feed, lines_of, HasNoLineFeed}
 use Rattle.tileshell.specs.Meaning.{applied}
 use Rattle.tileshell.specs.History.{History, present_document, edited, carried_out}
-use Rattle.tileshell.specs.Replies.{accepted_reply, refused_reply, refusal_number, refusal_name}
+use Rattle.tileshell.specs.Replies.{accepted_reply, refused_reply, refusal_number, refusal_name, want_of_memory, HasNoWant}
 use Rattle.tileshell.specs.Run.{Progress, at_first, ran, settled_by, answered_by, after_line, after_lines}
-use Rattle.tileshell.specs.RunLaws.{want_of_memory, HasNoWant, RunsHaveNoWant}
+use Rattle.tileshell.specs.RunLaws.{RunsHaveNoWant}
 use Rattle.tileshell.specs.declared.edit.Refusal.{Refusal}
 use Rattle.tileshell.specs.declared.edit.Refusal.TheVariants as edit
 use Rattle.tileshell.specs.declared.parse_error.ParseError.{ParseError}

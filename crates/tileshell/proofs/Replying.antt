@@ -5,9 +5,9 @@ use Rattle.tileshell.specs.Request.{Request}
 use Rattle.tileshell.specs.Line.{answer_to}
 use Rattle.tileshell.specs.Lines.{lines_of}
 use Rattle.tileshell.specs.History.{History, carried_out}
-use Rattle.tileshell.specs.Replies.{accepted_reply, refused_reply}
+use Rattle.tileshell.specs.Replies.{accepted_reply, refused_reply, want_of_memory, HasNoWant}
 use Rattle.tileshell.specs.Run.{Progress, ran, tile_of, settled_by, answered_by, after_line, after_lines, MayFollow, Walk}
-use Rattle.tileshell.specs.RunLaws.{RepliesStand, RefusedLinesChangeNothing, SilentLinesChangeNothing, want_of_memory, HasNoWant, WalksWithoutWantAreRuns, RunsAreWalks}
+use Rattle.tileshell.specs.RunLaws.{RepliesStand, RefusedLinesChangeNothing, SilentLinesChangeNothing, WalksWithoutWantAreRuns, RunsAreWalks}
 use Rattle.tileshell.specs.declared.parse_error.ParseError.{ParseError}
 use Rattle.tileshell.specs.declared.refused.Refused.{Refused}
 use Rattle.tileshell.specs.declared.refused.Refused.TheVariants as refused
@@ -82,7 +82,7 @@ silent_lines p line e = answer_silent p (answer_to line) e
 
 follow_adds : (p : Progress) (line : List ℕ) (q : Progress) → MayFollow p line q → Adds p q
 follow_adds p line q (inl e) = subst (Adds p) (sym e) (answer_adds p (answer_to line))
-follow_adds p line q (inr (asks, e)) = subst (Adds p) (sym e) (record { reply = want_of_memory (p.lines + 1); is = refl })
+follow_adds p line q (inr e) = subst (Adds p) (sym e) (record { reply = want_of_memory (p.lines + 1); is = refl })
 
 walk_adds : (p : Progress) (lines : List (List ℕ)) (q : Progress) → Walk p lines q → Adds p q
 walk_adds p [] q walk = adds_none p q (ap (λ (r : Progress). r.replies) walk)
@@ -111,7 +111,7 @@ walks_are_runs p q (line ∷ lines) added (next, inl follows, walk) e none =
     let others = walk_adds next lines q walk in
     let rest = no_want_behind first.reply others.reply (subst HasNoWant (cut p next q added e first others) none) in
     walks_are_runs next q lines others.reply walk others.is rest ∙ ap (λ (r : Progress). after_lines r lines) follows
-walks_are_runs p q (line ∷ lines) added (next, inr (asks, follows), walk) e none =
+walks_are_runs p q (line ∷ lines) added (next, inr follows, walk) e none =
     let first : Adds p next = record { reply = want_of_memory (p.lines + 1); is = ap (λ (r : Progress). r.replies) follows } in
     let others = walk_adds next lines q walk in
     absurd (none (p.lines + 1) [] others.reply (cut p next q added e first others))

@@ -19,3 +19,7 @@ pub mod Memory
 pub mod Session
 pub mod Laws
 pub mod RunLaws
+pub mod Seen
+pub mod Course
+pub mod Headline
+pub mod Steps

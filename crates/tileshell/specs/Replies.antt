@@ -1,5 +1,5 @@
 -- What is written in reply to a line.
-use Rattle.std.specs.Prelude.{ℕ, List, ◌++◌, codes, decimal}
+use Rattle.std.specs.Prelude.{◌≢◌, ℕ, List, ◌++◌, codes, decimal}
 use Rattle.tileshell.specs.declared.parse_error.ParseError.{ParseError}
 use Rattle.tileshell.specs.declared.parse_error.ParseError.TheVariants as parse
 use Rattle.tileshell.specs.declared.edit.Refusal.{Refusal}
@@ -57,3 +57,11 @@ accepted_reply = codes "ok\n"
 abbrev pub refused_reply : ℕ → Refused → List ℕ
 refused_reply line reason =
     codes "line " ++ decimal line ++ codes " refused " ++ decimal (refusal_number reason) ++ codes " " ++ refusal_name reason ++ codes "\n"
+
+-- the reply to a line that memory was refused to
+abbrev pub want_of_memory : ℕ → List ℕ
+want_of_memory line = refused_reply line (refused.Parse parse.NoMemory)
+
+-- no reply to a line says so
+abbrev pub HasNoWant : List ℕ → Type 0
+HasNoWant replies = (line : ℕ) (front rest : List ℕ) → replies ≢ front ++ want_of_memory line ++ rest

@@ -62,15 +62,9 @@ tile_of p = bytes_of (present_document p.history)
 abbrev pub without_memory : Progress → Progress
 without_memory p = refused_for (refused.Parse parse.NoMemory) p
 
--- a line that is neither blank nor a comment
-abbrev pub HasReply : Result (Option Request) ParseError → Type 0
-HasReply (Ok None) = ⊥
-HasReply (Ok (Some request)) = Unit {0}
-HasReply (Err error) = Unit {0}
-
 -- one line, where growths may be refused
 abbrev pub MayFollow : Progress → List ℕ → Progress → Type 0
-MayFollow p line q = (q ≡ after_line p line) ⊎ (HasReply (answer_to line) × (q ≡ without_memory p))
+MayFollow p line q = (q ≡ after_line p line) ⊎ (q ≡ without_memory p)
 
 -- the lines in order, where growths may be refused
 abbrev pub Walk : Progress → List (List ℕ) → Progress → Type 0

@@ -7,7 +7,7 @@ use Rattle.tileshell.specs.Meaning.{applied}
 use Rattle.tileshell.specs.Line.{answer_to}
 use Rattle.tileshell.specs.Lines.{lines_of, HasNoLineFeed}
 use Rattle.tileshell.specs.History.{History, IsSound, present_document}
-use Rattle.tileshell.specs.Replies.{accepted_reply, refused_reply}
+use Rattle.tileshell.specs.Replies.{accepted_reply, refused_reply, HasNoWant}
 use Rattle.tileshell.specs.Run.{Progress, after_line, after_lines, ran, tile_of, Walk}
 use Rattle.tileshell.specs.declared.parse_error.ParseError.TheVariants as parse
 use Rattle.tileshell.specs.declared.refused.Refused.{Refused}
@@ -75,14 +75,6 @@ abbrev pub UndoInAScript : Type 0
 UndoInAScript = (document : Document) (depth : ℕ) (front line undo : List ℕ) (command : Command) (edited : Document) → 1 ≤ depth → EndsWithALine front → HasNoLineFeed line → HasNoLineFeed undo → answer_to line ≡ Ok (Some (Edit command)) → applied command (present_document (ran document depth front).history) ≡ Ok edited → answer_to undo ≡ Ok (Some Undo) → ((ran document depth (front ++ ended line ++ ended undo)).replies ≡ (ran document depth front).replies ++ accepted_reply ++ accepted_reply) × (tile_of (ran document depth (front ++ ended line ++ ended undo)) ≡ tile_of (ran document depth front))
 
 -- ---- want of memory
-
--- the reply to a line that memory was refused to
-abbrev pub want_of_memory : ℕ → List ℕ
-want_of_memory line = refused_reply line (refused.Parse parse.NoMemory)
-
--- no reply to a line says so
-abbrev pub HasNoWant : List ℕ → Type 0
-HasNoWant replies = (line : ℕ) (front rest : List ℕ) → replies ≢ front ++ want_of_memory line ++ rest
 
 -- Where growths may be refused, and no reply says that one was, all comes as where none is refused.
 abbrev pub WalksWithoutWantAreRuns : Type 0

@@ -1,0 +1,111 @@
+-- The headline: what a run does where no device and no growth fails it.
+use Rattle.std.specs.Prelude.{◌≡◌, ◌≢◌, ℕ, ◌+◌, ◌-◌, ◌^◌, ◌<◌, ◌≤◌, Bool, List, [], ◌∷◌, ◌++◌, length, IsTrue, Some, None, if◌then◌else◌}
+use Rattle.std.specs.declared.option.Option.{Option}
+use Rattle.std.specs.Io.{appended_bytes}
+use Rattle.std.specs.Io.KnownBytes.{Appends}
+use Rattle.mvt_wire.specs.declared.TheConstants.{MAX_FILE}
+use Rattle.mvt_wire.specs.Plain.{Document}
+use Rattle.mvt_wire.specs.Opens.{OpensAs}
+use Rattle.tileshell.specs.declared.runs.TheConstants.{MAX_SCRIPT}
+use Rattle.tileshell.specs.declared.device.Source.{Ghosts as SourceMembers}
+use Rattle.tileshell.specs.declared.device.Sink.{Ghosts as SinkMembers}
+use Rattle.tileshell.specs.declared.outcome.Outcome.{Outcome}
+use Rattle.tileshell.specs.declared.outcome.Outcome.TheVariants as outcomes
+use Rattle.tileshell.specs.declared.outcome.DeviceName.TheVariants as devices
+use Rattle.tileshell.specs.declared.outcome.TileFault.{TileFault}
+use Rattle.tileshell.specs.declared.parse_error.ParseError.TheVariants as parse
+use Rattle.tileshell.specs.declared.refused.Refused.TheVariants as refused
+use Rattle.tileshell.specs.Course.{Course, Ends}
+use Rattle.tileshell.specs.Replies.{HasNoWant}
+use Rattle.tileshell.specs.Lines.{lines_of}
+use Rattle.tileshell.specs.Run.{Progress, after_lines, ran, tile_of}
+use Rattle.tileshell.specs.Seen.{Seen, source_at, sink_at, Supplies, Receives}
+
+-- the four devices of a run at one moment
+pub record Devices : Type 0 where
+  pub tile : Seen
+  pub script : Seen
+  pub replies : Seen
+  pub out : Seen
+
+abbrev pub devices_at : {A B C D : Type 0} → SourceMembers A → SourceMembers B → SinkMembers C → SinkMembers D → A → B → C → D → Devices
+devices_at a b c d tile script replies out = record {
+  tile = source_at a tile;
+  script = source_at b script;
+  replies = sink_at c replies;
+  out = sink_at d out;
+}
+
+-- at the end the device tells its bytes, and no call of it failed or was interrupted: the counts, which stop at 2^64 - 1, are as before
+pub record Serves (before after : Seen) : Type 0 where
+  pub tells : IsTrue after.tells
+  pub can_interrupt : before.interruptions < 2 ^ 64 - 1
+  pub can_fail : before.failures < 2 ^ 64 - 1
+  pub interruptions : after.interruptions ≡ before.interruptions
+  pub failures : after.failures ≡ before.failures
+
+pub record AllServe (before after : Devices) : Type 0 where
+  pub tile : Serves before.tile after.tile
+  pub script : Serves before.script after.script
+  pub replies : Serves before.replies after.replies
+  pub out : Serves before.out after.out
+
+-- the replies that were written between two moments are known, and none is a want of memory
+abbrev pub TellsNoWant : Option (List ℕ) → Option (List ℕ) → Type 0
+TellsNoWant None new = ⊥
+TellsNoWant (Some old) None = ⊥
+TellsNoWant (Some old) (Some new) = HasNoWant (appended_bytes old new)
+
+abbrev pub outcome_of : Progress → Outcome
+outcome_of progress = if progress.any_refused then outcomes.SomeRefused else outcomes.Done
+
+-- The tile is opened and edited: the outcome, the replies and the tile written are those of the script on that document.
+-- The same holds of each prefix of whole lines, and the script goes on from there.
+pub record Edits (depth : ℕ) (file script : List ℕ) (before after : Devices) (outcome : Outcome) : Type 0 where
+  pub document : Document
+  pub opens : OpensAs file document
+  pub ends : outcome ≡ outcome_of (ran document depth script)
+  pub replies : Appends before.replies.bytes after.replies.bytes (ran document depth script).replies
+  pub out : Appends before.out.bytes after.out.bytes (tile_of (ran document depth script))
+  pub prefixes : (front more : List ℕ) → script ≡ front ++ 10 ∷ more → ran document depth script ≡ after_lines (ran document depth (front ++ 10 ∷ [])) (lines_of more)
+
+-- for every tile that opens and every script that is not too long
+abbrev pub Headline : ℕ → Devices → Devices → Outcome → Type 0
+Headline depth before after outcome =
+    (file script : List ℕ) → before.tile.bytes ≡ Some file → before.script.bytes ≡ Some script → length script ≤ MAX_SCRIPT
+    → AllServe before after → TellsNoWant before.replies.bytes after.replies.bytes → outcome ≢ outcomes.NoMemory
+    → ((fault : TileFault) → outcome ≢ outcomes.TileRefused fault)
+    → Edits depth file script before after outcome
+
+-- a course that ends so, and that the devices bear out
+pub record Runs (depth : ℕ) (before after : Devices) (outcome : Outcome) : Type 0 where
+  pub course : Course
+  pub ends : Ends depth outcome course
+  pub tile : Supplies before.tile after.tile course.tile
+  pub script : Supplies before.script after.script course.script
+  pub replies : Receives before.replies after.replies course.replies
+  pub out : Receives before.out after.out course.out
+  pub tile_within : length course.tile.bytes ≤ MAX_FILE + 1
+  pub script_within : length course.script.bytes ≤ MAX_SCRIPT + 1
+
+-- the run ends before the tile is written, and no call of out is made
+abbrev pub LeavesOut : Outcome → Type 0
+LeavesOut outcomes.Done = ⊥
+LeavesOut outcomes.SomeRefused = ⊥
+LeavesOut (outcomes.TileRefused fault) = Unit {0}
+LeavesOut (outcomes.Device devices.Tile) = Unit {0}
+LeavesOut (outcomes.Device devices.Script) = Unit {0}
+LeavesOut (outcomes.Device devices.Replies) = Unit {0}
+LeavesOut (outcomes.Device devices.Out) = ⊥
+LeavesOut outcomes.NoMemory = Unit {0}
+
+-- the run ends with the tile, and no call of replies is made
+abbrev pub LeavesReplies : Outcome → Type 0
+LeavesReplies outcomes.Done = ⊥
+LeavesReplies outcomes.SomeRefused = ⊥
+LeavesReplies (outcomes.TileRefused fault) = Unit {0}
+LeavesReplies (outcomes.Device devices.Tile) = Unit {0}
+LeavesReplies (outcomes.Device devices.Script) = ⊥
+LeavesReplies (outcomes.Device devices.Replies) = ⊥
+LeavesReplies (outcomes.Device devices.Out) = ⊥
+LeavesReplies outcomes.NoMemory = ⊥
