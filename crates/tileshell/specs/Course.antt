@@ -3,7 +3,7 @@ use Rattle.std.specs.Prelude.{◌≡◌, ℕ, ◌<◌, ◌≤◌, ◌+◌, Bool,
 use Rattle.std.specs.List.{slice_split}
 use Rattle.mvt_wire.specs.declared.TheConstants.{MAX_FILE}
 use Rattle.mvt_wire.specs.Plain.{Document}
-use Rattle.mvt_wire.specs.Opens.{OpensAs}
+use Rattle.mvt_wire.specs.Opens.{OpensAs, IsPlace}
 use Rattle.tileshell.specs.declared.runs.TheConstants.{MAX_SCRIPT}
 use Rattle.tileshell.specs.declared.outcome.Outcome.{Outcome}
 use Rattle.tileshell.specs.declared.outcome.Outcome.TheVariants as outcomes
@@ -60,9 +60,18 @@ pub record IsEdited (depth : ℕ) (any_refused : Bool) (course : Course) : Type 
   pub out : course.out ≡ written (tile_of progress)
   pub refused : progress.any_refused ≡ any_refused
 
+-- no document has these bytes
+abbrev pub OpensAsNothing : List ℕ → Type 0
+OpensAsNothing file = (document : Document) → OpensAs file document → ⊥
+
+-- what is wrong with a file that opens as no document: it is too long, or not a tile from this place on
+abbrev pub IsFaultOf : TileFault → List ℕ → Type 0
+IsFaultOf (faults.BadWire place) file = (length file ≤ MAX_FILE) × OpensAsNothing file × IsPlace file place
+IsFaultOf faults.FileTooLarge file = MAX_FILE < length file
+
 -- why the tile does not open
 abbrev pub IsFaulty : TileFault → Intake → Type 0
-IsFaulty (faults.BadWire place) tile = (tile.is_whole ≡ true) × (length tile.bytes ≤ MAX_FILE)
+IsFaulty (faults.BadWire place) tile = (tile.is_whole ≡ true) × IsFaultOf (faults.BadWire place) tile.bytes
 IsFaulty faults.FileTooLarge tile = MAX_FILE < length tile.bytes
 
 -- nothing but the tile was read, and nothing written

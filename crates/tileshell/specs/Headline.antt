@@ -15,7 +15,7 @@ use Rattle.tileshell.specs.declared.outcome.DeviceName.TheVariants as devices
 use Rattle.tileshell.specs.declared.outcome.TileFault.{TileFault}
 use Rattle.tileshell.specs.declared.parse_error.ParseError.TheVariants as parse
 use Rattle.tileshell.specs.declared.refused.Refused.TheVariants as refused
-use Rattle.tileshell.specs.Course.{Course, Ends}
+use Rattle.tileshell.specs.Course.{Course, Ends, OpensAsNothing, IsFaultOf}
 use Rattle.tileshell.specs.Replies.{HasNoWant}
 use Rattle.tileshell.specs.Lines.{lines_of}
 use Rattle.tileshell.specs.Run.{Progress, after_lines, ran, tile_of}
@@ -61,9 +61,7 @@ outcome_of progress = if progress.any_refused then outcomes.SomeRefused else out
 
 -- The tile is opened and edited: the outcome, the replies and the tile written are those of the script on that document.
 -- The same holds of each prefix of whole lines, and the script goes on from there.
-pub record Edits (depth : ℕ) (file script : List ℕ) (before after : Devices) (outcome : Outcome) : Type 0 where
-  pub document : Document
-  pub opens : OpensAs file document
+pub record Edits (depth : ℕ) (document : Document) (script : List ℕ) (before after : Devices) (outcome : Outcome) : Type 0 where
   pub ends : outcome ≡ outcome_of (ran document depth script)
   pub replies : Appends before.replies.bytes after.replies.bytes (ran document depth script).replies
   pub out : Appends before.out.bytes after.out.bytes (tile_of (ran document depth script))
@@ -72,10 +70,16 @@ pub record Edits (depth : ℕ) (file script : List ℕ) (before after : Devices)
 -- for every tile that opens and every script that is not too long
 abbrev pub Headline : ℕ → Devices → Devices → Outcome → Type 0
 Headline depth before after outcome =
-    (file script : List ℕ) → before.tile.bytes ≡ Some file → before.script.bytes ≡ Some script → length script ≤ MAX_SCRIPT
+    (file script : List ℕ) (document : Document) → before.tile.bytes ≡ Some file → OpensAs file document
+    → before.script.bytes ≡ Some script → length script ≤ MAX_SCRIPT
     → AllServe before after → TellsNoWant before.replies.bytes after.replies.bytes → outcome ≢ outcomes.NoMemory
-    → ((fault : TileFault) → outcome ≢ outcomes.TileRefused fault)
-    → Edits depth file script before after outcome
+    → Edits depth document script before after outcome
+
+-- for every tile that opens as no document: it is refused for what is wrong with it
+abbrev pub RefusesTile : Devices → Devices → Outcome → Type 0
+RefusesTile before after outcome =
+    (file : List ℕ) → before.tile.bytes ≡ Some file → OpensAsNothing file → AllServe before after → outcome ≢ outcomes.NoMemory
+    → (fault : TileFault) × (outcome ≡ outcomes.TileRefused fault) × IsFaultOf fault file
 
 -- a course that ends so, and that the devices bear out
 pub record Runs (depth : ℕ) (before after : Devices) (outcome : Outcome) : Type 0 where

@@ -14,7 +14,7 @@ use Rattle.tileshell.specs.declared.outcome.TileFault.TheVariants as faults
 use Rattle.tileshell.specs.declared.refused.Refused.{Refused}
 use Rattle.tileshell.specs.declared.runs.Script.{Script}
 use Rattle.tileshell.specs.declared.session.Session.{Session}
-use Rattle.tileshell.specs.Course.{lines_in, is_complete, IsFaulty}
+use Rattle.tileshell.specs.Course.{lines_in, is_complete, IsFaultOf, IsFaulty}
 use Rattle.tileshell.specs.History.{History}
 use Rattle.tileshell.specs.Lines.{lines_of}
 use Rattle.tileshell.specs.Replies.{accepted_reply, refused_reply}
@@ -51,8 +51,7 @@ ReadsTile (Err outcome) tile = StopsReadingTile outcome tile
 abbrev pub RefusesFile : Outcome → List ℕ → Type 0
 RefusesFile outcomes.Done file = ⊥
 RefusesFile outcomes.SomeRefused file = ⊥
-RefusesFile (outcomes.TileRefused (faults.BadWire place)) file = length file ≤ MAX_FILE
-RefusesFile (outcomes.TileRefused faults.FileTooLarge) file = MAX_FILE < length file
+RefusesFile (outcomes.TileRefused fault) file = IsFaultOf fault file
 RefusesFile (outcomes.Device name) file = ⊥
 RefusesFile outcomes.NoMemory file = Unit {0}
 

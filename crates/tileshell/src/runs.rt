@@ -7,7 +7,7 @@ ghost use Rattle.mvt_wire.specs.Plain.{Document as PlainDocument};
 ghost use Rattle.mvt_wire.specs.Stands.{document_of};
 ghost use Rattle.mvt_wire.specs.Wire.{bytes_of};
 ghost use Rattle.tileshell.specs.Course.{whole_lines};
-ghost use Rattle.tileshell.specs.Headline.{Headline, Runs, LeavesOut, LeavesReplies, devices_at};
+ghost use Rattle.tileshell.specs.Headline.{Headline, RefusesTile, Runs, LeavesOut, LeavesReplies, devices_at};
 ghost use Rattle.tileshell.specs.History.{begun};
 ghost use Rattle.tileshell.specs.Lines.{lines_of};
 ghost use Rattle.tileshell.specs.Run.{Progress, at_first};
@@ -44,6 +44,12 @@ pub fn run<R1: Source, R2: Source, W1: Sink, W2: Sink>(
 
     // Where no device meets trouble and memory is not wanted: the script on the document.
     ensures headline { Headline options.depth
+        (devices_at R1.Source R2.Source W1.Sink W2.Sink tile.old script.old replies.old out.old)
+        (devices_at R1.Source R2.Source W1.Sink W2.Sink tile.new script.new replies.new out.new)
+        result }
+
+    // A tile that opens as no document is refused for what is wrong with it.
+    ensures refuses_tile { RefusesTile
         (devices_at R1.Source R2.Source W1.Sink W2.Sink tile.old script.old replies.old out.old)
         (devices_at R1.Source R2.Source W1.Sink W2.Sink tile.new script.new replies.new out.new)
         result }
