@@ -1,17 +1,15 @@
 -- How a run ends, from what its steps answer.
-use Rattle.std.proofs.Common.{◌≡◌, ℕ, ◌≤◌, Bool, true, false, not, ◌⊎◌, List, [], ◌∷◌, ◌++◌, length, Option, Some, None, refl, arith, sym, ap, subst, ◌∙◌, inl, inr, append-nil}
-use Rattle.std.specs.Prelude.{Result, Ok, Err, IsSome, is_none, ◌&&◌}
+use Rattle.std.proofs.Common.{◌≡◌, ℕ, ◌≤◌, Bool, true, false, not, List, [], length, Option, Some, None, refl, arith, sym, ap, subst, ◌∙◌, inl, inr, append-nil}
+use Rattle.std.specs.Prelude.{Result, Ok, Err, is_none, ◌&&◌}
 use Rattle.std.proofs.KnownBytes.{Consumes-nil}
 use Rattle.mvt_wire.specs.declared.document.Document.{Document}
 use Rattle.mvt_wire.specs.Stands.{document_of}
-use Rattle.mvt_wire.specs.Wire.{bytes_of}
-use Rattle.tileshell.specs.Course.{Course, Ends, IsEdited, Walks, WalksPart, is_complete, lines_in}
+use Rattle.tileshell.specs.Course.{Course, Ends, IsEdited, Walks, is_complete, lines_in}
 use Rattle.tileshell.specs.Headline.{Runs, LeavesReplies}
-use Rattle.tileshell.specs.History.{present_document}
 use Rattle.tileshell.specs.Lines.{lines_of}
 use Rattle.tileshell.specs.Run.{Progress, at_first, Walk, tile_of}
 use Rattle.tileshell.specs.Seen.{Seen, Intake, Output, Supplies, Receives, nothing_read, written}
-use Rattle.tileshell.specs.Steps.{StopsOpening, OpensTile, HoldsLines, ReadsScript, CarriesOutAll, StopsReplying, StopsWriting, ended}
+use Rattle.tileshell.specs.Steps.{StopsOpening, OpensTile, HoldsLines, CarriesOutAll, StopsReplying, StopsWriting, ended}
 use Rattle.tileshell.specs.declared.device.Trouble.{Trouble}
 use Rattle.tileshell.specs.declared.outcome.Outcome.{Outcome}
 use Rattle.tileshell.specs.declared.outcome.Outcome.TheVariants as outcomes

@@ -1,21 +1,20 @@
 -- The headline, from what a run reads and writes.
-use Rattle.std.proofs.Common.{◌≡◌, ◌≢◌, ℕ, ◌+◌, ◌-◌, ◌^◌, ◌<◌, ◌≤◌, Bool, true, false, ◌⊎◌, List, [], ◌∷◌, ◌++◌, length, take, drop, IsTrue, Some, None, refl, sym, ap, subst, ◌∙◌, inl, inr, arith, append-nil, append_assoc, length-append}
+use Rattle.std.proofs.Common.{◌≡◌, ℕ, ◌+◌, ◌≤◌, Bool, true, false, ◌⊎◌, List, [], ◌∷◌, ◌++◌, length, drop, Some, None, refl, sym, ap, subst, ◌∙◌, inl, inr, arith, append-nil, length-append}
 use Rattle.std.specs.Prelude.{IsSome, is_some, is_none, Result, nat_le, ◌&&◌}
 use Rattle.std.specs.declared.option.Option.{Option}
-use Rattle.std.specs.Io.{appended_bytes}
 use Rattle.std.specs.Io.KnownBytes.{Appends, Consumes, IsAtEnd}
 use Rattle.std.proofs.lemmas.Bool.Decides.{nat_tests}
 use Rattle.std.proofs.lemmas.List.{drop_at}
 use Rattle.mvt_wire.specs.Opens.{OpensAs}
 use Rattle.mvt_wire.specs.Plain.{Document}
 use Rattle.mvt_wire.proofs.SameBytes.{one_document_by_bytes}
-use Rattle.tileshell.specs.Course.{Course, Ends, IsEdited, Walks, OpensAsNothing, IsFaultOf, IsFaulty, is_complete, lines_in}
+use Rattle.tileshell.specs.Course.{Course, IsEdited, Walks, OpensAsNothing, IsFaultOf, IsFaulty, is_complete, lines_in}
 use Rattle.tileshell.specs.Headline.{Devices, Serves, AllServe, TellsNoWant, outcome_of, Edits, Headline, RefusesTile, Runs}
 use Rattle.tileshell.specs.Replies.{HasNoWant, want_of_memory}
 use Rattle.tileshell.specs.Lines.{lines_of}
 use Rattle.tileshell.specs.Run.{Progress, at_first, after_line, after_lines, ran, tile_of, without_memory, MayFollow, Walk}
 use Rattle.tileshell.specs.Steps.{ended}
-use Rattle.tileshell.specs.Seen.{Seen, Intake, Output, Meets, Supplies, Receives, written}
+use Rattle.tileshell.specs.Seen.{Seen, Intake, Output, Meets, Supplies, Receives}
 use Rattle.tileshell.specs.declared.device.Trouble.{Trouble}
 use Rattle.tileshell.specs.declared.outcome.Outcome.{Outcome}
 use Rattle.tileshell.specs.declared.outcome.Outcome.TheVariants as outcomes
@@ -70,7 +69,7 @@ all_given (Some xs) (Some ys) bytes file e consumed end =
     sym (append-nil bytes) ∙ sym (ap (λ (t : List ℕ). bytes ++ t) end) ∙ sym consumed ∙ same
 
 -- and no source gives more than it had
-given_within : (old new : Option (List ℕ)) (bytes file : List ℕ) → old ≡ Some file → Consumes old new bytes → length bytes ≤ length file
+pub given_within : (old new : Option (List ℕ)) (bytes file : List ℕ) → old ≡ Some file → Consumes old new bytes → length bytes ≤ length file
 given_within None new bytes file e consumed = absurd cc
 given_within (Some xs) None bytes file e consumed = absurd consumed
 given_within (Some xs) (Some ys) bytes file e consumed =
@@ -144,7 +143,7 @@ ends_done progress e = rw e refl
 ends_refused : (progress : Progress) → progress.any_refused ≡ true → outcomes.SomeRefused ≡ outcome_of progress
 ends_refused progress e = rw e refl
 
-complete_from : (trouble : Option Trouble) (n : ℕ) → trouble ≡ None → n ≤ 16777216 → (is_none trouble && nat_le n 16777216) ≡ true
+pub complete_from : (trouble : Option Trouble) (n : ℕ) → trouble ≡ None → n ≤ 16777216 → (is_none trouble && nat_le n 16777216) ≡ true
 complete_from None n none le = grind (arith, nat_tests)
 complete_from (Some trouble) n none le = absurd cc
 

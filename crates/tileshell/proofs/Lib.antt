@@ -34,3 +34,4 @@ pub mod Walks
 pub mod Running
 pub mod Courses
 pub mod Headlines
+pub mod DeviceLaws

@@ -1,13 +1,12 @@
 -- The lines of a script, carried out and replied to.
-use Rattle.std.proofs.Common.{◌≡◌, ℕ, ◌+◌, Bool, true, false, ◌||◌, List, [], ◌∷◌, ◌++◌, Option, Some, None, refl, sym, ap, subst, ◌∙◌, inl, inr, append_assoc, append-nil}
+use Rattle.std.proofs.Common.{◌≡◌, ℕ, ◌+◌, Bool, false, ◌||◌, List, [], ◌∷◌, ◌++◌, Some, None, refl, sym, ap, subst, ◌∙◌, append_assoc}
 use Rattle.std.specs.Prelude.{Result, Ok, Err}
 use Rattle.tileshell.specs.History.{History}
-use Rattle.tileshell.specs.Run.{Progress, after_lines, MayFollow, Walk}
+use Rattle.tileshell.specs.Run.{Progress, after_lines, Walk}
 use Rattle.tileshell.specs.Seen.{Seen, written, IsFront, Receives, Sends}
 use Rattle.tileshell.specs.Session.{StandsFor}
 use Rattle.tileshell.specs.Steps.{reply_to, answered, CarriesOut, Advances, Falters, AnswersLine, CarriesOutAll, StopsReplying}
 use Rattle.tileshell.specs.declared.device.Trouble.{Trouble}
-use Rattle.tileshell.specs.declared.outcome.Outcome.{Outcome}
 use Rattle.tileshell.specs.declared.outcome.Outcome.TheVariants as outcomes
 use Rattle.tileshell.specs.declared.outcome.DeviceName.TheVariants as devices
 use Rattle.tileshell.specs.declared.refused.Refused.{Refused}

@@ -1,5 +1,5 @@
 -- What a sink received, over several calls.
-use Rattle.std.proofs.Common.{◌≡◌, ◌≢◌, ℕ, ◌+◌, ◌<◌, Bool, true, false, List, [], ◌∷◌, ◌++◌, IsTrue, length, take, drop, get_or, sym, ap, subst, ◌∙◌, arith, append_assoc, append-nil, take-append-drop, refl, Some, None}
+use Rattle.std.proofs.Common.{◌≡◌, ◌≢◌, ℕ, ◌+◌, ◌<◌, Bool, true, false, List, [], ◌∷◌, ◌++◌, IsTrue, length, take, drop, get_or, sym, ap, subst, ◌∙◌, append_assoc, append-nil, take-append-drop, refl, Some, None}
 use Rattle.std.specs.Prelude.{Result, Ok, Err, OnOk, OnErr}
 use Rattle.std.specs.declared.option.Option.{Option}
 use Rattle.std.specs.List.{flat_map}
@@ -10,7 +10,7 @@ use Rattle.std.proofs.lemmas.List.{take_more}
 use Rattle.tileshell.specs.Device.{trouble_of, interruptions_after, failures_after}
 use Rattle.tileshell.specs.declared.device.Trouble.{Trouble}
 use Rattle.tileshell.specs.declared.device.Trouble.TheVariants.{Interrupted, Failed}
-use Rattle.tileshell.specs.Seen.{Seen, Meets, Output, written, Receives, IsFront, Sends}
+use Rattle.tileshell.specs.Seen.{Seen, Meets, written, Receives, IsFront, Sends}
 
 pub receives_nothing : (s : Seen) → Receives s s (written [])
 receives_nothing s = record {

@@ -1,6 +1,6 @@
 -- What a source supplied.
-use Rattle.std.proofs.Common.{◌≡◌, ℕ, ◌+◌, ◌<◌, ◌≤◌, Bool, true, false, not, ltb, List, [], IsTrue, length, take, drop, sym, ap, subst, ◌∙◌, arith, refl, Some, None}
-use Rattle.std.specs.Prelude.{IsSome, nat_le, nat_lt, is_none, ◌&&◌}
+use Rattle.std.proofs.Common.{◌≡◌, ℕ, ◌+◌, ◌<◌, ◌≤◌, Bool, true, false, not, ltb, List, [], IsTrue, length, take, sym, ap, subst, ◌∙◌, arith, refl}
+use Rattle.std.specs.Prelude.{nat_le}
 use Rattle.std.specs.declared.option.Option.{Option}
 use Rattle.std.specs.Io.{appended_bytes}
 use Rattle.std.specs.Io.KnownBytes.{Consumes, IsAtEnd}

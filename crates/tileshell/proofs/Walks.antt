@@ -1,19 +1,16 @@
 -- Walks over the lines of a script.
-use Rattle.std.proofs.Common.{◌≡◌, ℕ, ◌+◌, ◌⊎◌, List, [], ◌∷◌, ◌++◌, Option, Some, None, get_or, refl, sym, ap, subst, ◌∙◌, inl, inr, arith, append_assoc, append-nil}
+use Rattle.std.proofs.Common.{◌≡◌, ℕ, ◌+◌, List, [], ◌∷◌, ◌++◌, Option, Some, None, get_or, refl, sym, ap, subst, ◌∙◌, inl, inr, arith, append_assoc, append-nil}
 use Rattle.std.proofs.lemmas.List.{append_cancel_left}
-use Rattle.std.specs.Prelude.{Result, Ok, Err, option_map}
-use Rattle.tileshell.specs.Answers.{Gives, Refuses}
-use Rattle.tileshell.specs.RequestStands.{request_of}
+use Rattle.std.specs.Prelude.{Result, Ok, Err}
+use Rattle.tileshell.specs.Answers.{Refuses}
 use Rattle.tileshell.specs.Request as plain
 use Rattle.tileshell.specs.History.{History, carried_out}
 use Rattle.tileshell.specs.Line.{answer_to}
 use Rattle.tileshell.specs.Replies.{accepted_reply, refused_reply}
-use Rattle.tileshell.specs.Run.{Progress, silent, accepted, refused_for, settled_by, answered_by, after_line, after_lines, without_memory, MayFollow, Walk}
+use Rattle.tileshell.specs.Run.{Progress, refused_for, settled_by, answered_by, after_line, after_lines, MayFollow, Walk}
 use Rattle.tileshell.specs.Seen.{IsFront}
 use Rattle.tileshell.specs.Session.{StandsFor, Answers}
 use Rattle.tileshell.specs.Steps.{CarriesOut, answered}
-use Rattle.tileshell.specs.declared.request.Request.{Request}
-use Rattle.tileshell.specs.declared.edit.Refusal.TheVariants.{NoMemory}
 use Rattle.tileshell.specs.declared.parse_error.ParseError.{ParseError}
 use Rattle.tileshell.specs.declared.parse_error.ParseError.TheVariants as parse
 use Rattle.tileshell.specs.declared.refused.Refused.{Refused}

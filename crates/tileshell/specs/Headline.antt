@@ -1,5 +1,5 @@
 -- The headline: what a run does where no device and no growth fails it.
-use Rattle.std.specs.Prelude.{◌≡◌, ◌≢◌, ℕ, ◌+◌, ◌-◌, ◌^◌, ◌<◌, ◌≤◌, Bool, List, [], ◌∷◌, ◌++◌, length, IsTrue, Some, None, if◌then◌else◌}
+use Rattle.std.specs.Prelude.{◌≡◌, ◌≢◌, ℕ, ◌+◌, ◌-◌, ◌^◌, ◌<◌, ◌≤◌, List, [], ◌∷◌, ◌++◌, length, IsTrue, Some, None, if◌then◌else◌}
 use Rattle.std.specs.declared.option.Option.{Option}
 use Rattle.std.specs.Io.{appended_bytes}
 use Rattle.std.specs.Io.KnownBytes.{Appends}
@@ -13,8 +13,6 @@ use Rattle.tileshell.specs.declared.outcome.Outcome.{Outcome}
 use Rattle.tileshell.specs.declared.outcome.Outcome.TheVariants as outcomes
 use Rattle.tileshell.specs.declared.outcome.DeviceName.TheVariants as devices
 use Rattle.tileshell.specs.declared.outcome.TileFault.{TileFault}
-use Rattle.tileshell.specs.declared.parse_error.ParseError.TheVariants as parse
-use Rattle.tileshell.specs.declared.refused.Refused.TheVariants as refused
 use Rattle.tileshell.specs.Course.{Course, Ends, OpensAsNothing, IsFaultOf}
 use Rattle.tileshell.specs.Replies.{HasNoWant}
 use Rattle.tileshell.specs.Lines.{lines_of}

@@ -23,3 +23,4 @@ pub mod Seen
 pub mod Course
 pub mod Headline
 pub mod Steps
+pub mod DeviceLaws

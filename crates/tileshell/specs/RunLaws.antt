@@ -1,5 +1,5 @@
 -- Laws over whole runs, in the words of scripts, replies and tiles.
-use Rattle.std.specs.Prelude.{◌≡◌, ◌≢◌, ◌⊎◌, ℕ, ◌+◌, ◌≤◌, true, List, [], ◌∷◌, ◌++◌, length, take, Some, Ok}
+use Rattle.std.specs.Prelude.{◌≡◌, ◌⊎◌, ℕ, ◌+◌, ◌≤◌, true, List, [], ◌∷◌, ◌++◌, length, take, Some, Ok}
 use Rattle.mvt_wire.specs.Plain.{Document}
 use Rattle.tileshell.specs.Command.{Command}
 use Rattle.tileshell.specs.Request.{Edit, Undo}
@@ -9,9 +9,7 @@ use Rattle.tileshell.specs.Lines.{lines_of, HasNoLineFeed}
 use Rattle.tileshell.specs.History.{History, IsSound, present_document}
 use Rattle.tileshell.specs.Replies.{accepted_reply, refused_reply, HasNoWant}
 use Rattle.tileshell.specs.Run.{Progress, after_line, after_lines, ran, tile_of, Walk}
-use Rattle.tileshell.specs.declared.parse_error.ParseError.TheVariants as parse
 use Rattle.tileshell.specs.declared.refused.Refused.{Refused}
-use Rattle.tileshell.specs.declared.refused.Refused.TheVariants as refused
 
 -- ---- fronts
 

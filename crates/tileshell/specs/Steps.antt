@@ -1,5 +1,5 @@
 -- What the steps of a run answer.
-use Rattle.std.specs.Prelude.{◌≡◌, ℕ, ◌+◌, ◌<◌, ◌≤◌, Bool, true, false, not, ◌||◌, List, [], ◌++◌, length, nat_le, Option, Some, None, IsSome, Result, Ok, Err}
+use Rattle.std.specs.Prelude.{◌≡◌, ℕ, ◌+◌, Bool, true, false, not, ◌||◌, List, [], ◌++◌, length, nat_le, Option, Some, None, IsSome, Result, Ok, Err}
 use Rattle.mvt_wire.specs.declared.TheConstants.{MAX_FILE}
 use Rattle.mvt_wire.specs.declared.document.Document.{Document}
 use Rattle.mvt_wire.specs.Opens.{OpensAs}
@@ -10,7 +10,6 @@ use Rattle.tileshell.specs.declared.device.Trouble.{Trouble}
 use Rattle.tileshell.specs.declared.outcome.Outcome.{Outcome}
 use Rattle.tileshell.specs.declared.outcome.Outcome.TheVariants as outcomes
 use Rattle.tileshell.specs.declared.outcome.DeviceName.TheVariants as devices
-use Rattle.tileshell.specs.declared.outcome.TileFault.TheVariants as faults
 use Rattle.tileshell.specs.declared.refused.Refused.{Refused}
 use Rattle.tileshell.specs.declared.runs.Script.{Script}
 use Rattle.tileshell.specs.declared.session.Session.{Session}
@@ -19,7 +18,7 @@ use Rattle.tileshell.specs.History.{History}
 use Rattle.tileshell.specs.Lines.{lines_of}
 use Rattle.tileshell.specs.Replies.{accepted_reply, refused_reply}
 use Rattle.tileshell.specs.Run.{Progress, Walk, MayFollow}
-use Rattle.tileshell.specs.Seen.{Seen, Intake, Output, whole_file, written, IsFront, Receives, Sends}
+use Rattle.tileshell.specs.Seen.{Seen, Intake, Output, written, IsFront, Receives}
 use Rattle.tileshell.specs.Session.{StandsFor}
 
 -- ---- replies

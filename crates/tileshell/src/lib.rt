@@ -27,7 +27,10 @@ mod words;
 pub use command::{Command, LayerChoice};
 pub use device::{Sink, Source, Trouble};
 pub use edit::Refusal;
-pub use laws::{command_fits, history_fits, rename_names, stays_sound, undo_at_once};
+pub use laws::{
+    command_fits, history_fits, name_means_none, name_means_the_one, rename_names, stays_sound,
+    undo_at_once,
+};
 pub use outcome::{DeviceName, Options, Outcome, TileFault};
 pub use parse::parse_line;
 pub use parse_error::ParseError;
@@ -35,8 +38,8 @@ pub use program::shell;
 pub use refused::Refused;
 pub use request::Request;
 pub use run_laws::{
-    prefixes_stand, refused_lines_change_nothing, standing_commands, undo_in_a_script,
-    want_is_replied,
+    devices_are_named_for_cause, failed_devices_are_named, prefixes_stand,
+    refused_lines_change_nothing, standing_commands, undo_in_a_script, want_is_replied,
 };
 pub use runs::{MAX_SCRIPT, run};
 pub use script_laws::{lines_make_up_the_script, words_are_spelled, words_ask_for_requests};

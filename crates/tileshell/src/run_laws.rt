@@ -1,5 +1,6 @@
 //! Laws over whole runs. Each function does nothing: its contract is the law.
 
+ghost use Rattle.tileshell.specs.DeviceLaws.{FailedDevicesAreNamed, DevicesAreNamedForCause};
 ghost use Rattle.tileshell.specs.RunLaws.{FrontsHaveFirstLines, FrontsStand, RepliesStand, RefusedLinesChangeNothing, SilentLinesChangeNothing, StandingCommands, UndoInARun, UndoInAScript, WalksWithoutWantAreRuns, RunsAreWalks, RunsHaveNoWant};
 
 /// After each front of whole lines the run has come to where it comes on that front alone. So the
@@ -35,4 +36,14 @@ pub fn want_is_replied()
     ensures without_want { WalksWithoutWantAreRuns }
     ensures with_memory { RunsAreWalks }
     ensures never { RunsHaveNoWant }
+{}
+
+/// Where a call of the tile, the replies or the output failed, the run ends with that device.
+pub fn failed_devices_are_named()
+    ensures { FailedDevicesAreNamed }
+{}
+
+/// A run ends with a device only where one of its calls met trouble, or where the script is too long.
+pub fn devices_are_named_for_cause()
+    ensures { DevicesAreNamedForCause }
 {}

@@ -1,4 +1,4 @@
-use Rattle.std.proofs.Common.{◌≡◌, ◌∙◌, ℕ, ◌+◌, Bool, ◌||◌, ap, refl, sym, arith}
+use Rattle.std.proofs.Common.{◌∙◌, ℕ, ◌+◌, Bool, ◌||◌, ap, refl, sym, arith}
 use Rattle.tileshell.specs.Run.{at_first}
 use Rattle.tileshell.proofs.Running.{so_far_none, so_far_more, so_far_all, so_far_stops}
 use Rattle.tileshell.proofs.Sending.{receives_nothing}

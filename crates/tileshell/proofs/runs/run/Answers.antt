@@ -1,5 +1,4 @@
-use Rattle.std.proofs.Common.{◌≡◌, Bool, Ok, Err, refl, ap}
-use Rattle.tileshell.specs.Headline.{devices_at}
+use Rattle.std.proofs.Common.{Bool, Ok, Err, refl, ap}
 use Rattle.tileshell.specs.Steps.{ended}
 use Rattle.tileshell.proofs.Headlines.{headline_of, refuses_tile_of}
 use Rattle.tileshell.proofs.runs.run.Goals as goal

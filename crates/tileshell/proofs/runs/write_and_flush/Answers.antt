@@ -1,4 +1,4 @@
-use Rattle.std.proofs.Common.{◌≡◌, ◌∙◌, ap, Err}
+use Rattle.std.proofs.Common.{◌∙◌, ap, Err}
 use Rattle.std.proofs.lemmas.Result.{err_from_is_err_and}
 use Rattle.tileshell.specs.Seen.{sink_at}
 use Rattle.tileshell.proofs.Sending.{sends_all, sends_flush, sends_flushed, sends_stopped}
