@@ -272,7 +272,7 @@ fn write_tile<W: Sink>(alloc: Global, document: &Document, out: &mut W) -> Resul
 }
 
 /// Writes all of the bytes, and passes on what is held back.
-fn write_and_flush<W: Sink>(sink: &mut W, bytes: &[u8]) -> Result<(), Trouble>
+pub(crate) fn write_and_flush<W: Sink>(sink: &mut W, bytes: &[u8]) -> Result<(), Trouble>
     ensures { Sends (sink_at W.Sink sink.old) (sink_at W.Sink sink.new) bytes.now result }
 {
     write_all(sink, bytes)?;

@@ -110,21 +110,3 @@ pub fn write_all<S: Sink>(sink: &mut S, bytes: &[u8]) -> Result<(), Trouble>
     }
     Ok(())
 }
-
-/// Writes all of the bytes, and then flushes.
-pub fn write_and_flush<S: Sink>(sink: &mut S, bytes: &[u8]) -> Result<(), Trouble>
-    ensures interruptions { S.interruptions sink.new
-        ≡ interruptions_after (trouble_of result) (S.interruptions sink.old) }
-    ensures failures { S.failures sink.new
-        ≡ failures_after (trouble_of result) (S.failures sink.old) }
-
-    // Where the sink still tells, it took all of the bytes, or before a trouble a front of them.
-    ensures still_tells { IsTrue (S.tells sink.new) → IsTrue (S.tells sink.old) }
-    ensures all { IsTrue (S.tells sink.new) → OnOk result
-        (Appends (S.written sink.old) (S.written sink.new) bytes.now) }
-    ensures front { IsTrue (S.tells sink.new) → OnErr result ((n : ℕ) × (n ≤ length bytes.now)
-        × Appends (S.written sink.old) (S.written sink.new) (take n bytes.now)) }
-{
-    write_all(sink, bytes)?;
-    sink.flush()
-}

@@ -1,5 +1,6 @@
 use super::drip::{Calls, DripSink, DripSource};
-use crate::transfer::{ReadFault, append_to_limit, read_to_limit, write_all, write_and_flush};
+use crate::runs::write_and_flush;
+use crate::transfer::{ReadFault, append_to_limit, read_to_limit, write_all};
 use crate::{FromRead, FromWrite, Sink, Source, Trouble};
 use std::io;
 use std::io::{BufWriter, ErrorKind, Read, Write};
