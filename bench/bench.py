@@ -4,12 +4,11 @@ import argparse
 import dataclasses
 import datetime
 import os
-import re
 from pathlib import Path
 
 import peers
 from measure import COUNTED_MILLISECONDS, RUNS, SECONDS, Program, costliest, count_instructions, measure
-from report import Result, comparison, growth, instructions, memory, table, time
+from report import Result, comparison, growth, instructions, memory, put_section, table, time
 from targets import JOB, verdicts
 from tiles import generated_tiles, real_tiles
 
@@ -103,20 +102,6 @@ def section(results, names):
     return "\n\n".join([*(f"### {heading}\n\n{text}" for heading, text in parts), dash])
 
 
-def put_section(title, text):
-    """Puts a section in the place of the one with its title, or at the end."""
-    whole = RESULTS.read_text() if RESULTS.exists() else "# Results\n"
-    sections = re.split(r"^(?=## )", whole, flags=re.MULTILINE)
-    written = f"## {title}\n\n{text}\n\n"
-    titles = [old.split("\n")[0] for old in sections]
-    if f"## {title}" in titles:
-        sections[titles.index(f"## {title}")] = written
-    else:
-        sections[-1] = sections[-1].rstrip("\n") + "\n\n"
-        sections.append(written)
-    RESULTS.write_text("".join(sections).rstrip("\n") + "\n")
-
-
 def main():
     parser = argparse.ArgumentParser(description=__doc__)
     parser.add_argument("tileshell", type=Path)
@@ -139,7 +124,7 @@ def main():
     if "valgrind" not in missing:
         text += "\n\n" + costs(run[0], largest_map(tiles))
     print(text)
-    put_section(arguments.title, text)
+    put_section(RESULTS, arguments.title, text)
 
 
 if __name__ == "__main__":

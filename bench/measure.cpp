@@ -10,7 +10,7 @@
 #include <cstdlib>
 
 [[noreturn]] static void become(char** words, rlim_t seconds, const char* input, const char* output) {
-    const rlimit limit{seconds, seconds};
+    const rlimit limit{seconds, seconds + 1};
     if (setrlimit(RLIMIT_CPU, &limit) == 0 && std::freopen(input, "rb", stdin) != nullptr
         && std::freopen(output, "wb", stdout) != nullptr) {
         execvp(words[0], words);

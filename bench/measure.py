@@ -56,7 +56,7 @@ def run_once(program, tile, script):
     words = [BUILD / "measure", SECONDS, script, program.replies, *program.command(tile.path)]
     result = subprocess.run([str(word) for word in words], capture_output=True, text=True, check=True)
     nanoseconds, kibibytes, status = map(int, result.stdout.split())
-    if -status in (signal.SIGXCPU, signal.SIGKILL):
+    if status == -signal.SIGXCPU:
         return None
     if status != 0:
         raise SystemExit(f"bench: {program.name} ended with status {status} on {tile.name}\n{result.stderr}")

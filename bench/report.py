@@ -1,5 +1,6 @@
 """The results as tables of Markdown."""
 import math
+import re
 from dataclasses import dataclass
 
 from tiles import Tile
@@ -94,3 +95,16 @@ def growth(results, programs):
         exponents.append(exponent(small, large, ours, instructions))
         rows.append([large.tile.kind, large.job, *(shown(number, 2) for number in exponents)])
     return table(["Tiles", "Job", *programs, f"instructions of {ours}"], rows)
+
+
+def put_section(path, title, text):
+    """Puts a section into the place of the one with its title, or at the end."""
+    whole = path.read_text() if path.exists() else "# Results\n"
+    sections = [section.strip() for section in re.split(r"^(?=## )", whole, flags=re.MULTILINE)]
+    titles = [section.split("\n")[0] for section in sections]
+    written = f"## {title}\n\n{text}"
+    if f"## {title}" in titles:
+        sections[titles.index(f"## {title}")] = written
+    else:
+        sections.append(written)
+    path.write_text("\n\n".join(sections) + "\n")
