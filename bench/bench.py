@@ -68,11 +68,16 @@ def count_all(programs, tile, script, figures):
             figures[program.name] = dataclasses.replace(found, instructions=count)
 
 
-def conditions(missing):
+def load():
+    """How many programs ran or waited in the last minute."""
+    return os.getloadavg()[0]
+
+
+def conditions(load_before, missing):
     """When and where the results were taken."""
-    load = os.getloadavg()[0]
-    busy = "; the machine was busy, so times are rough" if load > os.cpu_count() / 2 else ""
-    lines = [f"{datetime.date.today()}, {processor()}, {os.cpu_count()} cores, load average {load:.1f}{busy}."]
+    loads = f"load average {load_before:.1f} before and {load():.1f} after"
+    busy = "; the machine was busy, so times are rough" if max(load_before, load()) > os.cpu_count() / 2 else ""
+    lines = [f"{datetime.date.today()}, {processor()}, {os.cpu_count()} cores, {loads}{busy}."]
     lines += [f"Without {package}: {loss}." for package, loss in missing.items()]
     return "\n".join(lines)
 
@@ -118,11 +123,12 @@ def main():
         tiles += real_tiles()
 
     run = programs(arguments.tileshell.resolve())
-    taken = conditions(missing)
+    load_before = load()
     results = results_of(run, tiles, "valgrind" not in missing)
-    text = taken + "\n\n" + section(results, [program.name for program in run])
+    parts = [conditions(load_before, missing), section(results, [program.name for program in run])]
     if "valgrind" not in missing:
-        text += "\n\n" + costs(run[0], largest_map(tiles))
+        parts.append(costs(run[0], largest_map(tiles)))
+    text = "\n\n".join(parts)
     print(text)
     put_section(RESULTS, arguments.title, text)
 
