@@ -14,7 +14,7 @@ PROFILE = BUILD / "callgrind"
 RUNS = 9
 
 # A run that takes more processor time than this is stopped, and its job is left out.
-SECONDS = 10
+SECONDS = 5
 
 # Instructions are counted of runs that take less, since a run takes about fifty times as long then.
 COUNTED_MILLISECONDS = 700
@@ -76,14 +76,18 @@ def digest(path):
 
 
 def measure(programs, tile, script):
-    """The figures of each program that is quick enough, from runs in turns."""
+    """The figures of each program whose runs all end in time, from runs in turns."""
     quick = [program for program in programs if run_once(program, tile, script)]
     check_same([program for program in quick if not program.only_copies], tile)
     runs = {program.name: [] for program in quick}
     for _ in range(RUNS):
         for program in quick:
             runs[program.name].append(run_once(program, tile, script))
-    return {name: Figures(*map(statistics.median, zip(*measured))) for name, measured in runs.items()}
+    return {name: medians(measured) for name, measured in runs.items() if all(measured)}
+
+
+def medians(measured):
+    return Figures(*map(statistics.median, zip(*measured)))
 
 
 def profile(program, tile, script):
