@@ -2,7 +2,7 @@
 
 PREFIX ?= /usr/local
 
-.PHONY: all check install clean toolchain
+.PHONY: all check bench install clean toolchain
 
 all: toolchain
 	cd crates/tileshell_program && rt run -- --help > /dev/null
@@ -13,12 +13,16 @@ all: toolchain
 check: toolchain
 	rt ci
 
+# Speed and memory beside other programs. TILESHELL=PATH measures a program that was built before.
+bench: $(if $(TILESHELL),,all)
+	python3 bench/bench.py $(or $(TILESHELL),build/tileshell)
+
 install: all
 	install -d $(DESTDIR)$(PREFIX)/bin
 	install -m 755 build/tileshell $(DESTDIR)$(PREFIX)/bin/tileshell
 
 clean:
-	rm -rf build crates/*/out
+	rm -rf build bench/build crates/*/out
 
 toolchain:
 	@command -v rt > /dev/null || { echo "tileshell needs the Rattle toolchain: its command rt is not on the PATH" >&2; exit 1; }

@@ -1,0 +1,137 @@
+#!/usr/bin/env python3
+"""Measures tileshell beside programs that do the same job, and writes the tables."""
+import argparse
+import dataclasses
+import datetime
+import os
+from pathlib import Path
+
+import peers
+from measure import COUNTED_MILLISECONDS, RUNS, SECONDS, Program, costliest, count_instructions, measure
+from report import Result, comparison, growth, instructions, memory, put_section, table, time
+from targets import JOB, verdicts
+from tiles import generated_tiles, real_tiles
+
+RESULTS = peers.HERE / "RESULTS.md"
+
+RENAME = 'rename-layer "{layer}" "renamed"\n'
+
+# Each job is a script. New jobs come here, where the peers can do them.
+JOBS = {
+    "empty script": "",
+    JOB: RENAME,
+    "1,000 renames and undos": (RENAME + "undo\n") * 1000,
+}
+
+
+def programs(tileshell):
+    return [
+        Program("tileshell", (tileshell,)),
+        Program("protozero", (peers.BUILD / "protozero_peer",)),
+        Program("protobuf", (peers.BUILD / "protobuf_peer",), keeps_order=False),
+        Program("cat", ("cat",), only_copies=True),
+    ]
+
+
+def processor():
+    for line in Path("/proc/cpuinfo").read_text().split("\n"):
+        if line.startswith("model name"):
+            return line.split(":")[1].strip()
+    return "an unknown processor"
+
+
+def script_of(job, tile):
+    path = peers.BUILD / "script"
+    path.write_text(JOBS[job].format(layer=tile.layer))
+    return path
+
+
+def results_of(programs, tiles, with_valgrind):
+    """Measures every job on every tile, and says how far it is."""
+    results = []
+    for tile in tiles:
+        for job in JOBS:
+            print(f"bench: {tile.name}, {job}", flush=True)
+            script = script_of(job, tile)
+            figures = measure(programs, tile, script)
+            if with_valgrind:
+                count_all(programs, tile, script, figures)
+            results.append(Result(tile, job, figures))
+    return results
+
+
+def count_all(programs, tile, script, figures):
+    for program in programs:
+        found = figures.get(program.name)
+        if found and found.milliseconds < COUNTED_MILLISECONDS and not program.only_copies:
+            count = count_instructions(program, tile, script)
+            figures[program.name] = dataclasses.replace(found, instructions=count)
+
+
+def load():
+    """How many programs ran or waited in the last minute."""
+    return os.getloadavg()[0]
+
+
+def conditions(load_before, missing):
+    """When and where the results were taken."""
+    loads = f"load average {load_before:.1f} before and {load():.1f} after"
+    busy = "; the machine was busy, so times are rough" if max(load_before, load()) > os.cpu_count() / 2 else ""
+    lines = [f"{datetime.date.today()}, {processor()}, {os.cpu_count()} cores, {loads}{busy}."]
+    lines += [f"Without {package}: {loss}." for package, loss in missing.items()]
+    return "\n".join(lines)
+
+
+def largest_map(tiles):
+    return max((tile for tile in tiles if tile.kind == "map"), key=lambda tile: tile.size)
+
+
+def costs(tileshell, tile):
+    """What takes most of the instructions."""
+    rows = [(f"`{name}`", share) for name, share in costliest(tileshell, tile, script_of(JOB, tile))]
+    heading = f"### What takes most instructions: {tile.name}, {JOB}"
+    return heading + "\n\n" + table(["Function, without what it calls", "Share"], rows)
+
+
+def section(results, names):
+    """The tables of all results."""
+    without_floor = [name for name in names if name != "cat"]
+    parts = [
+        ("Targets", verdicts(results)),
+        (f"Wall time in milliseconds, medians of {RUNS} runs in turns", comparison(results, names, time, 1)),
+        ("Peak memory, as a multiple of the tile", memory(results, names)),
+        ("Millions of instructions", comparison(results, without_floor, instructions, 1e6)),
+        ("Growth of time from the smallest to the largest tile, as an exponent", growth(results, names)),
+    ]
+    dash = f"A dash: over {SECONDS} seconds of processor time, or not measured."
+    return "\n\n".join([*(f"### {heading}\n\n{text}" for heading, text in parts), dash])
+
+
+def main():
+    parser = argparse.ArgumentParser(description=__doc__)
+    parser.add_argument("tileshell", type=Path)
+    parser.add_argument("--title", default="Today", help="the section of RESULTS.md that is written")
+    arguments = parser.parse_args()
+
+    peers.check_needed()
+    missing = peers.missing_optional()
+    for package, loss in missing.items():
+        print(f"bench: without Debian's package {package}, {loss}")
+    peers.build()
+    tiles = generated_tiles()
+    if not {"gdal-bin", "qgis-common"} & missing.keys():
+        tiles += real_tiles()
+
+    run = programs(arguments.tileshell.resolve())
+    load_before = load()
+    results = results_of(run, tiles, "valgrind" not in missing)
+    parts = [conditions(load_before, missing), section(results, [program.name for program in run])]
+    if "valgrind" not in missing:
+        parts.append(costs(run[0], largest_map(tiles)))
+    text = "\n\n".join(parts)
+    print(text)
+    put_section(RESULTS, arguments.title, text)
+
+
+if __name__ == "__main__":
+    main()

@@ -1,0 +1,123 @@
+#!/usr/bin/env python3
+"""Makes tiles from a seed: 'map', as a basemap has, and 'crumbs', of the smallest fields."""
+import argparse
+import random
+from pathlib import Path
+
+LAYERS = ["water", "landcover", "landuse", "roads", "buildings",
+          "boundaries", "transit", "places", "addresses", "labels"]
+
+# Room that a tile leaves below its size, so that a layer's name may grow.
+SPARE = 64
+
+LINE, POLYGON = 2, 3
+
+
+def varint(number):
+    spelling = bytearray()
+    while number >= 128:
+        spelling.append(number % 128 + 128)
+        number //= 128
+    spelling.append(number)
+    return bytes(spelling)
+
+
+def number_field(number, value):
+    return varint(8 * number) + varint(value)
+
+
+def bytes_field(number, content):
+    return varint(8 * number + 2) + varint(len(content)) + content
+
+
+def command(identifier, count):
+    return varint(8 * count + identifier)
+
+
+# Spellings to draw from: an index into a pool, a place in the tile, a step to the next point.
+INDICES = [varint(index) for index in range(300)]
+PLACES = [varint(place) for place in range(2 * 4096)]
+STEPS = [varint(step) for step in range(180)]
+
+
+def geometry(draw, kind):
+    points = draw.randrange(32, 85)
+    parts = [command(1, 1), *draw.choices(PLACES, k=2), command(2, points)]
+    parts += draw.choices(STEPS, k=2 * points)
+    if kind == POLYGON:
+        parts.append(command(7, 1))
+    return b"".join(parts)
+
+
+def feature(draw, identifier, kind):
+    tags = b"".join(draw.choices(INDICES, k=2 * draw.randrange(2, 9)))
+    return bytes_field(2, number_field(1, identifier) + bytes_field(2, tags)
+                       + number_field(3, kind) + bytes_field(4, geometry(draw, kind)))
+
+
+def value(draw, place):
+    """One of a layer's values: most are texts, some are numbers or flags."""
+    kind = draw.randrange(8)
+    if kind == 0:
+        return number_field(5, draw.randrange(100_000))
+    if kind == 1:
+        return number_field(7, place % 2)
+    return bytes_field(1, b"value %d of the layer" % place)
+
+
+def pools(draw):
+    keys = [bytes_field(3, b"key:%d" % place) for place in range(300)]
+    values = [bytes_field(4, value(draw, place)) for place in range(300)]
+    return b"".join(keys + values)
+
+
+def layer(name, features, rest):
+    return bytes_field(3, bytes_field(1, name.encode()) + features
+                       + rest + number_field(5, 4096) + number_field(15, 2))
+
+
+def map_layer(draw, name, size):
+    """A layer of at most so many bytes."""
+    kind = draw.choice([LINE, POLYGON])
+    rest = pools(draw)
+    room = size - len(layer(name, b"", rest)) - len(varint(size))
+    features = []
+    while True:
+        last = feature(draw, len(features), kind)
+        room -= len(last)
+        if room < 0:
+            return layer(name, b"".join(features), rest)
+        features.append(last)
+
+
+def map_tile(draw, size):
+    return b"".join(map_layer(draw, name, size // len(LAYERS)) for name in LAYERS)
+
+
+def crumbs_tile(draw, size):
+    """One layer of empty features, empty keys and unknown numbers, of two bytes each."""
+    crumbs = [bytes_field(2, b""), bytes_field(3, b""), number_field(6, 1)]
+    room = size - len(layer("crumbs", b"", b"")) - len(varint(size))
+    return layer("crumbs", b"".join(draw.choices(crumbs, k=room // 2)), b"")
+
+
+MAKERS = {"map": map_tile, "crumbs": crumbs_tile}
+
+
+def generate(kind, size, seed):
+    """A tile of this kind, of nearly so many bytes and no more."""
+    return MAKERS[kind](random.Random(seed), size - SPARE)
+
+
+def main():
+    parser = argparse.ArgumentParser(description=__doc__)
+    parser.add_argument("kind", choices=MAKERS)
+    parser.add_argument("size", type=int, help="in bytes")
+    parser.add_argument("out", type=Path)
+    parser.add_argument("--seed", type=int, default=1)
+    arguments = parser.parse_args()
+    arguments.out.write_bytes(generate(arguments.kind, arguments.size, arguments.seed))
+
+
+if __name__ == "__main__":
+    main()

@@ -1,0 +1,110 @@
+"""The results as tables of Markdown."""
+import math
+import re
+from dataclasses import dataclass
+
+from tiles import Tile
+
+DASH = "–"
+
+
+@dataclass(frozen=True)
+class Result:
+    """A job on a tile: the figures of each program that was quick enough."""
+    tile: Tile
+    job: str
+    figures: dict
+
+    def figure(self, program, value):
+        """None where there is none."""
+        return value(self.figures[program]) if program in self.figures else None
+
+
+def time(figures):
+    return figures.milliseconds
+
+
+def peak(figures):
+    return figures.peak
+
+
+def instructions(figures):
+    return figures.instructions
+
+
+def shown(number, digits):
+    return DASH if number is None else f"{number:,.{digits}f}"
+
+
+def divided(one, other):
+    return None if one is None or other is None else one / other
+
+
+def table(heads, rows):
+    lines = [heads, ["---"] * len(heads), *rows]
+    return "\n".join("| " + " | ".join(line) + " |" for line in lines)
+
+
+def comparison(results, programs, value, unit):
+    """The value for each program, and ours as a ratio to each other's."""
+    ours, *others = programs
+    rows = []
+    for result in results:
+        numbers = [divided(result.figure(program, value), unit) for program in programs]
+        ratios = [divided(numbers[0], number) for number in numbers[1:]]
+        rows.append([result.tile.name, result.job, *(shown(number, 1) for number in numbers),
+                     *(shown(ratio, 2) for ratio in ratios)])
+    return table(["Tile", "Job", *programs, *(f"{ours} / {other}" for other in others)], rows)
+
+
+def memory(results, programs):
+    """Peak memory as a multiple of the tile."""
+    rows = []
+    for result in results:
+        peaks = [divided(result.figure(program, peak), result.tile.size) for program in programs]
+        rows.append([result.tile.name, result.job, *(shown(multiple, 1) for multiple in peaks)])
+    return table(["Tile", "Job", *programs], rows)
+
+
+def exponent(small, large, program, value):
+    """How a value grows with the tile: 1 is as the tile does."""
+    growth = divided(large.figure(program, value), small.figure(program, value))
+    return None if growth is None else math.log(growth) / math.log(large.tile.size / small.tile.size)
+
+
+def grown(results):
+    """Of each kind of tile and each job, the results of the smallest and of the largest tile."""
+    groups = {}
+    for result in results:
+        if result.tile.kind is not None:
+            groups.setdefault((result.tile.kind, result.job), []).append(result)
+    ends = [(min(group, key=tile_size), max(group, key=tile_size)) for group in groups.values()]
+    return [(small, large) for small, large in ends if small is not large]
+
+
+def tile_size(result):
+    return result.tile.size
+
+
+def growth(results, programs):
+    """How time grows, and beside it the instructions of ours."""
+    ours = programs[0]
+    rows = []
+    for small, large in grown(results):
+        exponents = [exponent(small, large, program, time) for program in programs]
+        exponents.append(exponent(small, large, ours, instructions))
+        rows.append([large.tile.kind, large.job, *(shown(number, 2) for number in exponents)])
+    return table(["Tiles", "Job", *programs, f"instructions of {ours}"], rows)
+
+
+def put_section(path, title, text):
+    """Puts a section into the place of the one with its title, or at the end."""
+    whole = path.read_text() if path.exists() else "# Results\n"
+    sections = [section.strip() for section in re.split(r"^(?=## )", whole, flags=re.MULTILINE)]
+    titles = [section.split("\n")[0] for section in sections]
+    written = f"## {title}\n\n{text}"
+    if f"## {title}" in titles:
+        sections[titles.index(f"## {title}")] = written
+    else:
+        sections.append(written)
+    path.write_text("\n\n".join(sections) + "\n")

@@ -1,0 +1,56 @@
+"""The tiles that are measured."""
+import subprocess
+from dataclasses import dataclass
+from pathlib import Path
+
+from generate import generate
+from peers import BUILD, world_map
+
+SEED = 1
+MEBIBYTE = 1 << 20
+SIZES = [1, 4, 16]
+
+# The world's states at two places: zoom, column and row.
+REAL_TILES = ["1/0/0", "2/2/1"]
+
+
+@dataclass(frozen=True)
+class Tile:
+    name: str
+    path: Path
+    # The layer that the jobs rename.
+    layer: str
+    # What is generated at several sizes has a kind.
+    kind: str = None
+
+    @property
+    def size(self):
+        return self.path.stat().st_size
+
+
+def generated(kind, mebibytes, layer):
+    path = BUILD / f"{kind}-{mebibytes}.pbf"
+    path.write_bytes(generate(kind, mebibytes * MEBIBYTE, SEED))
+    return Tile(f"{kind} {mebibytes} MiB", path, layer, kind)
+
+
+def generated_tiles():
+    tiles = [generated("map", size, "roads") for size in SIZES]
+    return tiles + [generated("crumbs", size, "crumbs") for size in SIZES]
+
+
+def real_tiles():
+    """Tiles of the world map in qgis-common, cut by GDAL."""
+    folder = BUILD / "world"
+    if not folder.exists():
+        cut_world(folder)
+    return [Tile(f"states {place}", folder / f"{place}.pbf", "countries") for place in REAL_TILES]
+
+
+def cut_world(folder):
+    options = ["COMPRESS=NO", "FORMAT=DIRECTORY", "MINZOOM=0", "MAXZOOM=2",
+               "MAX_SIZE=100000000", "MAX_FEATURES=10000000"]
+    words = ["ogr2ogr", "-f", "MVT", folder, world_map(), "states_provinces", "countries", "disputed_borders"]
+    for option in options:
+        words += ["-dsco", option]
+    subprocess.run(words, check=True, capture_output=True)
