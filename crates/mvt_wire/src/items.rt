@@ -21,7 +21,7 @@ impl<T> Model for Items<T> {
 }
 
 impl<T> Items<T> {
-    ghost use Rattle.std.specs.Prelude.{Some, slice_get, ◌<◌, ◌∷◌, [], ◌++◌, if◌then◌else◌, is_ok};
+    ghost use Rattle.std.specs.Prelude.{Some, slice_get, take, ◌<◌, ◌∷◌, [], ◌++◌, if◌then◌else◌, is_ok};
     ghost use Rattle.std.specs.Borrow.{sem};
     ghost use Rattle.std.specs.Option.{option_copied_mut};
     ghost use Rattle.mvt_wire.specs.Lending.{LendsItem, LendsItemIf};
@@ -73,5 +73,14 @@ impl<T> Items<T> {
         ensures items { self.new.items ≡ (if is_ok result then self.old.items ++ item ∷ [] else self.old.items) }
     {
         self.inner.push(item)
+    }
+
+    /// Keeps so many items at the front.
+    pub fn truncate(&mut self, length: usize)
+    where
+        T: Drop,
+        ensures { self.new.items ≡ take length self.old.items }
+    {
+        self.inner.truncate(length);
     }
 }

@@ -12,6 +12,7 @@ pub mod Layers
 pub mod Positions
 pub mod Commands
 pub mod Renaming
+pub mod Formers
 pub mod Selecting
 pub mod Asking
 pub mod Histories

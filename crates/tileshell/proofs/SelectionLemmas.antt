@@ -76,18 +76,18 @@ alone_passes passes xs ordinal e other =
       λ same. subst (PassesAt passes xs) (there ∙ sym same) found.2,
     )
 
-at_zero : {A : Type 0} (passes : A → Bool) (xs : List A) (i k : ℕ) → slice_get (positions_from passes 0 xs) i ≡ Some k → PassesAt passes xs k
-at_zero passes xs i k e =
+pub passes_there : {A : Type 0} (passes : A → Bool) (xs : List A) (i k : ℕ) → slice_get (positions_from passes 0 xs) i ≡ Some k → PassesAt passes xs k
+passes_there passes xs i k e =
     let found = position_passes passes 0 xs i k e in
     let there : found.0 ≡ k = let place = found.1 in omega arith in
     subst (PassesAt passes xs) there found.2
 
 the_one_of : {A : Type 0} (passes : A → Bool) (xs : List A) (ordinal : ℕ) (ordinals : List ℕ) → positions_from passes 0 xs ≡ ordinals → ((other : ℕ) → PassesAt passes xs other → other ≡ ordinal) → PassesAt passes xs ordinal → the_one ordinals ≡ Ok ordinal
 the_one_of passes xs ordinal [] e alone pass = absurd (let found = passes_position passes 0 xs ordinal ordinal (omega arith) pass in let nowhere = rw e at found.1 in cc)
-the_one_of passes xs ordinal (a ∷ []) e alone pass = ap (λ y. Ok y) (alone a (at_zero passes xs 0 a (ap (λ ys. slice_get ys 0) e)))
+the_one_of passes xs ordinal (a ∷ []) e alone pass = ap (λ y. Ok y) (alone a (passes_there passes xs 0 a (ap (λ ys. slice_get ys 0) e)))
 the_one_of passes xs ordinal (a ∷ b ∷ more) e alone pass =
-    let first = alone a (at_zero passes xs 0 a (ap (λ ys. slice_get ys 0) e)) in
-    let second = alone b (at_zero passes xs 1 b (ap (λ ys. slice_get ys 1) e)) in
+    let first = alone a (passes_there passes xs 0 a (ap (λ ys. slice_get ys 0) e)) in
+    let second = alone b (passes_there passes xs 1 b (ap (λ ys. slice_get ys 1) e)) in
     let apart = two_apart passes 0 a b xs more e in
     absurd (omega arith)
 
@@ -125,7 +125,7 @@ none_of (x ∷ y ∷ more) e = absurd cc
 
 no_one_of : {A : Type 0} (passes : A → Bool) (xs : List A) (ordinals : List ℕ) → positions_from passes 0 xs ≡ ordinals → ((other : ℕ) → PassesAt passes xs other → ⊥) → the_one ordinals ≡ Err NoLayer
 no_one_of passes xs [] e none = refl
-no_one_of passes xs (a ∷ more) e none = absurd (none a (at_zero passes xs 0 a (ap (λ ys. slice_get ys 0) e)))
+no_one_of passes xs (a ∷ more) e none = absurd (none a (passes_there passes xs 0 a (ap (λ ys. slice_get ys 0) e)))
 
 pub name_means_none : NameMeansNone
 name_means_none name document = (

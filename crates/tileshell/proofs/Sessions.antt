@@ -9,6 +9,8 @@ use Rattle.tileshell.specs.Command.{Command}
 use Rattle.tileshell.specs.Request.{Request, Edit, Undo}
 use Rattle.tileshell.specs.Meaning.{applied}
 use Rattle.tileshell.specs.History.{History, document_at, present_document, with_command, undone, carried_out}
+use Rattle.tileshell.specs.Former.{former_of, restored}
+use Rattle.tileshell.specs.declared.edit.Former.{Former}
 use Rattle.tileshell.specs.Session.{StandsFor, IsWant, document_before}
 use Rattle.tileshell.specs.declared.edit.Refusal.TheVariants.{NoMemory}
 use Rattle.tileshell.specs.declared.refused.Refused.{Refused}
@@ -27,27 +29,28 @@ above_from_before : (history : History) (document : plain.Document) → Some doc
 above_from_before history document e =
     elim (cases_Bool (nat_lt history.floor history.present)) [ inl less ↦ grind (arith, nat_tests) | inr not_less ↦ absurd (let none = rw not_less at e in cc) ]
 
-pub command_stands : (command : Command) (history : History) (session : Session) (new : Document) → StandsFor session history → applied command (document_of session.document) ≡ Ok (document_of new) → (after : History) × (carried_out (Edit command) history ≡ Ok after) × StandsFor (record { alloc = session.alloc; document = new; before = Some session.document }) after
-command_stands command history session new stands e =
+pub command_stands : (command : Command) (history : History) (session : Session) (new : Document) (former : Former) → StandsFor session history → applied command (document_of session.document) ≡ Ok (document_of new) → restored (former_of former) (document_of new) ≡ document_of session.document → (after : History) × (carried_out (Edit command) history ≡ Ok after) × StandsFor (record { alloc = session.alloc; document = new; before = Some former }) after
+command_stands command history session new former stands e back =
     let within = stands.sound.within_commands in
     let made : applied command (present_document history) ≡ Ok (document_of new) = rw (← stands.document) e in
     let after = with_command command history in
     let floor : after.floor < after.present = let one = stands.one_step in let above = stands.sound.above_floor in omega arith in
-    let back : history.present + 1 - 1 ≡ history.present = omega arith in (
+    let one_less : history.present + 1 - 1 ≡ history.present = omega arith in (
       after,
       rw made refl,
       record {
         sound = sound_with_command command history stands.sound;
         one_step = stands.one_step;
         document = sym (present_after command history within ∙ after_accepted command (present_document history) (document_of new) made);
-        before = ap (λ d. Some d) (stands.document ∙ sym (point_before command history within) ∙ ap (λ n. document_at n after) (sym back)) ∙ sym (some_before after floor);
+        before = ap (λ d. Some d) (back ∙ stands.document ∙ sym (point_before command history within) ∙ ap (λ n. document_at n after) (sym one_less)) ∙ sym (some_before after floor);
       },
     )
 
-pub undo_stands : (history : History) (session : Session) (document : Document) → StandsFor session history → session.before ≡ Some document → (after : History) × (carried_out Undo history ≡ Ok after) × StandsFor (record { alloc = session.alloc; document = document; before = None }) after
-undo_stands history session document stands e =
-    let kept : Some (document_of document) ≡ document_before history = ap (option_map document_of) (sym e) ∙ stands.before in
-    let above = above_from_before history (document_of document) kept in
+pub undo_stands : (history : History) (session : Session) (new : Document) (former : Former) → StandsFor session history → session.before ≡ Some former → document_of new ≡ restored (former_of former) (document_of session.document) → (after : History) × (carried_out Undo history ≡ Ok after) × StandsFor (record { alloc = session.alloc; document = new; before = None }) after
+undo_stands history session new former stands e back =
+    let then = restored (former_of former) (document_of session.document) in
+    let kept : Some then ≡ document_before history = ap (option_map (λ former. restored (former_of former) (document_of session.document))) (sym e) ∙ stands.before in
+    let above = above_from_before history then kept in
     let same = kept ∙ some_before history above in
     let one = stands.one_step in
     let near = stands.sound.within_depth in (
@@ -56,7 +59,7 @@ undo_stands history session document stands e =
       record {
         sound = sound_undone history stands.sound above;
         one_step = stands.one_step;
-        document = let is : document_of document ≡ document_at (history.present - 1) history = cc in is;
+        document = let is : then ≡ document_at (history.present - 1) history = cc in back ∙ is;
         before = sym (none_before (undone history) (omega arith));
       },
     )

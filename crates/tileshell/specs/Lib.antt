@@ -15,7 +15,7 @@ pub mod Replies
 pub mod Run
 pub mod Device
 pub mod Transfer
-pub mod Memory
+pub mod Former
 pub mod Session
 pub mod Laws
 pub mod RunLaws

@@ -3,6 +3,7 @@ use Rattle.std.specs.Prelude.{◌≡◌, ◌-◌, nat_lt, Option, Some, None, op
 use Rattle.mvt_wire.specs.Plain as plain
 use Rattle.mvt_wire.specs.Stands.{document_of}
 use Rattle.tileshell.specs.Request.{Request, Edit, Undo}
+use Rattle.tileshell.specs.Former.{former_of, restored}
 use Rattle.tileshell.specs.History.{History, IsSound, document_at, present_document, carried_out}
 use Rattle.tileshell.specs.declared.edit.Refusal.TheVariants.{NoMemory}
 use Rattle.tileshell.specs.declared.refused.Refused.{Refused}
@@ -13,17 +14,17 @@ use Rattle.tileshell.specs.declared.session.Session.{Session}
 abbrev pub document_before : History → Option plain.Document
 document_before history = if nat_lt history.floor history.present then Some (document_at (history.present - 1) history) else None
 
--- the session holds the present tile of the history, and the one to which undo goes back
+-- the session holds the present tile of the history, and what leads to the one to which undo goes back
 pub record StandsFor (session : Session) (history : History) : Type 0 where
   pub sound : IsSound history
   pub one_step : history.depth ≡ 1
   pub document : document_of session.document ≡ present_document history
-  pub before : option_map document_of session.before ≡ document_before history
+  pub before : option_map (λ former. restored (former_of former) (document_of session.document)) session.before ≡ document_before history
 
 -- a session before a call and after it that holds the same
 pub record HoldsSame (old new : Session) : Type 0 where
   pub document : document_of new.document ≡ document_of old.document
-  pub before : option_map document_of new.before ≡ option_map document_of old.before
+  pub before : option_map former_of new.before ≡ option_map former_of old.before
 
 -- want of memory, which a command alone may meet
 abbrev pub IsWant : Request → Refused → Type 0

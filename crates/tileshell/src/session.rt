@@ -6,23 +6,21 @@ ghost use Rattle.tileshell.specs.CommandStands.{command_of};
 ghost use Rattle.tileshell.specs.RequestStands.{request_of};
 ghost use Rattle.tileshell.specs.Request.{Edit, Undo};
 ghost use Rattle.tileshell.specs.History.{History, begun, present_document};
-ghost use Rattle.tileshell.specs.Memory.{GivesUnless};
 ghost use Rattle.tileshell.specs.Session.{StandsFor, HoldsSame, Answers};
 
 use crate::command::Command;
-use crate::edit::apply;
+use crate::edit::{Former, apply, put_back};
 use crate::refused::Refused;
 use crate::request::Request;
 use mvt_wire::Document;
 use std::alloc::Global;
-use std::mem;
 
-/// A document and the one that stood before its last command.
+/// A document, and what its last command took out.
 #[derive(Drop)]
 pub(crate) struct Session {
     alloc: Global,
     document: Document,
-    before: Option<Document>,
+    before: Option<Former>,
 }
 
 impl Session {
@@ -60,8 +58,8 @@ impl Session {
             Answers (Edit (command_of command.now)) history result self.new }
         ensures err { OnErr result (HoldsSame self.old self.new) }
     {
-        let document = apply(self.alloc, &self.document, command)?;
-        self.before = Some(mem::replace(&mut self.document, document));
+        let former = apply(self.alloc, &mut self.document, command)?;
+        self.before = Some(former);
         Ok(())
     }
 
@@ -71,8 +69,8 @@ impl Session {
         ensures err { OnErr result (HoldsSame self.old self.new) }
     {
         match self.before.take() {
-            Some(document) => {
-                self.document = document;
+            Some(former) => {
+                put_back(&mut self.document, former);
                 Ok(())
             }
             None => Err(Refused::NothingToUndo),
