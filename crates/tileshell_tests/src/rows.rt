@@ -85,6 +85,18 @@ fn assert_comes_back(rt: &(impl Abort + AllocGlobal), script: &[u8]) {
 }
 
 #[test]
+fn a_name_is_added_and_taken_away(rt: HostRuntime) -> Result<(), Fail> {
+    let nameless = b"\x1a\x00";
+    let named = edited(rt.alloc(), nameless, b"rename-layer #0 \"b\"");
+    assert_eq!(rt; named.outcome, Outcome::Done);
+    assert_eq!(rt; named.tile.as_slice(), b"\x1a\x03\x0a\x01b".as_slice());
+    let undone = edited(rt.alloc(), nameless, b"rename-layer #0 \"b\"\nundo");
+    assert_eq!(rt; undone.outcome, Outcome::Done);
+    assert_eq!(rt; undone.tile.as_slice(), nameless.as_slice());
+    Ok(())
+}
+
+#[test]
 fn refused_lines_leave_the_tile(rt: HostRuntime) -> Result<(), Fail> {
     let mut long = Vec::with_capacity(rt.alloc(), 65_537)?;
     for _ in 0..65_537 {
