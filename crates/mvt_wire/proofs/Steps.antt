@@ -1,8 +1,8 @@
 -- The loops over a spelled number: for its least width, out to a list, and back from its last byte.
-use Rattle.std.proofs.Common.{◌≡◌, ℕ, zero, suc, ◌+◌, ◌-◌, ◌*◌, ◌/◌, ◌%◌, ◌^◌, ◌<◌, ◌≤◌, List, [], ◌∷◌, ◌++◌, length, take, drop, get_or, inl, inr, min, Bool, ltb, true, false, Some, None, position, refl, sym, ap, ◌∙◌, subst, append_assoc, arith}
+use Rattle.std.proofs.Common.{◌≡◌, ℕ, zero, suc, ◌+◌, ◌-◌, ◌*◌, ◌/◌, ◌%◌, ◌^◌, ◌<◌, ◌≤◌, List, [], ◌∷◌, ◌++◌, length, length-set, set, take, drop, get_or, inl, inr, min, Bool, ltb, true, false, Some, None, position, refl, sym, ap, ◌∙◌, subst, append_assoc, arith}
 use Rattle.std.proofs.lemmas.Bool.{cond-true, cond-false, ltb-true, ltb-false, lt-ltb, le-ltb, cases_lt}
 use Rattle.std.proofs.lemmas.Nat.{pow-add, div_below}
-use Rattle.std.proofs.lemmas.List.{take_more, drop_more, drop_at, length-take, length-take-le, get_or-take}
+use Rattle.std.proofs.lemmas.List.{take_more, take_more_set, set_split, drop_all, drop_more, drop_at, length-take, length-take-le, get_or-take}
 use Rattle.std.proofs.lemmas.List.Quantifiers.{position-Some}
 use Rattle.std.proofs.lemmas.List.Sums.{fails_before_first}
 use Rattle.std.specs.List.{position_or_len}
@@ -46,25 +46,29 @@ least_from-more v width rest (suc more) h s =
 pub least_from-end : (v width rest more : ℕ) → rest < 128 → IsLeastFrom v width rest more → width ≡ minimal_width v
 least_from-end v width rest more h s = omega (arith, s.same, width_within-low more rest h)
 
--- ---- a number at the end of a list, byte by byte
+-- ---- a number at the end of a room, byte by byte
 
-pub put-start : (front : List ℕ) (v width : ℕ) → 1 ≤ width → front ++ spell v (suc (width - 1)) ≡ front ++ spell v width
-put-start front v width some =
-    let e : suc (width - 1) ≡ width = omega arith in
-    ap (λ n. front ++ spell v n) e
-
-pub put-more : (front whole : List ℕ) (rest width counter : ℕ) → counter < width → front ++ spell rest (suc (width - counter)) ≡ whole → (front ++ (rest % 128 + 128) ∷ []) ++ spell (rest / 128) (suc (width - (counter + 1))) ≡ whole
-put-more front whole rest width counter h e =
-    let n : width - counter ≡ suc (width - (counter + 1)) = omega arith in
-    append_assoc front ((rest % 128 + 128) ∷ []) (spell (rest / 128) (suc (width - (counter + 1))))
-    ∙ ap (λ t. front ++ t) (sym (spell-more rest (width - (counter + 1))))
-    ∙ ap (λ k. front ++ spell rest (suc k)) (sym n)
+pub put-more : (room whole : List ℕ) (rest index : ℕ) → index + 1 < length room → take index room ++ spell rest (length room - index) ≡ whole → take (index + 1) (set room index (rest % 128 + 128)) ++ spell (rest / 128) (length (set room index (rest % 128 + 128)) - (index + 1)) ≡ whole
+put-more room whole rest index h e =
+    let n : length room - index ≡ suc (suc (length room - (index + 2))) = omega arith in
+    let m : length (set room index (rest % 128 + 128)) - (index + 1) ≡ suc (length room - (index + 2)) = omega (arith, length-set room index (rest % 128 + 128)) in
+    ap (λ t. t ++ spell (rest / 128) (length (set room index (rest % 128 + 128)) - (index + 1))) (take_more_set room index (rest % 128 + 128) (omega arith))
+    ∙ append_assoc (take index room) ((rest % 128 + 128) ∷ []) (spell (rest / 128) (length (set room index (rest % 128 + 128)) - (index + 1)))
+    ∙ ap (λ k. take index room ++ (rest % 128 + 128) ∷ spell (rest / 128) k) m
+    ∙ ap (λ t. take index room ++ t) (sym (spell-more rest (length room - (index + 2))))
+    ∙ ap (λ k. take index room ++ spell rest k) (sym n)
     ∙ e
 
-pub put-end : (front whole : List ℕ) (rest width counter : ℕ) → width ≤ counter → front ++ spell rest (suc (width - counter)) ≡ whole → front ++ (rest % 128) ∷ [] ≡ whole
-put-end front whole rest width counter h e =
-    let n : suc (width - counter) ≡ 1 = omega arith in
-    ap (λ t. front ++ t) (sym (spell-one rest)) ∙ ap (λ k. front ++ spell rest k) (sym n) ∙ e
+pub put-end : (room whole : List ℕ) (rest index last : ℕ) → last + 1 ≡ length room → index ≡ last → take index room ++ spell rest (length room - index) ≡ whole → set room last (rest % 128) ≡ whole
+put-end room whole rest index last h same e =
+    let n : length room - last ≡ 1 = omega arith in
+    let none : drop (suc last) room ≡ [] = drop_all (suc last) room (omega arith) in
+    set_split room last (rest % 128) (omega arith)
+    ∙ ap (λ t. take last room ++ (rest % 128) ∷ t) none
+    ∙ ap (λ t. take last room ++ t) (sym (spell-one rest))
+    ∙ ap (λ k. take last room ++ spell rest k) (sym n)
+    ∙ ap (λ i. take i room ++ spell rest (length room - i)) (sym same)
+    ∙ e
 
 -- ---- a number read from its last byte down to its first
 

@@ -1,14 +1,15 @@
-//! How values of a document are measured and written.
+//! How values of a document are measured and written. They are written from the last byte to the
+//! first, so that a message's length is known where it has to be written.
 
-ghost use Rattle.std.specs.Prelude.{◌≡◌, ℕ, ◌+◌, ◌≤◌, ◌++◌, List, length, max, OnOk};
+ghost use Rattle.std.specs.Prelude.{ℕ, ◌+◌, ◌≤◌, ◌++◌, List, length, max};
 ghost use Rattle.std.specs.Option.{SomeIff};
 ghost use Rattle.std.specs.List.{flat_map};
 ghost use Rattle.mvt_wire.specs.declared.TheConstants.{MAX_FILE};
 ghost use Rattle.mvt_wire.specs.Wire.{spell, minimal_width, delimited};
+ghost use Rattle.mvt_wire.specs.Fills.{Fills};
 
 use crate::MAX_FILE;
 use crate::varint::{Varint, least_width, put_number};
-use std::alloc::AllocError;
 
 /// A value that is written as bytes.
 pub(crate) trait Encode {
@@ -18,10 +19,10 @@ pub(crate) trait Encode {
     fn size(&self) -> Option<usize>
         ensures { SomeIff result (length (bytes self.now) ≤ MAX_FILE) (length (bytes self.now)) };
 
-    /// Writes it at the end.
-    fn put(&self, out: &mut Vec<u8>) -> Result<(), AllocError>
-        requires { length (bytes self.now) ≤ MAX_FILE }
-        ensures { OnOk result (out.new.items ≡ out.old.items ++ bytes self.now) };
+    /// Writes it at the end of the room, and gives how much of the room is left before it.
+    fn put(&self, room: &mut [u8]) -> usize
+        requires { length (bytes self.now) ≤ length room.old }
+        ensures { Fills room.old room.new (bytes self.now) result };
 }
 
 /// The sum, where a file may have so many bytes.
@@ -46,15 +47,26 @@ pub(crate) fn size_of_all<T: Encode>(items: &[T]) -> Option<usize>
     Some(size)
 }
 
-/// Writes the items at the end, one after the other.
-pub(crate) fn put_all<T: Encode>(items: &[T], out: &mut Vec<u8>) -> Result<(), AllocError>
-    requires { length (flat_map T.bytes items.now) ≤ MAX_FILE }
-    ensures { OnOk result (out.new.items ≡ out.old.items ++ flat_map T.bytes items.now) }
+/// Writes the items at the end of the room, one after the other.
+pub(crate) fn put_all<T: Encode>(items: &[T], room: &mut [u8]) -> usize
+    requires { length (flat_map T.bytes items.now) ≤ length room.old }
+    ensures { Fills room.old room.new (flat_map T.bytes items.now) result }
 {
-    for item in items {
-        item.put(out)?;
+    let mut left = room.len();
+    for index in (0..items.len()).rev() {
+        left = items[index].put(&mut room[..left]);
     }
-    Ok(())
+    left
+}
+
+/// Writes the bytes at the end of the room.
+pub(crate) fn put_bytes(bytes: &[u8], room: &mut [u8]) -> usize
+    requires { length bytes.now ≤ length room.old }
+    ensures { Fills room.old room.new bytes.now result }
+{
+    let start = room.len() - bytes.len();
+    room[start..].copy_from_slice(bytes);
+    start
 }
 
 /// The size of so many bytes behind their length, where a file may have so many.
@@ -65,12 +77,13 @@ pub(crate) fn delimited_size(width: u8, length: usize) -> Option<usize>
     sum_within(usize::from(width), length)
 }
 
-/// Writes a length at the end, in at least so many bytes.
-pub(crate) fn put_length(out: &mut Vec<u8>, width: u8, length: usize) -> Result<(), AllocError>
-    ensures { OnOk result (out.new.items ≡ out.old.items ++ spell length (max width (minimal_width length))) }
+/// Writes a length at the end of the room, in at least so many bytes.
+pub(crate) fn put_length(width: u8, count: usize, room: &mut [u8]) -> usize
+    requires { max width (minimal_width count) ≤ length room.old }
+    ensures { Fills room.old room.new (spell count (max width (minimal_width count))) result }
 {
-    let length = length as u64;
-    put_number(out, length, width.max(least_width(length)))
+    let count = count as u64;
+    put_number(count, width.max(least_width(count)), room)
 }
 
 /// The size of a tag and the items behind it under one length, where a file may have so many bytes.
@@ -81,20 +94,15 @@ pub(crate) fn message_size<T: Encode>(tag: Varint, width: u8, items: &[T]) -> Op
     sum_within(tag.size()?, delimited_size(width, length)?)
 }
 
-/// Writes a tag at the end, and the items behind it under one length.
-pub(crate) fn put_message<T: Encode>(
-    out: &mut Vec<u8>,
-    tag: Varint,
-    width: u8,
-    items: &[T],
-) -> Result<(), AllocError>
-    requires { length (spell tag.value tag.width ++ delimited width (flat_map T.bytes items.now)) ≤ MAX_FILE }
-    ensures { let message = spell tag.value tag.width ++ delimited width (flat_map T.bytes items.now) in OnOk result (out.new.items ≡ out.old.items ++ message) }
+/// Writes the items at the end of the room, their length before them, and the tag before that.
+pub(crate) fn put_message<T: Encode>(tag: Varint, width: u8, items: &[T], room: &mut [u8]) -> usize
+    requires { length (spell tag.value tag.width ++ delimited width (flat_map T.bytes items.now)) ≤ length room.old }
+    ensures { Fills room.old room.new (spell tag.value tag.width ++ delimited width (flat_map T.bytes items.now)) result }
 {
-    let length = size_of_all(items).unwrap();
-    tag.put(out)?;
-    put_length(out, width, length)?;
-    put_all(items, out)
+    let left = put_all(items, room);
+    let length = room.len() - left;
+    let left = put_length(width, length, &mut room[..left]);
+    tag.put(&mut room[..left])
 }
 
 impl Encode for Varint {
@@ -104,7 +112,7 @@ impl Encode for Varint {
         Some(usize::from(self.width))
     }
 
-    fn put(&self, out: &mut Vec<u8>) -> Result<(), AllocError> {
-        put_number(out, self.value, self.width)
+    fn put(&self, room: &mut [u8]) -> usize {
+        put_number(self.value, self.width, room)
     }
 }

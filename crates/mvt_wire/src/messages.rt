@@ -5,8 +5,9 @@ ghost use Rattle.mvt_wire.specs.Stands.{body_of, field_of, feature_of, layer_ite
 
 use crate::body::Body;
 use crate::document::{Feature, Field, Layer, LayerItem, TileItem};
-use crate::encode::{Encode, delimited_size, message_size, put_length, put_message, sum_within};
-use std::alloc::AllocError;
+use crate::encode::{
+    Encode, delimited_size, message_size, put_bytes, put_length, put_message, sum_within,
+};
 
 impl Encode for Body {
     ghost bytes = { λ b. body_bytes (body_of b) };
@@ -20,14 +21,14 @@ impl Encode for Body {
         }
     }
 
-    fn put(&self, out: &mut Vec<u8>) -> Result<(), AllocError> {
+    fn put(&self, room: &mut [u8]) -> usize {
         match self {
-            Body::Number(number) => number.put(out),
-            Body::Eight(bytes) => out.extend_from_slice(bytes),
-            Body::Four(bytes) => out.extend_from_slice(bytes),
+            Body::Number(number) => number.put(room),
+            Body::Eight(bytes) => put_bytes(bytes, room),
+            Body::Four(bytes) => put_bytes(bytes, room),
             Body::Bytes { width, bytes } => {
-                put_length(out, *width, bytes.len())?;
-                out.extend_from_slice(bytes.as_slice())
+                let left = put_bytes(bytes.as_slice(), room);
+                put_length(*width, bytes.len(), &mut room[..left])
             }
         }
     }
@@ -40,9 +41,9 @@ impl Encode for Field {
         sum_within(self.tag.size()?, self.body.size()?)
     }
 
-    fn put(&self, out: &mut Vec<u8>) -> Result<(), AllocError> {
-        self.tag.put(out)?;
-        self.body.put(out)
+    fn put(&self, room: &mut [u8]) -> usize {
+        let left = self.body.put(room);
+        self.tag.put(&mut room[..left])
     }
 }
 
@@ -53,8 +54,8 @@ impl Encode for Feature {
         message_size(self.tag, self.width, self.fields.as_slice())
     }
 
-    fn put(&self, out: &mut Vec<u8>) -> Result<(), AllocError> {
-        put_message(out, self.tag, self.width, self.fields.as_slice())
+    fn put(&self, room: &mut [u8]) -> usize {
+        put_message(self.tag, self.width, self.fields.as_slice(), room)
     }
 }
 
@@ -68,10 +69,10 @@ impl Encode for LayerItem {
         }
     }
 
-    fn put(&self, out: &mut Vec<u8>) -> Result<(), AllocError> {
+    fn put(&self, room: &mut [u8]) -> usize {
         match self {
-            LayerItem::Feature(feature) => feature.put(out),
-            LayerItem::Plain(field) => field.put(out),
+            LayerItem::Feature(feature) => feature.put(room),
+            LayerItem::Plain(field) => field.put(room),
         }
     }
 }
@@ -83,8 +84,8 @@ impl Encode for Layer {
         message_size(self.tag, self.width, self.items.as_slice())
     }
 
-    fn put(&self, out: &mut Vec<u8>) -> Result<(), AllocError> {
-        put_message(out, self.tag, self.width, self.items.as_slice())
+    fn put(&self, room: &mut [u8]) -> usize {
+        put_message(self.tag, self.width, self.items.as_slice(), room)
     }
 }
 
@@ -98,10 +99,10 @@ impl Encode for TileItem {
         }
     }
 
-    fn put(&self, out: &mut Vec<u8>) -> Result<(), AllocError> {
+    fn put(&self, room: &mut [u8]) -> usize {
         match self {
-            TileItem::Layer(layer) => layer.put(out),
-            TileItem::Plain(field) => field.put(out),
+            TileItem::Layer(layer) => layer.put(room),
+            TileItem::Plain(field) => field.put(room),
         }
     }
 }

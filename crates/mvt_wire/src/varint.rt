@@ -1,10 +1,9 @@
 //! Numbers in base 128.
 
-ghost use Rattle.std.specs.Prelude.{◌≡◌, ℕ, ◌+◌, ◌*◌, ◌^◌, ◌<◌, ◌≤◌, ◌++◌, List, length, take, IfSome, IfNone, OnOk, nat_lt, position};
+ghost use Rattle.std.specs.Prelude.{◌≡◌, ℕ, ◌*◌, ◌^◌, ◌<◌, ◌≤◌, ◌++◌, List, length, take, IfSome, IfNone, nat_lt, position};
 ghost use Rattle.mvt_wire.specs.Shape.{IsSpelling};
 ghost use Rattle.mvt_wire.specs.Wire.{spell, minimal_width};
-
-use std::alloc::AllocError;
+ghost use Rattle.mvt_wire.specs.Fills.{Fills};
 
 // Nine bytes hold 63 of a number's 64 bits.
 const TENTH_BYTE_MAX: u8 = 1;
@@ -75,16 +74,19 @@ fn last_byte(bytes: &[u8]) -> Option<usize>
     bytes.iter().take(10).position(|byte| *byte < 128)
 }
 
-/// Writes the number at the end, in so many bytes.
-pub(crate) fn put_number(out: &mut Vec<u8>, value: u64, width: u8) -> Result<(), AllocError>
-    requires { 1 ≤ width }
-    ensures { OnOk result (out.new.items ≡ out.old.items ++ spell value width) }
+/// Writes the number at the end of the room, in so many bytes.
+pub(crate) fn put_number(value: u64, width: u8, room: &mut [u8]) -> usize
+    requires some { 1 ≤ width }
+    requires fits { width ≤ length room.old }
+    ensures { Fills room.old room.new (spell value width) result }
 {
+    let start = room.len() - usize::from(width);
+    let last = room.len() - 1;
     let mut rest = value;
-    for _ in 1..width {
-        out.push((rest % 128) as u8 + 128)?;
+    for index in start..last {
+        room[index] = (rest % 128) as u8 + 128;
         rest /= 128;
     }
-    out.push((rest % 128) as u8)?;
-    Ok(())
+    room[last] = (rest % 128) as u8;
+    start
 }

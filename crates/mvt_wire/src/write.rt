@@ -28,7 +28,7 @@ pub fn write_document(alloc: Global, document: &Document) -> Result<Vec<u8>, Wri
     let Some(size) = size_of_all(items) else {
         return Err(WriteError::TooLarge);
     };
-    let mut file = Vec::with_capacity(alloc, size)?;
-    put_all(items, &mut file)?;
+    let mut file = vec![in alloc; 0; size]?;
+    put_all(items, &mut file);
     Ok(file)
 }

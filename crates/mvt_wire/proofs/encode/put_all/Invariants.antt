@@ -1,6 +1,7 @@
-use Rattle.std.proofs.Common.{◌≡◌, ◌++◌, take}
+use Rattle.std.proofs.Common.{drop}
 use Rattle.std.specs.List.{flat_map}
+use Rattle.mvt_wire.specs.Fills.{Fills}
 use Rattle.mvt_wire.proofs.encode.put_all.Given as goal
 
-abbrev pub invariant-loop-item : goal.invariant-loop-item
-invariant-loop-item g l = l.out.items ≡ l.initial.out.items ++ flat_map g.T.Encode.bytes (take l.item-index l.items)
+abbrev pub invariant-loop-index : goal.invariant-loop-index
+invariant-loop-index g l = Fills l.fn.room l.room (flat_map g.T.Encode.bytes (drop l.index l.items)) l.left

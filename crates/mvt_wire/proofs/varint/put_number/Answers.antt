@@ -1,16 +1,13 @@
-use Rattle.std.proofs.Common.{◌++◌, ◌+◌, ◌-◌, suc, ◌/◌, ap, ◌∙◌, arith}
-use Rattle.mvt_wire.specs.Wire.{spell}
-use Rattle.mvt_wire.proofs.Steps.{put-start, put-more, put-end}
+use Rattle.std.proofs.Common.{◌-◌, length, arith}
+use Rattle.mvt_wire.proofs.Steps.{put-more, put-end}
+use Rattle.mvt_wire.proofs.Spelling.{length-spell}
 use Rattle.mvt_wire.proofs.varint.put_number.Goals as goal
 
-pub loop-init : goal.loop-init
-loop-init c = put-start c.args.out.now.items c.args.value c.args.width c.requires
-
-pub loop-preserved : goal.loop-preserved
-loop-preserved c =
-    ap (λ t. t ++ spell (c.loop.rest / 128) (suc (c.args.width - (c.loop.counter + 1)))) (c.in_ok-push.ensures.items)
-    ∙ put-more c.loop.out.items _ c.loop.rest c.args.width c.loop.counter (omega arith) c.loop.invariant
+pub loop-index-preserved : goal.loop-index-preserved
+loop-index-preserved c = put-more c.loop-index.room _ c.loop-index.rest c.loop-index.index (omega arith) c.loop-index.invariant
 
 pub returns : goal.returns
-returns c =
-    c.in_ok-push-2.ensures.items ∙ put-end c.loop.out.items _ c.loop.rest c.args.width c.loop.counter (omega arith) c.loop.invariant
+returns c = record {
+  counted = omega (arith, length-spell c.args.value c.args.width);
+  written = put-end c.loop-index.room _ c.loop-index.rest c.loop-index.index (length c.args.room.now - 1) (omega arith) (omega arith) c.loop-index.invariant;
+}

@@ -1,7 +1,9 @@
-use Rattle.std.proofs.Common.{◌≡◌, Result, Err, arith, refl}
+use Rattle.std.proofs.Common.{◌≡◌, ℕ, List, ◌++◌, length, take, Result, Err, ap, ◌∙◌, arith, refl}
 use Rattle.std.specs.Result.{IsErrAnd}
 use Rattle.std.proofs.lemmas.Result.{err_from_is_err_and}
+use Rattle.std.proofs.lemmas.List.{with_items_is}
 use Rattle.std.proofs.lemmas.List.Folds.{flat_map-map}
+use Rattle.mvt_wire.specs.Fills.{Fills}
 use Rattle.mvt_wire.specs.declared.faults.WriteError.{WriteError}
 use Rattle.mvt_wire.specs.declared.faults.WriteError.TheVariants.{TooLarge, NoMemory}
 use Rattle.mvt_wire.proofs.write.write_document.Goals as goal
@@ -18,16 +20,17 @@ returns-in_err-file-clause-too_large c = (
   λ h. absurd (let over = rw (flat_map-map, ← c.as_slice-items.ensures) at h in omega (arith, c.in-Some.ensures.0)),
 )
 
-pub returns-in_err-put_all-clause-too_large : goal.returns-in_err-put_all-clause-too_large
-returns-in_err-put_all-clause-too_large c = (
-  λ e. absurd (no_memory-too_large c.from_residual-in_err-put_all.result c.from_residual-in_err-put_all.ensures.1 e),
-  λ h. absurd (let over = rw (flat_map-map, ← c.as_slice-items.ensures) at h in omega (arith, c.in-Some.ensures.0)),
-)
+-- a room as long as the bytes holds nothing else
+whole : (old new bytes : List ℕ) (left : ℕ) → Fills old new bytes left → length old ≡ length bytes → new ≡ bytes
+whole old new bytes left f same =
+    let none : left ≡ 0 = omega (arith, f.counted) in
+    f.written ∙ ap (λ n. take n old ++ bytes) none
 
 pub returns-clause-bytes : goal.returns-clause-bytes
 returns-clause-bytes c =
-    let bytes = rw c.in_ok-file.ensures.items at c.in_ok-put_all.ensures in
-    rw (flat_map-map, ← c.as_slice-items.ensures) bytes
+    let bytes = whole c.deref_mut.result.now c.put_all.new.room _ c.put_all.result c.put_all.ensures (omega (arith, c.deref_mut.ensures.len, c.in_ok-file.ensures.len, c.in-Some.ensures.1)) in
+    with_items_is c.in_ok-file.file c.put_all.new.room (omega (arith, c.put_all.auto.room, c.deref_mut.ensures.len))
+    ∙ rw (flat_map-map, ← c.as_slice-items.ensures) bytes
 
 pub returns-clause-too_large : goal.returns-clause-too_large
 returns-clause-too_large c = (
