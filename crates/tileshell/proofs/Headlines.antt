@@ -48,7 +48,7 @@ walk_or_want p [] q walk = inr walk
 walk_or_want p (line ∷ lines) q walk = by_step walk.1 (walk_or_want walk.0 lines q walk.2)
   where
     by_step : MayFollow p line walk.0 → Wants q.replies ⊎ (q ≡ after_lines walk.0 lines) → Wants q.replies ⊎ (q ≡ after_lines (after_line p line) lines)
-    by_step (inr is) others = inl (wants_on walk.0 lines q p is walk.2)
+    by_step (inr (replied, is)) others = inl (wants_on walk.0 lines q p is walk.2)
     by_step (inl is) (inl wants) = inl wants
     by_step (inl is) (inr after) = inr (after ∙ ap (λ (t : Progress). after_lines t lines) is)
 

@@ -25,6 +25,7 @@ pub mod Standing
 pub mod UndoLines
 pub mod Others
 pub mod ParseRefusals
+pub mod Silent
 pub mod EditRefusals
 pub mod NoWant
 pub mod SelectionLemmas

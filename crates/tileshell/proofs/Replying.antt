@@ -82,7 +82,7 @@ silent_lines p line e = answer_silent p (answer_to line) e
 
 follow_adds : (p : Progress) (line : List ℕ) (q : Progress) → MayFollow p line q → Adds p q
 follow_adds p line q (inl e) = subst (Adds p) (sym e) (answer_adds p (answer_to line))
-follow_adds p line q (inr e) = subst (Adds p) (sym e) (record { reply = want_of_memory (p.lines + 1); is = refl })
+follow_adds p line q (inr (replied, e)) = subst (Adds p) (sym e) (record { reply = want_of_memory (p.lines + 1); is = refl })
 
 walk_adds : (p : Progress) (lines : List (List ℕ)) (q : Progress) → Walk p lines q → Adds p q
 walk_adds p [] q walk = adds_none p q (ap (λ (r : Progress). r.replies) walk)
@@ -111,7 +111,7 @@ walks_are_runs p q (line ∷ lines) added (next, inl follows, walk) e none =
     let others = walk_adds next lines q walk in
     let rest = no_want_behind first.reply others.reply (subst HasNoWant (cut p next q added e first others) none) in
     walks_are_runs next q lines others.reply walk others.is rest ∙ ap (λ (r : Progress). after_lines r lines) follows
-walks_are_runs p q (line ∷ lines) added (next, inr follows, walk) e none =
+walks_are_runs p q (line ∷ lines) added (next, inr (replied, follows), walk) e none =
     let first : Adds p next = record { reply = want_of_memory (p.lines + 1); is = ap (λ (r : Progress). r.replies) follows } in
     let others = walk_adds next lines q walk in
     absurd (none (p.lines + 1) [] others.reply (cut p next q added e first others))

@@ -1,7 +1,9 @@
 -- The lines of a script, carried out and replied to.
 use Rattle.std.proofs.Common.{◌≡◌, ℕ, ◌+◌, Bool, false, ◌||◌, List, [], ◌∷◌, ◌++◌, Some, None, refl, sym, ap, subst, ◌∙◌, append_assoc}
-use Rattle.std.specs.Prelude.{Result, Ok, Err}
+use Rattle.std.specs.Prelude.{Result, Ok, Err, is_err}
+use Rattle.std.proofs.Math.Bool.{or-true, or-false}
 use Rattle.tileshell.specs.History.{History}
+use Rattle.tileshell.specs.Replies.{accepted_reply, refused_reply}
 use Rattle.tileshell.specs.Run.{Progress, after_lines, Walk}
 use Rattle.tileshell.specs.Seen.{Seen, written, IsFront, Receives, Sends}
 use Rattle.tileshell.specs.Session.{StandsFor}
@@ -17,6 +19,32 @@ use Rattle.tileshell.proofs.Walks.{walk_after, walk_grows, front_trans}
 replies_are : (p : Progress) (history : History) (answer : Result (Unit {0}) Refused) → (answered p history (Some answer)).replies ≡ p.replies ++ reply_to (p.lines + 1) answer
 replies_are p history (Ok done) = refl
 replies_are p history (Err reason) = refl
+
+-- a line is replied to
+pub advances : (old new : Seen) (session : Session) (line : List ℕ) (p : Progress) (number : ℕ) (answer : Result (Unit {0}) Refused)
+    (r : Result (Unit {0}) Trouble) (done : Unit {0}) (refused : Bool)
+    → CarriesOut session line (Some answer) p → p.lines + 1 ≡ number → r ≡ Ok done → refused ≡ is_err answer
+    → Sends old new (reply_to number answer) r → Advances old new session line p refused
+advances old new session line p number (Ok accepted) r done refused carries counted was is sends = record {
+  next = answered p carries.history (Some (Ok accepted));
+  follows = carries.follows;
+  stands = carries.stands;
+  lines = refl;
+  any_refused = sym (ap (λ (t : Bool). p.any_refused || t) is ∙ or-false p.any_refused);
+  reply = accepted_reply;
+  replies = refl;
+  receives = subst (Sends old new accepted_reply) was sends;
+}
+advances old new session line p number (Err reason) r done refused carries counted was is sends = record {
+  next = answered {A = Unit {0}} p carries.history (Some (Err reason));
+  follows = carries.follows;
+  stands = carries.stands;
+  lines = refl;
+  any_refused = sym (ap (λ (t : Bool). p.any_refused || t) is ∙ or-true p.any_refused);
+  reply = refused_reply number reason;
+  replies = ap (λ (n : ℕ). p.replies ++ refused_reply n reason) counted;
+  receives = subst (Sends old new (refused_reply number reason)) was sends;
+}
 
 -- the reply to a line is cut short
 pub falters : (old new : Seen) (session : Session) (line : List ℕ) (p : Progress) (number : ℕ) (answer : Result (Unit {0}) Refused)

@@ -7,7 +7,7 @@ use Rattle.tileshell.specs.Request as plain
 use Rattle.tileshell.specs.History.{History, carried_out}
 use Rattle.tileshell.specs.Line.{answer_to}
 use Rattle.tileshell.specs.Replies.{accepted_reply, refused_reply}
-use Rattle.tileshell.specs.Run.{Progress, refused_for, settled_by, answered_by, after_line, after_lines, MayFollow, Walk}
+use Rattle.tileshell.specs.Run.{Progress, refused_for, settled_by, answered_by, after_line, after_lines, HasReply, MayFollow, Walk}
 use Rattle.tileshell.specs.Seen.{IsFront}
 use Rattle.tileshell.specs.Session.{StandsFor, Answers}
 use Rattle.tileshell.specs.Steps.{CarriesOut, answered}
@@ -28,6 +28,9 @@ carries_nothing A session line p asks stands = record {
   stands = stands;
 }
 
+requests_have_replies : (line : List ℕ) (request : plain.Request) → answer_to line ≡ Ok (Some request) → HasReply line
+requests_have_replies line request asks silent = cc
+
 -- a request
 pub carries_request : (session : Session) (line : List ℕ) (request : plain.Request) (p : Progress) (r : Result (Unit {0}) Refused)
     → answer_to line ≡ Ok (Some request) → Answers request p.history r session → CarriesOut session line (Some r) p
@@ -39,7 +42,7 @@ carries_request session line request p (Ok done) asks answers = record {
 carries_request session line request p (Err reason) asks answers = record {
   history = p.history;
   follows = elim answers.0 [
-    | inl e ↦ inr (ap (λ (why : Refused). answered {A = Unit {0}} p p.history (Some (Err why))) (want_is request reason e))
+    | inl e ↦ inr (requests_have_replies line request asks, ap (λ (why : Refused). answered {A = Unit {0}} p p.history (Some (Err why))) (want_is request reason e))
     | inr e ↦ inl (ap (settled_by p) (sym e) ∙ ap (answered_by p) (sym asks))
   ];
   stands = answers.1;
@@ -47,11 +50,11 @@ carries_request session line request p (Err reason) asks answers = record {
 
 -- a line that is refused before it asks for anything
 pub carries_refusal : (A : Type 0) (session : Session) (line : List ℕ) (e : ParseError) (p : Progress)
-    → Refuses e (answer_to line) → StandsFor session p.history → CarriesOut {A = A} session line (Some (Err (refused.Parse e))) p
-carries_refusal A session line e p refuses stands = record {
+    → HasReply line → Refuses e (answer_to line) → StandsFor session p.history → CarriesOut {A = A} session line (Some (Err (refused.Parse e))) p
+carries_refusal A session line e p replied refuses stands = record {
   history = p.history;
   follows = elim refuses [
-    | inl is ↦ inr (ap (λ (why : ParseError). refused_for (refused.Parse why) p) is)
+    | inl is ↦ inr (replied, ap (λ (why : ParseError). refused_for (refused.Parse why) p) is)
     | inr is ↦ inl (ap (answered_by p) (sym is))
   ];
   stands = stands;
@@ -82,7 +85,7 @@ answer_grows p (Err e) = (refused_reply (p.lines + 1) (refused.Parse e), refl)
 -- replies are added at the end
 pub follow_grows : (p : Progress) (line : List ℕ) (q : Progress) → MayFollow p line q → IsFront p.replies q.replies
 follow_grows p line q (inl e) = subst (λ (t : Progress). IsFront p.replies t.replies) (sym e) (answer_grows p (answer_to line))
-follow_grows p line q (inr e) = subst (λ (t : Progress). IsFront p.replies t.replies) (sym e) (refused_reply (p.lines + 1) (refused.Parse parse.NoMemory), refl)
+follow_grows p line q (inr (replied, e)) = subst (λ (t : Progress). IsFront p.replies t.replies) (sym e) (refused_reply (p.lines + 1) (refused.Parse parse.NoMemory), refl)
 
 pub walk_grows : (p : Progress) (lines : List (List ℕ)) (q : Progress) → Walk p lines q → IsFront p.replies q.replies
 walk_grows p [] q walk = subst (λ (t : Progress). IsFront p.replies t.replies) (sym walk) (front_refl p.replies)
@@ -108,6 +111,6 @@ answer_keeps p (Ok (Some request)) reason same = settled_keeps p (carried_out re
 answer_keeps p (Err e) reason same = refl
 
 pub refused_keeps : (p q : Progress) (line : List ℕ) (reason : Refused) → MayFollow p line q → q.replies ≡ p.replies ++ refused_reply (p.lines + 1) reason → q.history ≡ p.history
-refused_keeps p q line reason (inr is) same = ap (λ (t : Progress). t.history) is
+refused_keeps p q line reason (inr (replied, is)) same = ap (λ (t : Progress). t.history) is
 refused_keeps p q line reason (inl is) same =
     ap (λ (t : Progress). t.history) is ∙ answer_keeps p (answer_to line) reason (ap (λ (t : Progress). t.replies) (sym is) ∙ same)

@@ -1,5 +1,5 @@
 -- What a script does to a tile, line by line.
-use Rattle.std.specs.Prelude.{◌≡◌, ℕ, ◌+◌, Bool, true, false, List, [], ◌∷◌, ◌++◌, Option, Some, None, Result, Ok, Err, ◌⊎◌}
+use Rattle.std.specs.Prelude.{◌≡◌, ◌≢◌, ℕ, ◌+◌, Bool, true, false, List, [], ◌∷◌, ◌++◌, Option, Some, None, Result, Ok, Err, ◌⊎◌}
 use Rattle.mvt_wire.specs.Plain.{Document}
 use Rattle.mvt_wire.specs.Wire.{bytes_of}
 use Rattle.tileshell.specs.Request.{Request}
@@ -62,9 +62,13 @@ tile_of p = bytes_of (present_document p.history)
 abbrev pub without_memory : Progress → Progress
 without_memory p = refused_for (refused.Parse parse.NoMemory) p
 
--- one line, where growths may be refused
+-- a line that is replied to: it asks for something, or is refused
+abbrev pub HasReply : List ℕ → Type 0
+HasReply line = answer_to line ≢ Ok None
+
+-- one line, where growths may be refused: to a blank line or a comment none is
 abbrev pub MayFollow : Progress → List ℕ → Progress → Type 0
-MayFollow p line q = (q ≡ after_line p line) ⊎ (q ≡ without_memory p)
+MayFollow p line q = (q ≡ after_line p line) ⊎ (HasReply line × (q ≡ without_memory p))
 
 -- the lines in order, where growths may be refused
 abbrev pub Walk : Progress → List (List ℕ) → Progress → Type 0

@@ -22,9 +22,12 @@ use std::alloc::Global;
 const LINE_LIMIT: usize = 65_536;
 
 /// The request that a line asks for, or nothing where it is blank or a comment.
-#[tactic(auto, unfolding(crate::specs::Line::answer_to))]
+#[tactic(auto, unfolding(crate::specs::Line::answer_to), using(crate::proofs::Silent::asks_something))]
 pub fn parse_line(alloc: Global, line: &[u8]) -> Result<Option<Request>, ParseError>
-    ensures { Gives (option_map request_of) result (answer_to line.now) }
+    ensures answer { Gives (option_map request_of) result (answer_to line.now) }
+
+    // A blank line or a comment takes no memory.
+    ensures nothing { answer_to line.now ≡ Ok None → result ≡ Ok None }
 {
     if line.len() > LINE_LIMIT {
         return Err(ParseError::LineTooLong);

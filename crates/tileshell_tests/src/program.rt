@@ -51,6 +51,23 @@ fn a_tile_is_edited_in_its_file(rt: HostRuntime) -> Result<(), Fail> {
 }
 
 #[test]
+fn an_empty_tile_makes_an_empty_file(rt: HostRuntime) -> Result<(), Fail> {
+    let path = path_of(&rt, "empty")?;
+    fs::write(&rt, path.as_str(), b"".as_slice())?;
+    let out = path_of(&rt, "empty-out")?;
+    let words = ["tileshell", path.as_str(), out.as_str()];
+    let done = run_shell(&rt, b"", &words);
+    let written = fs::read(&rt, out.as_str());
+    fs::remove_file(&rt, path.as_str())?;
+    assert_eq!(rt; done.status, 0);
+    assert_eq!(rt; done.output.len(), 0);
+    assert_eq!(rt; done.errors.len(), 0);
+    assert_eq!(rt; written?.len(), 0);
+    fs::remove_file(&rt, out.as_str())?;
+    Ok(())
+}
+
+#[test]
 fn a_refused_line_gives_status_1(rt: HostRuntime) -> Result<(), Fail> {
     let path = path_of(&rt, "refused")?;
     fs::write(&rt, path.as_str(), T0.as_slice())?;

@@ -1,7 +1,10 @@
 use Rattle.std.proofs.Common.{◌∙◌, ap, Err}
 use Rattle.std.proofs.lemmas.Result.{err_from_is_err_and}
-use Rattle.tileshell.proofs.Running.{falters}
+use Rattle.tileshell.proofs.Running.{advances, falters}
 use Rattle.tileshell.proofs.runs.answer_line.Goals as goal
+
+pub returns : goal.returns
+returns g c p stands counted = advances _ _ _ _ p c.args.number _ c.reply.result _ _ (c.in-Some.ensures p stands) counted c.in_ok-reply.was c.is_err-refused.ensures.value c.reply.ensures
 
 pub returns-in_err-reply : goal.returns-in_err-reply
 returns-in_err-reply g c p stands counted =

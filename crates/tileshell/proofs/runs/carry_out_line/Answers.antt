@@ -2,12 +2,12 @@ use Rattle.tileshell.proofs.Walks.{carries_nothing, carries_request, carries_ref
 use Rattle.tileshell.proofs.runs.carry_out_line.Goals as goal
 
 pub returns-in-Ok-None : goal.returns-in-Ok-None
-returns-in-Ok-None c p stands = let e = rw c.in-Ok-None.field-0-is at c.in-Ok-None.ensures in carries_nothing _ _ _ p e stands
+returns-in-Ok-None c p stands = let e = rw c.in-Ok-None.field-0-is at c.in-Ok-None.ensures.answer in carries_nothing _ _ _ p e stands
 
 pub returns-in-Ok-Some : goal.returns-in-Ok-Some
 returns-in-Ok-Some c p stands =
-    let e = rw c.in-Ok-Some.field-0-is at c.in-Ok-Some.ensures in
+    let e = rw c.in-Ok-Some.field-0-is at c.in-Ok-Some.ensures.answer in
     carries_request _ _ _ p _ e (c.carry_out.ensures.answer p.history stands)
 
 pub returns-in-Err : goal.returns-in-Err
-returns-in-Err c p stands = carries_refusal _ _ _ _ p c.in-Err.ensures stands
+returns-in-Err c p stands = carries_refusal _ _ _ _ p (λ silent. let e = c.in-Err.ensures.nothing silent in cc) c.in-Err.ensures.answer stands
