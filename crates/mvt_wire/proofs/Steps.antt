@@ -1,5 +1,5 @@
 -- The loops over a spelled number: for its least width, out to a list, and back from its last byte.
-use Rattle.std.proofs.Common.{◌≡◌, ℕ, zero, suc, ◌+◌, ◌-◌, ◌*◌, ◌/◌, ◌%◌, ◌^◌, ◌<◌, ◌≤◌, List, [], ◌∷◌, ◌++◌, length, length-set, set, take, drop, get_or, inl, inr, min, Bool, ltb, true, false, Some, None, position, refl, sym, ap, ◌∙◌, subst, append_assoc, arith}
+use Rattle.std.proofs.Common.{◌≡◌, ℕ, zero, suc, ◌+◌, ◌-◌, ◌*◌, ◌/◌, ◌%◌, ◌^◌, ◌<◌, ◌≤◌, List, [], ◌∷◌, ◌++◌, length, length-set, set, take, drop, get_or, slice_get, inl, inr, min, Bool, ltb, true, false, Some, None, position, refl, sym, ap, ◌∙◌, subst, append_assoc, arith}
 use Rattle.std.proofs.lemmas.Bool.{cond-true, cond-false, ltb-true, ltb-false, lt-ltb, le-ltb, cases_lt}
 use Rattle.std.proofs.lemmas.Nat.{pow-add, div_below}
 use Rattle.std.proofs.lemmas.List.{take_more, take_more_set, set_split, drop_all, drop_more, drop_at, length-take, length-take-le, get_or-take}
@@ -198,6 +198,18 @@ pub read_is : (bytes : List ℕ) (last value : ℕ) → IsReadFrom bytes last va
 read_is bytes last value r =
     let all : suc last - 0 ≡ suc last = omega arith in
     sym r.spelled ∙ ap (λ w. spell value w) all
+
+-- ---- a number of one byte
+
+pub first_spelling : (byte : ℕ) → byte < 128 → IsSpelling byte 1
+first_spelling byte low = spelling_from byte 1 (omega arith) (omega arith) (omega arith) low
+
+pub first_is : (bytes : List ℕ) (byte : ℕ) → Some byte ≡ slice_get bytes 0 → byte < 128 → take 1 bytes ≡ spell byte 1
+first_is [] byte is low = cc
+first_is (first ∷ bytes) byte is low =
+    let same : byte ≡ first = cc in
+    let whole : first ≡ byte % 128 = omega arith in
+    ap (λ n. n ∷ []) whole ∙ sym (spell-one byte)
 
 -- ---- where no spelling stands at the front
 

@@ -35,6 +35,7 @@ pub enum BodyRef<'a> {
 }
 
 /// The field at the front, and how many bytes it takes.
+#[inline(always)]
 pub fn field_at_front(bytes: &[u8]) -> Option<(FieldRef<'_>, usize)>
     ensures within { IfSome result (λ found. found.1 ≤ length bytes.now) }
     ensures spelled { IfSome result (λ found. take found.1 bytes.now ≡ field_bytes (front_of found.0)) }
@@ -52,6 +53,7 @@ pub fn field_at_front(bytes: &[u8]) -> Option<(FieldRef<'_>, usize)>
 }
 
 /// The body of this wire type at the front, and how many bytes it takes.
+#[inline(always)]
 fn body_at_front(wire_type: u64, bytes: &[u8]) -> Option<(BodyRef<'_>, usize)>
     ensures within { IfSome result (λ found. found.1 ≤ length bytes.now) }
     ensures spelled { IfSome result (λ found. take found.1 bytes.now ≡ body_bytes (body_front_of found.0)) }
@@ -77,6 +79,7 @@ fn body_at_front(wire_type: u64, bytes: &[u8]) -> Option<(BodyRef<'_>, usize)>
 }
 
 /// A length and that many bytes at the front, and how many bytes both take.
+#[inline(always)]
 fn delimited_at_front(bytes: &[u8]) -> Option<(BodyRef<'_>, usize)>
     ensures within { IfSome result (λ found. found.1 ≤ length bytes.now) }
     ensures spelled { IfSome result (λ found. take found.1 bytes.now ≡ body_bytes (body_front_of found.0)) }

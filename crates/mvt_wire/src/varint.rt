@@ -48,9 +48,26 @@ pub(crate) fn least_width(value: u64) -> u8
 
 /// The number at the front, whose spelling is as many bytes as its width. There is none where
 /// each of the first ten bytes has its top bit set, or where the number takes more than 64 bits.
+#[inline(always)]
 pub fn read_varint(bytes: &[u8]) -> Option<Varint>
     ensures within { IfSome result (λ n. n.width ≤ length bytes.now) }
     ensures found { IfSome result (λ n. take n.width bytes.now ≡ spell n.value n.width) }
+    ensures none { IfNone result ((value width : ℕ) (rest : List ℕ) → IsSpelling value width → bytes.now ≡ spell value width ++ rest → ⊥) }
+{
+    let (value, width) = match bytes.first() {
+        Some(&byte) if byte < 128 => (u64::from(byte), 1),
+        _ => number_at_front(bytes)?,
+    };
+    Some(Varint { value, width })
+}
+
+/// The value of that number, and its width. Most numbers are one byte wide, so this stays out of
+/// the loops that read them.
+#[inline(never)]
+fn number_at_front(bytes: &[u8]) -> Option<(u64, u8)>
+    ensures within { IfSome result (λ found. found.1 ≤ length bytes.now) }
+    ensures found { IfSome result (λ found. take found.1 bytes.now ≡ spell found.0 found.1) }
+    ensures valid { IfSome result (λ found. IsSpelling found.0 found.1) }
     ensures none { IfNone result ((value width : ℕ) (rest : List ℕ) → IsSpelling value width → bytes.now ≡ spell value width ++ rest → ⊥) }
 {
     let last = last_byte(bytes)?;
@@ -61,10 +78,7 @@ pub fn read_varint(bytes: &[u8]) -> Option<Varint>
     for index in (0..last).rev() {
         value = value * 128 + u64::from(bytes[index] - 128);
     }
-    Some(Varint {
-        value,
-        width: last as u8 + 1,
-    })
+    Some((value, last as u8 + 1))
 }
 
 /// The place of the first byte without the top bit, among the ten that a number may take.

@@ -1,6 +1,6 @@
 use Rattle.std.proofs.Common.{◌≤◌}
 use Rattle.mvt_wire.proofs.Steps.{EndsAt, IsReadFrom}
-use Rattle.mvt_wire.proofs.varint.read_varint.Given as goal
+use Rattle.mvt_wire.proofs.varint.number_at_front.Given as goal
 
 abbrev pub invariant-loop-index : goal.invariant-loop-index
 invariant-loop-index l = record {
