@@ -16,7 +16,7 @@ impl Document {
         let items = self.items.as_slice();
         let mut copies = Vec::with_capacity(alloc, items.len())?;
         for item in items {
-            copies.push(copy_tile_item(alloc, item)?)?;
+            copies.push_reserved(copy_tile_item(alloc, item)?);
         }
         Ok(Document {
             items: Items::from_vec(copies),
@@ -39,7 +39,7 @@ fn copy_layer(alloc: Global, layer: &Layer) -> Result<Layer, AllocError>
     let items = layer.items.as_slice();
     let mut copies = Vec::with_capacity(alloc, items.len())?;
     for item in items {
-        copies.push(copy_layer_item(alloc, item)?)?;
+        copies.push_reserved(copy_layer_item(alloc, item)?);
     }
     Ok(Layer {
         tag: layer.tag,
@@ -63,7 +63,7 @@ fn copy_feature(alloc: Global, feature: &Feature) -> Result<Feature, AllocError>
     let fields = feature.fields.as_slice();
     let mut copies = Vec::with_capacity(alloc, fields.len())?;
     for field in fields {
-        copies.push(copy_field(alloc, field)?)?;
+        copies.push_reserved(copy_field(alloc, field)?);
     }
     Ok(Feature {
         tag: feature.tag,

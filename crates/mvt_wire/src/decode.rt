@@ -21,6 +21,12 @@ pub(crate) const FEATURE_TAG: u64 = 18;
 /// The tag of a layer: field 3, LEN.
 pub(crate) const LAYER_TAG: u64 = 26;
 
+/// How many bytes the shortest field takes: one for its tag, and one for its body.
+const SHORTEST_FIELD: usize = 2;
+
+/// For how many items there is room at first, where the message may have so many.
+const FIRST_ROOM: usize = 4;
+
 /// Why an item of a message could not be made.
 #[derive(Debug, Drop)]
 pub(crate) enum Fault {
@@ -62,14 +68,17 @@ pub(crate) fn decode_all<T: Decode>(alloc: Global, content: &[u8]) -> Result<Vec
     ensures whole { IfOk result (λ items. AllByRecursion T.is_whole items.items) }
     ensures stops { IfErr result (IsStop (StopsAt T.as_field T.is_whole T.makes content.now)) }
 {
-    let mut items = Vec::new(alloc);
+    let most = content.len() / SHORTEST_FIELD;
+    let mut items = Vec::with_capacity(alloc, most.min(FIRST_ROOM))?;
     let mut place = 0;
     while place < content.len() {
+        // Room first, so that an item is made where it stays.
+        items.reserve(1)?;
         let Some((front, length)) = field_at_front(&content[place..]) else {
             return Err(ReadError::BadWire { place });
         };
         match T::decode(alloc, front) {
-            Ok(item) => items.push(item)?,
+            Ok(item) => items.push_reserved(item),
             Err(Fault::Broken) => return Err(ReadError::BadWire { place }),
             Err(Fault::NoMemory) => return Err(ReadError::NoMemory),
         }

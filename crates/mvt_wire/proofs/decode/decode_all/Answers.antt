@@ -26,4 +26,4 @@ pub loop-place-preserved : goal.loop-place-preserved
 loop-place-preserved g c =
     let at : IsFieldAt (front_of c.in-Some.front) c.in-Some.length (from c.loop-place.place c.args.content.now) =
     record { within = c.in-Some.ensures.within; spelled = c.in-Some.ensures.spelled; whole = record { valid = c.in-Some.ensures.valid; stored = c.in-Some.ensures.stored } } in
-    rw c.in_ok-push-in-Ok.ensures.items (reaches_more g.T.Decode.as_field g.T.Decode.is_whole c.args.content.now c.loop-place.place c.loop-place.items.items c.in-Ok.item (front_of c.in-Some.front) c.in-Some.length c.loop-place.invariant at c.in-Ok.ensures.made c.in-Ok.ensures.whole)
+    rw c.push_reserved.ensures.items (rw c.in_ok-reserve.ensures.items (reaches_more g.T.Decode.as_field g.T.Decode.is_whole c.args.content.now c.loop-place.place c.loop-place.items.items c.in-Ok.item (front_of c.in-Some.front) c.in-Some.length c.loop-place.invariant at c.in-Ok.ensures.made c.in-Ok.ensures.whole))
