@@ -6,17 +6,17 @@ use Rattle.mvt_wire.specs.declared.document.Document.{Document}
 use Rattle.mvt_wire.specs.Stands.{document_of}
 use Rattle.tileshell.specs.Course.{Course, Ends, IsEdited, Walks, is_complete, lines_in}
 use Rattle.tileshell.specs.Headline.{Runs, LeavesReplies}
-use Rattle.tileshell.specs.Lines.{lines_of}
+use Rattle.tile_script.specs.Lines.{lines_of}
 use Rattle.tileshell.specs.Run.{Progress, at_first, Walk, tile_of}
-use Rattle.tileshell.specs.Seen.{Seen, Intake, Output, Supplies, Receives, nothing_read, written}
+use Rattle.tile_device.specs.Seen.{Seen, Intake, Output, Supplies, Receives, nothing_read, written}
 use Rattle.tileshell.specs.Steps.{StopsOpening, OpensTile, HoldsLines, CarriesOutAll, StopsReplying, StopsWriting, ended}
-use Rattle.tileshell.specs.declared.device.Trouble.{Trouble}
+use Rattle.tile_device.specs.declared.device.Trouble.{Trouble}
 use Rattle.tileshell.specs.declared.outcome.Outcome.{Outcome}
 use Rattle.tileshell.specs.declared.outcome.Outcome.TheVariants as outcomes
 use Rattle.tileshell.specs.declared.outcome.DeviceName.TheVariants as devices
 use Rattle.tileshell.specs.declared.runs.Script.{Script}
 use Rattle.tileshell.specs.declared.session.Session.{Session}
-use Rattle.tileshell.proofs.Sending.{receives_nothing}
+use Rattle.tile_device.proofs.Sending.{receives_nothing}
 
 supplies_nothing : (s : Seen) → Supplies s s nothing_read
 supplies_nothing s = record {

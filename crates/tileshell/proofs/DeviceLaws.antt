@@ -4,11 +4,11 @@ use Rattle.std.specs.Prelude.{IsSome, is_none, nat_le, ◌&&◌}
 use Rattle.std.specs.declared.option.Option.{Option}
 use Rattle.std.proofs.lemmas.Bool.{cases_lt}
 use Rattle.tileshell.specs.Course.{is_complete}
-use Rattle.tileshell.specs.Device.{failures_after}
+use Rattle.tile_device.specs.Device.{failures_after}
 use Rattle.tileshell.specs.DeviceLaws.{HasFailed, FailedDevicesAreNamed, MetTrouble, IsTooLong, DevicesAreNamedForCause}
 use Rattle.tileshell.specs.Headline.{Devices, Runs}
-use Rattle.tileshell.specs.Seen.{Seen, Intake, Output, Meets, Supplies}
-use Rattle.tileshell.specs.declared.device.Trouble.{Trouble}
+use Rattle.tile_device.specs.Seen.{Seen, Intake, Output, Meets, Supplies}
+use Rattle.tile_device.specs.declared.device.Trouble.{Trouble}
 use Rattle.tileshell.specs.declared.outcome.Outcome.{Outcome}
 use Rattle.tileshell.specs.declared.outcome.Outcome.TheVariants as outcomes
 use Rattle.tileshell.specs.declared.outcome.DeviceName.TheVariants as devices

@@ -2,10 +2,10 @@
 use Rattle.std.proofs.Common.{◌≡◌, ℕ, ◌<◌, Bool, true, false, cond, List, [], ◌∷◌, ◌++◌, length, refl, sym, ap, ◌∙◌, inl, inr, append_assoc, append-nil, arith}
 use Rattle.std.specs.List.{slice_split, onto_first}
 use Rattle.std.proofs.lemmas.List.Splits.{length-slice_split}
-use Rattle.tileshell.specs.Lines.{is_line_feed, without_empty_end, lines_of}
+use Rattle.tile_script.specs.Lines.{is_line_feed, without_empty_end, lines_of}
 use Rattle.tileshell.specs.Run.{Progress, at_first, after_line, after_lines}
 use Rattle.tileshell.specs.RunLaws.{FrontsHaveFirstLines, FrontsStand}
-use Rattle.tileshell.proofs.LineCuts.{first_stays, none_of_none}
+use Rattle.tile_script.proofs.LineCuts.{first_stays, none_of_none}
 
 onto-append : (b : ℕ) (parts more : List (List ℕ)) → 0 < length parts → onto_first b (parts ++ more) ≡ onto_first b parts ++ more
 onto-append b [] more some = absurd (omega arith)

@@ -11,19 +11,19 @@ use Rattle.mvt_wire.proofs.SameBytes.{one_document_by_bytes}
 use Rattle.tileshell.specs.Course.{Course, IsEdited, Walks, OpensAsNothing, IsFaultOf, IsFaulty, is_complete, lines_in}
 use Rattle.tileshell.specs.Headline.{Devices, Serves, AllServe, TellsNoWant, outcome_of, Edits, Headline, RefusesTile, Runs}
 use Rattle.tileshell.specs.Replies.{HasNoWant, want_of_memory}
-use Rattle.tileshell.specs.Lines.{lines_of}
+use Rattle.tile_script.specs.Lines.{lines_of}
 use Rattle.tileshell.specs.Run.{Progress, at_first, after_line, after_lines, ran, tile_of, without_memory, MayFollow, Walk}
 use Rattle.tileshell.specs.Steps.{ended}
-use Rattle.tileshell.specs.Seen.{Seen, Intake, Output, Meets, Supplies, Receives}
-use Rattle.tileshell.specs.declared.device.Trouble.{Trouble}
+use Rattle.tile_device.specs.Seen.{Seen, Intake, Output, Meets, Supplies, Receives}
+use Rattle.tile_device.specs.declared.device.Trouble.{Trouble}
 use Rattle.tileshell.specs.declared.outcome.Outcome.{Outcome}
 use Rattle.tileshell.specs.declared.outcome.Outcome.TheVariants as outcomes
 use Rattle.tileshell.specs.declared.outcome.DeviceName.TheVariants as devices
 use Rattle.tileshell.specs.declared.outcome.TileFault.{TileFault}
 use Rattle.tileshell.specs.declared.outcome.TileFault.TheVariants as faults
-use Rattle.tileshell.proofs.Troubles.{no_trouble}
+use Rattle.tile_device.proofs.Troubles.{no_trouble}
 use Rattle.tileshell.proofs.Walks.{walk_grows}
-use Rattle.tileshell.proofs.WholeLines.{lines_of-append}
+use Rattle.tile_script.proofs.WholeLines.{lines_of-append}
 
 -- ---- a walk without want of memory
 

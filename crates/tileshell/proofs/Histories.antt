@@ -3,9 +3,9 @@ use Rattle.std.proofs.Common.{◌≡◌, ◌+◌, ◌<◌, ◌≤◌, false, Ok,
 use Rattle.std.proofs.lemmas.Bool.Decides.{nat_tests}
 use Rattle.std.proofs.lemmas.List.{take_all, take_at}
 use Rattle.mvt_wire.specs.Plain.{Document}
-use Rattle.tileshell.specs.Command.{Command}
-use Rattle.tileshell.specs.Request.{Undo}
-use Rattle.tileshell.specs.Meaning.{applied}
+use Rattle.mvt_command.specs.Command.{Command}
+use Rattle.tile_script.specs.Request.{Undo}
+use Rattle.mvt_edit.specs.Meaning.{applied}
 use Rattle.tileshell.specs.History.{History, IsSound, after, after_all, document_at, present_document, with_command, undone, carried_out}
 
 after_all-append : (commands more : List Command) (document : Document) → after_all (commands ++ more) document ≡ after_all more (after_all commands document)

@@ -4,24 +4,24 @@ use Rattle.std.specs.Prelude.{nat_lt, if◌then◌else◌}
 use Rattle.std.specs.Fmt.{digits, digits_onto, digit_glyph}
 use Rattle.std.proofs.lemmas.Bool.Decides.{nat_tests}
 use Rattle.mvt_wire.specs.Plain.{Document}
-use Rattle.tileshell.specs.Command.{Command}
-use Rattle.tileshell.specs.Request.{Request, Edit, Undo}
-use Rattle.tileshell.specs.Line.{answer_to}
-use Rattle.tileshell.specs.Lines.{is_line_feed, lines_of, HasNoLineFeed}
-use Rattle.tileshell.specs.Meaning.{applied}
+use Rattle.mvt_command.specs.Command.{Command}
+use Rattle.tile_script.specs.Request.{Request, Edit, Undo}
+use Rattle.tile_script.specs.Line.{answer_to}
+use Rattle.tile_script.specs.Lines.{is_line_feed, lines_of, HasNoLineFeed}
+use Rattle.mvt_edit.specs.Meaning.{applied}
 use Rattle.tileshell.specs.History.{History, present_document, edited, carried_out}
 use Rattle.tileshell.specs.Replies.{accepted_reply, refused_reply, refusal_number, refusal_name, want_of_memory, HasNoWant}
 use Rattle.tileshell.specs.Run.{Progress, at_first, ran, settled_by, answered_by, after_line, after_lines}
 use Rattle.tileshell.specs.RunLaws.{RunsHaveNoWant}
-use Rattle.tileshell.specs.declared.edit.Refusal.{Refusal}
-use Rattle.tileshell.specs.declared.edit.Refusal.TheVariants as edit
-use Rattle.tileshell.specs.declared.parse_error.ParseError.{ParseError}
-use Rattle.tileshell.specs.declared.parse_error.ParseError.TheVariants as parse
+use Rattle.mvt_edit.specs.declared.edit.Refusal.{Refusal}
+use Rattle.mvt_edit.specs.declared.edit.Refusal.TheVariants as edit
+use Rattle.tile_script.specs.declared.parse_error.ParseError.{ParseError}
+use Rattle.tile_script.specs.declared.parse_error.ParseError.TheVariants as parse
 use Rattle.tileshell.specs.declared.refused.Refused.{Refused}
 use Rattle.tileshell.specs.declared.refused.Refused.TheVariants as refused
-use Rattle.tileshell.proofs.Others.{Other}
-use Rattle.tileshell.proofs.ParseRefusals.{answer_other}
-use Rattle.tileshell.proofs.EditRefusals.{applied_other}
+use Rattle.mvt_command.proofs.Others.{Other}
+use Rattle.tile_script.proofs.ParseRefusals.{answer_other}
+use Rattle.mvt_edit.proofs.EditRefusals.{applied_other}
 
 -- ---- texts in which "ry" stands before no line feed
 

@@ -1,14 +1,14 @@
 -- What lines add to the replies.
 use Rattle.std.proofs.Common.{◌≡◌, ℕ, ◌+◌, true, List, [], ◌∷◌, ◌++◌, length, Option, Some, None, Result, Ok, Err, refl, sym, ap, subst, ◌∙◌, inl, inr, append_assoc, append-nil, length-append, arith}
 use Rattle.std.proofs.lemmas.List.{append_cancel_left}
-use Rattle.tileshell.specs.Request.{Request}
-use Rattle.tileshell.specs.Line.{answer_to}
-use Rattle.tileshell.specs.Lines.{lines_of}
+use Rattle.tile_script.specs.Request.{Request}
+use Rattle.tile_script.specs.Line.{answer_to}
+use Rattle.tile_script.specs.Lines.{lines_of}
 use Rattle.tileshell.specs.History.{History, carried_out}
 use Rattle.tileshell.specs.Replies.{accepted_reply, refused_reply, want_of_memory, HasNoWant}
 use Rattle.tileshell.specs.Run.{Progress, ran, tile_of, settled_by, answered_by, after_line, after_lines, MayFollow, Walk}
 use Rattle.tileshell.specs.RunLaws.{RepliesStand, RefusedLinesChangeNothing, SilentLinesChangeNothing, WalksWithoutWantAreRuns, RunsAreWalks}
-use Rattle.tileshell.specs.declared.parse_error.ParseError.{ParseError}
+use Rattle.tile_script.specs.declared.parse_error.ParseError.{ParseError}
 use Rattle.tileshell.specs.declared.refused.Refused.{Refused}
 use Rattle.tileshell.specs.declared.refused.Refused.TheVariants as refused
 use Rattle.tileshell.proofs.Fronts.{fronts_stand}

@@ -5,15 +5,15 @@ use Rattle.std.proofs.Math.Bool.{or-true, or-false}
 use Rattle.tileshell.specs.History.{History}
 use Rattle.tileshell.specs.Replies.{accepted_reply, refused_reply}
 use Rattle.tileshell.specs.Run.{Progress, after_lines, Walk}
-use Rattle.tileshell.specs.Seen.{Seen, written, IsFront, Receives, Sends}
+use Rattle.tile_device.specs.Seen.{Seen, written, IsFront, Receives, Sends}
 use Rattle.tileshell.specs.Session.{StandsFor}
 use Rattle.tileshell.specs.Steps.{reply_to, answered, CarriesOut, Advances, Falters, AnswersLine, CarriesOutAll, StopsReplying}
-use Rattle.tileshell.specs.declared.device.Trouble.{Trouble}
+use Rattle.tile_device.specs.declared.device.Trouble.{Trouble}
 use Rattle.tileshell.specs.declared.outcome.Outcome.TheVariants as outcomes
 use Rattle.tileshell.specs.declared.outcome.DeviceName.TheVariants as devices
 use Rattle.tileshell.specs.declared.refused.Refused.{Refused}
 use Rattle.tileshell.specs.declared.session.Session.{Session}
-use Rattle.tileshell.proofs.Sending.{receives_more}
+use Rattle.tile_device.proofs.Sending.{receives_more}
 use Rattle.tileshell.proofs.Walks.{walk_after, walk_grows, front_trans}
 
 replies_are : (p : Progress) (history : History) (answer : Result (Unit {0}) Refused) → (answered p history (Some answer)).replies ≡ p.replies ++ reply_to (p.lines + 1) answer

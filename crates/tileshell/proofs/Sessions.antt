@@ -5,14 +5,14 @@ use Rattle.std.proofs.lemmas.Bool.Decides.{nat_tests}
 use Rattle.mvt_wire.specs.Plain as plain
 use Rattle.mvt_wire.specs.Stands.{document_of}
 use Rattle.mvt_wire.specs.declared.document.Document.{Document}
-use Rattle.tileshell.specs.Command.{Command}
-use Rattle.tileshell.specs.Request.{Request, Edit, Undo}
-use Rattle.tileshell.specs.Meaning.{applied}
+use Rattle.mvt_command.specs.Command.{Command}
+use Rattle.tile_script.specs.Request.{Request, Edit, Undo}
+use Rattle.mvt_edit.specs.Meaning.{applied}
 use Rattle.tileshell.specs.History.{History, document_at, present_document, with_command, undone, carried_out}
-use Rattle.tileshell.specs.Former.{former_of, restored}
-use Rattle.tileshell.specs.declared.edit.Former.{Former}
+use Rattle.mvt_edit.specs.Former.{former_of, restored}
+use Rattle.mvt_edit.specs.declared.edit.Former.{Former}
 use Rattle.tileshell.specs.Session.{StandsFor, IsWant, document_before}
-use Rattle.tileshell.specs.declared.edit.Refusal.TheVariants.{NoMemory}
+use Rattle.mvt_edit.specs.declared.edit.Refusal.TheVariants.{NoMemory}
 use Rattle.tileshell.specs.declared.refused.Refused.{Refused}
 use Rattle.tileshell.specs.declared.refused.Refused.TheVariants as refused
 use Rattle.tileshell.specs.declared.session.Session.{Session}

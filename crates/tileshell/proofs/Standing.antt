@@ -2,19 +2,19 @@
 use Rattle.std.proofs.Common.{◌≡◌, ℕ, zero, suc, ◌+◌, ◌≤◌, ◌==◌, List, [], ◌∷◌, ◌++◌, take, Option, Some, None, Result, Ok, Err, refl, sym, ap, subst, ◌∙◌, inl, inr}
 use Rattle.std.proofs.lemmas.Bool.{cases_Bool}
 use Rattle.mvt_wire.specs.Plain.{Document}
-use Rattle.tileshell.specs.Command.{Command}
-use Rattle.tileshell.specs.Request.{Request, Edit, Undo}
-use Rattle.tileshell.specs.Meaning.{applied}
-use Rattle.tileshell.specs.Line.{answer_to}
-use Rattle.tileshell.specs.Lines.{lines_of}
+use Rattle.mvt_command.specs.Command.{Command}
+use Rattle.tile_script.specs.Request.{Request, Edit, Undo}
+use Rattle.mvt_edit.specs.Meaning.{applied}
+use Rattle.tile_script.specs.Line.{answer_to}
+use Rattle.tile_script.specs.Lines.{lines_of}
 use Rattle.tileshell.specs.History.{History, IsSound, begun, after_all, present_document, with_command, undone, edited, carried_out}
 use Rattle.tileshell.specs.Run.{Progress, at_first, ran, settled_by, answered_by, after_line, after_lines}
 use Rattle.tileshell.specs.RunLaws.{Makes, IsHistoryOf, StandingCommands}
-use Rattle.tileshell.specs.declared.edit.Refusal.{Refusal}
-use Rattle.tileshell.specs.declared.parse_error.ParseError.{ParseError}
+use Rattle.mvt_edit.specs.declared.edit.Refusal.{Refusal}
+use Rattle.tile_script.specs.declared.parse_error.ParseError.{ParseError}
 use Rattle.tileshell.specs.declared.refused.Refused.{Refused}
 use Rattle.tileshell.proofs.Histories.{after_accepted}
-use Rattle.tileshell.proofs.LawLemmas.{stays_sound}
+use Rattle.tileshell.proofs.HistoryLaws.{stays_sound}
 
 -- a first part of the commands
 makes_first : (n : ℕ) (document : Document) (commands : List Command) (made : Document) → Makes document commands made → Makes document (take n commands) (after_all (take n commands) document)

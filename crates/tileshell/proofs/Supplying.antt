@@ -5,11 +5,11 @@ use Rattle.std.specs.declared.option.Option.{Option}
 use Rattle.std.specs.Io.{appended_bytes}
 use Rattle.std.specs.Io.KnownBytes.{Consumes, IsAtEnd}
 use Rattle.std.proofs.lemmas.Bool.Decides.{nat_tests}
-use Rattle.tileshell.specs.Device.{interruptions_after, failures_after}
-use Rattle.tileshell.specs.declared.device.Trouble.{Trouble}
-use Rattle.tileshell.specs.Course.{is_complete, lines_in, whole_lines}
-use Rattle.tileshell.specs.Lines.{lines_of}
-use Rattle.tileshell.specs.Seen.{Seen, Intake, Supplies}
+use Rattle.tile_device.specs.Device.{interruptions_after, failures_after}
+use Rattle.tile_device.specs.declared.device.Trouble.{Trouble}
+use Rattle.tileshell.specs.Course.{is_complete, lines_in}
+use Rattle.tile_script.specs.Lines.{lines_of, whole_lines}
+use Rattle.tile_device.specs.Seen.{Seen, Intake, Supplies}
 
 -- what was lost is known where the source tells
 lost_of : (tells : Bool) (old new : Option (List ℕ)) (limit : ℕ)

@@ -2,15 +2,15 @@
 use Rattle.std.proofs.Common.{◌≡◌, ℕ, List, [], ◌∷◌, ◌++◌, Some, Ok, refl, ap, ◌∙◌, inl, append_assoc}
 use Rattle.mvt_wire.specs.Plain.{Document}
 use Rattle.mvt_wire.specs.Wire.{bytes_of}
-use Rattle.tileshell.specs.Request.{Request, Edit, Undo}
-use Rattle.tileshell.specs.Line.{answer_to}
-use Rattle.tileshell.specs.Lines.{lines_of, HasNoLineFeed}
+use Rattle.tile_script.specs.Request.{Request, Edit, Undo}
+use Rattle.tile_script.specs.Line.{answer_to}
+use Rattle.tile_script.specs.Lines.{lines_of, HasNoLineFeed}
 use Rattle.tileshell.specs.History.{History, with_command, edited, carried_out}
 use Rattle.tileshell.specs.Run.{Progress, accepted, answered_by, settled_by, after_line, after_lines, ran, tile_of}
 use Rattle.tileshell.specs.RunLaws.{ended, EndsWithALine, UndoInARun, UndoInAScript}
 use Rattle.tileshell.proofs.Fronts.{fronts_stand}
-use Rattle.tileshell.proofs.LawLemmas.{undo_at_once}
-use Rattle.tileshell.proofs.LineLaws.{lines_only}
+use Rattle.tileshell.proofs.HistoryLaws.{undo_at_once}
+use Rattle.tile_script.proofs.LineLaws.{lines_only}
 use Rattle.tileshell.proofs.Standing.{sound_ran}
 
 -- a line whose request is accepted

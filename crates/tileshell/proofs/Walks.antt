@@ -2,17 +2,17 @@
 use Rattle.std.proofs.Common.{◌≡◌, ℕ, ◌+◌, List, [], ◌∷◌, ◌++◌, Option, Some, None, get_or, refl, sym, ap, subst, ◌∙◌, inl, inr, arith, append_assoc, append-nil}
 use Rattle.std.proofs.lemmas.List.{append_cancel_left}
 use Rattle.std.specs.Prelude.{Result, Ok, Err}
-use Rattle.tileshell.specs.Answers.{Refuses}
-use Rattle.tileshell.specs.Request as plain
+use Rattle.tile_script.specs.Answers.{Refuses}
+use Rattle.tile_script.specs.Request as plain
 use Rattle.tileshell.specs.History.{History, carried_out}
-use Rattle.tileshell.specs.Line.{answer_to}
+use Rattle.tile_script.specs.Line.{answer_to}
 use Rattle.tileshell.specs.Replies.{accepted_reply, refused_reply}
 use Rattle.tileshell.specs.Run.{Progress, refused_for, settled_by, answered_by, after_line, after_lines, HasReply, MayFollow, Walk}
-use Rattle.tileshell.specs.Seen.{IsFront}
+use Rattle.tile_device.specs.Seen.{IsFront}
 use Rattle.tileshell.specs.Session.{StandsFor, Answers}
 use Rattle.tileshell.specs.Steps.{CarriesOut, answered}
-use Rattle.tileshell.specs.declared.parse_error.ParseError.{ParseError}
-use Rattle.tileshell.specs.declared.parse_error.ParseError.TheVariants as parse
+use Rattle.tile_script.specs.declared.parse_error.ParseError.{ParseError}
+use Rattle.tile_script.specs.declared.parse_error.ParseError.TheVariants as parse
 use Rattle.tileshell.specs.declared.refused.Refused.{Refused}
 use Rattle.tileshell.specs.declared.refused.Refused.TheVariants as refused
 use Rattle.tileshell.specs.declared.session.Session.{Session}

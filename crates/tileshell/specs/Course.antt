@@ -1,6 +1,5 @@
 -- What a run reads and writes, by how it ends.
-use Rattle.std.specs.Prelude.{◌≡◌, ℕ, ◌<◌, ◌≤◌, Bool, true, false, ◌&&◌, List, [], ◌∷◌, ◌++◌, length, take, None, IsSome, is_none, nat_le, ◌==◌, if◌then◌else◌, ◌⊎◌}
-use Rattle.std.specs.List.{slice_split}
+use Rattle.std.specs.Prelude.{◌≡◌, ℕ, ◌<◌, ◌≤◌, Bool, true, false, ◌&&◌, List, [], ◌++◌, length, take, None, IsSome, is_none, nat_le, if◌then◌else◌, ◌⊎◌}
 use Rattle.mvt_wire.specs.declared.TheConstants.{MAX_FILE}
 use Rattle.mvt_wire.specs.Plain.{Document}
 use Rattle.mvt_wire.specs.Opens.{OpensAs, IsPlace}
@@ -10,9 +9,9 @@ use Rattle.tileshell.specs.declared.outcome.Outcome.TheVariants as outcomes
 use Rattle.tileshell.specs.declared.outcome.DeviceName.TheVariants as devices
 use Rattle.tileshell.specs.declared.outcome.TileFault.{TileFault}
 use Rattle.tileshell.specs.declared.outcome.TileFault.TheVariants as faults
-use Rattle.tileshell.specs.Lines.{lines_of}
+use Rattle.tile_script.specs.Lines.{lines_of, whole_lines}
 use Rattle.tileshell.specs.Run.{Progress, at_first, Walk, tile_of}
-use Rattle.tileshell.specs.Seen.{Intake, Output, nothing_read, written, IsFront}
+use Rattle.tile_device.specs.Seen.{Intake, Output, nothing_read, written, IsFront}
 
 -- what was read of each source and written to each sink
 pub record Course : Type 0 where
@@ -22,15 +21,6 @@ pub record Course : Type 0 where
   pub out : Output
 
 -- ---- the lines that are carried out
-
-abbrev pub without_last : List (List ℕ) → List (List ℕ)
-without_last [] = []
-without_last (line ∷ []) = []
-without_last (line ∷ next ∷ more) = line ∷ without_last (next ∷ more)
-
--- the lines that end with a line feed
-abbrev pub whole_lines : List ℕ → List (List ℕ)
-whole_lines text = without_last (slice_split (λ b. b == 10) text)
 
 -- it was read to its end, and is no longer than a script may be
 abbrev pub is_complete : Intake → Bool

@@ -1,11 +1,11 @@
 -- Laws on the devices of a run: what their troubles have to do with its outcome.
 use Rattle.std.specs.Prelude.{◌≡◌, ◌≢◌, ◌⊎◌, ℕ, ◌<◌, List, length, IsTrue, Some}
 use Rattle.tileshell.specs.declared.runs.TheConstants.{MAX_SCRIPT}
-use Rattle.tileshell.specs.declared.device.Trouble.{Trouble}
+use Rattle.tile_device.specs.declared.device.Trouble.{Trouble}
 use Rattle.tileshell.specs.declared.outcome.Outcome.{Outcome}
 use Rattle.tileshell.specs.declared.outcome.Outcome.TheVariants as outcomes
 use Rattle.tileshell.specs.declared.outcome.DeviceName.TheVariants as devices
-use Rattle.tileshell.specs.Seen.{Seen, Meets}
+use Rattle.tile_device.specs.Seen.{Seen, Meets}
 use Rattle.tileshell.specs.Headline.{Devices, Runs}
 
 -- a call of the device failed: its count of failures is another

@@ -7,17 +7,17 @@ use Rattle.mvt_wire.specs.declared.TheConstants.{MAX_FILE}
 use Rattle.mvt_wire.specs.Plain.{Document}
 use Rattle.mvt_wire.specs.Opens.{OpensAs}
 use Rattle.tileshell.specs.declared.runs.TheConstants.{MAX_SCRIPT}
-use Rattle.tileshell.specs.declared.device.Source.{Ghosts as SourceMembers}
-use Rattle.tileshell.specs.declared.device.Sink.{Ghosts as SinkMembers}
+use Rattle.tile_device.specs.declared.device.Source.{Ghosts as SourceMembers}
+use Rattle.tile_device.specs.declared.device.Sink.{Ghosts as SinkMembers}
 use Rattle.tileshell.specs.declared.outcome.Outcome.{Outcome}
 use Rattle.tileshell.specs.declared.outcome.Outcome.TheVariants as outcomes
 use Rattle.tileshell.specs.declared.outcome.DeviceName.TheVariants as devices
 use Rattle.tileshell.specs.declared.outcome.TileFault.{TileFault}
 use Rattle.tileshell.specs.Course.{Course, Ends, OpensAsNothing, IsFaultOf}
 use Rattle.tileshell.specs.Replies.{HasNoWant}
-use Rattle.tileshell.specs.Lines.{lines_of}
+use Rattle.tile_script.specs.Lines.{lines_of}
 use Rattle.tileshell.specs.Run.{Progress, after_lines, ran, tile_of}
-use Rattle.tileshell.specs.Seen.{Seen, source_at, sink_at, Supplies, Receives}
+use Rattle.tile_device.specs.Seen.{Seen, source_at, sink_at, Supplies, Receives}
 
 -- the four devices of a run at one moment
 pub record Devices : Type 0 where

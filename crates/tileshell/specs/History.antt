@@ -2,10 +2,10 @@
 use Rattle.std.specs.Prelude.{ℕ, ◌+◌, ◌-◌, ◌≤◌, max, List, [], ◌∷◌, ◌++◌, length, take, Result, Ok, Err, ◌==◌, if◌then◌else◌}
 use Rattle.std.specs.Result.{result_unwrap_or}
 use Rattle.mvt_wire.specs.Plain.{Document}
-use Rattle.tileshell.specs.Command.{Command}
-use Rattle.tileshell.specs.Request.{Request, Edit, Undo}
-use Rattle.tileshell.specs.Meaning.{applied}
-use Rattle.tileshell.specs.declared.edit.Refusal.{Refusal}
+use Rattle.mvt_command.specs.Command.{Command}
+use Rattle.tile_script.specs.Request.{Request, Edit, Undo}
+use Rattle.mvt_edit.specs.Meaning.{applied}
+use Rattle.mvt_edit.specs.declared.edit.Refusal.{Refusal}
 use Rattle.tileshell.specs.declared.refused.Refused.{Refused}
 use Rattle.tileshell.specs.declared.refused.Refused.TheVariants as refused
 

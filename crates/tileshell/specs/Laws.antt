@@ -1,27 +1,11 @@
 -- Laws of commands and undo, in the words of a tile and its history.
-use Rattle.std.specs.Prelude.{◌≡◌, ◌≢◌, ◌↔◌, ℕ, ◌≤◌, not, List, length, filter, Option, Some, None, option_map, slice_get, Ok, Err}
-use Rattle.std.specs.List.{filter_map}
+use Rattle.std.specs.Prelude.{◌≡◌, ℕ, ◌≤◌, length, Ok}
 use Rattle.mvt_wire.specs.declared.TheConstants.{MAX_FILE}
-use Rattle.mvt_wire.specs.Plain.{Field, Layer, TileItem, OfLayer, PlainInTile, Document}
+use Rattle.mvt_wire.specs.Plain.{Document}
 use Rattle.mvt_wire.specs.Wire.{bytes_of}
-use Rattle.tileshell.specs.Command.{LayerChoice, Named, Command, RenameLayer}
-use Rattle.tileshell.specs.Request.{Request, Edit, Undo}
-use Rattle.tileshell.specs.Selection.{layers, layer_positions, name_of, selected}
-use Rattle.tileshell.specs.Meaning.{applied, is_name}
-use Rattle.tileshell.specs.declared.edit.Refusal.TheVariants.{NoLayer}
+use Rattle.mvt_command.specs.Command.{Command}
+use Rattle.tile_script.specs.Request.{Request, Edit, Undo}
 use Rattle.tileshell.specs.History.{History, IsSound, begun, document_at, present_document, carried_out}
-
--- the layer at this place has this name
-abbrev pub HasName : List ℕ → ℕ → Document → Type 0
-HasName name ordinal document = option_map name_of (slice_get (layers document) ordinal) ≡ Some (Some name)
-
--- A name means the layer at a place exactly where that layer has the name, and no other layer has it.
-abbrev pub NameMeansTheOne : Type 0
-NameMeansTheOne = (name : List ℕ) (document : Document) (ordinal : ℕ) → (selected (Named name) document ≡ Ok ordinal) ↔ ((other : ℕ) → HasName name other document ↔ (other ≡ ordinal))
-
--- A name means no layer exactly where none has it.
-abbrev pub NameMeansNone : Type 0
-NameMeansNone = (name : List ℕ) (document : Document) → (selected (Named name) document ≡ Err NoLayer) ↔ ((other : ℕ) → ¬ HasName name other document)
 
 -- An undo right after an accepted command is accepted, and the document is the one before the command.
 abbrev pub UndoAtOnce : Type 0
@@ -31,32 +15,6 @@ UndoAtOnce = (command : Command) (history edited : History) → IsSound history 
 abbrev pub StaysSound : Type 0
 StaysSound = ((document : Document) (depth : ℕ) → 1 ≤ depth → IsSound (begun document depth)) × ((request : Request) (history after : History) → IsSound history → carried_out request history ≡ Ok after → IsSound after)
 
--- An accepted command makes a tile that a file can hold.
-abbrev pub CommandFits : Type 0
-CommandFits = (command : Command) (document after : Document) → applied command document ≡ Ok after → length (bytes_of after) ≤ MAX_FILE
-
 -- Where a file can hold the tile at the start, it can hold each tile of the history.
 abbrev pub HistoryFits : Type 0
 HistoryFits = (history : History) → length (bytes_of history.start) ≤ MAX_FILE → (point : ℕ) → length (bytes_of (document_at point history)) ≤ MAX_FILE
-
--- a field of the tile that is no layer
-abbrev pub field_in : TileItem → Option Field
-field_in (OfLayer layer) = None
-field_in (PlainInTile field) = Some field
-
--- a layer without its names
-abbrev pub without_names : Layer → Layer
-without_names layer = record { tag = layer.tag; width = layer.width; items = filter (λ item. not (is_name item)) layer.items }
-
--- a tile and the tile in which the layer at this place has this name, and no other layer has it
-pub record IsRenamed (name : List ℕ) (ordinal : ℕ) (old new : Document) : Type 0 where
-  pub named : option_map name_of (slice_get (layers new) ordinal) ≡ Some (Some name)
-  pub alone : selected (Named name) new ≡ Ok ordinal
-  pub rest : option_map without_names (slice_get (layers new) ordinal) ≡ option_map without_names (slice_get (layers old) ordinal)
-  pub others : (other : ℕ) → other ≢ ordinal → slice_get (layers new) other ≡ slice_get (layers old) other
-  pub fields : filter_map field_in new ≡ filter_map field_in old
-  pub places : layer_positions new ≡ layer_positions old
-
--- A rename that is accepted names the layer that was meant, and keeps all but the names of that layer.
-abbrev pub RenameNames : Type 0
-RenameNames = (choice : LayerChoice) (name : List ℕ) (old new : Document) → applied (RenameLayer choice name) old ≡ Ok new → (ordinal : ℕ) × (selected choice old ≡ Ok ordinal) × IsRenamed name ordinal old new

@@ -1,9 +1,9 @@
 -- What is written in reply to a line.
 use Rattle.std.specs.Prelude.{◌≢◌, ℕ, List, ◌++◌, codes, decimal}
-use Rattle.tileshell.specs.declared.parse_error.ParseError.{ParseError}
-use Rattle.tileshell.specs.declared.parse_error.ParseError.TheVariants as parse
-use Rattle.tileshell.specs.declared.edit.Refusal.{Refusal}
-use Rattle.tileshell.specs.declared.edit.Refusal.TheVariants as edit
+use Rattle.tile_script.specs.declared.parse_error.ParseError.{ParseError}
+use Rattle.tile_script.specs.declared.parse_error.ParseError.TheVariants as parse
+use Rattle.mvt_edit.specs.declared.edit.Refusal.{Refusal}
+use Rattle.mvt_edit.specs.declared.edit.Refusal.TheVariants as edit
 use Rattle.tileshell.specs.declared.refused.Refused.{Refused}
 use Rattle.tileshell.specs.declared.refused.Refused.TheVariants as refused
 

@@ -2,13 +2,13 @@
 use Rattle.std.specs.Prelude.{◌≡◌, ◌≢◌, ℕ, ◌+◌, Bool, true, false, List, [], ◌∷◌, ◌++◌, Option, Some, None, Result, Ok, Err, ◌⊎◌}
 use Rattle.mvt_wire.specs.Plain.{Document}
 use Rattle.mvt_wire.specs.Wire.{bytes_of}
-use Rattle.tileshell.specs.Request.{Request}
-use Rattle.tileshell.specs.Line.{answer_to}
-use Rattle.tileshell.specs.Lines.{lines_of}
+use Rattle.tile_script.specs.Request.{Request}
+use Rattle.tile_script.specs.Line.{answer_to}
+use Rattle.tile_script.specs.Lines.{lines_of}
 use Rattle.tileshell.specs.History.{History, begun, present_document, carried_out}
 use Rattle.tileshell.specs.Replies.{accepted_reply, refused_reply}
-use Rattle.tileshell.specs.declared.parse_error.ParseError.{ParseError}
-use Rattle.tileshell.specs.declared.parse_error.ParseError.TheVariants as parse
+use Rattle.tile_script.specs.declared.parse_error.ParseError.{ParseError}
+use Rattle.tile_script.specs.declared.parse_error.ParseError.TheVariants as parse
 use Rattle.tileshell.specs.declared.refused.Refused.{Refused}
 use Rattle.tileshell.specs.declared.refused.Refused.TheVariants as refused
 

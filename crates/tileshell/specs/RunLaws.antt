@@ -1,11 +1,11 @@
 -- Laws over whole runs, in the words of scripts, replies and tiles.
 use Rattle.std.specs.Prelude.{◌≡◌, ◌⊎◌, ℕ, ◌+◌, ◌≤◌, true, List, [], ◌∷◌, ◌++◌, length, take, Some, Ok}
 use Rattle.mvt_wire.specs.Plain.{Document}
-use Rattle.tileshell.specs.Command.{Command}
-use Rattle.tileshell.specs.Request.{Edit, Undo}
-use Rattle.tileshell.specs.Meaning.{applied}
-use Rattle.tileshell.specs.Line.{answer_to}
-use Rattle.tileshell.specs.Lines.{lines_of, HasNoLineFeed}
+use Rattle.mvt_command.specs.Command.{Command}
+use Rattle.tile_script.specs.Request.{Edit, Undo}
+use Rattle.mvt_edit.specs.Meaning.{applied}
+use Rattle.tile_script.specs.Line.{answer_to}
+use Rattle.tile_script.specs.Lines.{lines_of, HasNoLineFeed}
 use Rattle.tileshell.specs.History.{History, IsSound, present_document}
 use Rattle.tileshell.specs.Replies.{accepted_reply, refused_reply, HasNoWant}
 use Rattle.tileshell.specs.Run.{Progress, after_line, after_lines, ran, tile_of, Walk}

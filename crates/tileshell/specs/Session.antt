@@ -2,10 +2,10 @@
 use Rattle.std.specs.Prelude.{◌≡◌, ◌-◌, nat_lt, Option, Some, None, option_map, Result, Ok, Err, if◌then◌else◌, ◌⊎◌}
 use Rattle.mvt_wire.specs.Plain as plain
 use Rattle.mvt_wire.specs.Stands.{document_of}
-use Rattle.tileshell.specs.Request.{Request, Edit, Undo}
-use Rattle.tileshell.specs.Former.{former_of, restored}
+use Rattle.tile_script.specs.Request.{Request, Edit, Undo}
+use Rattle.mvt_edit.specs.Former.{former_of, restored}
 use Rattle.tileshell.specs.History.{History, IsSound, document_at, present_document, carried_out}
-use Rattle.tileshell.specs.declared.edit.Refusal.TheVariants.{NoMemory}
+use Rattle.mvt_edit.specs.declared.edit.Refusal.TheVariants.{NoMemory}
 use Rattle.tileshell.specs.declared.refused.Refused.{Refused}
 use Rattle.tileshell.specs.declared.refused.Refused.TheVariants as refused
 use Rattle.tileshell.specs.declared.session.Session.{Session}

@@ -6,7 +6,7 @@ use Rattle.mvt_wire.specs.Opens.{OpensAs}
 use Rattle.mvt_wire.specs.Stands.{document_of}
 use Rattle.std.specs.declared.vec.Vec.{Vec}
 use Rattle.std.specs.declared.alloc.Global.{Global}
-use Rattle.tileshell.specs.declared.device.Trouble.{Trouble}
+use Rattle.tile_device.specs.declared.device.Trouble.{Trouble}
 use Rattle.tileshell.specs.declared.outcome.Outcome.{Outcome}
 use Rattle.tileshell.specs.declared.outcome.Outcome.TheVariants as outcomes
 use Rattle.tileshell.specs.declared.outcome.DeviceName.TheVariants as devices
@@ -15,10 +15,10 @@ use Rattle.tileshell.specs.declared.runs.Script.{Script}
 use Rattle.tileshell.specs.declared.session.Session.{Session}
 use Rattle.tileshell.specs.Course.{lines_in, is_complete, IsFaultOf, IsFaulty}
 use Rattle.tileshell.specs.History.{History}
-use Rattle.tileshell.specs.Lines.{lines_of}
+use Rattle.tile_script.specs.Lines.{lines_of}
 use Rattle.tileshell.specs.Replies.{accepted_reply, refused_reply}
 use Rattle.tileshell.specs.Run.{Progress, Walk, MayFollow}
-use Rattle.tileshell.specs.Seen.{Seen, Intake, Output, written, IsFront, Receives}
+use Rattle.tile_device.specs.Seen.{Seen, Intake, Output, written, IsFront, Receives}
 use Rattle.tileshell.specs.Session.{StandsFor}
 
 -- ---- replies

@@ -1,16 +1,8 @@
-//! Laws of commands and undo. Each function does nothing: its contract is the law.
+//! Laws of histories and of whole runs. Each function does nothing: its contract is the law.
 
-ghost use Rattle.tileshell.specs.Laws.{NameMeansTheOne, NameMeansNone, UndoAtOnce, StaysSound, CommandFits, HistoryFits, RenameNames};
-
-/// A name means a layer where that layer alone has it.
-pub fn name_means_the_one()
-    ensures { NameMeansTheOne }
-{}
-
-/// A name means no layer where none has it; otherwise several have it.
-pub fn name_means_none()
-    ensures { NameMeansNone }
-{}
+ghost use Rattle.tileshell.specs.DeviceLaws.{FailedDevicesAreNamed, DevicesAreNamedForCause};
+ghost use Rattle.tileshell.specs.Laws.{UndoAtOnce, StaysSound, HistoryFits};
+ghost use Rattle.tileshell.specs.RunLaws.{FrontsHaveFirstLines, FrontsStand, RepliesStand, RefusedLinesChangeNothing, SilentLinesChangeNothing, StandingCommands, UndoInARun, UndoInAScript, WalksWithoutWantAreRuns, RunsAreWalks, RunsHaveNoWant};
 
 /// An undo right after a command brings back the tile that stood before it.
 pub fn undo_at_once()
@@ -22,17 +14,52 @@ pub fn stays_sound()
     ensures { StaysSound }
 {}
 
-/// A command never makes a tile that is too large to be written.
-pub fn command_fits()
-    ensures { CommandFits }
-{}
-
 /// Neither a command nor an undo leads from a tile that can be written to one that can not.
 pub fn history_fits()
     ensures { HistoryFits }
 {}
 
-/// A rename gives the name to the layer that is meant, and to that layer alone.
-pub fn rename_names()
-    ensures { RenameNames }
+/// After each front of whole lines the run has come to where it comes on that front alone. So the
+/// document, the history and the replies there are those of the front.
+pub fn prefixes_stand()
+    ensures lines { FrontsHaveFirstLines }
+    ensures progress { FrontsStand }
+    ensures replies { RepliesStand }
+{}
+
+/// A line that is refused leaves the tile and the history as they were, and so does a line without
+/// a reply.
+pub fn refused_lines_change_nothing()
+    ensures refused { RefusedLinesChangeNothing }
+    ensures silent { SilentLinesChangeNothing }
+{}
+
+/// After any script the tile is the one read at the start, with the commands that stand carried
+/// out in order. Each of them was accepted, and undo goes back over no more than it may.
+pub fn standing_commands()
+    ensures { StandingCommands }
+{}
+
+/// A line with a command that is accepted, and a line that takes it back, leave the tile as it was.
+pub fn undo_in_a_script()
+    ensures progress { UndoInARun }
+    ensures script { UndoInAScript }
+{}
+
+/// Where growths may be refused, all comes as it would with all memory, unless a reply says that
+/// memory was refused. With all memory no reply says so.
+pub fn want_is_replied()
+    ensures without_want { WalksWithoutWantAreRuns }
+    ensures with_memory { RunsAreWalks }
+    ensures never { RunsHaveNoWant }
+{}
+
+/// Where a call of the tile, the replies or the output failed, the run ends with that device.
+pub fn failed_devices_are_named()
+    ensures { FailedDevicesAreNamed }
+{}
+
+/// A run ends with a device only where one of its calls met trouble, or where the script is too long.
+pub fn devices_are_named_for_cause()
+    ensures { DevicesAreNamedForCause }
 {}

@@ -3,11 +3,11 @@
 use crate::created::Created;
 use crate::outcome::{DeviceName, Options, Outcome};
 use crate::runs::run;
-use crate::std_device::{FromRead, FromWrite};
 use clap::{Arg, ArgMatches, Command};
 use std::fs;
 use std::io::{self, BufWriter};
 use std::rt::Files;
+use tile_device::{FromRead, FromWrite};
 
 /// Runs the program on its words, of which the first is its name, and gives its status.
 pub fn shell<R: Files + Input + Print + Eprint + AllocGlobal>(rt: &R, words: &[&str]) -> u8 {

@@ -4,9 +4,9 @@ ghost use Rattle.std.specs.Prelude.{◌≡◌};
 ghost use Rattle.tileshell.specs.Replies.{refusal_number, refusal_name, parse_number, parse_name, edit_number, edit_name};
 ghost use Rattle.tileshell.specs.declared.refused.Refused.TheVariants.{Edit};
 
-use crate::edit::Refusal;
-use crate::parse_error::ParseError;
+use mvt_edit::Refusal;
 use thiserror::Error;
+use tile_script::ParseError;
 
 /// Why a line was refused.
 #[derive(Clone, Copy, Debug, PartialEq, Eq, Error)]

@@ -3,12 +3,11 @@
 ghost use Rattle.std.specs.Prelude.{◌≡◌};
 ghost use Rattle.std.specs.List.{flat_map};
 ghost use Rattle.tileshell.specs.Replies.{accepted_reply, refused_reply};
-ghost use Rattle.tileshell.specs.Seen.{Sends, sink_at};
+ghost use Rattle.tile_device.specs.Seen.{Sends, sink_at};
 
-use crate::device::{Sink, Trouble};
 use crate::refused::Refused;
-use crate::transfer::write_all;
 use itoa::Buffer;
+use tile_device::{Sink, Trouble, write_all};
 
 /// Replies to a request that was carried out.
 pub(crate) fn reply_accepted<W: Sink>(replies: &mut W) -> Result<(), Trouble>

@@ -6,25 +6,25 @@ ghost use Rattle.mvt_wire.specs.Opens.{OpensAs};
 ghost use Rattle.mvt_wire.specs.Plain.{Document as PlainDocument};
 ghost use Rattle.mvt_wire.specs.Stands.{document_of};
 ghost use Rattle.mvt_wire.specs.Wire.{bytes_of};
-ghost use Rattle.tileshell.specs.Course.{whole_lines};
+ghost use Rattle.tile_script.specs.Lines.{whole_lines};
 ghost use Rattle.tileshell.specs.Headline.{Headline, RefusesTile, Runs, LeavesOut, LeavesReplies, devices_at};
 ghost use Rattle.tileshell.specs.History.{begun};
-ghost use Rattle.tileshell.specs.Lines.{lines_of};
+ghost use Rattle.tile_script.specs.Lines.{lines_of};
 ghost use Rattle.tileshell.specs.Run.{Progress, at_first};
-ghost use Rattle.tileshell.specs.Seen.{Intake, Supplies, Sends, source_at, sink_at};
+ghost use Rattle.tile_device.specs.Seen.{Intake, Supplies, Sends, source_at, sink_at};
 ghost use Rattle.tileshell.specs.Session.{StandsFor};
 ghost use Rattle.tileshell.specs.Steps.{reply_to, ReadsTile, Opened, OpensTile, AppendsScript, ReadsScript, CarriesOut, AnswersLine, CarriesOutLines, WritesTile, ended};
 
-use crate::device::{Sink, Source, Trouble};
-use crate::lines::first_line;
 use crate::outcome::{DeviceName, Options, Outcome, TileFault};
-use crate::parse::parse_line;
 use crate::refused::Refused;
 use crate::reply::{reply_accepted, reply_refused};
 use crate::session::Session;
-use crate::transfer::{ReadFault, append_to_limit, read_to_limit, write_all};
 use mvt_wire::{Document, MAX_FILE, ReadError, read_document, write_document};
 use std::alloc::Global;
+use tile_device::{
+    ReadFault, Sink, Source, Trouble, append_to_limit, read_to_limit, write_and_flush,
+};
+use tile_script::{first_line, parse_line};
 
 /// The longest script in bytes.
 pub const MAX_SCRIPT: usize = 16_777_216;
@@ -269,12 +269,4 @@ fn write_tile<W: Sink>(alloc: Global, document: &Document, out: &mut W) -> Resul
         return Err(Outcome::NoMemory);
     };
     write_and_flush(out, &file).map_err(|_| Outcome::Device(DeviceName::Out))
-}
-
-/// Writes all of the bytes, and passes on what is held back.
-pub(crate) fn write_and_flush<W: Sink>(sink: &mut W, bytes: &[u8]) -> Result<(), Trouble>
-    ensures { Sends (sink_at W.Sink sink.old) (sink_at W.Sink sink.new) bytes.now result }
-{
-    write_all(sink, bytes)?;
-    sink.flush()
 }

@@ -2,18 +2,17 @@
 
 ghost use Rattle.std.specs.Prelude.{◌≡◌, OnErr};
 ghost use Rattle.mvt_wire.specs.Stands.{document_of};
-ghost use Rattle.tileshell.specs.CommandStands.{command_of};
-ghost use Rattle.tileshell.specs.RequestStands.{request_of};
-ghost use Rattle.tileshell.specs.Request.{Edit, Undo};
+ghost use Rattle.mvt_command.specs.CommandStands.{command_of};
+ghost use Rattle.tile_script.specs.RequestStands.{request_of};
+ghost use Rattle.tile_script.specs.Request.{Edit, Undo};
 ghost use Rattle.tileshell.specs.History.{History, begun, present_document};
 ghost use Rattle.tileshell.specs.Session.{StandsFor, HoldsSame, Answers};
 
-use crate::command::Command;
-use crate::edit::{Former, apply, put_back};
 use crate::refused::Refused;
-use crate::request::Request;
+use mvt_edit::{Command, Former, apply, put_back};
 use mvt_wire::Document;
 use std::alloc::Global;
+use tile_script::Request;
 
 /// A document, and what its last command took out.
 #[derive(Drop)]

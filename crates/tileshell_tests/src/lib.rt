@@ -4,11 +4,17 @@
 #[cfg(test)]
 mod console;
 #[cfg(test)]
+mod devices;
+#[cfg(test)]
+mod drip;
+#[cfg(test)]
 mod memory;
 #[cfg(test)]
 mod program;
 #[cfg(test)]
 mod rows;
+#[cfg(test)]
+mod script;
 #[cfg(test)]
 mod tiles;
 #[cfg(test)]

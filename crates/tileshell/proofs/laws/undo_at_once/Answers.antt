@@ -1,4 +1,4 @@
-use Rattle.tileshell.proofs.LawLemmas.{undo_at_once}
+use Rattle.tileshell.proofs.HistoryLaws.{undo_at_once}
 use Rattle.tileshell.proofs.laws.undo_at_once.Goals as goal
 
 pub returns : goal.returns

@@ -1,6 +1,6 @@
 use Rattle.std.proofs.Common.{◌∙◌, ap, Err}
 use Rattle.std.proofs.lemmas.Result.{err_from_is_err_and}
-use Rattle.tileshell.proofs.Sending.{receives_nothing, sends_all, pieces_more, pieces_stop}
+use Rattle.tile_device.proofs.Sending.{receives_nothing, sends_all, pieces_more, pieces_stop}
 use Rattle.tileshell.proofs.reply.write_pieces.Goals as goal
 
 pub loop-piece-init : goal.loop-piece-init

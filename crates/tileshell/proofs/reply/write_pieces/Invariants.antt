@@ -1,6 +1,6 @@
 use Rattle.std.proofs.Common.{take}
 use Rattle.std.specs.List.{flat_map}
-use Rattle.tileshell.specs.Seen.{Receives, sink_at, written}
+use Rattle.tile_device.specs.Seen.{Receives, sink_at, written}
 use Rattle.tileshell.proofs.reply.write_pieces.Given as goal
 
 abbrev pub invariant-loop-piece : goal.invariant-loop-piece

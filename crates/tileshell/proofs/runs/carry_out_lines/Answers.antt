@@ -1,7 +1,7 @@
 use Rattle.std.proofs.Common.{◌∙◌, ℕ, ◌+◌, Bool, ◌||◌, ap, refl, sym, arith}
 use Rattle.tileshell.specs.Run.{at_first}
 use Rattle.tileshell.proofs.Running.{so_far_none, so_far_more, so_far_all, so_far_stops}
-use Rattle.tileshell.proofs.Sending.{receives_nothing}
+use Rattle.tile_device.proofs.Sending.{receives_nothing}
 use Rattle.tileshell.proofs.runs.carry_out_lines.Goals as goal
 
 pub loop-line-init : goal.loop-line-init

@@ -1,9 +1,9 @@
 use Rattle.std.proofs.Common.{◌+◌, ◌≤◌, length}
 use Rattle.mvt_wire.specs.Plain.{Document}
 use Rattle.tileshell.specs.History.{begun}
-use Rattle.tileshell.specs.Lines.{lines_of}
+use Rattle.tile_script.specs.Lines.{lines_of}
 use Rattle.tileshell.specs.Run.{at_first}
-use Rattle.tileshell.specs.Seen.{sink_at}
+use Rattle.tile_device.specs.Seen.{sink_at}
 use Rattle.tileshell.specs.Session.{StandsFor}
 use Rattle.tileshell.proofs.Running.{SoFar}
 use Rattle.tileshell.proofs.runs.carry_out_lines.Given as goal

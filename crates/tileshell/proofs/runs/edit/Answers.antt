@@ -3,7 +3,7 @@ use Rattle.std.proofs.lemmas.Result.{err_from_is_err_and}
 use Rattle.mvt_wire.specs.Plain as plain
 use Rattle.mvt_wire.specs.Stands.{document_of}
 use Rattle.mvt_wire.specs.Wire.{bytes_of}
-use Rattle.tileshell.specs.Seen.{Receives, sink_at, written}
+use Rattle.tile_device.specs.Seen.{Receives, sink_at, written}
 use Rattle.tileshell.specs.Steps.{StopsWriting}
 use Rattle.tileshell.proofs.Courses.{runs_to_tile, runs_to_script, runs_to_replies, runs_to_cut, runs_to_out, runs_through, not_left}
 use Rattle.tileshell.proofs.runs.edit.Goals as goal

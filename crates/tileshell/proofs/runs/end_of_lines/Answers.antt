@@ -1,5 +1,5 @@
 use Rattle.std.proofs.Common.{arith}
-use Rattle.tileshell.proofs.WholeLines.{lines_of-nothing, lines_to-feed, lines_to-other}
+use Rattle.tile_script.proofs.WholeLines.{lines_of-nothing, lines_to-feed, lines_to-other}
 use Rattle.tileshell.proofs.runs.end_of_lines.Goals as goal
 use Rattle.tileshell.proofs.runs.end_of_lines.Goals.{then-byte-eq10, else-byte-eq10}
 

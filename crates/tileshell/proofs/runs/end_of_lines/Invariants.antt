@@ -1,6 +1,6 @@
 use Rattle.std.proofs.Common.{◌≡◌, ◌≤◌, take}
-use Rattle.tileshell.specs.Course.{whole_lines}
-use Rattle.tileshell.specs.Lines.{lines_of}
+use Rattle.tile_script.specs.Lines.{whole_lines}
+use Rattle.tile_script.specs.Lines.{lines_of}
 use Rattle.tileshell.proofs.runs.end_of_lines.Given as goal
 
 abbrev pub invariant-loop-place : goal.invariant-loop-place

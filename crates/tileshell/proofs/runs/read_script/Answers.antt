@@ -1,6 +1,7 @@
 use Rattle.std.proofs.Common.{◌≡◌, ◌∙◌, ap, take}
-use Rattle.tileshell.specs.Course.{whole_lines, lines_in}
-use Rattle.tileshell.specs.Lines.{lines_of}
+use Rattle.tile_script.specs.Lines.{whole_lines}
+use Rattle.tileshell.specs.Course.{lines_in}
+use Rattle.tile_script.specs.Lines.{lines_of}
 use Rattle.tileshell.proofs.Supplying.{lines-cut, lines-all}
 use Rattle.tileshell.proofs.runs.read_script.Goals as goal
 use Rattle.tileshell.proofs.runs.read_script.Goals.{then-is_cut, else-is_cut}

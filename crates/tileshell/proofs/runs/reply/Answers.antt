@@ -1,9 +1,9 @@
 use Rattle.std.proofs.Common.{subst, sym, [], Result}
-use Rattle.tileshell.specs.Seen.{Receives, Sends, sink_at, written}
+use Rattle.tile_device.specs.Seen.{Receives, Sends, sink_at, written}
 use Rattle.tileshell.specs.Replies.{accepted_reply, refused_reply}
 use Rattle.tileshell.specs.Steps.{reply_to}
 use Rattle.tileshell.specs.declared.refused.Refused.{Refused}
-use Rattle.tileshell.proofs.Sending.{sends_flush, sends_flushed}
+use Rattle.tile_device.proofs.Sending.{sends_flush, sends_flushed}
 use Rattle.tileshell.proofs.runs.reply.Goals as goal
 use Rattle.tileshell.proofs.runs.reply.Goals.{in-Ok+in_ok-reply_accepted-in-Ok, in-Err+in_ok-reply_refused-in-Err}
 

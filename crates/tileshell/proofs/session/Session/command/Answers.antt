@@ -1,4 +1,4 @@
-use Rattle.tileshell.specs.CommandStands.{command_of}
+use Rattle.mvt_command.specs.CommandStands.{command_of}
 use Rattle.tileshell.proofs.Sessions.{command_stands}
 use Rattle.tileshell.proofs.session.Session.command.Goals as goal
 

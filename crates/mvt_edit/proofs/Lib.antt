@@ -1,0 +1,10 @@
+pub mod Layers
+pub mod Positions
+pub mod Commands
+pub mod Renaming
+pub mod Formers
+pub mod Selecting
+pub mod NameLemmas
+pub mod EditRefusals
+pub mod SelectionLemmas
+pub mod EditLaws

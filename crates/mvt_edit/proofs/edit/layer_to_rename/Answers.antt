@@ -1,0 +1,10 @@
+use Rattle.std.proofs.Common.{sym, ◌∙◌, map}
+use Rattle.mvt_wire.specs.Stands.{tile_item_of}
+use Rattle.mvt_command.specs.CommandStands.{layer_choice_of}
+use Rattle.mvt_edit.proofs.Formers.{position_found}
+use Rattle.mvt_edit.proofs.Selecting.{selected_found}
+use Rattle.mvt_edit.proofs.edit.layer_to_rename.Goals as goal
+
+pub returns-clause-refused : goal.returns-clause-refused
+returns-clause-refused c =
+    rw c.ok_or.ensures.value (position_found _ c.layer_position.result (λ none. selected_found (layer_choice_of c.args.choice.now) (map tile_item_of c.args.items.now) c.in_ok-ordinal.ordinal (sym c.in_ok-ordinal.ensures) (sym c.layer_position.ensures ∙ none)))

@@ -1,0 +1,4 @@
+pub mod Selection
+pub mod Meaning
+pub mod Former
+pub mod Laws

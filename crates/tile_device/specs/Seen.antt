@@ -1,0 +1,78 @@
+-- What contracts see of a device at one moment, and what it gives or takes between two.
+use Rattle.std.specs.Prelude.{◌≡◌, ℕ, List, [], ◌++◌, Bool, false, true, IsTrue, Result, Ok, Err, Some, None}
+use Rattle.std.specs.declared.option.Option.{Option}
+use Rattle.std.specs.Io.KnownBytes.{Appends, Consumes, IsAtEnd}
+use Rattle.tile_device.specs.Device.{interruptions_after, failures_after}
+use Rattle.tile_device.specs.declared.device.Trouble.{Trouble}
+use Rattle.tile_device.specs.declared.device.Source.{Ghosts as SourceMembers}
+use Rattle.tile_device.specs.declared.device.Sink.{Ghosts as SinkMembers}
+
+-- the bytes that are left or that were written, where they are known, whether it still tells them, and its counts
+pub record Seen : Type 0 where
+  pub bytes : Option (List ℕ)
+  pub tells : Bool
+  pub interruptions : ℕ
+  pub failures : ℕ
+
+abbrev pub source_at : {S : Type 0} → SourceMembers S → S → Seen
+source_at members source = record {
+  bytes = members.left source;
+  tells = members.tells source;
+  interruptions = members.interruptions source;
+  failures = members.failures source;
+}
+
+abbrev pub sink_at : {S : Type 0} → SinkMembers S → S → Seen
+sink_at members sink = record {
+  bytes = members.written sink;
+  tells = members.tells sink;
+  interruptions = members.interruptions sink;
+  failures = members.failures sink;
+}
+
+-- between two moments this trouble was met, or none, and one that no longer tells never tells again
+pub record Meets (old new : Seen) (trouble : Option Trouble) : Type 0 where
+  pub interruptions : new.interruptions ≡ interruptions_after trouble old.interruptions
+  pub failures : new.failures ≡ failures_after trouble old.failures
+  pub still_tells : IsTrue new.tells → IsTrue old.tells
+
+-- what was read of a source, whether that was all it had, and the trouble that ended the reading
+pub record Intake : Type 0 where
+  pub bytes : List ℕ
+  pub is_whole : Bool
+  pub trouble : Option Trouble
+
+-- what was written to a sink, and the trouble that ended the writing
+pub record Output : Type 0 where
+  pub bytes : List ℕ
+  pub trouble : Option Trouble
+
+abbrev pub nothing_read : Intake
+nothing_read = record { bytes = []; is_whole = false; trouble = None }
+
+abbrev pub whole_file : List ℕ → Intake
+whole_file bytes = record { bytes = bytes; is_whole = true; trouble = None }
+
+-- these bytes, without trouble
+abbrev pub written : List ℕ → Output
+written bytes = record { bytes = bytes; trouble = None }
+
+-- a source gave this
+pub record Supplies (old new : Seen) (intake : Intake) : Type 0 where
+  pub meets : Meets old new intake.trouble
+  pub bytes : IsTrue new.tells → Consumes old.bytes new.bytes intake.bytes
+  pub whole : IsTrue new.tells → IsTrue intake.is_whole → IsAtEnd new.bytes
+
+-- a sink took this
+pub record Receives (old new : Seen) (output : Output) : Type 0 where
+  pub meets : Meets old new output.trouble
+  pub bytes : IsTrue new.tells → Appends old.bytes new.bytes output.bytes
+
+-- the whole begins with the front
+abbrev pub IsFront : List ℕ → List ℕ → Type 0
+IsFront front whole = (rest : List ℕ) × (whole ≡ front ++ rest)
+
+-- a sink was sent these bytes: it took all of them, or before a trouble a front of them
+abbrev pub Sends : {A : Type 0} → Seen → Seen → List ℕ → Result A Trouble → Type 0
+Sends old new bytes (Ok done) = Receives old new (written bytes)
+Sends old new bytes (Err trouble) = (front : List ℕ) × IsFront front bytes × Receives old new (record { bytes = front; trouble = Some trouble })

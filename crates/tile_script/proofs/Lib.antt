@@ -1,0 +1,12 @@
+pub mod Again
+pub mod Found
+pub mod LineCuts
+pub mod LineLaws
+pub mod Numbers
+pub mod Places
+pub mod Repeats
+pub mod Short
+pub mod Asking
+pub mod ParseRefusals
+pub mod Silent
+pub mod WholeLines

@@ -1,0 +1,96 @@
+-- What a line of a script asks for.
+use Rattle.std.specs.Prelude.{ℕ, ◌^◌, ◌≤◌, Bool, true, ◌&&◌, not, List, [], ◌∷◌, length, Option, Some, None, Result, Ok, Err, ◌==◌, nat_lt, if◌then◌else◌, codes, ok_or}
+use Rattle.std.specs.Str.{bytes_eq, is_utf8, IsUtf8, all_ascii_digits}
+use Rattle.std.specs.Str.Parse.{digits_value}
+use Rattle.mvt_command.specs.Command.{LayerChoice, AtOrdinal, Named, RenameLayer}
+use Rattle.tile_script.specs.Request.{Request, Edit, Undo}
+use Rattle.tile_script.specs.Words.{Word, Bare, Quoted, after_blanks, words_of}
+use Rattle.tile_script.specs.declared.keyword.Keyword.{Keyword}
+use Rattle.tile_script.specs.declared.keyword.Keyword.TheVariants as keywords
+use Rattle.tile_script.specs.declared.parse_error.ParseError.{ParseError}
+use Rattle.tile_script.specs.declared.parse_error.ParseError.TheVariants.{LineTooLong, BadUtf8, BadWord, UnknownCommand, BadArguments, BadNumber}
+
+-- what follows, unless there was a refusal
+infixl 10 ◌>>=◌
+abbrev pub ◌>>=◌ : {A B : Type 0} → Result A ParseError → (A → Result B ParseError) → Result B ParseError
+(Ok x) >>= f = f x
+(Err e) >>= f = Err e
+
+-- the words that a request begins with
+unfoldable pub keyword_of : List ℕ → Option Keyword
+keyword_of name =
+    if bytes_eq name (codes "rename-layer") then Some keywords.RenameLayer
+    else (if bytes_eq name (codes "undo") then Some keywords.Undo
+    else None)
+
+-- a number: one or more decimal digits, leading zeros too, below 2 ^ 64
+abbrev pub is_number : List ℕ → Bool
+is_number bytes = (not (length bytes == 0) && all_ascii_digits bytes) && nat_lt (digits_value 10 bytes) (2 ^ 64)
+
+-- the number that the digits write
+unfoldable pub number_of : List ℕ → Result ℕ ParseError
+number_of bytes = if is_number bytes then Ok (digits_value 10 bytes) else Err BadNumber
+
+-- a text: a quoted word
+unfoldable pub text_of : Word → Result (List ℕ) ParseError
+text_of (Bare bytes) = Err BadArguments
+text_of (Quoted text) = Ok text
+
+-- a layer: `#` and its place, or its name as a text
+unfoldable pub layer_of : Word → Result LayerChoice ParseError
+layer_of (Bare []) = Err BadArguments
+layer_of (Bare (b ∷ digits)) = if b == 35 then (number_of digits >>= λ n. Ok (AtOrdinal n)) else Err BadArguments
+layer_of (Quoted text) = Ok (Named text)
+
+-- two arguments: the layer, and its new name as a text
+unfoldable pub rename_layer_of : List Word → Result Request ParseError
+rename_layer_of [] = Err BadArguments
+rename_layer_of (layer ∷ []) = Err BadArguments
+rename_layer_of (layer ∷ name ∷ []) = do
+  choice ← layer_of layer
+  text ← text_of name
+  Ok (Edit (RenameLayer choice text))
+rename_layer_of (layer ∷ name ∷ more ∷ others) = Err BadArguments
+
+-- no argument
+unfoldable pub undo_of : List Word → Result Request ParseError
+undo_of [] = Ok Undo
+undo_of (more ∷ others) = Err BadArguments
+
+-- what the arguments of a request make of it
+abbrev pub with_arguments : Option Keyword → List Word → Result Request ParseError
+with_arguments None arguments = Err UnknownCommand
+with_arguments (Some keywords.RenameLayer) arguments = rename_layer_of arguments
+with_arguments (Some keywords.Undo) arguments = undo_of arguments
+
+-- What the words of a line ask for: the first one is bare, and says which request it is. A line of no words has been
+-- left out before.
+unfoldable pub asked_by : List Word → Result Request ParseError
+asked_by [] = Err UnknownCommand
+asked_by (Quoted text ∷ arguments) = Err UnknownCommand
+asked_by (Bare name ∷ arguments) = with_arguments (keyword_of name) arguments
+
+-- behind the blanks at the front: nothing, or a `#`
+abbrev pub is_remark_behind : List ℕ → Bool
+is_remark_behind [] = true
+is_remark_behind (b ∷ more) = b == 35
+
+-- a line that asks for nothing
+abbrev pub is_remark : List ℕ → Bool
+is_remark line = is_remark_behind (after_blanks line)
+
+-- what a line of words asks for
+unfoldable pub request_in : List ℕ → Result Request ParseError
+request_in line = ok_or (words_of line) BadWord >>= asked_by
+
+-- what a line of at most 65,536 bytes asks for: nothing, a request, or the first of the refusals in this order
+unfoldable pub answer_to : List ℕ → Result (Option Request) ParseError
+answer_to line =
+    if nat_lt 65536 (length line) then Err LineTooLong
+    else (if not (is_utf8 line) then Err BadUtf8
+    else (if is_remark line then Ok None
+    else (request_in line >>= λ request. Ok (Some request))))
+
+-- a line that is neither too long nor other than UTF-8
+abbrev pub IsReadable : List ℕ → Type 0
+IsReadable line = (length line ≤ 65536) × IsUtf8 line

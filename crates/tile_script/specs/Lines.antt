@@ -1,0 +1,42 @@
+-- The lines of a script.
+use Rattle.std.specs.Prelude.{◌≡◌, ◌⊎◌, ℕ, ◌<◌, Bool, false, List, [], ◌∷◌, ◌++◌, length, ◌==◌}
+use Rattle.std.specs.List.{slice_split, AllByRecursion}
+
+-- the bytes behind the last line feed are a line where there is one at least
+abbrev pub last_line : List ℕ → List (List ℕ)
+last_line [] = []
+last_line (b ∷ line) = (b ∷ line) ∷ []
+
+-- the parts between line feeds, without a last one that is empty
+abbrev pub without_empty_end : List (List ℕ) → List (List ℕ)
+without_empty_end [] = []
+without_empty_end (line ∷ []) = last_line line
+without_empty_end (line ∷ next ∷ more) = line ∷ without_empty_end (next ∷ more)
+
+-- what ends a line
+abbrev pub is_line_feed : ℕ → Bool
+is_line_feed b = b == 10
+
+-- the lines of a script: what stands before each line feed, and behind the last one where a byte does
+unfoldable pub lines_of : List ℕ → List (List ℕ)
+lines_of script = without_empty_end (slice_split is_line_feed script)
+
+-- all but the last
+abbrev pub without_last : List (List ℕ) → List (List ℕ)
+without_last [] = []
+without_last (line ∷ []) = []
+without_last (line ∷ next ∷ more) = line ∷ without_last (next ∷ more)
+
+-- the lines that end with a line feed
+abbrev pub whole_lines : List ℕ → List (List ℕ)
+whole_lines text = without_last (slice_split is_line_feed text)
+
+-- a line without the line feed behind it
+abbrev pub HasNoLineFeed : List ℕ → Type 0
+HasNoLineFeed line = AllByRecursion (λ b. is_line_feed b ≡ false) line
+
+-- How lines make up a script: behind each stands a line feed, and then the others. Behind the last one nothing may
+-- stand, where it has a byte at least.
+abbrev pub SpellsLines : List ℕ → List (List ℕ) → Type 0
+SpellsLines script [] = script ≡ []
+SpellsLines script (line ∷ lines) = HasNoLineFeed line × (((rest : List ℕ) × (script ≡ line ++ 10 ∷ rest) × SpellsLines rest lines) ⊎ ((script ≡ line) × (0 < length line) × (lines ≡ [])))

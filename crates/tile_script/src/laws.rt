@@ -1,0 +1,28 @@
+//! Laws on how a script is read.
+
+ghost use Rattle.std.specs.Prelude.{◌≡◌, ℕ, List, [], ◌∷◌, Some, Ok, codes};
+ghost use Rattle.mvt_command.specs.Command.{Named, RenameLayer};
+ghost use Rattle.tile_script.specs.Line.{IsReadable, answer_to};
+ghost use Rattle.tile_script.specs.Lines.{lines_of, SpellsLines};
+ghost use Rattle.tile_script.specs.Request.{Edit, Undo};
+ghost use Rattle.tile_script.specs.Spelling.{SpellsWords};
+ghost use Rattle.tile_script.specs.Words.{Word, Bare, Quoted, words_of};
+
+/// A line that is read as words is spelled so, and a line that is spelled so is read as these words. So no line has
+/// two lists of words.
+pub fn words_are_spelled()
+    ensures found { (line : List ℕ) (words : List Word) → words_of line ≡ Some words → SpellsWords line words }
+    ensures only { (line : List ℕ) (words : List Word) → SpellsWords line words → words_of line ≡ Some words }
+{}
+
+/// A script is made up of its lines, and of no others.
+pub fn lines_make_up_the_script()
+    ensures found { (script : List ℕ) → SpellsLines script (lines_of script) }
+    ensures only { (script : List ℕ) (lines : List (List ℕ)) → SpellsLines script lines → lines_of script ≡ lines }
+{}
+
+/// A line of the right words asks for a request: `undo`, and `rename-layer` with the old name and the new one.
+pub fn words_ask_for_requests()
+    ensures undo { (line : List ℕ) → IsReadable line → SpellsWords line (Bare (codes "undo") ∷ []) → answer_to line ≡ Ok (Some Undo) }
+    ensures rename_layer { (line old new : List ℕ) → IsReadable line → SpellsWords line (Bare (codes "rename-layer") ∷ Quoted old ∷ Quoted new ∷ []) → answer_to line ≡ Ok (Some (Edit (RenameLayer (Named old) new))) }
+{}

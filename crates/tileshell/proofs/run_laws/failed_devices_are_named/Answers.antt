@@ -1,5 +1,0 @@
-use Rattle.tileshell.proofs.DeviceLaws.{failed_is_named}
-use Rattle.tileshell.proofs.run_laws.failed_devices_are_named.Goals as goal
-
-pub returns : goal.returns
-returns c = failed_is_named

@@ -1,8 +1,0 @@
-use Rattle.tileshell.proofs.Asking.{asks_undo, asks_rename}
-use Rattle.tileshell.proofs.script_laws.words_ask_for_requests.Goals as goal
-
-pub returns-clause-undo : goal.returns-clause-undo
-returns-clause-undo c = asks_undo
-
-pub returns-clause-rename_layer : goal.returns-clause-rename_layer
-returns-clause-rename_layer c = asks_rename

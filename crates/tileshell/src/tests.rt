@@ -1,5 +1,0 @@
-//! What the contracts leave to tests.
-
-mod devices;
-mod drip;
-mod script;

@@ -1,0 +1,112 @@
+use std::alloc::Global;
+use std::test::Fail;
+use tile_script::{ParseError, Request, first_line, parse_line};
+use tileshell::{Command, LayerChoice};
+
+const REFUSED: [(&[u8], ParseError); 13] = [
+    (b"\xff", ParseError::BadUtf8),
+    (b"frob", ParseError::UnknownCommand),
+    (b"\"undo\"", ParseError::UnknownCommand),
+    (b"undo now", ParseError::BadArguments),
+    (b"rename-layer \"a", ParseError::BadWord),
+    (b"frob \"a\"b", ParseError::BadWord),
+    (b"frob a\"b\"", ParseError::BadWord),
+    (b"frob \"\\x80\"", ParseError::BadWord),
+    (
+        b"rename-layer #18446744073709551616 \"a\"",
+        ParseError::BadNumber,
+    ),
+    (b"rename-layer #x \"a\"", ParseError::BadNumber),
+    (b"rename-layer # x", ParseError::BadNumber),
+    (b"rename-layer a \"b\"", ParseError::BadArguments),
+    (b"rename-layer x:61 \"b\"", ParseError::BadArguments),
+];
+
+#[test]
+fn refuses(rt: HostRuntime) {
+    for (line, refusal) in &REFUSED {
+        match parse_line(rt.alloc(), line) {
+            Err(e) => assert_eq!(rt; e, *refusal, "at {line:?}"),
+            Ok(_) => assert!(rt; false, "at {line:?}"),
+        }
+    }
+}
+
+#[test]
+fn no_request(rt: HostRuntime) -> Result<(), Fail> {
+    let lines: [&[u8]; 4] = [b"", b" # note", b" \t\r", b"#"];
+    for line in &lines {
+        assert!(rt; parse_line(rt.alloc(), line)?.is_none());
+    }
+    Ok(())
+}
+
+#[test]
+fn limit(rt: HostRuntime) -> Result<(), Fail> {
+    let line = vec![in rt.alloc(); b'a'; 65_537]?;
+    assert!(rt; matches!(parse_line(rt.alloc(), &line), Err(ParseError::LineTooLong)));
+    assert_eq!(rt; line.len(), 65_537);
+    assert!(rt;
+        matches!(
+            parse_line(rt.alloc(), &line[1..]),
+            Err(ParseError::UnknownCommand)
+        )
+    );
+    Ok(())
+}
+
+#[test]
+fn reads_undo(rt: HostRuntime) -> Result<(), Fail> {
+    assert!(rt; matches!(parse_line(rt.alloc(), b"\tundo\r")?, Some(Request::Undo)));
+    Ok(())
+}
+
+#[test]
+fn reads_rename_layer(rt: HostRuntime) -> Result<(), Fail> {
+    let line = b"rename-layer #007 \"q\\\"\\\\\\x0a\\x7F # \xc3\xa9\"";
+    match &parse_line(rt.alloc(), line)? {
+        Some(
+            Request::Edit(
+                Command::RenameLayer {
+                    layer: LayerChoice::Ordinal(ordinal),
+                    name,
+                },
+            ),
+        ) => {
+            assert_eq!(rt; *ordinal, 7);
+            assert_eq!(rt; name.as_slice(), b"q\"\\\n\x7f # \xc3\xa9".as_slice());
+        }
+        _ => assert!(rt; false),
+    }
+    match &parse_line(rt.alloc(), b"rename-layer \"\" \"b\"")? {
+        Some(
+            Request::Edit(
+                Command::RenameLayer {
+                    layer: LayerChoice::Name(old),
+                    name,
+                },
+            ),
+        ) => {
+            assert_eq!(rt; old.len(), 0);
+            assert_eq!(rt; name.as_slice(), b"b".as_slice());
+        }
+        _ => assert!(rt; false),
+    }
+    Ok(())
+}
+
+#[test]
+fn cuts_lines(rt: HostRuntime) {
+    let mut rest: &[u8] = b"undo\n\nundo";
+    let lines: [&[u8]; 3] = [b"undo", b"", b"undo"];
+    for line in &lines {
+        match first_line(rest) {
+            Some((found, after)) => {
+                assert_eq!(rt; found, *line);
+                rest = after;
+            }
+            None => assert!(rt; false),
+        }
+    }
+    assert!(rt; first_line(rest).is_none());
+}
