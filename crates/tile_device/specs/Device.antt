@@ -1,5 +1,5 @@
 -- What contracts see of devices: how they count their troubles.
-use Rattle.std.specs.Prelude.{ℕ, ◌+◌, ◌-◌, ◌^◌, min, Bool, ◌&&◌, ◌==◌, Result, Ok, Err, Some, None}
+use Rattle.std.specs.Prelude.{ℕ, ◌+◌, ◌-◌, ◌^◌, min, max, Bool, ◌&&◌, ◌==◌, Result, Ok, Err, Some, None}
 use Rattle.std.specs.declared.option.Option.{Option}
 use Rattle.tile_device.specs.declared.device.Trouble.{Trouble}
 use Rattle.tile_device.specs.declared.device.Trouble.TheVariants.{Interrupted, Failed}
@@ -9,21 +9,27 @@ abbrev pub trouble_of : {A : Type 0} → Result A Trouble → Option Trouble
 trouble_of (Ok value) = None
 trouble_of (Err trouble) = Some trouble
 
--- one more, where a count can hold it
-abbrev pub one_more : ℕ → ℕ
-one_more n = min (n + 1) (2 ^ 64 - 1)
+-- how many interruptions a trouble is, and how many failures
+abbrev pub interruptions_in : Option Trouble → ℕ
+interruptions_in None = 0
+interruptions_in (Some Interrupted) = 1
+interruptions_in (Some Failed) = 0
 
--- the count of interruptions after a call with this trouble or none
+abbrev pub failures_in : Option Trouble → ℕ
+failures_in None = 0
+failures_in (Some Interrupted) = 0
+failures_in (Some Failed) = 1
+
+-- a count and so many more, up to the most that a count can hold (none more leave any count as it is)
+abbrev pub counted : ℕ → ℕ → ℕ
+counted more n = max n (min (n + more) (2 ^ 64 - 1))
+
+-- the counts after a call with this trouble or none
 abbrev pub interruptions_after : Option Trouble → ℕ → ℕ
-interruptions_after None n = n
-interruptions_after (Some Interrupted) n = one_more n
-interruptions_after (Some Failed) n = n
+interruptions_after trouble n = counted (interruptions_in trouble) n
 
--- the count of failures after a call with this trouble or none
 abbrev pub failures_after : Option Trouble → ℕ → ℕ
-failures_after None n = n
-failures_after (Some Interrupted) n = n
-failures_after (Some Failed) n = one_more n
+failures_after trouble n = counted (failures_in trouble) n
 
 -- a reader or a writer, and how often it was interrupted and failed
 pub record Counted (D : Type 0) : Type 0 where

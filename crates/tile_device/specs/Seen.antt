@@ -1,9 +1,10 @@
 -- What contracts see of a device at one moment, and what it gives or takes between two.
-use Rattle.std.specs.Prelude.{◌≡◌, ℕ, List, [], ◌++◌, Bool, false, true, IsTrue, Result, Ok, Err, Some, None}
+use Rattle.std.specs.Prelude.{◌≡◌, ℕ, ◌+◌, ◌≤◌, List, [], ◌++◌, Bool, false, true, IsTrue, Result, Ok, Err, Some, None}
 use Rattle.std.specs.declared.option.Option.{Option}
 use Rattle.std.specs.Io.KnownBytes.{Appends, Consumes, IsAtEnd}
-use Rattle.tile_device.specs.Device.{interruptions_after, failures_after}
+use Rattle.tile_device.specs.Device.{counted, interruptions_in, failures_in}
 use Rattle.tile_device.specs.declared.device.Trouble.{Trouble}
+use Rattle.tile_device.specs.declared.device.Trouble.TheVariants.{Interrupted}
 use Rattle.tile_device.specs.declared.device.Source.{Ghosts as SourceMembers}
 use Rattle.tile_device.specs.declared.device.Sink.{Ghosts as SinkMembers}
 
@@ -30,42 +31,41 @@ sink_at members sink = record {
   failures = members.failures sink;
 }
 
--- between two moments this trouble was met, or none, and one that no longer tells never tells again
-pub record Meets (old new : Seen) (trouble : Option Trouble) : Type 0 where
-  pub interruptions : new.interruptions ≡ interruptions_after trouble old.interruptions
-  pub failures : new.failures ≡ failures_after trouble old.failures
+-- between two moments so many interrupted calls were made again, then this trouble was met, or none; one that no longer tells never tells again
+pub record Meets (old new : Seen) (retries : ℕ) (trouble : Option Trouble) : Type 0 where
+  pub interruptions : new.interruptions ≡ counted (retries + interruptions_in trouble) old.interruptions
+  pub failures : new.failures ≡ counted (failures_in trouble) old.failures
   pub still_tells : IsTrue new.tells → IsTrue old.tells
 
--- what was read of a source, whether that was all it had, and the trouble that ended the reading
+-- what was read of a source, whether that was all it had, how many calls were made again, and the trouble that ended the reading
 pub record Intake : Type 0 where
   pub bytes : List ℕ
   pub is_whole : Bool
+  pub retries : ℕ
   pub trouble : Option Trouble
 
--- what was written to a sink, and the trouble that ended the writing
+-- what was written to a sink, how many calls were made again, and the trouble that ended the writing
 pub record Output : Type 0 where
   pub bytes : List ℕ
+  pub retries : ℕ
   pub trouble : Option Trouble
 
 abbrev pub nothing_read : Intake
-nothing_read = record { bytes = []; is_whole = false; trouble = None }
+nothing_read = record { bytes = []; is_whole = false; retries = 0; trouble = None }
 
-abbrev pub whole_file : List ℕ → Intake
-whole_file bytes = record { bytes = bytes; is_whole = true; trouble = None }
-
--- these bytes, without trouble
-abbrev pub written : List ℕ → Output
-written bytes = record { bytes = bytes; trouble = None }
+-- these bytes, without trouble, with so many calls made again
+abbrev pub written : ℕ → List ℕ → Output
+written retries bytes = record { bytes = bytes; retries = retries; trouble = None }
 
 -- a source gave this
 pub record Supplies (old new : Seen) (intake : Intake) : Type 0 where
-  pub meets : Meets old new intake.trouble
+  pub meets : Meets old new intake.retries intake.trouble
   pub bytes : IsTrue new.tells → Consumes old.bytes new.bytes intake.bytes
   pub whole : IsTrue new.tells → IsTrue intake.is_whole → IsAtEnd new.bytes
 
 -- a sink took this
 pub record Receives (old new : Seen) (output : Output) : Type 0 where
-  pub meets : Meets old new output.trouble
+  pub meets : Meets old new output.retries output.trouble
   pub bytes : IsTrue new.tells → Appends old.bytes new.bytes output.bytes
 
 -- the whole begins with the front
@@ -73,6 +73,11 @@ abbrev pub IsFront : List ℕ → List ℕ → Type 0
 IsFront front whole = (rest : List ℕ) × (whole ≡ front ++ rest)
 
 -- a sink was sent these bytes: it took all of them, or before a trouble a front of them
-abbrev pub Sends : {A : Type 0} → Seen → Seen → List ℕ → Result A Trouble → Type 0
-Sends old new bytes (Ok done) = Receives old new (written bytes)
-Sends old new bytes (Err trouble) = (front : List ℕ) × IsFront front bytes × Receives old new (record { bytes = front; trouble = Some trouble })
+abbrev pub Sends : {A : Type 0} → Seen → Seen → List ℕ → ℕ → Result A Trouble → Type 0
+Sends old new bytes retries (Ok done) = Receives old new (written retries bytes)
+Sends old new bytes retries (Err trouble) = (front : List ℕ) × IsFront front bytes × Receives old new (record { bytes = front; retries = retries; trouble = Some trouble })
+
+-- a budget of retries before and after, with the trouble that ended the calls: an interruption ends them only where none is left
+pub record Spends (before after : ℕ) (trouble : Option Trouble) : Type 0 where
+  pub within : after ≤ before
+  pub last : trouble ≡ Some Interrupted → after ≡ 0

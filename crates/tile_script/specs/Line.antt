@@ -1,5 +1,5 @@
 -- What a line of a script asks for.
-use Rattle.std.specs.Prelude.{ℕ, ◌^◌, ◌≤◌, Bool, true, ◌&&◌, not, List, [], ◌∷◌, length, Option, Some, None, Result, Ok, Err, ◌==◌, nat_lt, if◌then◌else◌, codes, ok_or}
+use Rattle.std.specs.Prelude.{◌≡◌, ℕ, ◌^◌, ◌≤◌, Bool, true, false, ◌&&◌, not, List, [], ◌∷◌, length, Option, Some, None, Result, Ok, Err, ◌==◌, nat_lt, if◌then◌else◌, codes, ok_or}
 use Rattle.std.specs.Str.{bytes_eq, is_utf8, IsUtf8, all_ascii_digits}
 use Rattle.std.specs.Str.Parse.{digits_value}
 use Rattle.mvt_command.specs.Command.{LayerChoice, AtOrdinal, Named, RenameLayer}
@@ -94,3 +94,7 @@ answer_to line =
 -- a line that is neither too long nor other than UTF-8
 abbrev pub IsReadable : List ℕ → Type 0
 IsReadable line = (length line ≤ 65536) × IsUtf8 line
+
+-- a line for which memory is asked: it is readable, and neither blank nor a comment
+abbrev pub TakesMemory : List ℕ → Type 0
+TakesMemory line = IsReadable line × (is_remark line ≡ false)

@@ -1,17 +1,19 @@
 -- What a run reads and writes, by how it ends.
-use Rattle.std.specs.Prelude.{◌≡◌, ℕ, ◌<◌, ◌≤◌, Bool, true, false, ◌&&◌, List, [], ◌++◌, length, take, None, IsSome, is_none, nat_le, if◌then◌else◌, ◌⊎◌}
+use Rattle.std.specs.Prelude.{◌≡◌, ℕ, ◌+◌, ◌<◌, ◌≤◌, Bool, true, false, List, [], ◌∷◌, ◌++◌, length, take, Some, None, IsSome, if◌then◌else◌, ◌⊎◌}
 use Rattle.mvt_wire.specs.declared.TheConstants.{MAX_FILE}
 use Rattle.mvt_wire.specs.Plain.{Document}
 use Rattle.mvt_wire.specs.Opens.{OpensAs, IsPlace}
-use Rattle.tileshell.specs.declared.runs.TheConstants.{MAX_SCRIPT}
+use Rattle.tile_device.specs.Seen.{Intake, Output, nothing_read, IsFront}
+use Rattle.tile_device.specs.declared.device.Trouble.TheVariants.{Interrupted}
+use Rattle.tile_script.specs.Lines.{lines_of, whole_lines}
+use Rattle.tileshell.specs.declared.runs.TheConstants.{MAX_RETRIES, MAX_SCRIPT}
+use Rattle.tileshell.specs.declared.outcome.Options.{Options}
 use Rattle.tileshell.specs.declared.outcome.Outcome.{Outcome}
 use Rattle.tileshell.specs.declared.outcome.Outcome.TheVariants as outcomes
 use Rattle.tileshell.specs.declared.outcome.DeviceName.TheVariants as devices
 use Rattle.tileshell.specs.declared.outcome.TileFault.{TileFault}
 use Rattle.tileshell.specs.declared.outcome.TileFault.TheVariants as faults
-use Rattle.tile_script.specs.Lines.{lines_of, whole_lines}
-use Rattle.tileshell.specs.Run.{Progress, at_first, Walk, tile_of}
-use Rattle.tile_device.specs.Seen.{Intake, Output, nothing_read, written, IsFront}
+use Rattle.tileshell.specs.Run.{Progress, at_first, is_over, MayFollow, Walk, tile_of}
 
 -- what was read of each source and written to each sink
 pub record Course : Type 0 where
@@ -20,35 +22,27 @@ pub record Course : Type 0 where
   pub replies : Output
   pub out : Output
 
--- ---- the lines that are carried out
+-- ---- interrupted calls
 
--- it was read to its end, and is no longer than a script may be
-abbrev pub is_complete : Intake → Bool
-is_complete script = is_none script.trouble && nat_le (length script.bytes) MAX_SCRIPT
+-- how many interrupted calls were made again
+abbrev pub retries_in : Course → ℕ
+retries_in course = course.tile.retries + course.script.retries + course.replies.retries + course.out.retries
 
--- all lines, or of a script that was cut short those that were read with their line feed
-abbrev pub lines_in : Intake → List (List ℕ)
-lines_in script = if is_complete script then lines_of script.bytes else whole_lines (take MAX_SCRIPT script.bytes)
+-- No more are made again than may be, over all devices, and an interruption ends the run only where so many were.
+pub record IsPatient (course : Course) : Type 0 where
+  pub within : retries_in course ≤ MAX_RETRIES
+  pub tile : course.tile.trouble ≡ Some Interrupted → retries_in course ≡ MAX_RETRIES
+  pub script : course.script.trouble ≡ Some Interrupted → retries_in course ≡ MAX_RETRIES
+  pub replies : course.replies.trouble ≡ Some Interrupted → retries_in course ≡ MAX_RETRIES
+  pub out : course.out.trouble ≡ Some Interrupted → retries_in course ≡ MAX_RETRIES
 
--- ---- how a run ends
+-- ---- the tile
 
--- the tile opens as the document, and the lines lead from there to this progress, where growths may be refused
-pub record Walks (depth : ℕ) (tile : Intake) (lines : List (List ℕ)) (document : Document) (progress : Progress) : Type 0 where
-  pub is_whole : tile.is_whole ≡ true
-  pub no_trouble : tile.trouble ≡ None
+-- it was read to its end without trouble, and opens as the document
+pub record IsOpened (tile : Intake) (document : Document) : Type 0 where
+  pub whole : tile.is_whole ≡ true
+  pub untroubled : tile.trouble ≡ None
   pub opens : OpensAs tile.bytes document
-  pub walk : Walk (at_first document depth) lines progress
-
--- every line was carried out and replied to, and the tile was written
-pub record IsEdited (depth : ℕ) (any_refused : Bool) (course : Course) : Type 0 where
-  pub document : Document
-  pub progress : Progress
-  pub walks : Walks depth course.tile (lines_in course.script) document progress
-  pub complete : is_complete course.script ≡ true
-  pub all_read : course.script.is_whole ≡ true
-  pub replies : course.replies ≡ written progress.replies
-  pub out : course.out ≡ written (tile_of progress)
-  pub refused : progress.any_refused ≡ any_refused
 
 -- no document has these bytes
 abbrev pub OpensAsNothing : List ℕ → Type 0
@@ -64,64 +58,117 @@ abbrev pub IsFaulty : TileFault → Intake → Type 0
 IsFaulty (faults.BadWire place) tile = (tile.is_whole ≡ true) × IsFaultOf (faults.BadWire place) tile.bytes
 IsFaulty faults.FileTooLarge tile = MAX_FILE < length tile.bytes
 
+-- ---- the script
+
+-- the lines of what was read of a script: all of them where that is the whole, else those that ended with a line feed
+abbrev pub lines_in : Intake → List (List ℕ)
+lines_in script = if script.is_whole then lines_of script.bytes else whole_lines (take MAX_SCRIPT script.bytes)
+
+-- a sink took these bytes without trouble
+pub record IsWritten (output : Output) (bytes : List ℕ) : Type 0 where
+  pub all : output.bytes ≡ bytes
+  pub untroubled : output.trouble ≡ None
+
+-- the script was read to its end, and each line was carried out and replied to
+pub record CarriesThrough (strict : Bool) (start : Progress) (script : Intake) (replies : Output) (progress : Progress) : Type 0 where
+  pub whole : script.is_whole ≡ true
+  pub untroubled : script.trouble ≡ None
+  pub walk : Walk strict start (lines_in script) progress
+  pub goes_on : is_over strict progress ≡ false
+  pub replies : IsWritten replies progress.replies
+
+-- a line was refused, and the run is strict: it and those before it were replied to
+pub record StopsStrictly (strict : Bool) (start : Progress) (script : Intake) (replies : Output) : Type 0 where
+  pub untroubled : script.trouble ≡ None
+  pub progress : Progress
+  pub walk : Walk strict start (lines_in script) progress
+  pub over : is_over strict progress ≡ true
+  pub replies : IsWritten replies progress.replies
+
+-- the script met trouble or is too long: its whole lines were carried out and replied to
+pub record StopsAtScript (strict : Bool) (start : Progress) (script : Intake) (replies : Output) : Type 0 where
+  pub cause : IsSome script.trouble ⊎ (MAX_SCRIPT < length script.bytes)
+  pub cut : script.is_whole ≡ false
+  pub progress : Progress
+  pub walk : Walk strict start (lines_in script) progress
+  pub goes_on : is_over strict progress ≡ false
+  pub replies : IsWritten replies progress.replies
+
+-- the reply to a line met trouble: those before it were replied to, and what was written of its own is a front of it
+pub record StopsAtReplies (strict : Bool) (start : Progress) (script : Intake) (replies : Output) : Type 0 where
+  pub untroubled : script.trouble ≡ None
+  pub first : List (List ℕ)
+  pub line : List ℕ
+  pub more : List (List ℕ)
+  pub split : lines_in script ≡ first ++ line ∷ more
+  pub progress : Progress
+  pub walk : Walk strict start first progress
+  pub goes_on : is_over strict progress ≡ false
+  pub next : Progress
+  pub follows : MayFollow progress line next
+  pub reply : List ℕ
+  pub replied : next.replies ≡ progress.replies ++ reply
+  pub front : List ℕ
+  pub is_front : IsFront front reply
+  pub written : replies.bytes ≡ progress.replies ++ front
+  pub trouble : IsSome replies.trouble
+
+-- ---- how a run ends
+
+abbrev pub start_of : Options → Document → Progress
+start_of options document = at_first document options.depth
+
+-- every line was carried out and replied to, and the tile was written
+pub record IsEdited (options : Options) (any_refused : Bool) (course : Course) : Type 0 where
+  pub document : Document
+  pub opened : IsOpened course.tile document
+  pub progress : Progress
+  pub carried : CarriesThrough options.strict (start_of options document) course.script course.replies progress
+  pub refused : progress.any_refused ≡ any_refused
+  pub out : IsWritten course.out (tile_of progress)
+
 -- nothing but the tile was read, and nothing written
 pub record StopsAtTile (course : Course) : Type 0 where
   pub script : course.script ≡ nothing_read
-  pub replies : course.replies ≡ written []
-  pub out : course.out ≡ written []
+  pub replies : IsWritten course.replies []
+  pub out : IsWritten course.out []
 
--- the script met trouble or is too long: its whole lines were carried out and replied to
-pub record StopsAtScript (depth : ℕ) (course : Course) : Type 0 where
+-- the tile opened, and the script or its replies ended the run
+pub record StopsBetween (options : Options) (stops : Bool → Progress → Intake → Output → Type 0) (course : Course) : Type 0 where
   pub document : Document
-  pub progress : Progress
-  pub walks : Walks depth course.tile (lines_in course.script) document progress
-  pub cut : is_complete course.script ≡ false
-  pub replies : course.replies ≡ written progress.replies
-  pub out : course.out ≡ written []
-
--- the replies met trouble: what was written of them is a front of those to the lines
-pub record StopsAtReplies (depth : ℕ) (course : Course) : Type 0 where
-  pub document : Document
-  pub progress : Progress
-  pub walks : Walks depth course.tile (lines_in course.script) document progress
-  pub trouble : IsSome course.replies.trouble
-  pub replies : IsFront course.replies.bytes progress.replies
-  pub out : course.out ≡ written []
+  pub opened : IsOpened course.tile document
+  pub between : stops options.strict (start_of options document) course.script course.replies
+  pub out : IsWritten course.out []
 
 -- the edited tile met trouble: all lines were replied to, and what was written of the tile is a front of it
-pub record StopsAtOut (depth : ℕ) (course : Course) : Type 0 where
+pub record StopsAtOut (options : Options) (course : Course) : Type 0 where
   pub document : Document
+  pub opened : IsOpened course.tile document
   pub progress : Progress
-  pub walks : Walks depth course.tile (lines_in course.script) document progress
-  pub complete : is_complete course.script ≡ true
-  pub replies : course.replies ≡ written progress.replies
+  pub carried : CarriesThrough options.strict (start_of options document) course.script course.replies progress
+  pub front : IsFront course.out.bytes (tile_of progress)
   pub trouble : IsSome course.out.trouble
-  pub out : IsFront course.out.bytes (tile_of progress)
 
--- some of the lines were carried out and replied to
-pub record WalksPart (depth : ℕ) (course : Course) : Type 0 where
+-- all lines were carried out and replied to
+pub record RepliesToAll (options : Options) (course : Course) : Type 0 where
   pub document : Document
+  pub opened : IsOpened course.tile document
   pub progress : Progress
-  pub first : List (List ℕ)
-  pub more : List (List ℕ)
-  pub split : lines_in course.script ≡ first ++ more
-  pub walks : Walks depth course.tile first document progress
-  pub replies : course.replies.bytes ≡ progress.replies
+  pub carried : CarriesThrough options.strict (start_of options document) course.script course.replies progress
 
--- memory was refused: nothing was replied, or some of the lines were carried out and replied to
-pub record StopsForMemory (depth : ℕ) (course : Course) : Type 0 where
-  pub tile : course.tile.trouble ≡ None
-  pub script : course.script.trouble ≡ None
-  pub replies : course.replies.trouble ≡ None
-  pub replied : (course.replies.bytes ≡ []) ⊎ WalksPart depth course
-  pub out : course.out ≡ written []
+-- memory was refused: before the script was read, or for the tile to write
+pub record StopsForMemory (options : Options) (course : Course) : Type 0 where
+  pub untroubled : course.tile.trouble ≡ None
+  pub replied : ((course.script ≡ nothing_read) × IsWritten course.replies []) ⊎ RepliesToAll options course
+  pub out : IsWritten course.out []
 
-abbrev pub Ends : ℕ → Outcome → Course → Type 0
-Ends depth outcomes.Done course = IsEdited depth false course
-Ends depth outcomes.SomeRefused course = IsEdited depth true course
-Ends depth (outcomes.TileRefused fault) course = (course.tile.trouble ≡ None) × IsFaulty fault course.tile × StopsAtTile course
-Ends depth (outcomes.Device devices.Tile) course = IsSome course.tile.trouble × StopsAtTile course
-Ends depth (outcomes.Device devices.Script) course = StopsAtScript depth course
-Ends depth (outcomes.Device devices.Replies) course = StopsAtReplies depth course
-Ends depth (outcomes.Device devices.Out) course = StopsAtOut depth course
-Ends depth outcomes.NoMemory course = StopsForMemory depth course
+abbrev pub Ends : Options → Outcome → Course → Type 0
+Ends options outcomes.Done course = IsEdited options false course
+Ends options outcomes.SomeRefused course = IsEdited options true course
+Ends options outcomes.StrictStop course = StopsBetween options StopsStrictly course
+Ends options (outcomes.TileRefused fault) course = (course.tile.trouble ≡ None) × IsFaulty fault course.tile × StopsAtTile course
+Ends options (outcomes.Device devices.Tile) course = IsSome course.tile.trouble × StopsAtTile course
+Ends options (outcomes.Device devices.Script) course = StopsBetween options StopsAtScript course
+Ends options (outcomes.Device devices.Replies) course = StopsBetween options StopsAtReplies course
+Ends options (outcomes.Device devices.Out) course = StopsAtOut options course
+Ends options outcomes.NoMemory course = StopsForMemory options course

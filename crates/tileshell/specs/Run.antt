@@ -1,12 +1,13 @@
 -- What a script does to a tile, line by line.
-use Rattle.std.specs.Prelude.{◌≡◌, ◌≢◌, ℕ, ◌+◌, Bool, true, false, List, [], ◌∷◌, ◌++◌, Option, Some, None, Result, Ok, Err, ◌⊎◌}
+use Rattle.std.specs.Prelude.{◌≡◌, ℕ, ◌+◌, Bool, true, false, ◌&&◌, if◌then◌else◌, MatchBool, List, [], ◌∷◌, ◌++◌, Option, Some, None, Result, Ok, Err, ◌⊎◌}
 use Rattle.mvt_wire.specs.Plain.{Document}
 use Rattle.mvt_wire.specs.Wire.{bytes_of}
 use Rattle.tile_script.specs.Request.{Request}
-use Rattle.tile_script.specs.Line.{answer_to}
+use Rattle.tile_script.specs.Line.{answer_to, TakesMemory}
 use Rattle.tile_script.specs.Lines.{lines_of}
 use Rattle.tileshell.specs.History.{History, begun, present_document, carried_out}
 use Rattle.tileshell.specs.Replies.{accepted_reply, refused_reply}
+use Rattle.tileshell.specs.declared.outcome.Options.{Options}
 use Rattle.tile_script.specs.declared.parse_error.ParseError.{ParseError}
 use Rattle.tile_script.specs.declared.parse_error.ParseError.TheVariants as parse
 use Rattle.tileshell.specs.declared.refused.Refused.{Refused}
@@ -45,16 +46,20 @@ answered_by p (Err error) = refused_for (refused.Parse error) p
 abbrev pub after_line : Progress → List ℕ → Progress
 after_line p line = answered_by p (answer_to line)
 
--- the lines in order
-abbrev pub after_lines : Progress → List (List ℕ) → Progress
-after_lines p [] = p
-after_lines p (line ∷ lines) = after_lines (after_line p line) lines
+-- a strict run is over behind its first refused line
+abbrev pub is_over : Bool → Progress → Bool
+is_over strict p = strict && p.any_refused
+
+-- the lines in order, up to the one behind which the run is over
+abbrev pub after_lines : Bool → Progress → List (List ℕ) → Progress
+after_lines strict p [] = p
+after_lines strict p (line ∷ lines) = if is_over strict p then p else after_lines strict (after_line p line) lines
 
 -- a whole script, on a tile that opens as this document
-abbrev pub ran : Document → ℕ → List ℕ → Progress
-ran document depth script = after_lines (at_first document depth) (lines_of script)
+abbrev pub ran : Document → Options → List ℕ → Progress
+ran document options script = after_lines options.strict (at_first document options.depth) (lines_of script)
 
--- the tile that is written
+-- the bytes of the present document
 abbrev pub tile_of : Progress → List ℕ
 tile_of p = bytes_of (present_document p.history)
 
@@ -62,15 +67,11 @@ tile_of p = bytes_of (present_document p.history)
 abbrev pub without_memory : Progress → Progress
 without_memory p = refused_for (refused.Parse parse.NoMemory) p
 
--- a line that is replied to: it asks for something, or is refused
-abbrev pub HasReply : List ℕ → Type 0
-HasReply line = answer_to line ≢ Ok None
-
--- one line, where growths may be refused: to a blank line or a comment none is
+-- One line, where growths may be refused. None is before a line is known to be readable and to ask for something.
 abbrev pub MayFollow : Progress → List ℕ → Progress → Type 0
-MayFollow p line q = (q ≡ after_line p line) ⊎ (HasReply line × (q ≡ without_memory p))
+MayFollow p line q = (q ≡ after_line p line) ⊎ (TakesMemory line × (q ≡ without_memory p))
 
--- the lines in order, where growths may be refused
-abbrev pub Walk : Progress → List (List ℕ) → Progress → Type 0
-Walk p [] q = q ≡ p
-Walk p (line ∷ lines) q = (next : Progress) × MayFollow p line next × Walk next lines q
+-- the lines in order, where growths may be refused, up to the one behind which the run is over
+abbrev pub Walk : Bool → Progress → List (List ℕ) → Progress → Type 0
+Walk strict p [] q = q ≡ p
+Walk strict p (line ∷ lines) q = MatchBool (is_over strict p) (q ≡ p) ((next : Progress) × MayFollow p line next × Walk strict next lines q)

@@ -40,10 +40,13 @@ pub enum Outcome {
     Done,
     /// At least one line was refused, and the tile was written.
     SomeRefused,
+    /// The run is strict, and a line was refused: no line behind it was carried out, and no tile
+    /// was written.
+    StrictStop,
     /// The tile did not open. Nothing was written.
     TileRefused(TileFault),
     /// A device failed.
     Device(DeviceName),
-    /// Memory was refused for the tile, the session, the script or the tile to write.
+    /// Memory was refused for the tile, for the lines of the script, or for the tile to write.
     NoMemory,
 }

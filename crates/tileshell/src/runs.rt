@@ -29,6 +29,9 @@ use tile_script::{first_line, parse_line};
 /// The longest script in bytes.
 pub const MAX_SCRIPT: usize = 16_777_216;
 
+/// How many interrupted calls are made again in a run, over all devices.
+pub const MAX_RETRIES: u32 = 1000;
+
 /// Edits the tile by the lines of the script, answers each line that asks for something, and
 /// writes the edited tile.
 pub fn run<R1: Source, R2: Source, W1: Sink, W2: Sink>(
