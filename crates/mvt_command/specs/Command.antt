@@ -1,7 +1,7 @@
 -- The commands that change a tile, as plain values.
 use Rattle.std.specs.Prelude.{ℕ, List}
 
--- the layer that a command means: the one at that place among the layers, or the one of that name
+-- the layer that a command means: the one of that ordinal among the layers, or the one of that name
 pub data LayerChoice : Type 0 where
   AtOrdinal : (ordinal : ℕ) → LayerChoice
   Named : (name : List ℕ) → LayerChoice

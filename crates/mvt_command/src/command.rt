@@ -5,7 +5,7 @@ use mvt_wire::Items;
 /// The layer that a command means.
 #[derive(Debug, Drop)]
 pub enum LayerChoice {
-    /// The place among the layers, from 0.
+    /// The ordinal among the layers, from 0.
     Ordinal(u64),
     /// The bytes of the name.
     Name(Items<u8>),

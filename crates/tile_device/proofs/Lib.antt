@@ -1,3 +1,6 @@
-pub mod Transfers
 pub mod Troubles
+pub mod Meeting
+pub mod Spending
 pub mod Sending
+pub mod Writing
+pub mod Supplying

@@ -1,27 +1,27 @@
 -- What the counts of a device say of its calls.
 use Rattle.std.proofs.Common.{◌≡◌, ℕ, ◌+◌, ◌-◌, ◌^◌, ◌<◌, ◌≤◌, Some, None, refl, arith}
 use Rattle.std.specs.declared.option.Option.{Option}
-use Rattle.tile_device.specs.Device.{one_more, interruptions_after, failures_after}
+use Rattle.tile_device.specs.Device.{counted, interruptions_in, failures_in}
 use Rattle.tile_device.specs.declared.device.Trouble.{Trouble}
 use Rattle.tile_device.specs.declared.device.Trouble.TheVariants.{Interrupted, Failed}
 
-pub one_more-below : (n : ℕ) → n < 2 ^ 64 - 1 → one_more n ≡ n + 1
-one_more-below n h = omega arith
+pub counted-zero : (n : ℕ) → counted 0 n ≡ n
+counted-zero n = omega arith
 
--- counts that stay, and that could have risen, are those of a call without trouble
-pub no_trouble : (t : Option Trouble) (i f : ℕ) → i < 2 ^ 64 - 1 → f < 2 ^ 64 - 1
-    → interruptions_after t i ≡ i → failures_after t f ≡ f → t ≡ None
-no_trouble None i f li lf si sf = refl
-no_trouble (Some Interrupted) i f li lf si sf = absurd (omega arith)
-no_trouble (Some Failed) i f li lf si sf = absurd (omega arith)
+-- one count after the other
+pub counted-more : (n m more x y z : ℕ) → y ≡ counted (n + 0) x → z ≡ counted (m + more) y → z ≡ counted ((n + m) + more) x
+counted-more n m more x y z first second = omega arith
+
+pub counted-same : (more x y z : ℕ) → y ≡ counted 0 x → z ≡ counted more y → z ≡ counted more x
+counted-same more x y z first second = omega arith
 
 -- a count does not fall
-pub interruptions-grow : (t : Option Trouble) (n : ℕ) → n ≤ 2 ^ 64 - 1 → n ≤ interruptions_after t n
-interruptions-grow None n h = omega arith
-interruptions-grow (Some Interrupted) n h = omega arith
-interruptions-grow (Some Failed) n h = omega arith
+pub counted-grows : (more n : ℕ) → n ≤ counted more n
+counted-grows more n = omega arith
 
-pub failures-grow : (t : Option Trouble) (n : ℕ) → n ≤ 2 ^ 64 - 1 → n ≤ failures_after t n
-failures-grow None n h = omega arith
-failures-grow (Some Interrupted) n h = omega arith
-failures-grow (Some Failed) n h = omega arith
+-- counts that stay, and that could have risen, are those of calls without trouble, none of which was made again
+pub no_trouble : (t : Option Trouble) (retries i f : ℕ) → i < 2 ^ 64 - 1 → f < 2 ^ 64 - 1
+    → counted (retries + interruptions_in t) i ≡ i → counted (failures_in t) f ≡ f → (t ≡ None) × (retries ≡ 0)
+no_trouble None retries i f li lf si sf = (refl, omega arith)
+no_trouble (Some Interrupted) retries i f li lf si sf = absurd (omega arith)
+no_trouble (Some Failed) retries i f li lf si sf = absurd (omega arith)

@@ -1,9 +1,10 @@
 //! Devices over the readers and writers of std.
 
-ghost use Rattle.std.specs.Prelude.{◌≡◌, ◌<◌, ◌↔◌, Some};
+ghost use Rattle.std.specs.Prelude.{◌≡◌, ◌↔◌};
 ghost use Rattle.std.specs.IoError.{error_kind};
-ghost use Rattle.tile_device.specs.Device.{Counted, failures_after, interruptions_after, is_untroubled};
+ghost use Rattle.tile_device.specs.Device.{Counted, is_untroubled};
 
+use crate::counts::Counts;
 use crate::device::{Sink, Source, Trouble};
 use std::io::{self, ErrorKind, Read, Write};
 use std::marker::Model;
@@ -12,8 +13,7 @@ use std::marker::Model;
 #[derive(Debug, Drop)]
 pub struct FromRead<R> {
     reader: R,
-    interruptions: u64,
-    failures: u64,
+    counts: Counts,
 }
 
 impl<R> Model for FromRead<R> {
@@ -21,8 +21,8 @@ impl<R> Model for FromRead<R> {
 
     ghost view = { λ d. record {
       device = d.reader;
-      interruptions = d.interruptions;
-      failures = d.failures;
+      interruptions = d.counts.interruptions;
+      failures = d.counts.failures;
     } };
 }
 
@@ -32,8 +32,7 @@ impl<R> FromRead<R> {
     {
         FromRead {
             reader,
-            interruptions: 0,
-            failures: 0,
+            counts: Counts::default(),
         }
     }
 
@@ -47,13 +46,13 @@ impl<R> FromRead<R> {
     pub fn interruptions(&self) -> u64
         ensures { result ≡ self.now.interruptions }
     {
-        self.interruptions
+        self.counts.interruptions
     }
 
     pub fn failures(&self) -> u64
         ensures { result ≡ self.now.failures }
     {
-        self.failures
+        self.counts.failures
     }
 }
 
@@ -71,7 +70,7 @@ impl<R: Read> Source for FromRead<R> {
             Ok(count) => Ok(count),
             Err(error) => {
                 let trouble = trouble_of(&error);
-                count(trouble, &mut self.interruptions, &mut self.failures);
+                self.counts.count(trouble);
                 Err(trouble)
             }
         }
@@ -84,8 +83,7 @@ impl<R: Read> Source for FromRead<R> {
 #[derive(Debug, Drop)]
 pub struct FromWrite<W> {
     writer: W,
-    interruptions: u64,
-    failures: u64,
+    counts: Counts,
 }
 
 impl<W> Model for FromWrite<W> {
@@ -93,8 +91,8 @@ impl<W> Model for FromWrite<W> {
 
     ghost view = { λ d. record {
       device = d.writer;
-      interruptions = d.interruptions;
-      failures = d.failures;
+      interruptions = d.counts.interruptions;
+      failures = d.counts.failures;
     } };
 }
 
@@ -104,8 +102,7 @@ impl<W> FromWrite<W> {
     {
         FromWrite {
             writer,
-            interruptions: 0,
-            failures: 0,
+            counts: Counts::default(),
         }
     }
 
@@ -119,13 +116,13 @@ impl<W> FromWrite<W> {
     pub fn interruptions(&self) -> u64
         ensures { result ≡ self.now.interruptions }
     {
-        self.interruptions
+        self.counts.interruptions
     }
 
     pub fn failures(&self) -> u64
         ensures { result ≡ self.now.failures }
     {
-        self.failures
+        self.counts.failures
     }
 }
 
@@ -144,7 +141,7 @@ impl<W: Write> Sink for FromWrite<W> {
             Ok(_) => Trouble::Failed,
             Err(error) => trouble_of(&error),
         };
-        count(trouble, &mut self.interruptions, &mut self.failures);
+        self.counts.count(trouble);
         Err(trouble)
     }
 
@@ -152,7 +149,7 @@ impl<W: Write> Sink for FromWrite<W> {
         match self.writer.flush() {
             Ok(()) => Ok(()),
             Err(_) => {
-                count(Trouble::Failed, &mut self.interruptions, &mut self.failures);
+                self.counts.count(Trouble::Failed);
                 Err(Trouble::Failed)
             }
         }
@@ -166,17 +163,5 @@ fn trouble_of(error: &io::Error) -> Trouble
         Trouble::Interrupted
     } else {
         Trouble::Failed
-    }
-}
-
-/// Counts a trouble.
-pub fn count(trouble: Trouble, interruptions: &mut u64, failures: &mut u64)
-    ensures interruptions { interruptions.new
-        ≡ interruptions_after (Some trouble) interruptions.old }
-    ensures failures { failures.new ≡ failures_after (Some trouble) failures.old }
-{
-    match trouble {
-        Trouble::Interrupted => *interruptions = interruptions.saturating_add(1),
-        Trouble::Failed => *failures = failures.saturating_add(1),
     }
 }

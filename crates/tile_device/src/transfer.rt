@@ -1,14 +1,15 @@
-//! Whole inputs and outputs, over devices that give and take a few bytes a call.
+//! Whole inputs and outputs, over devices that give and take a few bytes a call. A call that was
+//! interrupted is made again, as long as there are retries left.
 
-ghost use Rattle.std.specs.Prelude.{◌≡◌, ℕ, ◌<◌, ◌≤◌, List, IfOk, IsTrue, OnErr, OnOk, length, take};
-ghost use Rattle.std.specs.Io.{StartsWith, appended_bytes};
-ghost use Rattle.std.specs.Io.KnownBytes.{Appends, Consumes, IsAtEnd};
-ghost use Rattle.tile_device.specs.Device.{failures_after, interruptions_after, trouble_of};
-ghost use Rattle.tile_device.specs.Seen.{Sends, sink_at};
-ghost use Rattle.tile_device.specs.Transfer.{read_trouble_of};
+ghost use Rattle.std.specs.Prelude.{◌≡◌, ℕ, ◌-◌, ◌<◌, ◌≤◌, IfOk, IsTrue, OnErr, length, take};
+ghost use Rattle.std.specs.Io.KnownBytes.{Appends};
+ghost use Rattle.tile_device.specs.Device.{trouble_of};
+ghost use Rattle.tile_device.specs.Seen.{Intake, Sends, Spends, Supplies, sink_at, source_at};
+ghost use Rattle.tile_device.specs.Transfer.{ReadsUpTo, piece_of, read_trouble_of};
 
 use crate::device::{Sink, Source, Trouble};
-use std::alloc::Global;
+use crate::retries::Retries;
+use std::alloc::{AllocError, Global};
 use thiserror::Error;
 
 /// Why a source was not read to its end.
@@ -20,102 +21,109 @@ pub enum ReadFault {
     NoMemory,
 }
 
+impl From<Trouble> for ReadFault {
+    ghost use Rattle.tile_device.specs.declared.transfer.ReadFault.TheVariants.{Device};
+
+    ghost from_gives = { λ trouble fault. fault ≡ Device trouble };
+
+    fn from(trouble: Trouble) -> Self {
+        ReadFault::Device(trouble)
+    }
+}
+
+impl From<AllocError> for ReadFault {
+    ghost use Rattle.tile_device.specs.declared.transfer.ReadFault.TheVariants.{NoMemory};
+
+    ghost from_gives = { λ _ fault. fault ≡ NoMemory };
+
+    fn from(_: AllocError) -> Self {
+        ReadFault::NoMemory
+    }
+}
+
 // How many bytes one read asks for at most.
 const PIECE: usize = 16384;
 
-/// Appends what the source has left, but at most `limit` bytes. A fault keeps what was read before
-/// it.
-pub fn append_to_limit<S: Source>(
+/// Reads into the front of the buffer, as `Source::read` does. An interrupted read is made again.
+pub fn read_some<S: Source>(
     source: &mut S,
-    bytes: &mut Vec<u8>,
-    limit: usize,
-) -> Result<(), ReadFault>
-    ensures appends { StartsWith bytes.new.items bytes.old.items }
-    ensures at_most { length (appended_bytes bytes.old.items bytes.new.items) ≤ limit }
-    ensures interruptions { S.interruptions source.new
-        ≡ interruptions_after (read_trouble_of result) (S.interruptions source.old) }
-    ensures failures { S.failures source.new
-        ≡ failures_after (read_trouble_of result) (S.failures source.old) }
-
-    // Where the source still tells, no byte that it gave is lost, and fewer than the limit are all.
-    ensures still_tells { IsTrue (S.tells source.new) → IsTrue (S.tells source.old) }
-    ensures none_lost { IsTrue (S.tells source.new)
-        → Consumes (S.left source.old) (S.left source.new)
-        (appended_bytes bytes.old.items bytes.new.items) }
-    ensures end { IsTrue (S.tells source.new) → OnOk result
-        (length (appended_bytes bytes.old.items bytes.new.items) < limit
-        → IsAtEnd (S.left source.new)) }
+    buffer: &mut [u8],
+    retries: &mut Retries,
+) -> Result<usize, Trouble>
+    ensures within { IfOk result (λ n. n ≤ length buffer.new) }
+    ensures spends { Spends retries.old retries.new (trouble_of result) }
+    ensures supplies { Supplies (source_at S.Source source.old) (source_at S.Source source.new)
+        (piece_of result buffer.new (retries.old - retries.new)) }
 {
+    loop {
+        match source.read(buffer) {
+            Ok(count) => return Ok(count),
+            Err(trouble) => retries.take_for(trouble)?,
+        }
+    }
+}
+
+/// Reads what the source has left, but at most `limit` bytes. An interrupted read is made again. A
+/// fault loses what was read.
+pub fn read_to_limit<S: Source>(
+    alloc: Global,
+    source: &mut S,
+    limit: usize,
+    retries: &mut Retries,
+) -> Result<Vec<u8>, ReadFault>
+    ensures spends { Spends retries.old retries.new (read_trouble_of result) }
+    ensures supplies { (intake : Intake)
+        × Supplies (source_at S.Source source.old) (source_at S.Source source.new) intake
+        × (intake.retries ≡ retries.old - retries.new) × ReadsUpTo limit result intake }
+{
+    let mut bytes = Vec::new(alloc);
     let mut piece = [0; PIECE];
     let mut room = limit;
     while room > 0 {
         let size = room.min(PIECE);
-        bytes.reserve(size).map_err(|_| ReadFault::NoMemory)?;
-        let count = source.read(&mut piece[..size]).map_err(ReadFault::Device)?;
+        bytes.reserve(size)?;
+        let count = read_some(source, &mut piece[..size], retries)?;
         if count == 0 {
-            return Ok(());
+            return Ok(bytes);
         }
         // The room was made before the read, so that no byte is lost.
         bytes.extend_from_slice(&piece[..count]).unwrap();
         room -= count;
     }
-    Ok(())
-}
-
-/// Reads what the source has left, but at most `limit` bytes.
-pub fn read_to_limit<S: Source>(
-    alloc: Global,
-    source: &mut S,
-    limit: usize,
-) -> Result<Vec<u8>, ReadFault>
-    ensures at_most { IfOk result (λ bytes. length bytes.items ≤ limit) }
-    ensures interruptions { S.interruptions source.new
-        ≡ interruptions_after (read_trouble_of result) (S.interruptions source.old) }
-    ensures failures { S.failures source.new
-        ≡ failures_after (read_trouble_of result) (S.failures source.old) }
-
-    // Where the source still tells, no byte that it gave is lost, and fewer than the limit are all.
-    ensures still_tells { IsTrue (S.tells source.new) → IsTrue (S.tells source.old) }
-    ensures none_lost { IsTrue (S.tells source.new) → IfOk result
-        (λ bytes. Consumes (S.left source.old) (S.left source.new) bytes.items) }
-    ensures end { IsTrue (S.tells source.new) → IfOk result
-        (λ bytes. length bytes.items < limit → IsAtEnd (S.left source.new)) }
-
-    // A fault loses what was read, which is within the limit too.
-    ensures lost { IsTrue (S.tells source.new) → OnErr result ((lost : List ℕ)
-        × (length lost ≤ limit) × Consumes (S.left source.old) (S.left source.new) lost) }
-{
-    let mut bytes = Vec::new(alloc);
-    append_to_limit(source, &mut bytes, limit)?;
     Ok(bytes)
 }
 
-/// Writes all of the bytes, in as many writes as it takes. Trouble stops it.
-pub fn write_all<S: Sink>(sink: &mut S, bytes: &[u8]) -> Result<(), Trouble>
-    ensures interruptions { S.interruptions sink.new
-        ≡ interruptions_after (trouble_of result) (S.interruptions sink.old) }
-    ensures failures { S.failures sink.new
-        ≡ failures_after (trouble_of result) (S.failures sink.old) }
+/// Writes all of the bytes, in as many writes as it takes. An interrupted write is made again.
+pub fn write_all<S: Sink>(sink: &mut S, bytes: &[u8], retries: &mut Retries) -> Result<(), Trouble>
+    ensures spends { Spends retries.old retries.new (trouble_of result) }
+    ensures sends { Sends (sink_at S.Sink sink.old) (sink_at S.Sink sink.new) bytes.now
+        (retries.old - retries.new) result }
 
-    // Where the sink still tells, it took all of the bytes, or before a trouble a front of them.
-    ensures still_tells { IsTrue (S.tells sink.new) → IsTrue (S.tells sink.old) }
-    ensures all { IsTrue (S.tells sink.new) → OnOk result
-        (Appends (S.written sink.old) (S.written sink.new) bytes.now) }
+    // Trouble comes before the last byte.
     ensures front { IsTrue (S.tells sink.new) → OnErr result ((n : ℕ) × (n < length bytes.now)
         × Appends (S.written sink.old) (S.written sink.new) (take n bytes.now)) }
 {
     let mut rest = bytes;
     while !rest.is_empty() {
-        let count = sink.write(rest)?;
-        rest = &rest[count..];
+        match sink.write(rest) {
+            Ok(count) => rest = &rest[count..],
+            Err(trouble) => retries.take_for(trouble)?,
+        }
     }
     Ok(())
 }
 
-/// Writes all of the bytes, and passes on what is held back.
-pub fn write_and_flush<W: Sink>(sink: &mut W, bytes: &[u8]) -> Result<(), Trouble>
-    ensures { Sends (sink_at W.Sink sink.old) (sink_at W.Sink sink.new) bytes.now result }
+/// Writes all of the bytes, and passes on what is held back. An interrupted write is made again,
+/// and a flush never is.
+pub fn write_and_flush<S: Sink>(
+    sink: &mut S,
+    bytes: &[u8],
+    retries: &mut Retries,
+) -> Result<(), Trouble>
+    ensures spends { Spends retries.old retries.new (trouble_of result) }
+    ensures sends { Sends (sink_at S.Sink sink.old) (sink_at S.Sink sink.new) bytes.now
+        (retries.old - retries.new) result }
 {
-    write_all(sink, bytes)?;
+    write_all(sink, bytes, retries)?;
     sink.flush()
 }

@@ -10,3 +10,5 @@ pub mod Asking
 pub mod ParseRefusals
 pub mod Silent
 pub mod WholeLines
+pub mod LongLines
+pub mod Cutting

@@ -1,9 +1,25 @@
--- Lines that ask for nothing.
-use Rattle.std.proofs.Common.{◌≡◌, Some, None, Result, Ok, Err}
-use Rattle.tile_script.specs.Line.{◌>>=◌}
+-- Lines that ask for nothing, and lines that take memory.
+use Rattle.std.proofs.Common.{◌≡◌, ℕ, false, true, ltb, List, length, Some, None, Result, Ok, Err, refl, sym, ◌∙◌}
+use Rattle.std.specs.Str.{is_utf8}
+use Rattle.std.proofs.lemmas.Bool.{le-ltb}
+use Rattle.std.proofs.lemmas.Str.{is_utf8-from_IsUtf8}
+use Rattle.tile_script.specs.Line.{◌>>=◌, request_in, answer_to, TakesMemory}
+use Rattle.tile_script.specs.declared.TheConstants.{LINE_LIMIT}
 use Rattle.tile_script.specs.declared.parse_error.ParseError.{ParseError}
 
 -- a line of words is not such a line
 pub asks_something : {A P : Type 0} (r : Result A ParseError) → (r >>= λ x. Ok (Some x)) ≡ Ok None → P
 asks_something (Ok x) e = absurd cc
 asks_something (Err error) e = absurd cc
+
+-- a line that takes memory is read as words
+pub answer_to-words : (line : List ℕ) → TakesMemory line → answer_to line ≡ (request_in line >>= λ request. Ok (Some request))
+unfolding answer_to
+answer_to-words line (readable, other) =
+    let short : ltb LINE_LIMIT (length line) ≡ false = le-ltb _ _ readable.0 in
+    let text : is_utf8 line ≡ true = is_utf8-from_IsUtf8 line readable.1 in
+    rw (short, text, other) refl
+
+-- a line that asks for nothing takes no memory
+pub nothing_taken : (line : List ℕ) → answer_to line ≡ Ok None → TakesMemory line → ⊥
+nothing_taken line nothing takes = asks_something (request_in line) (sym (answer_to-words line takes) ∙ nothing)

@@ -1,94 +1,135 @@
--- The lines that end with a line feed, byte by byte.
-use Rattle.std.proofs.Common.{◌≡◌, ℕ, ◌+◌, ◌<◌, Bool, true, false, eqb, eq-eqb, List, [], ◌∷◌, ◌++◌, length, take, get_or, refl, sym, ap, ◌∙◌, arith}
-use Rattle.std.proofs.lemmas.Bool.Decides.{nat_tests}
-use Rattle.std.proofs.lemmas.List.{take_more}
+-- The whole lines of a front of a script, and the line that goes on behind them.
+use Rattle.std.proofs.Common.{◌≡◌, ℕ, ◌+◌, ◌<◌, Bool, true, false, eqb, eq-eqb, List, [], ◌∷◌, ◌++◌, length, take, get_or, refl, sym, ap, ◌∙◌, append_assoc, arith}
 use Rattle.std.specs.List.{slice_split, onto_first}
-use Rattle.tile_script.specs.Lines.{without_last, whole_lines}
-use Rattle.tile_script.specs.Lines.{without_empty_end, lines_of}
+use Rattle.std.proofs.lemmas.Bool.Decides.{nat_tests}
+use Rattle.std.proofs.lemmas.List.{append-nil, take_more}
+use Rattle.tile_script.specs.Lines.{is_line_feed, last_line, without_empty_end, without_last, whole_lines, lines_of}
+use Rattle.tile_script.proofs.LineCuts.{first_stays}
 
-without_last_end : (ys : List (List ℕ)) (z : List ℕ) → without_last (ys ++ z ∷ []) ≡ ys
-without_last_end [] z = refl
-without_last_end (y ∷ []) z = refl
-without_last_end (y ∷ next ∷ more) z = ap (λ (t : List (List ℕ)). y ∷ t) (without_last_end (next ∷ more) z)
+-- the last of some parts
+abbrev last_part : List (List ℕ) → List ℕ
+last_part [] = []
+last_part (part ∷ []) = part
+last_part (part ∷ next ∷ parts) = last_part (next ∷ parts)
 
-empty_end : (ys : List (List ℕ)) → without_empty_end (ys ++ [] ∷ []) ≡ ys
-empty_end [] = refl
-empty_end (y ∷ []) = refl
-empty_end (y ∷ next ∷ more) = ap (λ (t : List (List ℕ)). y ∷ t) (empty_end (next ∷ more))
+-- the bytes behind the last line feed
+abbrev pub open_line : List ℕ → List ℕ
+open_line text = last_part (slice_split is_line_feed text)
 
--- an end behind other parts
-end_behind : (ys zs : List (List ℕ)) (z : List ℕ) (more : List (List ℕ)) → zs ≡ z ∷ more → without_empty_end (ys ++ zs) ≡ ys ++ without_empty_end zs
-end_behind [] zs z more e = refl
-end_behind (y ∷ []) zs z more e = rw e refl
-end_behind (y ∷ next ∷ rest) zs z more e = ap (λ (t : List (List ℕ)). y ∷ t) (end_behind (next ∷ rest) zs z more e)
+-- parts, where a line stands before the first
+abbrev behind : List ℕ → List (List ℕ) → List (List ℕ)
+behind line [] = line ∷ []
+behind line (part ∷ parts) = (line ++ part) ∷ parts
 
 -- there is a part at least
-record HasPart (xs : List ℕ) : Type 0 where
-  first : List ℕ
-  others : List (List ℕ)
-  is : slice_split (λ b. eqb b 10) xs ≡ first ∷ others
-
-one_at_least : (xs : List ℕ) → HasPart xs
-one_at_least [] = record { first = []; others = []; is = refl }
-one_at_least (x ∷ xs) = by_feed (eqb x 10) refl (one_at_least xs)
+some_part : (text : List ℕ) → (first : List ℕ) × (others : List (List ℕ)) × (slice_split is_line_feed text ≡ first ∷ others)
+some_part [] = ([], [], refl)
+some_part (b ∷ text) = by_feed (is_line_feed b) refl (some_part text)
   where
-    by_feed : (q : Bool) → eqb x 10 ≡ q → HasPart xs → HasPart (x ∷ xs)
-    by_feed true e rest = record { first = []; others = slice_split (λ b. eqb b 10) xs; is = rw e refl }
-    by_feed false e rest = record { first = x ∷ rest.first; others = rest.others; is = rw e (ap (onto_first x) rest.is) }
+    by_feed : (q : Bool) → is_line_feed b ≡ q → (first : List ℕ) × (others : List (List ℕ)) × (slice_split is_line_feed text ≡ first ∷ others) → (first : List ℕ) × (others : List (List ℕ)) × (slice_split is_line_feed (b ∷ text) ≡ first ∷ others)
+    by_feed true e rest = ([], slice_split is_line_feed text, rw e refl)
+    by_feed false e rest = (b ∷ rest.0, rest.1, rw e (ap (onto_first b) rest.2))
 
-onto_end : (x : ℕ) (ys zs : List (List ℕ)) (first : List ℕ) (others : List (List ℕ)) → ys ≡ first ∷ others → onto_first x (ys ++ zs) ≡ onto_first x ys ++ zs
-onto_end x ys zs first others e = rw e refl
+from_nothing : (parts : List (List ℕ)) (first : List ℕ) (others : List (List ℕ)) → parts ≡ first ∷ others → parts ≡ behind [] parts
+from_nothing parts first others e = rw e refl
 
--- a line feed ends a part
-split_feed : (xs : List ℕ) (b : ℕ) (more : List ℕ) → eqb b 10 ≡ true
-    → slice_split (λ b. eqb b 10) (xs ++ b ∷ more) ≡ slice_split (λ b. eqb b 10) xs ++ slice_split (λ b. eqb b 10) more
-split_feed [] b more e = rw e refl
-split_feed (x ∷ xs) b more e = by_feed (eqb x 10) refl (split_feed xs b more e)
+onto_joined : (b : ℕ) (parts more : List (List ℕ)) → onto_first b (without_last parts ++ behind (last_part parts) more) ≡ without_last (onto_first b parts) ++ behind (last_part (onto_first b parts)) more
+onto_joined b [] [] = refl
+onto_joined b [] (next ∷ more) = refl
+onto_joined b (part ∷ []) [] = refl
+onto_joined b (part ∷ []) (next ∷ more) = refl
+onto_joined b (part ∷ other ∷ parts) more = refl
+
+feed_joined : (parts more : List (List ℕ)) (first : List ℕ) (others : List (List ℕ)) → parts ≡ first ∷ others → [] ∷ (without_last parts ++ behind (last_part parts) more) ≡ without_last ([] ∷ parts) ++ behind (last_part ([] ∷ parts)) more
+feed_joined parts more first others e = rw e refl
+
+-- the whole lines of a front stay, and what stands behind them goes on
+split-append : (front more : List ℕ) → slice_split is_line_feed (front ++ more) ≡ whole_lines front ++ behind (open_line front) (slice_split is_line_feed more)
+split-append [] more = let some = some_part more in from_nothing (slice_split is_line_feed more) some.0 some.1 some.2
+split-append (b ∷ front) more = by_feed (is_line_feed b) refl (split-append front more)
   where
-    by_feed : (q : Bool) → eqb x 10 ≡ q → slice_split (λ b. eqb b 10) (xs ++ b ∷ more) ≡ slice_split (λ b. eqb b 10) xs ++ slice_split (λ b. eqb b 10) more
-        → slice_split (λ b. eqb b 10) (x ∷ (xs ++ b ∷ more)) ≡ slice_split (λ b. eqb b 10) (x ∷ xs) ++ slice_split (λ b. eqb b 10) more
-    by_feed true q same = rw q (ap (λ (t : List (List ℕ)). [] ∷ t) same)
-    by_feed false q same = let some = one_at_least xs in
-        rw q (ap (onto_first x) same ∙ onto_end x (slice_split (λ b. eqb b 10) xs) (slice_split (λ b. eqb b 10) more) some.first some.others some.is)
+    by_feed : (q : Bool) → is_line_feed b ≡ q → slice_split is_line_feed (front ++ more) ≡ whole_lines front ++ behind (open_line front) (slice_split is_line_feed more)
+        → slice_split is_line_feed (b ∷ (front ++ more)) ≡ whole_lines (b ∷ front) ++ behind (open_line (b ∷ front)) (slice_split is_line_feed more)
+    by_feed true e same = let some = some_part front in
+        rw e (ap (λ (parts : List (List ℕ)). [] ∷ parts) same ∙ feed_joined (slice_split is_line_feed front) (slice_split is_line_feed more) some.0 some.1 some.2)
+    by_feed false e same = rw e (ap (onto_first b) same ∙ onto_joined b (slice_split is_line_feed front) (slice_split is_line_feed more))
 
--- another byte goes onto a part
-onto_same : (x : ℕ) (ys zs : List (List ℕ)) (y z : List ℕ) (more others : List (List ℕ)) → ys ≡ y ∷ more → zs ≡ z ∷ others → without_last ys ≡ without_last zs → without_last (onto_first x ys) ≡ without_last (onto_first x zs)
-onto_same x ys zs y z [] [] p q e = rw (p, q) refl
-onto_same x ys zs y z [] (other ∷ others) p q e = absurd (let h = rw (p, q) at e in cc)
-onto_same x ys zs y z (next ∷ more) [] p q e = absurd (let h = rw (p, q) at e in cc)
-onto_same x ys zs y z (next ∷ more) (other ∷ others) p q e = rw (p, q) (let h = rw (p, q) at e in cc)
+without_last-append : (parts : List (List ℕ)) (part : List ℕ) (more : List (List ℕ)) → without_last (parts ++ part ∷ more) ≡ parts ++ without_last (part ∷ more)
+without_last-append [] part more = refl
+without_last-append (first ∷ []) part more = refl
+without_last-append (first ∷ next ∷ parts) part more = ap (λ (lines : List (List ℕ)). first ∷ lines) (without_last-append (next ∷ parts) part more)
 
-last_onto : (x : ℕ) (xs : List ℕ) → HasPart xs → without_last ([] ∷ slice_split (λ b. eqb b 10) xs) ≡ [] ∷ without_last (slice_split (λ b. eqb b 10) xs)
-last_onto x xs some = rw some.is refl
+without_empty_end-append : (parts : List (List ℕ)) (part : List ℕ) (more : List (List ℕ)) → without_empty_end (parts ++ part ∷ more) ≡ parts ++ without_empty_end (part ∷ more)
+without_empty_end-append [] part more = refl
+without_empty_end-append (first ∷ []) part more = refl
+without_empty_end-append (first ∷ next ∷ parts) part more = ap (λ (lines : List (List ℕ)). first ∷ lines) (without_empty_end-append (next ∷ parts) part more)
 
-split_other : (xs : List ℕ) (b : ℕ) → eqb b 10 ≡ false → without_last (slice_split (λ b. eqb b 10) (xs ++ b ∷ [])) ≡ without_last (slice_split (λ b. eqb b 10) xs)
-split_other [] b e = rw e refl
-split_other (x ∷ xs) b e = by_feed (eqb x 10) refl (split_other xs b e)
-  where
-    by_feed : (q : Bool) → eqb x 10 ≡ q → without_last (slice_split (λ b. eqb b 10) (xs ++ b ∷ [])) ≡ without_last (slice_split (λ b. eqb b 10) xs)
-        → without_last (slice_split (λ b. eqb b 10) (x ∷ (xs ++ b ∷ []))) ≡ without_last (slice_split (λ b. eqb b 10) (x ∷ xs))
-    by_feed true q same = rw q (last_onto x (xs ++ b ∷ []) (one_at_least (xs ++ b ∷ [])) ∙ ap (λ (t : List (List ℕ)). [] ∷ t) same ∙ sym (last_onto x xs (one_at_least xs)))
-    by_feed false q same = let more = one_at_least (xs ++ b ∷ []) in let some = one_at_least xs in
-        rw q (onto_same x (slice_split (λ b. eqb b 10) (xs ++ b ∷ [])) (slice_split (λ b. eqb b 10) xs) more.first some.first more.others some.others more.is some.is same)
+last_part-append : (parts : List (List ℕ)) (part : List ℕ) (more : List (List ℕ)) → last_part (parts ++ part ∷ more) ≡ last_part (part ∷ more)
+last_part-append [] part more = refl
+last_part-append (first ∷ []) part more = refl
+last_part-append (first ∷ next ∷ parts) part more = last_part-append (next ∷ parts) part more
 
-pub whole_lines-feed : (xs : List ℕ) (b : ℕ) → eqb b 10 ≡ true → lines_of (xs ++ b ∷ []) ≡ whole_lines (xs ++ b ∷ [])
+-- the parts of a front and of what follows it, with a part at least behind the whole lines
+front_parts : (front more : List ℕ) → (part : List ℕ) × (parts : List (List ℕ)) × (slice_split is_line_feed (front ++ more) ≡ whole_lines front ++ part ∷ parts)
+front_parts front more =
+    let some = some_part more in
+    (open_line front ++ some.0, some.1, split-append front more ∙ ap (λ (parts : List (List ℕ)). whole_lines front ++ behind (open_line front) parts) some.2)
+
+pub whole_lines-front : (front more : List ℕ) → (others : List (List ℕ)) × (whole_lines (front ++ more) ≡ whole_lines front ++ others)
+whole_lines-front front more =
+    let found = front_parts front more in
+    (without_last (found.0 ∷ found.1), ap without_last found.2 ∙ without_last-append (whole_lines front) found.0 found.1)
+
+pub lines-front : (front more : List ℕ) → (others : List (List ℕ)) × (lines_of (front ++ more) ≡ whole_lines front ++ others)
 unfolding lines_of
-whole_lines-feed xs b e =
-    ap without_empty_end (split_feed xs b [] e) ∙ empty_end (slice_split (λ b. eqb b 10) xs)
-    ∙ sym (ap without_last (split_feed xs b [] e) ∙ without_last_end (slice_split (λ b. eqb b 10) xs) [])
+lines-front front more =
+    let found = front_parts front more in
+    (without_empty_end (found.0 ∷ found.1), ap without_empty_end found.2 ∙ without_empty_end-append (whole_lines front) found.0 found.1)
 
-pub whole_lines-other : (xs : List ℕ) (b : ℕ) → eqb b 10 ≡ false → whole_lines (xs ++ b ∷ []) ≡ whole_lines xs
-whole_lines-other xs b e = split_other xs b e
+-- a line feed ends the line that goes on
+feed_parts : (front : List ℕ) (byte : ℕ) → is_line_feed byte ≡ true → slice_split is_line_feed (front ++ byte ∷ []) ≡ whole_lines front ++ open_line front ∷ [] ∷ []
+feed_parts front byte feed =
+    let alone : slice_split is_line_feed (byte ∷ []) ≡ [] ∷ [] ∷ [] = rw feed refl in
+    split-append front (byte ∷ []) ∙ ap (λ (parts : List (List ℕ)). whole_lines front ++ behind (open_line front) parts) alone ∙ ap (λ (line : List ℕ). whole_lines front ++ line ∷ [] ∷ []) (append-nil (open_line front))
+
+-- another byte joins it
+other_parts : (front : List ℕ) (byte : ℕ) → is_line_feed byte ≡ false → slice_split is_line_feed (front ++ byte ∷ []) ≡ whole_lines front ++ (open_line front ++ byte ∷ []) ∷ []
+other_parts front byte other =
+    let alone : slice_split is_line_feed (byte ∷ []) ≡ (byte ∷ []) ∷ [] = rw other refl in
+    split-append front (byte ∷ []) ∙ ap (λ (parts : List (List ℕ)). whole_lines front ++ behind (open_line front) parts) alone
+
+pub whole_lines-line_feed : (front : List ℕ) (byte : ℕ) → is_line_feed byte ≡ true → whole_lines (front ++ byte ∷ []) ≡ whole_lines front ++ open_line front ∷ []
+whole_lines-line_feed front byte feed = ap without_last (feed_parts front byte feed) ∙ without_last-append (whole_lines front) (open_line front) ([] ∷ [])
+
+pub open_line-line_feed : (front : List ℕ) (byte : ℕ) → is_line_feed byte ≡ true → open_line (front ++ byte ∷ []) ≡ []
+open_line-line_feed front byte feed = ap last_part (feed_parts front byte feed) ∙ last_part-append (whole_lines front) (open_line front) ([] ∷ [])
+
+pub open_line-other : (front : List ℕ) (byte : ℕ) → is_line_feed byte ≡ false → open_line (front ++ byte ∷ []) ≡ open_line front ++ byte ∷ []
+open_line-other front byte other = ap last_part (other_parts front byte other) ∙ last_part-append (whole_lines front) (open_line front ++ byte ∷ []) []
+
+-- the lines are the whole ones, and the one that goes on where it has a byte
+pub lines_of-open : (script : List ℕ) → lines_of script ≡ whole_lines script ++ last_line (open_line script)
+unfolding lines_of
+lines_of-open script =
+    ap (λ (text : List ℕ). without_empty_end (slice_split is_line_feed text)) (sym (append-nil script)) ∙ ap without_empty_end (split-append script [])
+    ∙ without_empty_end-append (whole_lines script) (open_line script ++ []) [] ∙ ap (λ (line : List ℕ). whole_lines script ++ last_line line) (append-nil (open_line script))
+
+pub whole_lines-other : (front : List ℕ) (byte : ℕ) → is_line_feed byte ≡ false → whole_lines (front ++ byte ∷ []) ≡ whole_lines front
+whole_lines-other front byte other = ap without_last (other_parts front byte other) ∙ without_last-append (whole_lines front) (open_line front ++ byte ∷ []) [] ∙ append-nil (whole_lines front)
+
+pub whole_lines-feed : (front : List ℕ) (byte : ℕ) → is_line_feed byte ≡ true → lines_of (front ++ byte ∷ []) ≡ whole_lines (front ++ byte ∷ [])
+whole_lines-feed front byte feed =
+    lines_of-open (front ++ byte ∷ []) ∙ ap (λ (line : List ℕ). whole_lines (front ++ byte ∷ []) ++ last_line line) (open_line-line_feed front byte feed) ∙ append-nil (whole_lines (front ++ byte ∷ []))
 
 -- the lines of a script that is cut behind a line feed
 pub lines_of-append : (front more : List ℕ) → lines_of (front ++ 10 ∷ more) ≡ lines_of (front ++ 10 ∷ []) ++ lines_of more
 unfolding lines_of
 lines_of-append front more =
-    let some = one_at_least more in
-    ap without_empty_end (split_feed front 10 more refl)
-    ∙ end_behind (slice_split (λ b. eqb b 10) front) (slice_split (λ b. eqb b 10) more) some.first some.others some.is
-    ∙ ap (λ (t : List (List ℕ)). t ++ without_empty_end (slice_split (λ b. eqb b 10) more))
-    (sym (ap without_empty_end (split_feed front 10 [] refl) ∙ empty_end (slice_split (λ b. eqb b 10) front)))
+    let parts = split-append front (10 ∷ more) ∙ ap (λ (line : List ℕ). whole_lines front ++ line ∷ slice_split is_line_feed more) (append-nil (open_line front)) in
+    let ended = whole_lines-feed front 10 refl ∙ whole_lines-line_feed front 10 refl in
+    ap without_empty_end parts ∙ without_empty_end-append (whole_lines front) (open_line front) (slice_split is_line_feed more)
+    ∙ ap (λ (lines : List (List ℕ)). whole_lines front ++ lines) (first_stays (open_line front) more)
+    ∙ sym (append_assoc (whole_lines front) (open_line front ∷ []) (lines_of more)) ∙ ap (λ (lines : List (List ℕ)). lines ++ lines_of more) (sym ended)
 
 pub lines_of-nothing : lines_of [] ≡ whole_lines []
 unfolding lines_of

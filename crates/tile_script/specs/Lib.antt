@@ -6,3 +6,5 @@ pub mod Spelling
 pub mod Line
 pub mod Answers
 pub mod Lines
+pub mod Cutting
+pub mod CutStands

@@ -5,6 +5,7 @@ use Rattle.std.specs.Str.Parse.{digits_value}
 use Rattle.mvt_command.specs.Command.{LayerChoice, AtOrdinal, Named, RenameLayer}
 use Rattle.tile_script.specs.Request.{Request, Edit, Undo}
 use Rattle.tile_script.specs.Words.{Word, Bare, Quoted, after_blanks, words_of}
+use Rattle.tile_script.specs.declared.TheConstants.{LINE_LIMIT}
 use Rattle.tile_script.specs.declared.keyword.Keyword.{Keyword}
 use Rattle.tile_script.specs.declared.keyword.Keyword.TheVariants as keywords
 use Rattle.tile_script.specs.declared.parse_error.ParseError.{ParseError}
@@ -36,7 +37,7 @@ unfoldable pub text_of : Word → Result (List ℕ) ParseError
 text_of (Bare bytes) = Err BadArguments
 text_of (Quoted text) = Ok text
 
--- a layer: `#` and its place, or its name as a text
+-- a layer: `#` and its ordinal, or its name as a text
 unfoldable pub layer_of : Word → Result LayerChoice ParseError
 layer_of (Bare []) = Err BadArguments
 layer_of (Bare (b ∷ digits)) = if b == 35 then (number_of digits >>= λ n. Ok (AtOrdinal n)) else Err BadArguments
@@ -83,18 +84,18 @@ is_remark line = is_remark_behind (after_blanks line)
 unfoldable pub request_in : List ℕ → Result Request ParseError
 request_in line = ok_or (words_of line) BadWord >>= asked_by
 
--- what a line of at most 65,536 bytes asks for: nothing, a request, or the first of the refusals in this order
+-- what a line asks for: nothing, a request, or the first of the refusals in this order
 unfoldable pub answer_to : List ℕ → Result (Option Request) ParseError
 answer_to line =
-    if nat_lt 65536 (length line) then Err LineTooLong
+    if nat_lt LINE_LIMIT (length line) then Err LineTooLong
     else (if not (is_utf8 line) then Err BadUtf8
     else (if is_remark line then Ok None
     else (request_in line >>= λ request. Ok (Some request))))
 
 -- a line that is neither too long nor other than UTF-8
 abbrev pub IsReadable : List ℕ → Type 0
-IsReadable line = (length line ≤ 65536) × IsUtf8 line
+IsReadable line = (length line ≤ LINE_LIMIT) × IsUtf8 line
 
--- a line for which memory is asked: it is readable, and neither blank nor a comment
+-- A line that is read into words. For no other line memory is asked for.
 abbrev pub TakesMemory : List ℕ → Type 0
 TakesMemory line = IsReadable line × (is_remark line ≡ false)

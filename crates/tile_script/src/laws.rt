@@ -1,8 +1,11 @@
 //! Laws on how a script is read.
 
-ghost use Rattle.std.specs.Prelude.{◌≡◌, ℕ, List, [], ◌∷◌, Some, Ok, codes};
-ghost use Rattle.mvt_command.specs.Command.{Named, RenameLayer};
-ghost use Rattle.tile_script.specs.Line.{IsReadable, answer_to};
+ghost use Rattle.std.specs.Prelude.{◌≡◌, ℕ, List, [], ◌∷◌, ◌++◌, Some, Ok, codes, map, IsTrue};
+ghost use Rattle.std.specs.Option.{option_to_list};
+ghost use Rattle.std.specs.Str.Parse.{digits_value};
+ghost use Rattle.mvt_command.specs.Command.{AtOrdinal, Named, RenameLayer};
+ghost use Rattle.tile_script.specs.Cutting.{cut_of, nothing_held, after_pushes, rest_of, cuts};
+ghost use Rattle.tile_script.specs.Line.{IsReadable, is_number, answer_to};
 ghost use Rattle.tile_script.specs.Lines.{lines_of, SpellsLines};
 ghost use Rattle.tile_script.specs.Request.{Edit, Undo};
 ghost use Rattle.tile_script.specs.Spelling.{SpellsWords};
@@ -21,8 +24,16 @@ pub fn lines_make_up_the_script()
     ensures only { (script : List ℕ) (lines : List (List ℕ)) → SpellsLines script lines → lines_of script ≡ lines }
 {}
 
-/// A line of the right words asks for a request: `undo`, and `rename-layer` with the old name and the new one.
+/// A cutter that takes a script from its first byte on gives its lines, and no others: those that a line feed completes,
+/// and at the end the rest.
+pub fn cuts_are_lines()
+    ensures { (script : List ℕ) → map cut_of (lines_of script) ≡ cuts nothing_held script ++ option_to_list (rest_of (after_pushes nothing_held script)) }
+{}
+
+/// What three shapes of line ask for: `undo`, and `rename-layer` with a layer's name or its ordinal, and with the new
+/// name.
 pub fn words_ask_for_requests()
     ensures undo { (line : List ℕ) → IsReadable line → SpellsWords line (Bare (codes "undo") ∷ []) → answer_to line ≡ Ok (Some Undo) }
     ensures rename_layer { (line old new : List ℕ) → IsReadable line → SpellsWords line (Bare (codes "rename-layer") ∷ Quoted old ∷ Quoted new ∷ []) → answer_to line ≡ Ok (Some (Edit (RenameLayer (Named old) new))) }
+    ensures rename_layer_at { (line digits new : List ℕ) → IsReadable line → IsTrue (is_number digits) → SpellsWords line (Bare (codes "rename-layer") ∷ Bare (codes "#" ++ digits) ∷ Quoted new ∷ []) → answer_to line ≡ Ok (Some (Edit (RenameLayer (AtOrdinal (digits_value 10 digits)) new))) }
 {}

@@ -1,14 +1,19 @@
 //! What a line of a script asks for.
 
-ghost use Rattle.std.specs.Prelude.{◌≡◌, ◌+◌, ◌*◌, ◌^◌, ◌<◌, map, option_map};
+ghost use Rattle.std.specs.Prelude.{◌≡◌, ℕ, List, ◌+◌, ◌*◌, ◌^◌, ◌<◌, map, option_map};
 ghost use Rattle.std.specs.Option.{SomeIff};
+ghost use Rattle.std.specs.Result.{IsErrOf};
 ghost use Rattle.std.specs.Str.{is_utf8};
 ghost use Rattle.tile_script.specs.Answers.{Gives};
+ghost use Rattle.tile_script.specs.Cutting.{cut_of};
+ghost use Rattle.tile_script.specs.CutStands.{cut_seen};
 ghost use Rattle.mvt_command.specs.CommandStands.{layer_choice_of};
-ghost use Rattle.tile_script.specs.Line.{number_of, text_of, layer_of, rename_layer_of, undo_of, asked_by, request_in, is_remark, answer_to};
+ghost use Rattle.tile_script.specs.Line.{number_of, text_of, layer_of, rename_layer_of, undo_of, asked_by, request_in, is_remark, answer_to, TakesMemory};
 ghost use Rattle.tile_script.specs.RequestStands.{request_of};
 ghost use Rattle.tile_script.specs.WordStands.{word_of};
 
+use crate::LINE_LIMIT;
+use crate::cutter::Cut;
 use crate::keyword::{Keyword, keyword_of};
 use crate::parse_error::ParseError;
 use crate::request::Request;
@@ -18,16 +23,13 @@ use mvt_wire::Items;
 use simdutf8::basic::from_utf8;
 use std::alloc::Global;
 
-/// The bytes that a line may have before its line feed.
-const LINE_LIMIT: usize = 65_536;
-
 /// The request that a line asks for, or nothing where it is blank or a comment.
 #[tactic(auto, unfolding(crate::specs::Line::answer_to), using(crate::proofs::Silent::asks_something))]
 pub fn parse_line(alloc: Global, line: &[u8]) -> Result<Option<Request>, ParseError>
     ensures answer { Gives (option_map request_of) result (answer_to line.now) }
 
-    // A blank line or a comment takes no memory.
-    ensures nothing { answer_to line.now ≡ Ok None → result ≡ Ok None }
+    // A line that is too long or no UTF-8, a blank line and a comment take no memory.
+    ensures no_memory { IsErrOf result ParseError.NoMemory → TakesMemory line.now }
 {
     if line.len() > LINE_LIMIT {
         return Err(ParseError::LineTooLong);
@@ -39,6 +41,21 @@ pub fn parse_line(alloc: Global, line: &[u8]) -> Result<Option<Request>, ParseEr
         return Ok(None);
     }
     Ok(Some(request_in(alloc, line)?))
+}
+
+/// The request that a line asks for which was cut so, or nothing where it is blank or a comment.
+pub fn parse_cut(alloc: Global, cut: Cut<'_>) -> Result<Option<Request>, ParseError>
+    ensures answer { (line : List ℕ) → cut_of line ≡ cut_seen cut.entry
+        → Gives (option_map request_of) result (answer_to line) }
+
+    // What takes no memory as a line takes none as a cut.
+    ensures no_memory { (line : List ℕ) → cut_of line ≡ cut_seen cut.entry
+        → IsErrOf result ParseError.NoMemory → TakesMemory line }
+{
+    match cut {
+        Cut::Line(line) => parse_line(alloc, line),
+        Cut::TooLong => Err(ParseError::LineTooLong),
+    }
 }
 
 fn is_utf8(line: &[u8]) -> bool

@@ -1,11 +1,13 @@
 -- A script that is cut behind a line feed.
 use Rattle.std.proofs.Common.{◌≡◌, ℕ, ◌<◌, Bool, true, false, cond, List, [], ◌∷◌, ◌++◌, length, refl, sym, ap, ◌∙◌, inl, inr, append_assoc, append-nil, arith}
 use Rattle.std.specs.List.{slice_split, onto_first}
+use Rattle.std.proofs.lemmas.Bool.{cases_Bool}
 use Rattle.std.proofs.lemmas.List.Splits.{length-slice_split}
 use Rattle.tile_script.specs.Lines.{is_line_feed, without_empty_end, lines_of}
-use Rattle.tileshell.specs.Run.{Progress, at_first, after_line, after_lines}
+use Rattle.tileshell.specs.Run.{Progress, at_first, after_line, is_over, after_lines}
 use Rattle.tileshell.specs.RunLaws.{FrontsHaveFirstLines, FrontsStand}
 use Rattle.tile_script.proofs.LineCuts.{first_stays, none_of_none}
+use Rattle.tileshell.proofs.Overs.{over_stays}
 
 onto-append : (b : ℕ) (parts more : List (List ℕ)) → 0 < length parts → onto_first b (parts ++ more) ≡ onto_first b parts ++ more
 onto-append b [] more some = absurd (omega arith)
@@ -40,10 +42,15 @@ first_lines front rest (inr (text, whole)) =
     ap (λ (f : List ℕ). lines_of (f ++ rest)) whole ∙ ap lines_of (append_assoc text (10 ∷ []) rest) ∙ at_feed text rest
     ∙ sym (ap (λ (f : List ℕ). lines_of f ++ lines_of rest) whole ∙ ap (λ (ls : List (List ℕ)). ls ++ lines_of rest) (up_to_feed text))
 
-pub after_lines-append : (p : Progress) (lines more : List (List ℕ)) → after_lines p (lines ++ more) ≡ after_lines (after_lines p lines) more
-after_lines-append p [] more = refl
-after_lines-append p (line ∷ lines) more = after_lines-append (after_line p line) lines more
+pub after_lines-append : (strict : Bool) (p : Progress) (lines more : List (List ℕ)) → after_lines strict p (lines ++ more) ≡ after_lines strict (after_lines strict p lines) more
+after_lines-append strict p [] more = refl
+after_lines-append strict p (line ∷ lines) more =
+    elim (cases_Bool (is_over strict p)) [
+      | inl over ↦ rw over (sym (over_stays strict p more over))
+      | inr on ↦ rw on (after_lines-append strict (after_line p line) lines more)
+    ]
 
 pub fronts_stand : FrontsStand
-fronts_stand document depth front rest ends =
-    ap (after_lines (at_first document depth)) (first_lines front rest ends) ∙ after_lines-append (at_first document depth) (lines_of front) (lines_of rest)
+fronts_stand document options front rest ends =
+    let start = at_first document options.depth in
+    ap (after_lines options.strict start) (first_lines front rest ends) ∙ after_lines-append options.strict start (lines_of front) (lines_of rest)

@@ -1,13 +1,15 @@
 pub mod Histories
 pub mod HistoryLaws
 pub mod Sessions
+pub mod Overs
 pub mod Fronts
 pub mod Replying
 pub mod Standing
 pub mod UndoLines
 pub mod NoWant
-pub mod Supplying
+pub mod Taking
 pub mod Walks
+pub mod Budgets
 pub mod Running
 pub mod Courses
 pub mod Headlines

@@ -1,7 +1,8 @@
 -- No reply of a run says that memory was refused.
-use Rattle.std.proofs.Common.{◌≡◌, ◌≢◌, ℕ, zero, suc, ◌+◌, ◌/◌, ◌%◌, Bool, true, false, not, ◌&&◌, ◌==◌, List, [], ◌∷◌, ◌++◌, Option, Some, None, Result, Ok, Err, codes, decimal, refl, sym, ap, subst, ◌∙◌, append_assoc, arith}
+use Rattle.std.proofs.Common.{◌≡◌, ◌≢◌, ℕ, zero, suc, ◌+◌, ◌/◌, ◌%◌, Bool, true, false, not, ◌&&◌, ◌==◌, List, [], ◌∷◌, ◌++◌, Option, Some, None, Result, Ok, Err, codes, decimal, refl, sym, ap, subst, ◌∙◌, inl, inr, append_assoc, arith}
 use Rattle.std.specs.Prelude.{nat_lt, if◌then◌else◌}
 use Rattle.std.specs.Fmt.{digits, digits_onto, digit_glyph}
+use Rattle.std.proofs.lemmas.Bool.{cases_Bool}
 use Rattle.std.proofs.lemmas.Bool.Decides.{nat_tests}
 use Rattle.mvt_wire.specs.Plain.{Document}
 use Rattle.mvt_command.specs.Command.{Command}
@@ -11,7 +12,7 @@ use Rattle.tile_script.specs.Lines.{is_line_feed, lines_of, HasNoLineFeed}
 use Rattle.mvt_edit.specs.Meaning.{applied}
 use Rattle.tileshell.specs.History.{History, present_document, edited, carried_out}
 use Rattle.tileshell.specs.Replies.{accepted_reply, refused_reply, refusal_number, refusal_name, want_of_memory, HasNoWant}
-use Rattle.tileshell.specs.Run.{Progress, at_first, ran, settled_by, answered_by, after_line, after_lines}
+use Rattle.tileshell.specs.Run.{Progress, at_first, ran, settled_by, answered_by, after_line, is_over, after_lines}
 use Rattle.tileshell.specs.RunLaws.{RunsHaveNoWant}
 use Rattle.mvt_edit.specs.declared.edit.Refusal.{Refusal}
 use Rattle.mvt_edit.specs.declared.edit.Refusal.TheVariants as edit
@@ -162,9 +163,13 @@ answered_clean p (Ok None) other clean = clean
 answered_clean p (Ok (Some request)) other clean = settled_clean p (carried_out request p.history) (carried_other request p.history) clean
 answered_clean p (Err error) other clean = clean-append 0 0 p.replies _ clean (refused_clean (p.lines + 1) (refused.Parse error) (parse_is_other error other))
 
-lines_clean : (p : Progress) (lines : List (List ℕ)) → is_clean 0 0 p.replies ≡ true → is_clean 0 0 (after_lines p lines).replies ≡ true
-lines_clean p [] clean = clean
-lines_clean p (first ∷ lines) clean = lines_clean (after_line p first) lines (answered_clean p (answer_to first) (answer_other first) clean)
+lines_clean : (strict : Bool) (p : Progress) (lines : List (List ℕ)) → is_clean 0 0 p.replies ≡ true → is_clean 0 0 (after_lines strict p lines).replies ≡ true
+lines_clean strict p [] clean = clean
+lines_clean strict p (first ∷ lines) clean =
+    elim (cases_Bool (is_over strict p)) [
+      | inl over ↦ rw over clean
+      | inr on ↦ rw on (lines_clean strict (after_line p first) lines (answered_clean p (answer_to first) (answer_other first) clean))
+    ]
 
 -- ---- the reply that says so
 
@@ -183,4 +188,4 @@ clean_no_want replies clean line front rest e =
     unclean 0 0 (front ++ body) rest (subst (λ (text : List ℕ). is_clean 0 0 text ≡ true) whole clean)
 
 pub runs_have_no_want : RunsHaveNoWant
-runs_have_no_want document depth script = clean_no_want (ran document depth script).replies (lines_clean (at_first document depth) (lines_of script) refl)
+runs_have_no_want document options script = clean_no_want (ran document options script).replies (lines_clean options.strict (at_first document options.depth) (lines_of script) refl)

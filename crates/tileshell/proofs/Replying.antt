@@ -1,17 +1,19 @@
 -- What lines add to the replies.
-use Rattle.std.proofs.Common.{◌≡◌, ℕ, ◌+◌, true, List, [], ◌∷◌, ◌++◌, length, Option, Some, None, Result, Ok, Err, refl, sym, ap, subst, ◌∙◌, inl, inr, append_assoc, append-nil, length-append, arith}
+use Rattle.std.proofs.Common.{◌≡◌, ℕ, ◌+◌, Bool, true, false, List, [], ◌∷◌, ◌++◌, length, Option, Some, None, Result, Ok, Err, refl, sym, ap, subst, ◌∙◌, inl, inr, append_assoc, append-nil, length-append, arith}
+use Rattle.std.proofs.lemmas.Bool.{cases_Bool}
 use Rattle.std.proofs.lemmas.List.{append_cancel_left}
 use Rattle.tile_script.specs.Request.{Request}
 use Rattle.tile_script.specs.Line.{answer_to}
 use Rattle.tile_script.specs.Lines.{lines_of}
 use Rattle.tileshell.specs.History.{History, carried_out}
 use Rattle.tileshell.specs.Replies.{accepted_reply, refused_reply, want_of_memory, HasNoWant}
-use Rattle.tileshell.specs.Run.{Progress, ran, tile_of, settled_by, answered_by, after_line, after_lines, MayFollow, Walk}
-use Rattle.tileshell.specs.RunLaws.{RepliesStand, RefusedLinesChangeNothing, SilentLinesChangeNothing, WalksWithoutWantAreRuns, RunsAreWalks}
+use Rattle.tileshell.specs.Run.{Progress, ran, tile_of, settled_by, answered_by, after_line, is_over, after_lines, MayFollow, Walk}
+use Rattle.tileshell.specs.RunLaws.{RepliesStand, RefusedLinesChangeNothing, SilentLinesChangeNothing, StrictRunsStop, AcceptedRunsAreAlike, WalksWithoutWantAreRuns, RunsAreWalks}
 use Rattle.tile_script.specs.declared.parse_error.ParseError.{ParseError}
 use Rattle.tileshell.specs.declared.refused.Refused.{Refused}
 use Rattle.tileshell.specs.declared.refused.Refused.TheVariants as refused
-use Rattle.tileshell.proofs.Fronts.{fronts_stand}
+use Rattle.tileshell.proofs.Overs.{over_stays, goes_on, walk_over, walk_on}
+use Rattle.tileshell.proofs.Fronts.{after_lines-append, fronts_stand}
 
 -- ---- replies are added at the end
 
@@ -37,14 +39,18 @@ answer_adds p (Ok None) = adds_none p (answered_by p (Ok None)) refl
 answer_adds p (Ok (Some request)) = settled_adds p (carried_out request p.history)
 answer_adds p (Err error) = record { reply = refused_reply (p.lines + 1) (refused.Parse error); is = refl }
 
-lines_add : (p : Progress) (lines : List (List ℕ)) → Adds p (after_lines p lines)
-lines_add p [] = adds_none p p refl
-lines_add p (line ∷ lines) = adds_both p (after_line p line) (after_lines (after_line p line) lines) (answer_adds p (answer_to line)) (lines_add (after_line p line) lines)
+lines_add : (strict : Bool) (p : Progress) (lines : List (List ℕ)) → Adds p (after_lines strict p lines)
+lines_add strict p [] = adds_none p p refl
+lines_add strict p (line ∷ lines) =
+    elim (cases_Bool (is_over strict p)) [
+      | inl over ↦ rw over (adds_none p p refl)
+      | inr on ↦ rw on (adds_both p (after_line p line) (after_lines strict (after_line p line) lines) (answer_adds p (answer_to line)) (lines_add strict (after_line p line) lines))
+    ]
 
 pub replies_stand : RepliesStand
-replies_stand document depth front rest ends =
-    let adds = lines_add (ran document depth front) (lines_of rest) in
-    (adds.reply, ap (λ (q : Progress). q.replies) (fronts_stand document depth front rest ends) ∙ adds.is)
+replies_stand document options front rest ends =
+    let adds = lines_add options.strict (ran document options front) (lines_of rest) in
+    (adds.reply, ap (λ (q : Progress). q.replies) (fronts_stand document options front rest ends) ∙ adds.is)
 
 -- ---- which lines change nothing
 
@@ -78,15 +84,49 @@ answer_silent p (Err error) e = absurd (something p.replies _ _ (sym e))
 pub silent_lines : SilentLinesChangeNothing
 silent_lines p line e = answer_silent p (answer_to line) e
 
+-- ---- strict runs
+
+pub runs_stop : StrictRunsStop
+runs_stop p lines more over = after_lines-append true p lines more ∙ over_stays true (after_lines true p lines) more over
+
+-- that a line was refused stays so
+settled_stays : (p : Progress) (result : Result History Refused) → p.any_refused ≡ true → (settled_by p result).any_refused ≡ true
+settled_stays p (Ok history) refused = refused
+settled_stays p (Err reason) refused = refl
+
+refused_stays : (p : Progress) (answer : Result (Option Request) ParseError) → p.any_refused ≡ true → (answered_by p answer).any_refused ≡ true
+refused_stays p (Ok None) refused = refused
+refused_stays p (Ok (Some request)) refused = settled_stays p (carried_out request p.history) refused
+refused_stays p (Err error) refused = refl
+
+lines_stay_refused : (p : Progress) (lines : List (List ℕ)) → p.any_refused ≡ true → (after_lines false p lines).any_refused ≡ true
+lines_stay_refused p [] refused = refused
+lines_stay_refused p (line ∷ lines) refused = lines_stay_refused (after_line p line) lines (refused_stays p (answer_to line) refused)
+
+pub runs_are_alike : AcceptedRunsAreAlike
+runs_are_alike p [] accepted = refl
+runs_are_alike p (line ∷ lines) accepted =
+    elim (cases_Bool p.any_refused) [
+      | inl refused ↦ absurd (let stays = lines_stay_refused p (line ∷ lines) refused in cc)
+      | inr none ↦ goes_on true p line lines none ∙ runs_are_alike (after_line p line) lines accepted
+    ]
+
 -- ---- walks
 
 follow_adds : (p : Progress) (line : List ℕ) (q : Progress) → MayFollow p line q → Adds p q
 follow_adds p line q (inl e) = subst (Adds p) (sym e) (answer_adds p (answer_to line))
-follow_adds p line q (inr (replied, e)) = subst (Adds p) (sym e) (record { reply = want_of_memory (p.lines + 1); is = refl })
+follow_adds p line q (inr (takes, e)) = subst (Adds p) (sym e) (record { reply = want_of_memory (p.lines + 1); is = refl })
 
-walk_adds : (p : Progress) (lines : List (List ℕ)) (q : Progress) → Walk p lines q → Adds p q
-walk_adds p [] q walk = adds_none p q (ap (λ (r : Progress). r.replies) walk)
-walk_adds p (line ∷ lines) q (next, follows, walk) = adds_both p next q (follow_adds p line next follows) (walk_adds next lines q walk)
+walk_adds : (strict : Bool) (p : Progress) (lines : List (List ℕ)) (q : Progress) → Walk strict p lines q → Adds p q
+walk_adds strict p [] q walk = adds_none p q (ap (λ (r : Progress). r.replies) walk)
+walk_adds strict p (line ∷ lines) q walk =
+    elim (cases_Bool (is_over strict p)) [
+      | inl over ↦ adds_none p q (ap (λ (r : Progress). r.replies) (walk_over strict p q (line ∷ lines) over walk))
+      | inr on ↦ (
+          let steps = walk_on strict p q line lines on walk in
+          adds_both p steps.0 q (follow_adds p line steps.0 steps.1) (walk_adds strict steps.0 lines q steps.2)
+          )
+    ]
 
 -- what was added is the one reply and then the others
 cut : (p next q : Progress) (added : List ℕ) → q.replies ≡ p.replies ++ added → (first : Adds p next) → (others : Adds next q) → added ≡ first.reply ++ others.reply
@@ -101,17 +141,33 @@ no_want_behind front rest none line before behind e =
     )
 
 pub runs_are_walks : RunsAreWalks
-runs_are_walks p [] = refl
-runs_are_walks p (line ∷ lines) = (after_line p line, inl refl, runs_are_walks (after_line p line) lines)
+runs_are_walks strict p [] = refl
+runs_are_walks strict p (line ∷ lines) =
+    elim (cases_Bool (is_over strict p)) [
+      | inl over ↦ rw over refl
+      | inr on ↦ rw on (after_line p line, inl refl, runs_are_walks strict (after_line p line) lines)
+    ]
+
+-- no reply says that memory was refused, so it was not at this line
+follows_as_run : (p next q : Progress) (line added : List ℕ) → MayFollow p line next → Adds next q → q.replies ≡ p.replies ++ added → HasNoWant added → next ≡ after_line p line
+follows_as_run p next q line added (inl follows) others e none = follows
+follows_as_run p next q line added (inr (takes, follows)) others e none =
+    let first : Adds p next = record { reply = want_of_memory (p.lines + 1); is = ap (λ (r : Progress). r.replies) follows } in
+    absurd (none (p.lines + 1) [] others.reply (cut p next q added e first others))
 
 pub walks_are_runs : WalksWithoutWantAreRuns
-walks_are_runs p q [] added walk e none = walk
-walks_are_runs p q (line ∷ lines) added (next, inl follows, walk) e none =
-    let first = follow_adds p line next (inl follows) in
-    let others = walk_adds next lines q walk in
-    let rest = no_want_behind first.reply others.reply (subst HasNoWant (cut p next q added e first others) none) in
-    walks_are_runs next q lines others.reply walk others.is rest ∙ ap (λ (r : Progress). after_lines r lines) follows
-walks_are_runs p q (line ∷ lines) added (next, inr (replied, follows), walk) e none =
-    let first : Adds p next = record { reply = want_of_memory (p.lines + 1); is = ap (λ (r : Progress). r.replies) follows } in
-    let others = walk_adds next lines q walk in
-    absurd (none (p.lines + 1) [] others.reply (cut p next q added e first others))
+walks_are_runs strict p q [] added walk e none = walk
+walks_are_runs strict p q (line ∷ lines) added walk e none =
+    elim (cases_Bool (is_over strict p)) [
+      | inl over ↦ rw over (walk_over strict p q (line ∷ lines) over walk)
+      | inr on ↦ (
+          let steps = walk_on strict p q line lines on walk in
+          let others = walk_adds strict steps.0 lines q steps.2 in
+          let first = follow_adds p line steps.0 steps.1 in
+          let rest = no_want_behind first.reply others.reply (subst HasNoWant (cut p steps.0 q added e first others) none) in
+          rw on (
+          walks_are_runs strict steps.0 q lines others.reply steps.2 others.is rest
+          ∙ ap (λ (r : Progress). after_lines strict r lines) (follows_as_run p steps.0 q line added steps.1 others e none)
+          )
+          )
+    ]

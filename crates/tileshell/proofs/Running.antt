@@ -1,120 +1,150 @@
 -- The lines of a script, carried out and replied to.
-use Rattle.std.proofs.Common.{◌≡◌, ℕ, ◌+◌, Bool, false, ◌||◌, List, [], ◌∷◌, ◌++◌, Some, None, refl, sym, ap, subst, ◌∙◌, append_assoc}
-use Rattle.std.specs.Prelude.{Result, Ok, Err, is_err}
+use Rattle.std.proofs.Common.{◌≡◌, ℕ, ◌+◌, ◌-◌, Bool, true, false, ◌||◌, ◌&&◌, List, [], ◌∷◌, ◌++◌, Some, None, refl, sym, ap, subst, ◌∙◌, append-nil}
+use Rattle.std.specs.Prelude.{Result, Ok, Err, is_err, IsSome}
 use Rattle.std.proofs.Math.Bool.{or-true, or-false}
-use Rattle.tileshell.specs.History.{History}
-use Rattle.tileshell.specs.Replies.{accepted_reply, refused_reply}
-use Rattle.tileshell.specs.Run.{Progress, after_lines, Walk}
-use Rattle.tile_device.specs.Seen.{Seen, written, IsFront, Receives, Sends}
-use Rattle.tileshell.specs.Session.{StandsFor}
-use Rattle.tileshell.specs.Steps.{reply_to, answered, CarriesOut, Advances, Falters, AnswersLine, CarriesOutAll, StopsReplying}
+use Rattle.tile_device.specs.Device.{trouble_of}
+use Rattle.tile_device.specs.Seen.{Seen, Output, IsFront, Sends, Spends, written}
 use Rattle.tile_device.specs.declared.device.Trouble.{Trouble}
-use Rattle.tileshell.specs.declared.outcome.Outcome.TheVariants as outcomes
-use Rattle.tileshell.specs.declared.outcome.DeviceName.TheVariants as devices
+use Rattle.tileshell.specs.History.{History}
+use Rattle.tileshell.specs.Run.{Progress, is_over, MayFollow, Walk}
+use Rattle.tileshell.specs.Session.{StandsFor}
+use Rattle.tileshell.specs.Steps.{Writes, reply_to, answered, CarriesOut, IsAt, Advances, Falters, Comes, ComesTo, IsCutShort}
+use Rattle.tileshell.specs.declared.editor.Editor.{Editor}
 use Rattle.tileshell.specs.declared.refused.Refused.{Refused}
 use Rattle.tileshell.specs.declared.session.Session.{Session}
-use Rattle.tile_device.proofs.Sending.{receives_more}
-use Rattle.tileshell.proofs.Walks.{walk_after, walk_grows, front_trans}
+use Rattle.tileshell.proofs.Budgets.{writes_nothing, writes_more, sent_all, sent_front}
+use Rattle.tileshell.proofs.Overs.{walk-append, walk_over_any}
+
+-- ---- one line
 
 replies_are : (p : Progress) (history : History) (answer : Result (Unit {0}) Refused) → (answered p history (Some answer)).replies ≡ p.replies ++ reply_to (p.lines + 1) answer
 replies_are p history (Ok done) = refl
 replies_are p history (Err reason) = refl
 
--- a line is replied to
-pub advances : (old new : Seen) (session : Session) (line : List ℕ) (p : Progress) (number : ℕ) (answer : Result (Unit {0}) Refused)
-    (r : Result (Unit {0}) Trouble) (done : Unit {0}) (refused : Bool)
-    → CarriesOut session line (Some answer) p → p.lines + 1 ≡ number → r ≡ Ok done → refused ≡ is_err answer
-    → Sends old new (reply_to number answer) r → Advances old new session line p refused
-advances old new session line p number (Ok accepted) r done refused carries counted was is sends = record {
-  next = answered p carries.history (Some (Ok accepted));
+is_at : (strict : Bool) (p : Progress) (history : History) (answer : Result (Unit {0}) Refused) (editor : Editor) → StandsFor editor.session history
+    → editor.strict ≡ strict → editor.lines ≡ p.lines + 1 → editor.any_refused ≡ (p.any_refused || is_err answer) → IsAt editor strict (answered p history (Some answer))
+is_at strict p history (Ok done) editor stands strictly lines refused = record { strict = strictly; stands = stands; lines = lines; refused = refused ∙ or-false p.any_refused }
+is_at strict p history (Err reason) editor stands strictly lines refused = record { strict = strictly; stands = stands; lines = lines; refused = refused ∙ or-true p.any_refused }
+
+over_is : (strict : Bool) (p : Progress) (history : History) (answer : Result (Unit {0}) Refused) → is_over strict p ≡ false → is_over strict (answered p history (Some answer)) ≡ (strict && is_err answer)
+over_is true p history (Ok done) on = on
+over_is true p history (Err reason) on = refl
+over_is false p history (Ok done) on = refl
+over_is false p history (Err reason) on = refl
+
+-- a line without a reply
+pub advances_silently : (s : Seen) (left : ℕ) (strict : Bool) (p : Progress) (line : List ℕ) (session : Session) (editor : Editor) → is_over strict p ≡ false
+    → CarriesOut {A = Unit {0}} session line None p → editor.session ≡ session → editor.strict ≡ strict → editor.lines ≡ p.lines + 1 → editor.any_refused ≡ p.any_refused
+    → Advances s s left left editor strict line p false
+advances_silently s left strict p line session editor on carries same strictly lines refused = record {
+  next = answered {A = Unit {0}} p carries.history None;
   follows = carries.follows;
-  stands = carries.stands;
-  lines = refl;
-  any_refused = sym (ap (λ (t : Bool). p.any_refused || t) is ∙ or-false p.any_refused);
-  reply = accepted_reply;
-  replies = refl;
-  receives = subst (Sends old new accepted_reply) was sends;
+  at = record { strict = strictly; stands = subst (λ (t : Session). StandsFor t carries.history) (sym same) carries.stands; lines = lines; refused = refused };
+  over = on;
+  reply = [];
+  replied = sym (append-nil p.replies);
+  retries = 0;
+  writes = writes_nothing s left;
 }
-advances old new session line p number (Err reason) r done refused carries counted was is sends = record {
-  next = answered {A = Unit {0}} p carries.history (Some (Err reason));
+
+-- a line that was replied to
+pub advances : (a b : Seen) (n m : ℕ) (strict over : Bool) (p : Progress) (line : List ℕ) (number : ℕ) (answer : Result (Unit {0}) Refused) (session : Session) (editor : Editor) (r : Result (Unit {0}) Trouble)
+    → is_over strict p ≡ false → CarriesOut session line (Some answer) p → editor.session ≡ session → editor.strict ≡ strict → editor.lines ≡ number → p.lines + 1 ≡ number
+    → editor.any_refused ≡ (p.any_refused || is_err answer) → (strict && is_err answer) ≡ over
+    → is_err r ≡ false → Sends a b (reply_to number answer) (n - m) r → Spends n m (trouble_of r) → Advances a b n m editor strict line p over
+advances a b n m strict over p line number answer session editor r on carries same strictly lines counted refused ends went sends spends = record {
+  next = answered p carries.history (Some answer);
   follows = carries.follows;
-  stands = carries.stands;
-  lines = refl;
-  any_refused = sym (ap (λ (t : Bool). p.any_refused || t) is ∙ or-true p.any_refused);
-  reply = refused_reply number reason;
-  replies = ap (λ (n : ℕ). p.replies ++ refused_reply n reason) counted;
-  receives = subst (Sends old new (refused_reply number reason)) was sends;
+  at = is_at strict p carries.history answer editor (subst (λ (t : Session). StandsFor t carries.history) (sym same) carries.stands) strictly (lines ∙ sym counted) refused;
+  over = over_is strict p carries.history answer on ∙ ends;
+  reply = reply_to number answer;
+  replied = replies_are p carries.history answer ∙ ap (λ (i : ℕ). p.replies ++ reply_to i answer) counted;
+  retries = n - m;
+  writes = sent_all a b n m (reply_to number answer) r went sends spends;
 }
 
--- the reply to a line is cut short
-pub falters : (old new : Seen) (session : Session) (line : List ℕ) (p : Progress) (number : ℕ) (answer : Result (Unit {0}) Refused)
-    (r : Result (Unit {0}) Trouble) (q : Result Bool Trouble) (trouble : Trouble)
-    → CarriesOut session line (Some answer) p → p.lines + 1 ≡ number → r ≡ Err trouble → q ≡ Err trouble
-    → Sends old new (reply_to number answer) r → AnswersLine old new session line p q
-falters old new session line p number answer r q trouble carries counted was is sends =
-    let sent : Sends {A = Unit {0}} old new (reply_to number answer) (Err trouble) = subst (Sends old new (reply_to number answer)) was sends in
-    let next : Progress = answered p carries.history (Some answer) in
-    let grown : next.replies ≡ p.replies ++ reply_to number answer =
-    replies_are p carries.history answer ∙ ap (λ (n : ℕ). p.replies ++ reply_to n answer) counted in
-    let front : IsFront (p.replies ++ sent.0) next.replies =
-    (sent.1.0, grown ∙ ap (λ (t : List ℕ). p.replies ++ t) sent.1.1 ∙ sym (append_assoc p.replies sent.0 sent.1.0)) in
-    subst (AnswersLine old new session line p) (sym is) (record { next = next; follows = carries.follows; front = sent.0; replies = front; receives = sent.2 })
+-- a line whose reply met trouble
+pub falters : (a b : Seen) (n m : ℕ) (p : Progress) (line : List ℕ) (number : ℕ) (answer : Result (Unit {0}) Refused) (session : Session) (r : Result (Unit {0}) Trouble)
+    → CarriesOut session line (Some answer) p → p.lines + 1 ≡ number
+    → is_err r ≡ true → Sends a b (reply_to number answer) (n - m) r → Spends n m (trouble_of r) → Falters a b n m line p
+falters a b n m p line number answer session r carries counted went sends spends =
+    let sent = sent_front a b n m (reply_to number answer) r went sends spends in
+    record {
+      next = answered p carries.history (Some answer);
+      follows = carries.follows;
+      reply = reply_to number answer;
+      replied = replies_are p carries.history answer ∙ ap (λ (i : ℕ). p.replies ++ reply_to i answer) counted;
+      output = sent.0;
+      is_front = sent.1;
+      trouble = sent.2;
+      writes = sent.3;
+    }
 
--- ---- all lines
+-- ---- several lines
 
--- some lines were carried out and replied to, and these are left
-pub record SoFar (old new : Seen) (start : Progress) (all left : List (List ℕ)) (session : Session) (number : ℕ) (any_refused : Bool) : Type 0 where
-  pub progress : Progress
-  pub goes_on : (end : Progress) → Walk progress left end → Walk start all end
-  pub stands : StandsFor session progress.history
-  pub counted : progress.lines ≡ number
-  pub refused : progress.any_refused ≡ any_refused
-  pub receives : Receives old new (written progress.replies)
+one_more : (strict : Bool) (p next : Progress) (line : List ℕ) → is_over strict p ≡ false → MayFollow p line next → Walk strict p (line ∷ []) next
+one_more strict p next line on follows = rw on (next, follows, refl)
 
-pub so_far_none : (s : Seen) (start : Progress) (all : List (List ℕ)) (session : Session) → StandsFor session start.history
-    → start.lines ≡ 0 → start.any_refused ≡ false → Receives s s (written start.replies) → SoFar s s start all all session 0 false
-so_far_none s start all session stands counted refused receives = record {
-  progress = start;
-  goes_on = λ end walk. walk;
-  stands = stands;
-  counted = counted;
-  refused = refused;
-  receives = receives;
+pub comes_more : (strict over : Bool) (start : Progress) (lines all : List (List ℕ)) (line : List ℕ) (a b c : Seen) (n m k : ℕ) (editor after : Editor)
+    → all ≡ lines ++ line ∷ [] → (to : ComesTo strict start lines a b n m editor) → Advances b c m k after strict line to.comes.progress over
+    → Comes strict start all a c n k over
+comes_more strict over start lines all line a b c n m k editor after whole to step =
+    let p = to.comes.progress in
+    record {
+      progress = step.next;
+      walk = subst (λ (ls : List (List ℕ)). Walk strict start ls step.next) (sym whole) (walk-append strict start p step.next lines (line ∷ []) to.comes.walk (one_more strict p step.next line to.comes.over step.follows));
+      over = step.over;
+      retries = to.comes.retries + step.retries;
+      writes = subst (λ (bytes : List ℕ). Writes a c n k (written (to.comes.retries + step.retries) bytes)) (sym step.replied) (writes_more a b c n m k to.comes.retries p.replies (written step.retries step.reply) to.comes.writes step.writes);
+    }
+
+pub comes_to_more : (strict : Bool) (start : Progress) (lines all : List (List ℕ)) (line : List ℕ) (a b c : Seen) (n m k : ℕ) (editor after : Editor)
+    → all ≡ lines ++ line ∷ [] → (to : ComesTo strict start lines a b n m editor) → Advances b c m k after strict line to.comes.progress false
+    → ComesTo strict start all a c n k after
+unfolding comes_more
+comes_to_more strict start lines all line a b c n m k editor after whole to step = record {
+  comes = comes_more strict false start lines all line a b c n m k editor after whole to step;
+  at = step.at;
 }
 
-pub so_far_more : (a b c : Seen) (start : Progress) (all left more : List (List ℕ)) (line : List ℕ) (session after : Session) (number : ℕ) (any_refused refused now_refused : Bool)
-    → left ≡ line ∷ more → (s : SoFar a b start all left session number any_refused) → Advances b c after line s.progress refused
-    → now_refused ≡ (any_refused || refused) → SoFar a c start all more after (number + 1) now_refused
-so_far_more a b c start all left more line session after number any_refused refused now_refused is s step now = record {
-  progress = step.next;
-  goes_on = λ end walk. s.goes_on end (subst (λ (t : List (List ℕ)). Walk s.progress t end) (sym is) (step.next, step.follows, walk));
-  stands = step.stands;
-  counted = step.lines ∙ ap (λ (n : ℕ). n + 1) s.counted;
-  refused = step.any_refused ∙ ap (λ (t : Bool). t || refused) s.refused ∙ sym now;
-  receives = subst (λ (t : List ℕ). Receives a c (written t)) (sym step.replies) (receives_more a b c s.progress.replies step.reply None s.receives step.receives);
+-- the same lines
+pub comes_to_same : (strict : Bool) (start : Progress) (lines all : List (List ℕ)) (a b : Seen) (n m : ℕ) (editor : Editor)
+    → all ≡ lines → ComesTo strict start lines a b n m editor → ComesTo strict start all a b n m editor
+comes_to_same strict start lines all a b n m editor whole to = subst (λ (ls : List (List ℕ)). ComesTo strict start ls a b n m editor) (sym whole) to
+
+-- a run that is over stays so
+pub over_behind : (strict : Bool) (start : Progress) (lines all others : List (List ℕ)) (a b : Seen) (n m : ℕ)
+    → all ≡ lines ++ others → Comes strict start lines a b n m true → Comes strict start all a b n m true
+over_behind strict start lines all others a b n m whole comes = record {
+  progress = comes.progress;
+  walk = subst (λ (ls : List (List ℕ)). Walk strict start ls comes.progress) (sym whole) (walk-append strict start comes.progress comes.progress lines others comes.walk (walk_over_any strict comes.progress others comes.over));
+  over = comes.over;
+  retries = comes.retries;
+  writes = comes.writes;
 }
 
-pub so_far_all : (old new : Seen) (start : Progress) (all left : List (List ℕ)) (session : Session) (number : ℕ) (any_refused : Bool)
-    → left ≡ [] → SoFar old new start all left session number any_refused → CarriesOutAll old new start all session any_refused
-so_far_all old new start all left session number any_refused none s = record {
-  progress = s.progress;
-  walk = s.goes_on s.progress (subst (λ (t : List (List ℕ)). Walk s.progress t s.progress) (sym none) refl);
-  stands = s.stands;
-  refused = s.refused;
-  receives = s.receives;
-}
-
-pub so_far_stops : (a b c : Seen) (start : Progress) (all left more : List (List ℕ)) (line : List ℕ) (session : Session) (number : ℕ) (any_refused : Bool) (trouble : Trouble)
-    → left ≡ line ∷ more → (s : SoFar a b start all left session number any_refused) → Falters b c line s.progress trouble
-    → StopsReplying a c start all (outcomes.Device devices.Replies)
-so_far_stops a b c start all left more line session number any_refused trouble is s step =
-    let end : Progress = after_lines step.next more in
-    let rest : Walk step.next more end = walk_after step.next more in record {
-      names = refl;
-      progress = end;
-      walk = s.goes_on end (subst (λ (t : List (List ℕ)). Walk s.progress t end) (sym is) (step.next, step.follows, rest));
-      output = record { bytes = s.progress.replies ++ step.front; trouble = Some trouble };
-      trouble = refl;
-      front = front_trans (s.progress.replies ++ step.front) step.next.replies end.replies step.replies (walk_grows step.next more end rest);
-      receives = receives_more a b c s.progress.replies step.front (Some trouble) s.receives step.receives;
+-- the reply to the next line met trouble
+pub cut_short : (strict : Bool) (start : Progress) (lines all others : List (List ℕ)) (line : List ℕ) (a b c : Seen) (n m k : ℕ) (editor : Editor)
+    → all ≡ lines ++ line ∷ others → (to : ComesTo strict start lines a b n m editor) → Falters b c m k line to.comes.progress
+    → IsCutShort strict start all a c n k
+cut_short strict start lines all others line a b c n m k editor whole to step =
+    let p = to.comes.progress in
+    record {
+      done = lines;
+      line = line;
+      more = others;
+      split = whole;
+      progress = p;
+      walk = to.comes.walk;
+      goes_on = to.comes.over;
+      next = step.next;
+      follows = step.follows;
+      reply = step.reply;
+      replied = step.replied;
+      front = step.output.bytes;
+      is_front = step.is_front;
+      output = record { bytes = p.replies ++ step.output.bytes; retries = to.comes.retries + step.output.retries; trouble = step.output.trouble };
+      bytes = refl;
+      trouble = step.trouble;
+      writes = writes_more a b c n m k to.comes.retries p.replies step.output to.comes.writes step.writes;
     }

@@ -1,5 +1,5 @@
 -- What holds of the history after any lines.
-use Rattle.std.proofs.Common.{◌≡◌, ℕ, zero, suc, ◌+◌, ◌≤◌, ◌==◌, List, [], ◌∷◌, ◌++◌, take, Option, Some, None, Result, Ok, Err, refl, sym, ap, subst, ◌∙◌, inl, inr}
+use Rattle.std.proofs.Common.{◌≡◌, ℕ, zero, suc, ◌+◌, ◌≤◌, ◌==◌, Bool, List, [], ◌∷◌, ◌++◌, take, Option, Some, None, Result, Ok, Err, refl, sym, ap, subst, ◌∙◌, inl, inr}
 use Rattle.std.proofs.lemmas.Bool.{cases_Bool}
 use Rattle.mvt_wire.specs.Plain.{Document}
 use Rattle.mvt_command.specs.Command.{Command}
@@ -8,8 +8,9 @@ use Rattle.mvt_edit.specs.Meaning.{applied}
 use Rattle.tile_script.specs.Line.{answer_to}
 use Rattle.tile_script.specs.Lines.{lines_of}
 use Rattle.tileshell.specs.History.{History, IsSound, begun, after_all, present_document, with_command, undone, edited, carried_out}
-use Rattle.tileshell.specs.Run.{Progress, at_first, ran, settled_by, answered_by, after_line, after_lines}
+use Rattle.tileshell.specs.Run.{Progress, at_first, ran, settled_by, answered_by, after_line, is_over, after_lines}
 use Rattle.tileshell.specs.RunLaws.{Makes, IsHistoryOf, StandingCommands}
+use Rattle.tileshell.specs.declared.outcome.Options.{Options}
 use Rattle.mvt_edit.specs.declared.edit.Refusal.{Refusal}
 use Rattle.tile_script.specs.declared.parse_error.ParseError.{ParseError}
 use Rattle.tileshell.specs.declared.refused.Refused.{Refused}
@@ -83,18 +84,22 @@ goes_answered document depth p (Ok None) goes = goes
 goes_answered document depth p (Ok (Some request)) goes = goes_settled document depth p request (carried_out request p.history) refl goes
 goes_answered document depth p (Err error) goes = goes
 
-goes_lines : (document : Document) (depth : ℕ) (p : Progress) (lines : List (List ℕ)) → Goes document depth p.history → Goes document depth (after_lines p lines).history
-goes_lines document depth p [] goes = goes
-goes_lines document depth p (line ∷ lines) goes = goes_lines document depth (after_line p line) lines (goes_answered document depth p (answer_to line) goes)
+goes_lines : (document : Document) (depth : ℕ) (strict : Bool) (p : Progress) (lines : List (List ℕ)) → Goes document depth p.history → Goes document depth (after_lines strict p lines).history
+goes_lines document depth strict p [] goes = goes
+goes_lines document depth strict p (line ∷ lines) goes =
+    elim (cases_Bool (is_over strict p)) [
+      | inl over ↦ rw over goes
+      | inr on ↦ rw on (goes_lines document depth strict (after_line p line) lines (goes_answered document depth p (answer_to line) goes))
+    ]
 
 goes_begun : (document : Document) (depth : ℕ) → 1 ≤ depth → Goes document depth (begun document depth)
 goes_begun document depth some = record { start = refl; steps = refl; sound = stays_sound.0 document depth some; made = document; makes = refl }
 
-goes_ran : (document : Document) (depth : ℕ) (script : List ℕ) → 1 ≤ depth → Goes document depth (ran document depth script).history
-goes_ran document depth script some = goes_lines document depth (at_first document depth) (lines_of script) (goes_begun document depth some)
+goes_ran : (document : Document) (options : Options) (script : List ℕ) → 1 ≤ options.depth → Goes document options.depth (ran document options script).history
+goes_ran document options script some = goes_lines document options.depth options.strict (at_first document options.depth) (lines_of script) (goes_begun document options.depth some)
 
-pub sound_ran : (document : Document) (depth : ℕ) (script : List ℕ) → 1 ≤ depth → IsSound (ran document depth script).history
-sound_ran document depth script some = (goes_ran document depth script some).sound
+pub sound_ran : (document : Document) (options : Options) (script : List ℕ) → 1 ≤ options.depth → IsSound (ran document options script).history
+sound_ran document options script some = (goes_ran document options script some).sound
 
 is_history : (document : Document) (depth : ℕ) (history : History) → Goes document depth history → IsHistoryOf document depth history
 is_history document depth history goes =
@@ -109,4 +114,4 @@ is_history document depth history goes =
     }
 
 pub standing_commands : StandingCommands
-standing_commands document depth script some = is_history document depth (ran document depth script).history (goes_ran document depth script some)
+standing_commands document options script some = is_history document options.depth (ran document options script).history (goes_ran document options script some)

@@ -70,32 +70,32 @@ pub record IsWritten (output : Output) (bytes : List ℕ) : Type 0 where
   pub untroubled : output.trouble ≡ None
 
 -- the script was read to its end, and each line was carried out and replied to
-pub record CarriesThrough (strict : Bool) (start : Progress) (script : Intake) (replies : Output) (progress : Progress) : Type 0 where
+pub record CarriesThrough (strict : Bool) (start : Progress) (script : Intake) (output : Output) (progress : Progress) : Type 0 where
   pub whole : script.is_whole ≡ true
   pub untroubled : script.trouble ≡ None
   pub walk : Walk strict start (lines_in script) progress
   pub goes_on : is_over strict progress ≡ false
-  pub replies : IsWritten replies progress.replies
+  pub replies : IsWritten output progress.replies
 
 -- a line was refused, and the run is strict: it and those before it were replied to
-pub record StopsStrictly (strict : Bool) (start : Progress) (script : Intake) (replies : Output) : Type 0 where
+pub record StopsStrictly (strict : Bool) (start : Progress) (script : Intake) (output : Output) : Type 0 where
   pub untroubled : script.trouble ≡ None
   pub progress : Progress
   pub walk : Walk strict start (lines_in script) progress
   pub over : is_over strict progress ≡ true
-  pub replies : IsWritten replies progress.replies
+  pub replies : IsWritten output progress.replies
 
 -- the script met trouble or is too long: its whole lines were carried out and replied to
-pub record StopsAtScript (strict : Bool) (start : Progress) (script : Intake) (replies : Output) : Type 0 where
+pub record StopsAtScript (strict : Bool) (start : Progress) (script : Intake) (output : Output) : Type 0 where
   pub cause : IsSome script.trouble ⊎ (MAX_SCRIPT < length script.bytes)
   pub cut : script.is_whole ≡ false
   pub progress : Progress
   pub walk : Walk strict start (lines_in script) progress
   pub goes_on : is_over strict progress ≡ false
-  pub replies : IsWritten replies progress.replies
+  pub replies : IsWritten output progress.replies
 
 -- the reply to a line met trouble: those before it were replied to, and what was written of its own is a front of it
-pub record StopsAtReplies (strict : Bool) (start : Progress) (script : Intake) (replies : Output) : Type 0 where
+pub record StopsAtReplies (strict : Bool) (start : Progress) (script : Intake) (output : Output) : Type 0 where
   pub untroubled : script.trouble ≡ None
   pub first : List (List ℕ)
   pub line : List ℕ
@@ -110,8 +110,8 @@ pub record StopsAtReplies (strict : Bool) (start : Progress) (script : Intake) (
   pub replied : next.replies ≡ progress.replies ++ reply
   pub front : List ℕ
   pub is_front : IsFront front reply
-  pub written : replies.bytes ≡ progress.replies ++ front
-  pub trouble : IsSome replies.trouble
+  pub written : output.bytes ≡ progress.replies ++ front
+  pub trouble : IsSome output.trouble
 
 -- ---- how a run ends
 

@@ -8,3 +8,4 @@ pub mod Course
 pub mod Headline
 pub mod Steps
 pub mod DeviceLaws
+pub mod Outcomes

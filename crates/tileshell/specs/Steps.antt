@@ -1,97 +1,60 @@
 -- What the steps of a run answer.
-use Rattle.std.specs.Prelude.{◌≡◌, ℕ, ◌+◌, Bool, true, false, not, ◌||◌, List, [], ◌++◌, length, nat_le, Option, Some, None, IsSome, Result, Ok, Err}
+use Rattle.std.specs.Prelude.{◌≡◌, ℕ, ◌+◌, ◌≤◌, Bool, true, false, List, [], ◌∷◌, ◌++◌, length, Option, Some, None, IsSome, Result, Ok, Err}
 use Rattle.mvt_wire.specs.declared.TheConstants.{MAX_FILE}
 use Rattle.mvt_wire.specs.declared.document.Document.{Document}
-use Rattle.mvt_wire.specs.Opens.{OpensAs}
+use Rattle.mvt_wire.specs.Plain as plain
 use Rattle.mvt_wire.specs.Stands.{document_of}
-use Rattle.std.specs.declared.vec.Vec.{Vec}
-use Rattle.std.specs.declared.alloc.Global.{Global}
+use Rattle.tile_device.specs.Seen.{Seen, Intake, Output, IsFront, Receives, Supplies, nothing_read, written}
 use Rattle.tile_device.specs.declared.device.Trouble.{Trouble}
-use Rattle.tileshell.specs.declared.outcome.Outcome.{Outcome}
-use Rattle.tileshell.specs.declared.outcome.Outcome.TheVariants as outcomes
-use Rattle.tileshell.specs.declared.outcome.DeviceName.TheVariants as devices
+use Rattle.tile_device.specs.declared.device.Trouble.TheVariants.{Interrupted}
+use Rattle.tile_script.specs.Cutting.{Holding, after_pushes, nothing_held}
+use Rattle.tile_script.specs.Lines.{whole_lines}
+use Rattle.tileshell.specs.declared.editor.Editor.{Editor}
+use Rattle.tileshell.specs.declared.outcome.LineStop.{LineStop}
+use Rattle.tileshell.specs.declared.outcome.LineStop.TheVariants as line_stops
+use Rattle.tileshell.specs.declared.outcome.ScriptStop.{ScriptStop}
+use Rattle.tileshell.specs.declared.outcome.ScriptStop.TheVariants as script_stops
+use Rattle.tileshell.specs.declared.outcome.Unopened.{Unopened}
+use Rattle.tileshell.specs.declared.outcome.Unopened.TheVariants as unopened
+use Rattle.tileshell.specs.declared.outcome.Unwritten.{Unwritten}
+use Rattle.tileshell.specs.declared.outcome.Unwritten.TheVariants as unwritten
 use Rattle.tileshell.specs.declared.refused.Refused.{Refused}
-use Rattle.tileshell.specs.declared.runs.Script.{Script}
+use Rattle.tileshell.specs.declared.runs.TheConstants.{MAX_SCRIPT}
 use Rattle.tileshell.specs.declared.session.Session.{Session}
-use Rattle.tileshell.specs.Course.{lines_in, is_complete, IsFaultOf, IsFaulty}
+use Rattle.tileshell.specs.Course.{IsOpened, IsFaulty, IsWritten, CarriesThrough, StopsStrictly, StopsAtScript, StopsAtReplies}
 use Rattle.tileshell.specs.History.{History}
-use Rattle.tile_script.specs.Lines.{lines_of}
 use Rattle.tileshell.specs.Replies.{accepted_reply, refused_reply}
-use Rattle.tileshell.specs.Run.{Progress, Walk, MayFollow}
-use Rattle.tile_device.specs.Seen.{Seen, Intake, Output, written, IsFront, Receives}
+use Rattle.tileshell.specs.Run.{Progress, is_over, MayFollow, Walk}
 use Rattle.tileshell.specs.Session.{StandsFor}
 
--- ---- replies
+-- ---- devices, with the retries that are left before a step and after it
+
+-- a source gave this
+pub record Reads (old new : Seen) (before after : ℕ) (intake : Intake) : Type 0 where
+  pub supplies : Supplies old new intake
+  pub spent : after + intake.retries ≡ before
+  pub last : intake.trouble ≡ Some Interrupted → after ≡ 0
+
+-- a sink took this
+pub record Writes (old new : Seen) (before after : ℕ) (output : Output) : Type 0 where
+  pub receives : Receives old new output
+  pub spent : after + output.retries ≡ before
+  pub last : output.trouble ≡ Some Interrupted → after ≡ 0
+
+-- ---- the tile
+
+abbrev pub OpensTile : Result Document Unopened → Intake → Type 0
+OpensTile (Ok document) tile = IsOpened tile (document_of document)
+OpensTile (Err unopened.Device) tile = IsSome tile.trouble
+OpensTile (Err (unopened.Refused fault)) tile = (tile.trouble ≡ None) × IsFaulty fault tile
+OpensTile (Err unopened.NoMemory) tile = tile.trouble ≡ None
+
+-- ---- a line
 
 -- what is replied to the line of this number, by what was answered to it
 abbrev pub reply_to : {A : Type 0} → ℕ → Result A Refused → List ℕ
 reply_to line (Ok done) = accepted_reply
 reply_to line (Err reason) = refused_reply line reason
-
--- ---- the tile
-
--- the reading of the tile stops with this outcome
-abbrev pub StopsReadingTile : Outcome → Intake → Type 0
-StopsReadingTile outcomes.Done tile = ⊥
-StopsReadingTile outcomes.SomeRefused tile = ⊥
-StopsReadingTile (outcomes.TileRefused fault) tile = ⊥
-StopsReadingTile (outcomes.Device devices.Tile) tile = IsSome tile.trouble
-StopsReadingTile (outcomes.Device devices.Script) tile = ⊥
-StopsReadingTile (outcomes.Device devices.Replies) tile = ⊥
-StopsReadingTile (outcomes.Device devices.Out) tile = ⊥
-StopsReadingTile outcomes.NoMemory tile = tile.trouble ≡ None
-
--- the file is what was read, and that is all where it is no longer than a tile may be
-abbrev pub ReadsTile : Result (Vec ℕ Global) Outcome → Intake → Type 0
-ReadsTile (Ok file) tile = tile ≡ record { bytes = file.items; is_whole = nat_le (length file.items) MAX_FILE; trouble = None }
-ReadsTile (Err outcome) tile = StopsReadingTile outcome tile
-
--- the file is refused with this outcome
-abbrev pub RefusesFile : Outcome → List ℕ → Type 0
-RefusesFile outcomes.Done file = ⊥
-RefusesFile outcomes.SomeRefused file = ⊥
-RefusesFile (outcomes.TileRefused fault) file = IsFaultOf fault file
-RefusesFile (outcomes.Device name) file = ⊥
-RefusesFile outcomes.NoMemory file = Unit {0}
-
-abbrev pub Opened : Result Document Outcome → List ℕ → Type 0
-Opened (Ok document) file = OpensAs file (document_of document)
-Opened (Err outcome) file = RefusesFile outcome file
-
--- the opening of a tile stops with this outcome
-abbrev pub StopsOpening : Outcome → Intake → Type 0
-StopsOpening outcomes.Done tile = ⊥
-StopsOpening outcomes.SomeRefused tile = ⊥
-StopsOpening (outcomes.TileRefused fault) tile = (tile.trouble ≡ None) × IsFaulty fault tile
-StopsOpening (outcomes.Device devices.Tile) tile = IsSome tile.trouble
-StopsOpening (outcomes.Device devices.Script) tile = ⊥
-StopsOpening (outcomes.Device devices.Replies) tile = ⊥
-StopsOpening (outcomes.Device devices.Out) tile = ⊥
-StopsOpening outcomes.NoMemory tile = tile.trouble ≡ None
-
--- it opens, and was read to its end without trouble
-abbrev pub OpensTile : Result Document Outcome → Intake → Type 0
-OpensTile (Ok document) tile = (tile.is_whole ≡ true) × (tile.trouble ≡ None) × OpensAs tile.bytes (document_of document)
-OpensTile (Err outcome) tile = StopsOpening outcome tile
-
--- ---- the script
-
--- its lines are those to carry out
-pub record HoldsLines (script : Script) (intake : Intake) : Type 0 where
-  pub lines : lines_of script.text.items ≡ lines_in intake
-  pub cut : script.is_cut ≡ not (is_complete intake)
-  pub whole : is_complete intake ≡ true → intake.is_whole ≡ true
-
--- whether a fault or the limit ended the reading
-abbrev pub AppendsScript : Result Bool Outcome → Intake → Type 0
-AppendsScript (Ok is_cut) intake = (is_cut ≡ not (is_complete intake)) × (is_complete intake ≡ true → intake.is_whole ≡ true)
-AppendsScript (Err outcome) intake = (outcome ≡ outcomes.NoMemory) × (intake.trouble ≡ None)
-
-abbrev pub ReadsScript : Result Script Outcome → Intake → Type 0
-ReadsScript (Ok script) intake = HoldsLines script intake
-ReadsScript (Err outcome) intake = (outcome ≡ outcomes.NoMemory) × (intake.trouble ≡ None)
-
--- ---- the lines
 
 -- the progress after a line to which this was answered
 abbrev pub answered : {A : Type 0} → Progress → History → Option (Result A Refused) → Progress
@@ -105,72 +68,126 @@ pub record CarriesOut {A : Type 0} (session : Session) (line : List ℕ) (answer
   pub follows : MayFollow p line (answered p history answer)
   pub stands : StandsFor session history
 
--- the line was carried out and replied to
-pub record Advances (old new : Seen) (session : Session) (line : List ℕ) (p : Progress) (refused : Bool) : Type 0 where
+-- the editor has come to this progress
+pub record IsAt (editor : Editor) (is_strict : Bool) (p : Progress) : Type 0 where
+  pub strict : editor.strict ≡ is_strict
+  pub stands : StandsFor editor.session p.history
+  pub lines : editor.lines ≡ p.lines
+  pub refused : editor.any_refused ≡ p.any_refused
+
+-- the line was carried out and replied to, and the run is over or goes on
+pub record Advances (old new : Seen) (before after : ℕ) (editor : Editor) (strict : Bool) (line : List ℕ) (p : Progress) (is_last : Bool) : Type 0 where
   pub next : Progress
   pub follows : MayFollow p line next
-  pub stands : StandsFor session next.history
-  pub lines : next.lines ≡ p.lines + 1
-  pub any_refused : next.any_refused ≡ (p.any_refused || refused)
+  pub at : IsAt editor strict next
+  pub over : is_over strict next ≡ is_last
   pub reply : List ℕ
-  pub replies : next.replies ≡ p.replies ++ reply
-  pub receives : Receives old new (written reply)
+  pub replied : next.replies ≡ p.replies ++ reply
+  pub retries : ℕ
+  pub writes : Writes old new before after (written retries reply)
 
 -- the reply to the line met trouble
-pub record Falters (old new : Seen) (line : List ℕ) (p : Progress) (trouble : Trouble) : Type 0 where
+pub record Falters (old new : Seen) (before after : ℕ) (line : List ℕ) (p : Progress) : Type 0 where
   pub next : Progress
   pub follows : MayFollow p line next
-  pub front : List ℕ
-  pub replies : IsFront (p.replies ++ front) next.replies
-  pub receives : Receives old new (record { bytes = front; trouble = Some trouble })
-
-abbrev pub AnswersLine : Seen → Seen → Session → List ℕ → Progress → Result Bool Trouble → Type 0
-AnswersLine old new session line p (Ok refused) = Advances old new session line p refused
-AnswersLine old new session line p (Err trouble) = Falters old new line p trouble
-
--- the lines were walked, and each was replied to
-pub record CarriesOutAll (old new : Seen) (start : Progress) (lines : List (List ℕ)) (session : Session) (any_refused : Bool) : Type 0 where
-  pub progress : Progress
-  pub walk : Walk start lines progress
-  pub stands : StandsFor session progress.history
-  pub refused : progress.any_refused ≡ any_refused
-  pub receives : Receives old new (written progress.replies)
-
--- the replies met trouble on the way
-pub record StopsReplying (old new : Seen) (start : Progress) (lines : List (List ℕ)) (outcome : Outcome) : Type 0 where
-  pub names : outcome ≡ outcomes.Device devices.Replies
-  pub progress : Progress
-  pub walk : Walk start lines progress
+  pub reply : List ℕ
+  pub replied : next.replies ≡ p.replies ++ reply
   pub output : Output
+  pub is_front : IsFront output.bytes reply
   pub trouble : IsSome output.trouble
-  pub front : IsFront output.bytes progress.replies
-  pub receives : Receives old new output
+  pub writes : Writes old new before after output
 
-abbrev pub CarriesOutLines : Seen → Seen → Progress → List (List ℕ) → Session → Result Bool Outcome → Type 0
-CarriesOutLines old new start lines session (Ok any_refused) = CarriesOutAll old new start lines session any_refused
-CarriesOutLines old new start lines session (Err outcome) = StopsReplying old new start lines outcome
+abbrev pub AnswersLine : Seen → Seen → ℕ → ℕ → Editor → Bool → List ℕ → Progress → Result (Unit {0}) LineStop → Type 0
+AnswersLine old new before after editor strict line p (Ok done) = Advances old new before after editor strict line p false
+AnswersLine old new before after editor strict line p (Err line_stops.Strict) = Advances old new before after editor strict line p true
+AnswersLine old new before after editor strict line p (Err line_stops.Replies) = Falters old new before after line p
+
+-- ---- lines
+
+-- The lines were carried out and replied to, and the run is over or goes on. Between its start and
+-- now the replies took no more retries than were left at the start.
+pub record Comes (strict : Bool) (start : Progress) (lines : List (List ℕ)) (first now : Seen) (before after : ℕ) (is_last : Bool) : Type 0 where
+  pub progress : Progress
+  pub walk : Walk strict start lines progress
+  pub over : is_over strict progress ≡ is_last
+  pub retries : ℕ
+  pub writes : Writes first now before after (written retries progress.replies)
+
+-- the same, where the editor has come there and goes on
+pub record ComesTo (strict : Bool) (start : Progress) (lines : List (List ℕ)) (first now : Seen) (before after : ℕ) (editor : Editor) : Type 0 where
+  pub comes : Comes strict start lines first now before after false
+  pub at : IsAt editor strict comes.progress
+
+-- the reply to one of the lines met trouble
+pub record IsCutShort (strict : Bool) (start : Progress) (lines : List (List ℕ)) (first now : Seen) (before after : ℕ) : Type 0 where
+  pub done : List (List ℕ)
+  pub line : List ℕ
+  pub more : List (List ℕ)
+  pub split : lines ≡ done ++ line ∷ more
+  pub progress : Progress
+  pub walk : Walk strict start done progress
+  pub goes_on : is_over strict progress ≡ false
+  pub next : Progress
+  pub follows : MayFollow progress line next
+  pub reply : List ℕ
+  pub replied : next.replies ≡ progress.replies ++ reply
+  pub front : List ℕ
+  pub is_front : IsFront front reply
+  pub output : Output
+  pub bytes : output.bytes ≡ progress.replies ++ front
+  pub trouble : IsSome output.trouble
+  pub writes : Writes first now before after output
+
+abbrev pub CarriesOutLines : Bool → Progress → List (List ℕ) → Seen → Seen → ℕ → ℕ → Editor → Result (Unit {0}) LineStop → Type 0
+CarriesOutLines strict start lines first now before after editor (Ok done) = ComesTo strict start lines first now before after editor
+CarriesOutLines strict start lines first now before after editor (Err line_stops.Strict) = Comes strict start lines first now before after true
+CarriesOutLines strict start lines first now before after editor (Err line_stops.Replies) = IsCutShort strict start lines first now before after
+
+-- the cutter was given these bytes
+abbrev pub WasGiven : Holding → List ℕ → Type 0
+WasGiven cutter bytes = cutter ≡ after_pushes nothing_held bytes
+
+-- ---- the script
+
+-- how the carrying out of the script ended
+abbrev pub EndsScript : Bool → Progress → Intake → Output → Editor → Result (Unit {0}) ScriptStop → Type 0
+EndsScript strict start script replies editor (Ok done) = (progress : Progress) × CarriesThrough strict start script replies progress × IsAt editor strict progress
+EndsScript strict start script replies editor (Err script_stops.Script) = StopsAtScript strict start script replies
+EndsScript strict start script replies editor (Err script_stops.Replies) = StopsAtReplies strict start script replies
+EndsScript strict start script replies editor (Err script_stops.Strict) = StopsStrictly strict start script replies
+EndsScript strict start script replies editor (Err script_stops.NoMemory) = (script ≡ nothing_read) × IsWritten replies []
+
+-- the script was read and its lines were carried out, up to where that ended
+pub record CarriesOutScript (strict : Bool) (start : Progress) (s0 s1 r0 r1 : Seen) (before after : ℕ) (editor : Editor) (result : Result (Unit {0}) ScriptStop) : Type 0 where
+  pub script : Intake
+  pub within : length script.bytes ≤ MAX_SCRIPT + 1
+  pub supplies : Supplies s0 s1 script
+  pub replies : Output
+  pub receives : Receives r0 r1 replies
+  pub spent : after + script.retries + replies.retries ≡ before
+  pub last_read : script.trouble ≡ Some Interrupted → after ≡ 0
+  pub last_write : replies.trouble ≡ Some Interrupted → after ≡ 0
+  pub ends : EndsScript strict start script replies editor result
+
+-- The script was read to its end, and its whole lines were carried out: what the cutter holds is left. What
+-- reading did not take of the retries was allowed for the replies.
+pub record ReadsWhole (strict : Bool) (start : Progress) (s0 s1 r0 r1 : Seen) (before after : ℕ) (editor : Editor) (cutter : Holding) : Type 0 where
+  pub bytes : List ℕ
+  pub within : length bytes ≤ MAX_SCRIPT
+  pub given : WasGiven cutter bytes
+  pub retries : ℕ
+  pub supplies : Supplies s0 s1 (record { bytes = bytes; is_whole = true; retries = retries; trouble = None })
+  pub allowed : ℕ
+  pub share : allowed + retries ≡ before
+  pub comes : ComesTo strict start (whole_lines bytes) r0 r1 allowed after editor
+
+abbrev pub CarriesOutPieces : Bool → Progress → Seen → Seen → Seen → Seen → ℕ → ℕ → Editor → Holding → Result (Unit {0}) ScriptStop → Type 0
+CarriesOutPieces strict start s0 s1 r0 r1 before after editor cutter (Ok done) = ReadsWhole strict start s0 s1 r0 r1 before after editor cutter
+CarriesOutPieces strict start s0 s1 r0 r1 before after editor cutter (Err stop) = CarriesOutScript strict start s0 s1 r0 r1 before after editor (Err stop)
 
 -- ---- the tile to write
 
--- the writing of the tile stops with this outcome
-abbrev pub StopsWriting : Seen → Seen → List ℕ → Outcome → Type 0
-StopsWriting old new file outcomes.Done = ⊥
-StopsWriting old new file outcomes.SomeRefused = ⊥
-StopsWriting old new file (outcomes.TileRefused fault) = ⊥
-StopsWriting old new file (outcomes.Device devices.Tile) = ⊥
-StopsWriting old new file (outcomes.Device devices.Script) = ⊥
-StopsWriting old new file (outcomes.Device devices.Replies) = ⊥
-StopsWriting old new file (outcomes.Device devices.Out) = (output : Output) × IsSome output.trouble × IsFront output.bytes file × Receives old new output
-StopsWriting old new file outcomes.NoMemory = Receives old new (written [])
-
-abbrev pub WritesTile : {A : Type 0} → Seen → Seen → List ℕ → Result A Outcome → Type 0
-WritesTile old new file (Ok done) = Receives old new (written file)
-WritesTile old new file (Err outcome) = StopsWriting old new file outcome
-
--- ---- the whole run
-
--- the outcome of a run that says whether a line was refused, or how it ended before the tile was written
-abbrev pub ended : Result Bool Outcome → Outcome
-ended (Ok true) = outcomes.SomeRefused
-ended (Ok false) = outcomes.Done
-ended (Err outcome) = outcome
+abbrev pub WritesTile : {A : Type 0} → List ℕ → Output → Result A Unwritten → Type 0
+WritesTile file out (Ok done) = IsWritten out file
+WritesTile file out (Err unwritten.Device) = IsFront out.bytes file × IsSome out.trouble
+WritesTile file out (Err unwritten.NoMemory) = IsWritten out []

@@ -1,8 +1,8 @@
 //! Laws of histories and of whole runs. Each function does nothing: its contract is the law.
 
-ghost use Rattle.tileshell.specs.DeviceLaws.{FailedDevicesAreNamed, DevicesAreNamedForCause};
+ghost use Rattle.tileshell.specs.DeviceLaws.{FailedDevicesAreNamed, WornOutRunsNameADevice, DevicesAreNamedForCause};
 ghost use Rattle.tileshell.specs.Laws.{UndoAtOnce, StaysSound, HistoryFits};
-ghost use Rattle.tileshell.specs.RunLaws.{FrontsHaveFirstLines, FrontsStand, RepliesStand, RefusedLinesChangeNothing, SilentLinesChangeNothing, StandingCommands, UndoInARun, UndoInAScript, WalksWithoutWantAreRuns, RunsAreWalks, RunsHaveNoWant};
+ghost use Rattle.tileshell.specs.RunLaws.{FrontsHaveFirstLines, FrontsStand, RepliesStand, RefusedLinesChangeNothing, SilentLinesChangeNothing, StrictRunsStop, AcceptedRunsAreAlike, StandingCommands, UndoInARun, UndoInAScript, WalksWithoutWantAreRuns, RunsAreWalks, RunsHaveNoWant};
 
 /// An undo right after a command brings back the tile that stood before it.
 pub fn undo_at_once()
@@ -34,6 +34,13 @@ pub fn refused_lines_change_nothing()
     ensures silent { SilentLinesChangeNothing }
 {}
 
+/// A strict run stops with its first line that is refused. Where none is refused, it comes to what
+/// a run that is not strict comes to.
+pub fn strict_runs_stop()
+    ensures stop { StrictRunsStop }
+    ensures alike { AcceptedRunsAreAlike }
+{}
+
 /// After any script the tile is the one read at the start, with the commands that stand carried
 /// out in order. Each of them was accepted, and undo goes back over no more than it may.
 pub fn standing_commands()
@@ -54,12 +61,15 @@ pub fn want_is_replied()
     ensures never { RunsHaveNoWant }
 {}
 
-/// Where a call of the tile, the replies or the output failed, the run ends with that device.
+/// Where a call of a device failed, the run ends with that device. Where more calls were interrupted
+/// than are made again, it ends with a device.
 pub fn failed_devices_are_named()
-    ensures { FailedDevicesAreNamed }
+    ensures failed { FailedDevicesAreNamed }
+    ensures worn_out { WornOutRunsNameADevice }
 {}
 
-/// A run ends with a device only where one of its calls met trouble, or where the script is too long.
+/// A run ends with a device only where one of its calls failed, where its interruption was one too
+/// many, or where it is the script and too long.
 pub fn devices_are_named_for_cause()
     ensures { DevicesAreNamedForCause }
 {}

@@ -2,6 +2,7 @@
 #![tactic(auto)]
 
 mod created;
+mod editor;
 pub mod laws;
 mod outcome;
 mod program;
@@ -14,6 +15,6 @@ pub use mvt_edit::{Command, LayerChoice, Refusal, laws as edit_laws};
 pub use outcome::{DeviceName, Options, Outcome, TileFault};
 pub use program::shell;
 pub use refused::Refused;
-pub use runs::{MAX_SCRIPT, run};
-pub use tile_device::{FromRead, FromWrite, Sink, Source, Trouble};
+pub use runs::{MAX_RETRIES, MAX_SCRIPT, run};
+pub use tile_device::{FromRead, FromWrite, Retries, Sink, Source, Trouble};
 pub use tile_script::{ParseError, Request, laws as script_laws, parse_line};

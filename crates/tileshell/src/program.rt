@@ -72,7 +72,7 @@ fn edit_file<R: Files + Input + Print + AllocGlobal>(rt: &R, tile: &str, out: &s
 fn tell<R: Eprint>(rt: &R, outcome: Outcome) -> u8 {
     match outcome {
         Outcome::Done => 0,
-        Outcome::SomeRefused => 1,
+        Outcome::SomeRefused | Outcome::StrictStop => 1,
         Outcome::TileRefused(fault) => {
             let _ = eprintln!(rt; "tileshell: tile refused: {fault}");
             3

@@ -1,29 +1,53 @@
 //! The replies to the lines of a script.
 
-ghost use Rattle.std.specs.Prelude.{◌≡◌};
+ghost use Rattle.std.specs.Prelude.{◌≡◌, ◌-◌};
 ghost use Rattle.std.specs.List.{flat_map};
+ghost use Rattle.tile_device.specs.Device.{trouble_of};
+ghost use Rattle.tile_device.specs.Seen.{Sends, Spends, sink_at};
 ghost use Rattle.tileshell.specs.Replies.{accepted_reply, refused_reply};
-ghost use Rattle.tile_device.specs.Seen.{Sends, sink_at};
+ghost use Rattle.tileshell.specs.Steps.{reply_to};
 
 use crate::refused::Refused;
 use itoa::Buffer;
-use tile_device::{Sink, Trouble, write_all};
+use tile_device::{Retries, Sink, Trouble, write_all};
+
+/// Replies to the line of this number, and passes the reply on.
+pub(crate) fn reply<W: Sink>(
+    replies: &mut W,
+    line: u64,
+    answer: Result<(), Refused>,
+    retries: &mut Retries,
+) -> Result<(), Trouble>
+    ensures sends { Sends (sink_at W.Sink replies.old) (sink_at W.Sink replies.new)
+        (reply_to line answer) (retries.old - retries.new) result }
+    ensures spends { Spends retries.old retries.new (trouble_of result) }
+{
+    match answer {
+        Ok(()) => reply_accepted(replies, retries)?,
+        Err(reason) => reply_refused(replies, line, reason, retries)?,
+    }
+    replies.flush()
+}
 
 /// Replies to a request that was carried out.
-pub(crate) fn reply_accepted<W: Sink>(replies: &mut W) -> Result<(), Trouble>
-    ensures { Sends (sink_at W.Sink replies.old) (sink_at W.Sink replies.new) accepted_reply result }
+fn reply_accepted<W: Sink>(replies: &mut W, retries: &mut Retries) -> Result<(), Trouble>
+    ensures sends { Sends (sink_at W.Sink replies.old) (sink_at W.Sink replies.new)
+        accepted_reply (retries.old - retries.new) result }
+    ensures spends { Spends retries.old retries.new (trouble_of result) }
 {
-    write_pieces(replies, &[b"ok\n"])
+    write_pieces(replies, &[b"ok\n"], retries)
 }
 
 /// Replies to the refused line of this number. It takes no memory.
-pub(crate) fn reply_refused<W: Sink>(
+fn reply_refused<W: Sink>(
     replies: &mut W,
     line: u64,
     reason: Refused,
+    retries: &mut Retries,
 ) -> Result<(), Trouble>
-    ensures { Sends (sink_at W.Sink replies.old) (sink_at W.Sink replies.new)
-        (refused_reply line reason) result }
+    ensures sends { Sends (sink_at W.Sink replies.old) (sink_at W.Sink replies.new)
+        (refused_reply line reason) (retries.old - retries.new) result }
+    ensures spends { Spends retries.old retries.new (trouble_of result) }
 {
     let mut line_digits = Buffer::new();
     let mut number_digits = Buffer::new();
@@ -40,16 +64,22 @@ pub(crate) fn reply_refused<W: Sink>(
             reason.name().as_bytes(),
             b"\n",
         ],
+        retries,
     )
 }
 
 /// Writes the pieces one after the other.
-fn write_pieces<W: Sink>(sink: &mut W, pieces: &[&[u8]]) -> Result<(), Trouble>
-    ensures { Sends (sink_at W.Sink sink.old) (sink_at W.Sink sink.new)
-        (flat_map (λ piece. piece.now) pieces.now) result }
+fn write_pieces<W: Sink>(
+    sink: &mut W,
+    pieces: &[&[u8]],
+    retries: &mut Retries,
+) -> Result<(), Trouble>
+    ensures sends { Sends (sink_at W.Sink sink.old) (sink_at W.Sink sink.new)
+        (flat_map (λ piece. piece.now) pieces.now) (retries.old - retries.new) result }
+    ensures spends { Spends retries.old retries.new (trouble_of result) }
 {
     for piece in pieces {
-        write_all(sink, piece)?;
+        write_all(sink, piece, retries)?;
     }
     Ok(())
 }

@@ -1,17 +1,22 @@
-use Rattle.std.proofs.Common.{rules}
+use Rattle.std.proofs.Common.{rules, None}
 use Rattle.std.proofs.lemmas.List.{take_rest}
-use Rattle.tile_device.proofs.Transfers.{on_err, writes_more, wrote_front}
+use Rattle.tile_device.specs.Seen.{sink_at}
+use Rattle.tile_device.proofs.Meeting.{meets_call}
+use Rattle.tile_device.proofs.Writing.{on_err, writes_more, wrote_front}
 use Rattle.tile_device.proofs.transfer.write_all.Goals as goal
 
-pub returns-in_err-count-clause-front : goal.returns-in_err-count-clause-front
-returns-in_err-count-clause-front g c =
-    λ h. on_err _ (wrote_front _ _ _ _ _ _ _ _ c.loop-rest.invariant.writes (search rules)
-    c.write.ensures.still_tells c.in_err-count.ensures.bytes h)
+pub loop-rest-preserved-in-Ok : goal.loop-rest-preserved-in-Ok
+loop-rest-preserved-in-Ok g c =
+    let before = sink_at g.S.Sink c.loop-rest.sink in
+    let after = sink_at g.S.Sink c.write.new.self in
+    let e = c.in-Ok.ensures in
+    record {
+      within = search rules;
+      writes = writes_more _ before after _ _ _ _ c.in-Ok.count c.loop-rest.invariant.writes
+          (meets_call before after None e.interruptions e.failures e.still_tells) e.bytes (take_rest c.loop-rest.rest.now c.in-Ok.count);
+    }
 
-pub loop-rest-preserved : goal.loop-rest-preserved
-loop-rest-preserved g c = record {
-  writes = writes_more _ _ _ _ _ _ _ _ _ c.in_ok-count.count c.loop-rest.invariant.writes
-      c.write.ensures.still_tells c.in_ok-count.ensures.bytes (take_rest c.loop-rest.rest.now c.in_ok-count.count);
-  interruptions = search rules;
-  failures = search rules;
-}
+pub returns-in_err-take_for-in-Err-clause-front : goal.returns-in_err-take_for-in-Err-clause-front
+returns-in_err-take_for-in-Err-clause-front g c =
+    λ told. on_err _ (wrote_front _ (sink_at g.S.Sink c.loop-rest.sink) (sink_at g.S.Sink c.write.new.self) _ _ _ c.loop-rest.invariant.writes (search rules)
+    c.in-Err.ensures.still_tells c.in-Err.ensures.bytes told)
