@@ -44,6 +44,7 @@ pub fn parse_line(alloc: Global, line: &[u8]) -> Result<Option<Request>, ParseEr
 }
 
 /// The request that a line asks for which was cut so, or nothing where it is blank or a comment.
+#[tactic(auto, using(crate::proofs::LongLines::too_long_answered))]
 pub fn parse_cut(alloc: Global, cut: Cut<'_>) -> Result<Option<Request>, ParseError>
     ensures answer { (line : List ℕ) → cut_of line ≡ cut_seen cut.entry
         → Gives (option_map request_of) result (answer_to line) }

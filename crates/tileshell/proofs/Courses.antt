@@ -1,248 +1,201 @@
 -- How a run ends, from what its steps answer.
-use Rattle.std.proofs.Common.{◌≡◌, ℕ, ◌≤◌, Bool, true, false, not, List, [], length, Option, Some, None, refl, arith, sym, ap, subst, ◌∙◌, inl, inr, append-nil}
-use Rattle.std.specs.Prelude.{Result, Ok, Err, is_none, ◌&&◌}
-use Rattle.std.proofs.KnownBytes.{Consumes-nil}
-use Rattle.mvt_wire.specs.declared.document.Document.{Document}
+use Rattle.std.proofs.Common.{◌≡◌, ℕ, ◌+◌, ◌≤◌, true, false, [], length, refl, arith, sym, ap, subst, ◌∙◌, inl, inr}
+use Rattle.std.specs.Prelude.{Result, Ok, Err}
+use Rattle.mvt_wire.specs.declared.TheConstants.{MAX_FILE}
+use Rattle.mvt_wire.specs.declared.document.Document as program
 use Rattle.mvt_wire.specs.Stands.{document_of}
-use Rattle.tileshell.specs.Course.{Course, Ends, IsEdited, Walks, is_complete, lines_in}
-use Rattle.tileshell.specs.Headline.{Runs, LeavesReplies}
-use Rattle.tile_script.specs.Lines.{lines_of}
-use Rattle.tileshell.specs.Run.{Progress, at_first, Walk, tile_of}
-use Rattle.tile_device.specs.Seen.{Seen, Intake, Output, Supplies, Receives, nothing_read, written}
-use Rattle.tileshell.specs.Steps.{StopsOpening, OpensTile, HoldsLines, CarriesOutAll, StopsReplying, StopsWriting, ended}
-use Rattle.tile_device.specs.declared.device.Trouble.{Trouble}
+use Rattle.mvt_wire.specs.Wire.{bytes_of}
+use Rattle.tile_device.specs.Seen.{Seen, Intake, Output, nothing_read, written}
+use Rattle.tile_device.proofs.Sending.{receives_nothing}
+use Rattle.tile_device.proofs.Supplying.{supplies_nothing}
+use Rattle.tileshell.specs.Course.{Course, Ends, IsWritten, StopsAtTile, start_of}
+use Rattle.tileshell.specs.Headline.{Devices, Runs}
+use Rattle.tileshell.specs.History.{History, present_document}
+use Rattle.tileshell.specs.Outcomes.{opening_outcome, script_outcome, writing_outcome}
+use Rattle.tileshell.specs.Run.{at_first}
+use Rattle.tileshell.specs.Session.{StandsFor}
+use Rattle.tileshell.specs.Steps.{Reads, Writes, OpensTile, CarriesOutScript, WritesTile}
+use Rattle.tileshell.specs.declared.editor.Editor.{Editor}
+use Rattle.tileshell.specs.declared.outcome.Options.{Options}
 use Rattle.tileshell.specs.declared.outcome.Outcome.{Outcome}
 use Rattle.tileshell.specs.declared.outcome.Outcome.TheVariants as outcomes
-use Rattle.tileshell.specs.declared.outcome.DeviceName.TheVariants as devices
-use Rattle.tileshell.specs.declared.runs.Script.{Script}
-use Rattle.tileshell.specs.declared.session.Session.{Session}
-use Rattle.tile_device.proofs.Sending.{receives_nothing}
+use Rattle.tileshell.specs.declared.outcome.ScriptStop.{ScriptStop}
+use Rattle.tileshell.specs.declared.outcome.ScriptStop.TheVariants as script_stops
+use Rattle.tileshell.specs.declared.outcome.Unopened.{Unopened}
+use Rattle.tileshell.specs.declared.outcome.Unopened.TheVariants as unopened
+use Rattle.tileshell.specs.declared.outcome.Unwritten.{Unwritten}
+use Rattle.tileshell.specs.declared.outcome.Unwritten.TheVariants as unwritten
+use Rattle.tileshell.specs.declared.runs.TheConstants.{MAX_RETRIES}
+use Rattle.tileshell.proofs.Reading.{all_replies}
 
-supplies_nothing : (s : Seen) → Supplies s s nothing_read
-supplies_nothing s = record {
-  meets = record { interruptions = refl; failures = refl; still_tells = λ h. h };
-  bytes = λ told. Consumes-nil s.bytes;
-  whole = λ told whole. absurd cc;
-}
+abbrev seen : Seen → Seen → Seen → Seen → Devices
+seen tile script replies out = record { tile = tile; script = script; replies = replies; out = out }
 
 -- ---- with the tile
 
+-- what opening a tile takes
+abbrev pub Opening : Seen → Seen → ℕ → ℕ → Result program.Document Unopened → Type 0
+Opening t0 t1 before after result = (tile : Intake) × (length tile.bytes ≤ MAX_FILE + 1) × OpensTile result tile × Reads t0 t1 before after tile
+
 abbrev at_tile : Intake → Course
-at_tile tile = record { tile = tile; script = nothing_read; replies = written []; out = written [] }
+at_tile tile = record { tile = tile; script = nothing_read; replies = written 0 []; out = written 0 [] }
 
-opening_ends : (outcome : Outcome) (tile : Intake) → StopsOpening outcome tile → Ends 1 outcome (at_tile tile)
-opening_ends outcomes.Done tile stops = absurd stops
-opening_ends outcomes.SomeRefused tile stops = absurd stops
-opening_ends (outcomes.TileRefused fault) tile stops = (stops.0, stops.1, record { script = refl; replies = refl; out = refl })
-opening_ends (outcomes.Device devices.Tile) tile stops = (stops, record { script = refl; replies = refl; out = refl })
-opening_ends (outcomes.Device devices.Script) tile stops = absurd stops
-opening_ends (outcomes.Device devices.Replies) tile stops = absurd stops
-opening_ends (outcomes.Device devices.Out) tile stops = absurd stops
-opening_ends outcomes.NoMemory tile stops = record { tile = stops; script = refl; replies = refl; replied = inl refl; out = refl }
+stops_at_tile : (tile : Intake) → StopsAtTile (at_tile tile)
+stops_at_tile tile = record { script = refl; replies = all_replies 0 []; out = all_replies 0 [] }
 
-pub runs_to_tile : (t0 t1 s r o : Seen) (outcome : Outcome) (q : Result Bool Outcome) → q ≡ Err outcome
-    → (tile : Intake) × (length tile.bytes ≤ 16777217) × StopsOpening outcome tile × Supplies t0 t1 tile
-    → Runs 1 (record { tile = t0; script = s; replies = r; out = o }) (record { tile = t1; script = s; replies = r; out = o }) (ended q)
-runs_to_tile t0 t1 s r o outcome q is k =
-    subst (λ (a : Result Bool Outcome). Runs 1 (record { tile = t0; script = s; replies = r; out = o }) (record { tile = t1; script = s; replies = r; out = o }) (ended a)) (sym is)
-    (record {
-      course = at_tile k.0;
-      ends = opening_ends outcome k.0 k.2;
-      tile = k.3;
+opening_ends : (options : Options) (stop : Unopened) (tile : Intake) → OpensTile (Err stop) tile → Ends options (opening_outcome stop) (at_tile tile)
+opening_ends options unopened.Device tile opens = (opens, stops_at_tile tile)
+opening_ends options (unopened.Refused fault) tile opens = (opens.0, opens.1, stops_at_tile tile)
+opening_ends options unopened.NoMemory tile opens = record { untroubled = opens; replied = inl (refl, all_replies 0 []); out = all_replies 0 [] }
+
+pub runs_to_tile : (options : Options) (t0 t1 s r o : Seen) (before after : ℕ) (stop : Unopened) (outcome : Outcome) → before ≡ MAX_RETRIES
+    → Opening t0 t1 before after (Err stop) → outcome ≡ opening_outcome stop → Runs options (seen t0 s r o) (seen t1 s r o) outcome
+runs_to_tile options t0 t1 s r o before after stop outcome all opening is =
+    let tile = opening.0 in
+    let reads = opening.3 in
+    record {
+      course = at_tile tile;
+      ends = subst (λ (t : Outcome). Ends options t (at_tile tile)) (sym is) (opening_ends options stop tile opening.2);
+      patient = record {
+        within = omega (arith, all, reads.spent);
+        tile = λ e. let none = reads.last e in omega (arith, all, reads.spent, none);
+        script = λ e. absurd cc;
+        replies = λ e. absurd cc;
+        out = λ e. absurd cc;
+      };
+      tile = reads.supplies;
       script = supplies_nothing s;
       replies = receives_nothing r;
       out = receives_nothing o;
-      tile_within = k.1;
+      tile_within = opening.1;
       script_within = omega arith;
-    })
+    }
 
--- ---- behind it
+-- ---- with the script or its replies
 
--- a tile that opened, and a script that was read
-pub record Ready (t0 t1 s0 s1 : Seen) (document : Document) (script : Script) (text : List ℕ) : Type 0 where
-  pub opened : (tile : Intake) × (length tile.bytes ≤ 16777217) × OpensTile (Ok document) tile × Supplies t0 t1 tile
-  pub read : (intake : Intake) × (length intake.bytes ≤ 16777217) × HoldsLines script intake × Supplies s0 s1 intake
-  pub same : text ≡ script.text.items
+-- what carrying out the script of a tile that opened takes
+abbrev pub CarryingOut : Options → program.Document → Seen → Seen → Seen → Seen → ℕ → ℕ → Editor → Result (Unit {0}) ScriptStop → Type 0
+CarryingOut options document s0 s1 r0 r1 before after editor result = CarriesOutScript options.strict (at_first (document_of document) 1) s0 s1 r0 r1 before after editor result
 
-pub runs_to_script : (t0 t1 s0 s1 r o : Seen) (document : Document) (outcome : Outcome) (q : Result Bool Outcome) → q ≡ Err outcome
-    → (tile : Intake) × (length tile.bytes ≤ 16777217) × OpensTile (Ok document) tile × Supplies t0 t1 tile
-    → (intake : Intake) × (length intake.bytes ≤ 16777217) × ((outcome ≡ outcomes.NoMemory) × (intake.trouble ≡ None)) × Supplies s0 s1 intake
-    → Runs 1 (record { tile = t0; script = s0; replies = r; out = o }) (record { tile = t1; script = s1; replies = r; out = o }) (ended q)
-runs_to_script t0 t1 s0 s1 r o document outcome q is a b =
-    subst (λ (a : Result Bool Outcome). Runs 1 (record { tile = t0; script = s0; replies = r; out = o }) (record { tile = t1; script = s1; replies = r; out = o }) (ended a)) (sym (is ∙ ap Err b.2.0))
-    (record {
-      course = record { tile = a.0; script = b.0; replies = written []; out = written [] };
-      ends = record { tile = a.2.1; script = b.2.1; replies = refl; replied = inl refl; out = refl };
-      tile = a.3;
-      script = b.3;
-      replies = receives_nothing r;
-      out = receives_nothing o;
-      tile_within = a.1;
-      script_within = b.1;
-    })
+-- it begins at the depth of the options
+from_start : (options : Options) (document : program.Document) (s0 s1 r0 r1 : Seen) (before after : ℕ) (editor : Editor) (result : Result (Unit {0}) ScriptStop) → options.depth ≡ 1
+    → CarryingOut options document s0 s1 r0 r1 before after editor result → CarriesOutScript options.strict (start_of options (document_of document)) s0 s1 r0 r1 before after editor result
+from_start options document s0 s1 r0 r1 before after editor result one carries =
+    subst (λ (depth : ℕ). CarriesOutScript options.strict (at_first (document_of document) depth) s0 s1 r0 r1 before after editor result) (sym one) carries
 
-walks_of : (t0 t1 s0 s1 : Seen) (document : Document) (script : Script) (text : List ℕ) (progress : Progress) (r : Ready t0 t1 s0 s1 document script text)
-    → Walk (at_first (document_of document) 1) (lines_of text) progress → Walks 1 r.opened.0 (lines_in r.read.0) (document_of document) progress
-walks_of t0 t1 s0 s1 document script text progress r walk = record {
-  is_whole = r.opened.2.0;
-  no_trouble = r.opened.2.1;
-  opens = r.opened.2.2;
-  walk = subst (λ (t : List (List ℕ)). Walk (at_first (document_of document) 1) t progress) (ap lines_of r.same ∙ r.read.2.lines) walk;
-}
+script_ends : (options : Options) (stop : ScriptStop) (t0 t1 s0 s1 r0 r1 : Seen) (before mid after : ℕ) (document : program.Document) (editor : Editor)
+    → (opening : Opening t0 t1 before mid (Ok document))
+    → (c : CarriesOutScript options.strict (start_of options (document_of document)) s0 s1 r0 r1 mid after editor (Err stop))
+    → Ends options (script_outcome stop) (record { tile = opening.0; script = c.script; replies = c.replies; out = written 0 [] })
+script_ends options script_stops.Script t0 t1 s0 s1 r0 r1 before mid after document editor opening c = record { document = document_of document; opened = opening.2; between = c.ends; out = all_replies 0 [] }
+script_ends options script_stops.Replies t0 t1 s0 s1 r0 r1 before mid after document editor opening c = record { document = document_of document; opened = opening.2; between = c.ends; out = all_replies 0 [] }
+script_ends options script_stops.Strict t0 t1 s0 s1 r0 r1 before mid after document editor opening c = record { document = document_of document; opened = opening.2; between = c.ends; out = all_replies 0 [] }
+script_ends options script_stops.NoMemory t0 t1 s0 s1 r0 r1 before mid after document editor opening c = record { untroubled = opening.2.untroubled; replied = inl c.ends; out = all_replies 0 [] }
 
-pub runs_to_replies : (t0 t1 s0 s1 r0 r1 o : Seen) (document : Document) (script : Script) (text : List ℕ) (outcome : Outcome) (q : Result Bool Outcome) → q ≡ Err outcome
-    → Ready t0 t1 s0 s1 document script text → StopsReplying r0 r1 (at_first (document_of document) 1) (lines_of text) outcome
-    → Runs 1 (record { tile = t0; script = s0; replies = r0; out = o }) (record { tile = t1; script = s1; replies = r1; out = o }) (ended q)
-runs_to_replies t0 t1 s0 s1 r0 r1 o document script text outcome q is r stops =
-    subst (λ (a : Result Bool Outcome). Runs 1 (record { tile = t0; script = s0; replies = r0; out = o }) (record { tile = t1; script = s1; replies = r1; out = o }) (ended a)) (sym (is ∙ ap Err stops.names))
-    (record {
-      course = record { tile = r.opened.0; script = r.read.0; replies = stops.output; out = written [] };
-      ends = record {
-        document = document_of document;
-        progress = stops.progress;
-        walks = walks_of t0 t1 s0 s1 document script text stops.progress r stops.walk;
-        trouble = stops.trouble;
-        replies = stops.front;
-        out = refl;
+pub runs_to_script : (options : Options) (t0 t1 s0 s1 r0 r1 o : Seen) (before mid after : ℕ) (document : program.Document) (editor : Editor) (stop : ScriptStop) (outcome : Outcome)
+    → options.depth ≡ 1 → before ≡ MAX_RETRIES → Opening t0 t1 before mid (Ok document) → CarryingOut options document s0 s1 r0 r1 mid after editor (Err stop)
+    → outcome ≡ script_outcome stop → Runs options (seen t0 s0 r0 o) (seen t1 s1 r1 o) outcome
+runs_to_script options t0 t1 s0 s1 r0 r1 o before mid after document editor stop outcome one all opening carries is =
+    let tile = opening.0 in
+    let reads = opening.3 in
+    let c = from_start options document s0 s1 r0 r1 mid after editor (Err stop) one carries in
+    let course : Course = record { tile = tile; script = c.script; replies = c.replies; out = written 0 [] } in
+    record {
+      course = course;
+      ends = subst (λ (t : Outcome). Ends options t course) (sym is) (script_ends options stop t0 t1 s0 s1 r0 r1 before mid after document editor opening c);
+      patient = record {
+        within = omega (arith, all, reads.spent, c.spent);
+        tile = λ e. let no = sym opening.2.untroubled ∙ e in absurd cc;
+        script = λ e. let none = c.last_read e in omega (arith, all, reads.spent, c.spent, none);
+        replies = λ e. let none = c.last_write e in omega (arith, all, reads.spent, c.spent, none);
+        out = λ e. absurd cc;
       };
-      tile = r.opened.3;
-      script = r.read.3;
-      replies = stops.receives;
+      tile = reads.supplies;
+      script = c.supplies;
+      replies = c.receives;
       out = receives_nothing o;
-      tile_within = r.opened.1;
-      script_within = r.read.1;
-    })
-
-cut_not : (b is_cut : Bool) → is_cut ≡ not b → is_cut ≡ true → b ≡ false
-cut_not true is_cut e h = absurd cc
-cut_not false is_cut e h = refl
-
-pub complete_is : (b is_cut : Bool) → is_cut ≡ not b → is_cut ≡ false → b ≡ true
-complete_is true is_cut e h = refl
-complete_is false is_cut e h = absurd cc
-
-pub runs_to_cut : (t0 t1 s0 s1 r0 r1 o : Seen) (document : Document) (script : Script) (text : List ℕ) (session : Session) (any_refused : Bool) → script.is_cut ≡ true
-    → Ready t0 t1 s0 s1 document script text → CarriesOutAll r0 r1 (at_first (document_of document) 1) (lines_of text) session any_refused
-    → Runs 1 (record { tile = t0; script = s0; replies = r0; out = o }) (record { tile = t1; script = s1; replies = r1; out = o }) (outcomes.Device devices.Script)
-runs_to_cut t0 t1 s0 s1 r0 r1 o document script text session any_refused cut r all = record {
-  course = record { tile = r.opened.0; script = r.read.0; replies = written all.progress.replies; out = written [] };
-  ends = record {
-    document = document_of document;
-    progress = all.progress;
-    walks = walks_of t0 t1 s0 s1 document script text all.progress r all.walk;
-    cut = cut_not (is_complete r.read.0) script.is_cut r.read.2.cut cut;
-    replies = refl;
-    out = refl;
-  };
-  tile = r.opened.3;
-  script = r.read.3;
-  replies = all.receives;
-  out = receives_nothing o;
-  tile_within = r.opened.1;
-  script_within = r.read.1;
-}
+      tile_within = opening.1;
+      script_within = c.within;
+    }
 
 -- ---- with the tile to write
 
-untroubled : (trouble : Option Trouble) (more : Bool) → (is_none trouble && more) ≡ true → trouble ≡ None
-untroubled None more h = refl
-untroubled (Some trouble) more h = absurd cc
+-- what writing the document of the session takes
+abbrev pub Writing : program.Document → Seen → Seen → ℕ → ℕ → Result (Unit {0}) Unwritten → Type 0
+Writing document o0 o1 before after result = (out : Output) × WritesTile (bytes_of (document_of document)) out result × Writes o0 o1 before after out
 
-out_ends : (t0 t1 s0 s1 r0 r1 o0 o1 : Seen) (document : Document) (script : Script) (text : List ℕ) (session : Session) (any_refused : Bool) (outcome : Outcome)
-    → (r : Ready t0 t1 s0 s1 document script text) → is_complete r.read.0 ≡ true
-    → (all : CarriesOutAll r0 r1 (at_first (document_of document) 1) (lines_of text) session any_refused)
-    → StopsWriting o0 o1 (tile_of all.progress) outcome
-    → (out : Output) × Receives o0 o1 out × Ends 1 outcome (record { tile = r.opened.0; script = r.read.0; replies = written all.progress.replies; out = out })
-out_ends t0 t1 s0 s1 r0 r1 o0 o1 document script text session any_refused outcomes.Done r complete all stops = absurd stops
-out_ends t0 t1 s0 s1 r0 r1 o0 o1 document script text session any_refused outcomes.SomeRefused r complete all stops = absurd stops
-out_ends t0 t1 s0 s1 r0 r1 o0 o1 document script text session any_refused (outcomes.TileRefused fault) r complete all stops = absurd stops
-out_ends t0 t1 s0 s1 r0 r1 o0 o1 document script text session any_refused (outcomes.Device devices.Tile) r complete all stops = absurd stops
-out_ends t0 t1 s0 s1 r0 r1 o0 o1 document script text session any_refused (outcomes.Device devices.Script) r complete all stops = absurd stops
-out_ends t0 t1 s0 s1 r0 r1 o0 o1 document script text session any_refused (outcomes.Device devices.Replies) r complete all stops = absurd stops
-out_ends t0 t1 s0 s1 r0 r1 o0 o1 document script text session any_refused (outcomes.Device devices.Out) r complete all stops = (
-  stops.0,
-  stops.3,
-  record {
-    document = document_of document;
-    progress = all.progress;
-    walks = walks_of t0 t1 s0 s1 document script text all.progress r all.walk;
-    complete = complete;
-    replies = refl;
-    trouble = stops.1;
-    out = stops.2;
-  },
-)
-out_ends t0 t1 s0 s1 r0 r1 o0 o1 document script text session any_refused outcomes.NoMemory r complete all stops = (
-  written [],
-  stops,
-  record {
-    tile = r.opened.2.1;
-    script = untroubled r.read.0.trouble _ complete;
-    replies = refl;
-    replied = inr (record {
-      document = document_of document;
-      progress = all.progress;
-      first = lines_in r.read.0;
-      more = [];
-      split = sym (append-nil (lines_in r.read.0));
-      walks = walks_of t0 t1 s0 s1 document script text all.progress r all.walk;
-      replies = refl;
-    });
-    out = refl;
-  },
-)
+-- the document is the present one of the history of the session
+abbrev pub IsPresent : Editor → program.Document → Type 0
+IsPresent editor document = (history : History) → StandsFor editor.session history → document_of document ≡ present_document history
 
-pub runs_to_out : (t0 t1 s0 s1 r0 r1 o0 o1 : Seen) (document : Document) (script : Script) (text : List ℕ) (session : Session) (any_refused : Bool) (outcome : Outcome) (q : Result Bool Outcome)
-    → q ≡ Err outcome → script.is_cut ≡ false → Ready t0 t1 s0 s1 document script text
-    → (all : CarriesOutAll r0 r1 (at_first (document_of document) 1) (lines_of text) session any_refused)
-    → StopsWriting o0 o1 (tile_of all.progress) outcome
-    → Runs 1 (record { tile = t0; script = s0; replies = r0; out = o0 }) (record { tile = t1; script = s1; replies = r1; out = o1 }) (ended q)
-runs_to_out t0 t1 s0 s1 r0 r1 o0 o1 document script text session any_refused outcome q is cut r all stops =
-    let complete = complete_is (is_complete r.read.0) script.is_cut r.read.2.cut cut in
-    let end = out_ends t0 t1 s0 s1 r0 r1 o0 o1 document script text session any_refused outcome r complete all stops in
-    subst (λ (a : Result Bool Outcome). Runs 1 (record { tile = t0; script = s0; replies = r0; out = o0 }) (record { tile = t1; script = s1; replies = r1; out = o1 }) (ended a)) (sym is)
-    (record {
-      course = record { tile = r.opened.0; script = r.read.0; replies = written all.progress.replies; out = end.0 };
-      ends = end.2;
-      tile = r.opened.3;
-      script = r.read.3;
-      replies = all.receives;
-      out = end.1;
-      tile_within = r.opened.1;
-      script_within = r.read.1;
-    })
+module _ (options : Options) (t0 t1 s0 s1 r0 r1 o0 o1 : Seen) (before mid after last : ℕ) (read edited : program.Document) (editor : Editor) (one : options.depth ≡ 1) (all : before ≡ MAX_RETRIES)
+    (opening : Opening t0 t1 before mid (Ok read)) (carries : CarryingOut options read s0 s1 r0 r1 mid after editor (Ok tt)) (present : IsPresent editor edited) where
+  abbrev carried : CarriesOutScript options.strict (start_of options (document_of read)) s0 s1 r0 r1 mid after editor (Ok tt)
+  carried = from_start options read s0 s1 r0 r1 mid after editor (Ok tt) one carries
 
-edited_ends : (any_refused : Bool) (course : Course) → IsEdited 1 any_refused course → Ends 1 (ended (Ok any_refused)) course
-edited_ends true course edited = edited
-edited_ends false course edited = edited
+  abbrev course_with : Output → Course
+  course_with out = record { tile = opening.0; script = carried.script; replies = carried.replies; out = out }
 
-pub runs_through : (t0 t1 s0 s1 r0 r1 o0 o1 : Seen) (document : Document) (script : Script) (text : List ℕ) (session : Session) (any_refused : Bool) → script.is_cut ≡ false
-    → Ready t0 t1 s0 s1 document script text
-    → (all : CarriesOutAll r0 r1 (at_first (document_of document) 1) (lines_of text) session any_refused)
-    → Receives o0 o1 (written (tile_of all.progress))
-    → Runs 1 (record { tile = t0; script = s0; replies = r0; out = o0 }) (record { tile = t1; script = s1; replies = r1; out = o1 }) (ended (Ok any_refused))
-runs_through t0 t1 s0 s1 r0 r1 o0 o1 document script text session any_refused cut r all wrote =
-    let complete = complete_is (is_complete r.read.0) script.is_cut r.read.2.cut cut in
-    let course : Course = record { tile = r.opened.0; script = r.read.0; replies = written all.progress.replies; out = written (tile_of all.progress) } in record {
-      course = course;
-      ends = edited_ends any_refused course (record {
-        document = document_of document;
-        progress = all.progress;
-        walks = walks_of t0 t1 s0 s1 document script text all.progress r all.walk;
-        complete = complete;
-        all_read = r.read.2.whole complete;
-        replies = refl;
-        out = refl;
-        refused = all.refused;
-      });
-      tile = r.opened.3;
-      script = r.read.3;
-      replies = all.receives;
-      out = wrote;
-      tile_within = r.opened.1;
-      script_within = r.read.1;
-    }
+  with_out : (outcome : Outcome) (out : Output) → Writes o0 o1 after last out → Ends options outcome (course_with out) → Runs options (seen t0 s0 r0 o0) (seen t1 s1 r1 o1) outcome
+  with_out outcome out writes ends = record {
+    course = course_with out;
+    ends = ends;
+    patient = record {
+      within = omega (arith, all, opening.3.spent, carried.spent, writes.spent);
+      tile = λ e. let no = sym opening.2.untroubled ∙ e in absurd cc;
+      script = λ e. let no = sym carried.ends.1.untroubled ∙ e in absurd cc;
+      replies = λ e. let no = sym carried.ends.1.replies.untroubled ∙ e in absurd cc;
+      out = λ e. let none = writes.last e in omega (arith, all, opening.3.spent, carried.spent, writes.spent, none);
+    };
+    tile = opening.3.supplies;
+    script = carried.supplies;
+    replies = carried.receives;
+    out = writes.receives;
+    tile_within = opening.1;
+    script_within = carried.within;
+  }
 
--- an outcome of the replies does not leave them as they were
-pub not_left : (A : Type 0) (outcome : Outcome) (q : Result Bool Outcome) → q ≡ Err outcome → outcome ≡ outcomes.Device devices.Replies → LeavesReplies (ended q) → A
-not_left A outcome q is names leaves = absurd (subst (λ (a : Result Bool Outcome). LeavesReplies (ended a)) (is ∙ ap Err names) leaves)
+  file_is : bytes_of (document_of edited) ≡ bytes_of (present_document carried.ends.0.history)
+  file_is = ap bytes_of (present carried.ends.0.history carried.ends.2.stands)
+
+  out_ends : (stop : Unwritten) (out : Output) → WritesTile {A = Unit {0}} (bytes_of (document_of edited)) out (Err stop) → Ends options (writing_outcome stop) (course_with out)
+  out_ends unwritten.Device out writes = record {
+    document = document_of read;
+    opened = opening.2;
+    progress = carried.ends.0;
+    carried = carried.ends.1;
+    front = (writes.0.0, sym file_is ∙ writes.0.1);
+    trouble = writes.1;
+  }
+  out_ends unwritten.NoMemory out writes = record {
+    untroubled = opening.2.untroubled;
+    replied = inr (record { document = document_of read; opened = opening.2; progress = carried.ends.0; carried = carried.ends.1 });
+    out = writes;
+  }
+
+  pub runs_to_out : (stop : Unwritten) (outcome : Outcome) → Writing edited o0 o1 after last (Err stop) → outcome ≡ writing_outcome stop → Runs options (seen t0 s0 r0 o0) (seen t1 s1 r1 o1) outcome
+  runs_to_out stop outcome writing is =
+      subst (λ (t : Outcome). Runs options (seen t0 s0 r0 o0) (seen t1 s1 r1 o1) t) (sym is) (with_out (writing_outcome stop) writing.0 writing.2 (out_ends stop writing.0 writing.1))
+
+  is_written : (out : Output) → IsWritten out (bytes_of (document_of edited)) → IsWritten out (bytes_of (present_document carried.ends.0.history))
+  is_written out writes = subst (IsWritten out) file_is writes
+
+  pub runs_through : Writing edited o0 o1 after last (Ok tt) → editor.any_refused ≡ false → Runs options (seen t0 s0 r0 o0) (seen t1 s1 r1 o1) outcomes.Done
+  runs_through writing none = with_out outcomes.Done writing.0 writing.2 (record {
+    document = document_of read;
+    opened = opening.2;
+    progress = carried.ends.0;
+    carried = carried.ends.1;
+    refused = sym carried.ends.2.refused ∙ none;
+    out = is_written writing.0 writing.1;
+  })
+
+  pub runs_with_refusals : Writing edited o0 o1 after last (Ok tt) → editor.any_refused ≡ true → Runs options (seen t0 s0 r0 o0) (seen t1 s1 r1 o1) outcomes.SomeRefused
+  runs_with_refusals writing some = with_out outcomes.SomeRefused writing.0 writing.2 (record {
+    document = document_of read;
+    opened = opening.2;
+    progress = carried.ends.0;
+    carried = carried.ends.1;
+    refused = sym carried.ends.2.refused ∙ some;
+    out = is_written writing.0 writing.1;
+  })

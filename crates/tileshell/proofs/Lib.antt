@@ -11,6 +11,9 @@ pub mod Taking
 pub mod Walks
 pub mod Budgets
 pub mod Running
+pub mod Feeding
+pub mod Reading
+pub mod Finishing
 pub mod Courses
 pub mod Headlines
 pub mod DeviceLaws

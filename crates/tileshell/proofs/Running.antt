@@ -1,9 +1,9 @@
 -- The lines of a script, carried out and replied to.
 use Rattle.std.proofs.Common.{◌≡◌, ℕ, ◌+◌, ◌-◌, Bool, true, false, ◌||◌, ◌&&◌, List, [], ◌∷◌, ◌++◌, Some, None, refl, sym, ap, subst, ◌∙◌, append-nil}
-use Rattle.std.specs.Prelude.{Result, Ok, Err, is_err, IsSome}
+use Rattle.std.specs.Prelude.{Result, Ok, Err, is_err}
 use Rattle.std.proofs.Math.Bool.{or-true, or-false}
 use Rattle.tile_device.specs.Device.{trouble_of}
-use Rattle.tile_device.specs.Seen.{Seen, Output, IsFront, Sends, Spends, written}
+use Rattle.tile_device.specs.Seen.{Seen, Sends, Spends, written}
 use Rattle.tile_device.specs.declared.device.Trouble.{Trouble}
 use Rattle.tileshell.specs.History.{History}
 use Rattle.tileshell.specs.Run.{Progress, is_over, MayFollow, Walk}
@@ -48,7 +48,7 @@ advances_silently s left strict p line session editor on carries same strictly l
 }
 
 -- a line that was replied to
-pub advances : (a b : Seen) (n m : ℕ) (strict over : Bool) (p : Progress) (line : List ℕ) (number : ℕ) (answer : Result (Unit {0}) Refused) (session : Session) (editor : Editor) (r : Result (Unit {0}) Trouble)
+advances : (a b : Seen) (n m : ℕ) (strict over : Bool) (p : Progress) (line : List ℕ) (number : ℕ) (answer : Result (Unit {0}) Refused) (session : Session) (editor : Editor) (r : Result (Unit {0}) Trouble)
     → is_over strict p ≡ false → CarriesOut session line (Some answer) p → editor.session ≡ session → editor.strict ≡ strict → editor.lines ≡ number → p.lines + 1 ≡ number
     → editor.any_refused ≡ (p.any_refused || is_err answer) → (strict && is_err answer) ≡ over
     → is_err r ≡ false → Sends a b (reply_to number answer) (n - m) r → Spends n m (trouble_of r) → Advances a b n m editor strict line p over
@@ -62,6 +62,32 @@ advances a b n m strict over p line number answer session editor r on carries sa
   retries = n - m;
   writes = sent_all a b n m (reply_to number answer) r went sends spends;
 }
+
+and_false : (b : Bool) → (b && false) ≡ false
+and_false true = refl
+and_false false = refl
+
+and_true : (b : Bool) → (b && true) ≡ b
+and_true true = refl
+and_true false = refl
+
+-- a line that was accepted
+pub advances_accepted : (a b : Seen) (n m : ℕ) (strict : Bool) (p : Progress) (line : List ℕ) (number : ℕ) (answer : Result (Unit {0}) Refused) (session : Session) (editor : Editor) (r : Result (Unit {0}) Trouble)
+    → is_over strict p ≡ false → CarriesOut session line (Some answer) p → editor.session ≡ session → editor.strict ≡ strict → editor.lines ≡ number → p.lines + 1 ≡ number
+    → editor.any_refused ≡ p.any_refused → is_err answer ≡ false
+    → is_err r ≡ false → Sends a b (reply_to number answer) (n - m) r → Spends n m (trouble_of r) → Advances a b n m editor strict line p false
+advances_accepted a b n m strict p line number answer session editor r on carries same strictly lines counted refused good went sends spends =
+    advances a b n m strict false p line number answer session editor r on carries same strictly lines counted
+    (refused ∙ sym (ap (λ (q : Bool). p.any_refused || q) good ∙ or-false p.any_refused)) (ap (λ (q : Bool). strict && q) good ∙ and_false strict) went sends spends
+
+-- a line that was refused
+pub advances_refused : (a b : Seen) (n m : ℕ) (strict over : Bool) (p : Progress) (line : List ℕ) (number : ℕ) (answer : Result (Unit {0}) Refused) (session : Session) (editor : Editor) (r : Result (Unit {0}) Trouble)
+    → is_over strict p ≡ false → CarriesOut session line (Some answer) p → editor.session ≡ session → editor.strict ≡ strict → editor.lines ≡ number → p.lines + 1 ≡ number
+    → editor.any_refused ≡ true → is_err answer ≡ true → strict ≡ over
+    → is_err r ≡ false → Sends a b (reply_to number answer) (n - m) r → Spends n m (trouble_of r) → Advances a b n m editor strict line p over
+advances_refused a b n m strict over p line number answer session editor r on carries same strictly lines counted refused bad ends went sends spends =
+    advances a b n m strict over p line number answer session editor r on carries same strictly lines counted
+    (refused ∙ sym (ap (λ (q : Bool). p.any_refused || q) bad ∙ or-true p.any_refused)) (ap (λ (q : Bool). strict && q) bad ∙ and_true strict ∙ ends) went sends spends
 
 -- a line whose reply met trouble
 pub falters : (a b : Seen) (n m : ℕ) (p : Progress) (line : List ℕ) (number : ℕ) (answer : Result (Unit {0}) Refused) (session : Session) (r : Result (Unit {0}) Trouble)

@@ -1,5 +1,5 @@
 -- A line that asks for something takes memory.
-use Rattle.std.proofs.Common.{◌≡◌, ◌≤◌, true, false, ltb, List, ℕ, length, Some, Ok, Err, inl, inr, arith}
+use Rattle.std.proofs.Common.{◌≡◌, ◌≤◌, ltb, List, ℕ, length, Some, Ok, inl, inr, arith}
 use Rattle.std.proofs.lemmas.Bool.{cases_Bool}
 use Rattle.std.proofs.lemmas.Bool.Decides.{nat_tests}
 use Rattle.std.proofs.lemmas.Str.{IsUtf8-from_is_utf8}

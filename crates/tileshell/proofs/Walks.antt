@@ -1,13 +1,9 @@
 -- What may follow a line.
-use Rattle.std.proofs.Common.{◌≡◌, ℕ, ◌+◌, Bool, true, false, not, List, length, Option, Some, None, refl, sym, ap, ◌∙◌, inl, inr}
-use Rattle.std.proofs.lemmas.Bool.{cases_Bool}
-use Rattle.std.proofs.lemmas.Bool.Decides.{nat_tests}
-use Rattle.std.specs.Prelude.{Result, Ok, Err, nat_lt}
-use Rattle.std.specs.Str.{is_utf8}
+use Rattle.std.proofs.Common.{◌≡◌, ℕ, List, Some, None, sym, ap, ◌∙◌, inl, inr}
+use Rattle.std.specs.Prelude.{Result, Ok, Err}
 use Rattle.tile_script.specs.Answers.{Refuses}
 use Rattle.tile_script.specs.Request as plain
-use Rattle.tileshell.specs.History.{History}
-use Rattle.tile_script.specs.Line.{answer_to, is_remark, TakesMemory}
+use Rattle.tile_script.specs.Line.{answer_to, TakesMemory}
 use Rattle.tileshell.specs.Run.{Progress, refused_for, settled_by, answered_by}
 use Rattle.tileshell.specs.Session.{StandsFor, Answers}
 use Rattle.tileshell.specs.Steps.{CarriesOut, answered}

@@ -1,11 +1,8 @@
 -- What the steps of a run answer.
 use Rattle.std.specs.Prelude.{◌≡◌, ℕ, ◌+◌, ◌≤◌, Bool, true, false, List, [], ◌∷◌, ◌++◌, length, Option, Some, None, IsSome, Result, Ok, Err}
-use Rattle.mvt_wire.specs.declared.TheConstants.{MAX_FILE}
 use Rattle.mvt_wire.specs.declared.document.Document.{Document}
-use Rattle.mvt_wire.specs.Plain as plain
 use Rattle.mvt_wire.specs.Stands.{document_of}
 use Rattle.tile_device.specs.Seen.{Seen, Intake, Output, IsFront, Receives, Supplies, nothing_read, written}
-use Rattle.tile_device.specs.declared.device.Trouble.{Trouble}
 use Rattle.tile_device.specs.declared.device.Trouble.TheVariants.{Interrupted}
 use Rattle.tile_script.specs.Cutting.{Holding, after_pushes, nothing_held}
 use Rattle.tile_script.specs.Lines.{whole_lines}

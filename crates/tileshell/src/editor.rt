@@ -80,9 +80,10 @@ impl Editor {
     {
         let mut cutter = LineCutter::new(alloc)?;
         self.carry_out_pieces(alloc, &mut cutter, script, replies, retries)?;
-        if let Some(rest) = cutter.rest() {
-            self.carry_out(alloc, rest, replies, retries)?;
-        }
+        let Some(rest) = cutter.rest() else {
+            return Ok(());
+        };
+        self.carry_out(alloc, rest, replies, retries)?;
         Ok(())
     }
 
@@ -142,9 +143,10 @@ impl Editor {
     {
         for byte in bytes {
             cutter.push(*byte);
-            if let Some(line) = cutter.line() {
-                self.carry_out(alloc, line, replies, retries)?;
-            }
+            let Some(line) = cutter.line() else {
+                continue;
+            };
+            self.carry_out(alloc, line, replies, retries)?;
         }
         Ok(())
     }
@@ -171,11 +173,15 @@ impl Editor {
         if reply(replies, self.lines, answer, retries).is_err() {
             return Err(LineStop::Replies);
         }
-        self.any_refused = self.any_refused || refused;
-        if self.strict && refused {
-            return Err(LineStop::Strict);
+        if !refused {
+            return Ok(());
         }
-        Ok(())
+        self.any_refused = true;
+        if self.strict {
+            Err(LineStop::Strict)
+        } else {
+            Ok(())
+        }
     }
 }
 

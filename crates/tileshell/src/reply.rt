@@ -4,7 +4,7 @@ ghost use Rattle.std.specs.Prelude.{◌≡◌, ◌-◌};
 ghost use Rattle.std.specs.List.{flat_map};
 ghost use Rattle.tile_device.specs.Device.{trouble_of};
 ghost use Rattle.tile_device.specs.Seen.{Sends, Spends, sink_at};
-ghost use Rattle.tileshell.specs.Replies.{accepted_reply, refused_reply};
+ghost use Rattle.tileshell.specs.Replies.{refused_reply};
 ghost use Rattle.tileshell.specs.Steps.{reply_to};
 
 use crate::refused::Refused;
@@ -22,24 +22,28 @@ pub(crate) fn reply<W: Sink>(
         (reply_to line answer) (retries.old - retries.new) result }
     ensures spends { Spends retries.old retries.new (trouble_of result) }
 {
-    match answer {
-        Ok(()) => reply_accepted(replies, retries)?,
-        Err(reason) => reply_refused(replies, line, reason, retries)?,
-    }
+    write_reply(replies, line, answer, retries)?;
     replies.flush()
 }
 
-/// Replies to a request that was carried out.
-fn reply_accepted<W: Sink>(replies: &mut W, retries: &mut Retries) -> Result<(), Trouble>
+fn write_reply<W: Sink>(
+    replies: &mut W,
+    line: u64,
+    answer: Result<(), Refused>,
+    retries: &mut Retries,
+) -> Result<(), Trouble>
     ensures sends { Sends (sink_at W.Sink replies.old) (sink_at W.Sink replies.new)
-        accepted_reply (retries.old - retries.new) result }
+        (reply_to line answer) (retries.old - retries.new) result }
     ensures spends { Spends retries.old retries.new (trouble_of result) }
 {
-    write_pieces(replies, &[b"ok\n"], retries)
+    match answer {
+        Ok(()) => write_pieces(replies, &[b"ok\n"], retries),
+        Err(reason) => write_refusal(replies, line, reason, retries),
+    }
 }
 
 /// Replies to the refused line of this number. It takes no memory.
-fn reply_refused<W: Sink>(
+fn write_refusal<W: Sink>(
     replies: &mut W,
     line: u64,
     reason: Refused,
