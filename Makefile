@@ -9,8 +9,9 @@ all: toolchain
 	mkdir -p build
 	cp crates/tileshell_program/out/tileshell_program build/tileshell
 
-# Every proof, test, wrong body and stored run, from nothing.
+# Every proof, test, wrong body and stored run, from nothing; before them that each definition has its row in docs/.
 check: toolchain
+	tools/definitions
 	rt ci
 
 # Speed and memory beside other programs. TILESHELL=PATH measures a program that was built before.

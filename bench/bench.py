@@ -7,8 +7,8 @@ import os
 from pathlib import Path
 
 import peers
-from measure import COUNTED_MILLISECONDS, RUNS, SECONDS, Program, costliest, count_instructions, measure
-from report import Result, comparison, growth, instructions, memory, put_section, table, time
+from measure import COUNTED_MILLISECONDS, RUNS, SECONDS, Program, costliest, count_instructions, measure, run_once
+from report import DASH, Result, comparison, growth, instructions, memory, put_section, table, time
 from targets import JOB, verdicts
 from tiles import generated_tiles, real_tiles
 
@@ -22,6 +22,11 @@ JOBS = {
     JOB: RENAME,
     "1,000 renames and undos": (RENAME + "undo\n") * 1000,
 }
+
+# The job `long script`: one script of few of these lines and one of many, of tileshell alone, for its memory.
+LONG_PAIR = 'rename-layer "{layer}" "renamed for the length of a line"\nundo\n'
+LONG_LINES = [1_000, 100_000]
+LONG_SECONDS = 300
 
 
 def programs(tileshell):
@@ -40,9 +45,9 @@ def processor():
     return "an unknown processor"
 
 
-def script_of(job, tile):
+def script_of(lines, tile):
     path = peers.BUILD / "script"
-    path.write_text(JOBS[job].format(layer=tile.layer))
+    path.write_text(lines.format(layer=tile.layer))
     return path
 
 
@@ -52,7 +57,7 @@ def results_of(programs, tiles, with_valgrind):
     for tile in tiles:
         for job in JOBS:
             print(f"bench: {tile.name}, {job}", flush=True)
-            script = script_of(job, tile)
+            script = script_of(JOBS[job], tile)
             figures = measure(programs, tile, script)
             if with_valgrind:
                 count_all(programs, tile, script, figures)
@@ -82,15 +87,29 @@ def conditions(load_before, missing):
     return "\n".join(lines)
 
 
-def largest_map(tiles):
-    return max((tile for tile in tiles if tile.kind == "map"), key=lambda tile: tile.size)
+def maps(tiles):
+    """From the smallest to the largest."""
+    return sorted((tile for tile in tiles if tile.kind == "map"), key=lambda tile: tile.size)
 
 
 def costs(tileshell, tile):
     """What takes most of the instructions."""
-    rows = [(f"`{name}`", share) for name, share in costliest(tileshell, tile, script_of(JOB, tile))]
+    rows = [(f"`{name}`", share) for name, share in costliest(tileshell, tile, script_of(JOBS[JOB], tile))]
     heading = f"### What takes most instructions: {tile.name}, {JOB}"
     return heading + "\n\n" + table(["Function, without what it calls", "Share"], rows)
+
+
+def long_script(tileshell, tile):
+    """Whether memory grows with the script."""
+    rows = []
+    for lines in LONG_LINES:
+        print(f"bench: {tile.name}, long script of {lines:,} lines", flush=True)
+        script = script_of(LONG_PAIR * (lines // 2), tile)
+        measured = run_once(tileshell, tile, script, LONG_SECONDS)
+        peak = f"{measured[1] // 1024:,}" if measured else DASH
+        rows.append([f"{lines:,}", f"{script.stat().st_size:,}", peak])
+    heading = f"### Peak memory of a long script: {tile.name}"
+    return heading + "\n\n" + table(["Lines", "Bytes of the script", f"Peak of {tileshell.name} in KiB"], rows)
 
 
 def section(results, names):
@@ -126,8 +145,9 @@ def main():
     load_before = load()
     results = results_of(run, tiles, "valgrind" not in missing)
     parts = [conditions(load_before, missing), section(results, [program.name for program in run])]
+    parts.append(long_script(run[0], maps(tiles)[0]))
     if "valgrind" not in missing:
-        parts.append(costs(run[0], largest_map(tiles)))
+        parts.append(costs(run[0], maps(tiles)[-1]))
     text = "\n\n".join(parts)
     print(text)
     put_section(RESULTS, arguments.title, text)

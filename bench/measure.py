@@ -51,9 +51,9 @@ class Figures:
     instructions: int = None
 
 
-def run_once(program, tile, script):
+def run_once(program, tile, script, seconds=SECONDS):
     """Milliseconds and peak memory in bytes, or nothing where it took too long."""
-    words = [BUILD / "measure", SECONDS, script, program.replies, *program.command(tile.path)]
+    words = [BUILD / "measure", seconds, script, program.replies, *program.command(tile.path)]
     result = subprocess.run([str(word) for word in words], capture_output=True, text=True, check=True)
     nanoseconds, kibibytes, status = map(int, result.stdout.split())
     if status == -signal.SIGXCPU:
