@@ -1,13 +1,19 @@
 //! The program, from its words to its status.
 
+ghost use Rattle.std.specs.Prelude.{◌≡◌};
+
 use crate::created::Created;
 use crate::outcome::{DeviceName, Options, Outcome};
 use crate::runs::run;
-use clap::{Arg, ArgMatches, Command};
+use clap::{Arg, ArgAction, ArgMatches, Command};
+use std::alloc::Global;
 use std::fs;
-use std::io::{self, BufWriter};
+use std::io::{self, BufWriter, Read};
 use std::rt::Files;
 use tile_device::{FromRead, FromWrite};
+
+/// What `--version` tells behind the name of the program.
+const VERSION: &str = "0.1.0";
 
 /// Runs the program on its words, of which the first is its name, and gives its status.
 pub fn shell<R: Files + Input + Print + Eprint + AllocGlobal>(rt: &R, words: &[&str]) -> u8 {
@@ -20,20 +26,28 @@ pub fn shell<R: Files + Input + Print + Eprint + AllocGlobal>(rt: &R, words: &[&
     }
 }
 
-fn matched<'a>(
-    alloc: std::alloc::Global,
-    words: &'a [&'a str],
-) -> Result<ArgMatches<'a>, clap::Error> {
+fn matched<'a>(alloc: Global, words: &'a [&'a str]) -> Result<ArgMatches<'a>, clap::Error> {
     let tile = Arg::new(alloc, "TILE")
         .required(true)
         .help("The tile to edit, uncompressed");
     let out = Arg::new(alloc, "OUT")
         .required(true)
         .help("The file for the edited tile");
+    let script = Arg::new(alloc, "script")
+        .long("script")
+        .value_name("FILE")
+        .help("The script, in place of standard input");
+    let strict = Arg::new(alloc, "strict")
+        .long("strict")
+        .action(ArgAction::SetTrue)
+        .help("Stop at the first refused line");
     Command::new(alloc, "tileshell")
-        .about("Edits a vector tile by the lines of standard input")
+        .version(VERSION)
+        .about("Edits a vector tile by the lines of a script")
         .arg(tile)?
         .arg(out)?
+        .arg(script)?
+        .arg(strict)?
         .try_get_matches_from(words)
 }
 
@@ -44,27 +58,55 @@ fn edit_files<R: Files + Input + Print + Eprint + AllocGlobal>(
     let (Some(tile), Some(out)) = (matches.get_str("TILE"), matches.get_str("OUT")) else {
         return 2;
     };
-    let outcome = edit_file(rt, tile, out);
+    let options = Options {
+        depth: 1,
+        strict: matches.get_flag("strict"),
+    };
+    let outcome = edit_file(rt, tile, out, matches.get_str("script"), options);
     tell(rt, outcome)
 }
 
-fn edit_file<R: Files + Input + Print + AllocGlobal>(rt: &R, tile: &str, out: &str) -> Outcome {
+/// Opens the tile and then the script, before either is read. No path is standard input.
+fn edit_file<R: Files + Input + Print + AllocGlobal>(
+    rt: &R,
+    tile: &str,
+    out: &str,
+    script: Option<&str>,
+    options: Options,
+) -> Outcome
+    requires { options.depth ≡ 1 }
+{
     let Ok(tile) = fs::open(rt, tile) else {
         return Outcome::Device(DeviceName::Tile);
     };
+    let Some(script) = script else {
+        return edit_opened(rt, tile, rt.reader(), out, options);
+    };
+    match fs::open(rt, script) {
+        Ok(script) => edit_opened(rt, tile, script, out, options),
+        Err(_) => Outcome::Device(DeviceName::Script),
+    }
+}
+
+fn edit_opened<R: Files + Print + AllocGlobal, S: Read + Drop>(
+    rt: &R,
+    tile: R::File,
+    script: S,
+    out: &str,
+    options: Options,
+) -> Outcome
+    requires { options.depth ≡ 1 }
+{
     let Ok(replies) = BufWriter::new(rt.alloc(), io::writer(rt)) else {
         return Outcome::NoMemory;
     };
     run(
         rt.alloc(),
         &mut FromRead::new(tile),
-        &mut FromRead::new(rt.reader()),
+        &mut FromRead::new(script),
         &mut FromWrite::new(replies),
         &mut FromWrite::new(Created::new(rt, out)),
-        Options {
-            depth: 1,
-            strict: false,
-        },
+        options,
     )
 }
 

@@ -1,28 +1,53 @@
-//! Devices over bytes in memory that give or take one byte a call, and meet trouble at one call.
+//! Devices over bytes in memory that give or take a few bytes a call, and meet trouble at some calls.
 
-ghost use Rattle.std.specs.Prelude.{true, Some};
+ghost use Rattle.std.specs.Prelude.{◌≡◌, true, Some};
 
-use tile_device::{Sink, Source, Trouble, count};
+use std::alloc::Global;
+use tile_device::{Counts, Sink, Source, Trouble};
 
-/// The calls of a device, counted from 0, and the one that meets a trouble.
+/// The calls of a device, counted from 0, and those that meet trouble.
 #[derive(Drop)]
 pub struct Calls {
     pub made: u64,
-    pub troubled: u64,
-    pub trouble: Trouble,
-    pub interruptions: u64,
-    pub failures: u64,
+    first_troubled: u64,
+    first_untroubled: u64,
+    trouble: Trouble,
+    pub counts: Counts,
 }
 
 impl Calls {
-    pub fn new(troubled: u64, trouble: Trouble) -> Self {
+    /// The calls from one on and before another meet trouble.
+    pub fn new(first_troubled: u64, first_untroubled: u64, trouble: Trouble) -> Self {
         Calls {
             made: 0,
-            troubled,
+            first_troubled,
+            first_untroubled,
             trouble,
-            interruptions: 0,
-            failures: 0,
+            counts: Counts::default(),
         }
+    }
+
+    pub fn untroubled() -> Self {
+        Calls::new(0, 0, Trouble::Failed)
+    }
+
+    /// The call of this number fails, and so does each one behind it.
+    pub fn failing_at(call: u64) -> Self {
+        Calls::new(call, u64::MAX, Trouble::Failed)
+    }
+
+    /// The first calls are interrupted.
+    pub fn interrupted(count: u64) -> Self {
+        Calls::new(0, count, Trouble::Interrupted)
+    }
+
+    /// Makes a call, and tells whether it meets trouble.
+    fn is_troubled(&mut self) -> bool
+        ensures { self.new.counts ≡ self.old.counts }
+    {
+        let call = self.made;
+        self.made = call.saturating_add(1);
+        self.first_troubled <= call && call < self.first_untroubled
     }
 }
 
@@ -33,25 +58,25 @@ pub struct DripSource<'a> {
     pub calls: Calls,
 }
 
+impl<'a> DripSource<'a> {
+    pub fn new(rest: &'a [u8], calls: Calls) -> Self {
+        DripSource { rest, calls }
+    }
+}
+
 impl Source for DripSource<'_> {
     ghost left = { λ d. Some d.rest.now };
 
     ghost tells = { λ _. true };
 
-    ghost interruptions = { λ d. d.calls.interruptions };
+    ghost interruptions = { λ d. d.calls.counts.interruptions };
 
-    ghost failures = { λ d. d.calls.failures };
+    ghost failures = { λ d. d.calls.counts.failures };
 
     fn read(&mut self, buffer: &mut [u8]) -> Result<usize, Trouble> {
-        let call = self.calls.made;
-        self.calls.made = call.saturating_add(1);
-        if call == self.calls.troubled {
+        if self.calls.is_troubled() {
             let trouble = self.calls.trouble;
-            count(
-                trouble,
-                &mut self.calls.interruptions,
-                &mut self.calls.failures,
-            );
+            self.calls.counts.count(trouble);
             return Err(trouble);
         }
         if self.rest.is_empty() || buffer.is_empty() {
@@ -63,11 +88,28 @@ impl Source for DripSource<'_> {
     }
 }
 
-/// Takes one byte a call. A flush is a call too.
+/// Takes a few bytes a call. A flush is a call too.
 #[derive(Drop)]
 pub struct DripSink {
     pub taken: Vec<u8>,
     pub calls: Calls,
+    most: usize,
+}
+
+impl DripSink {
+    /// Takes one byte a call.
+    pub fn new(alloc: Global, calls: Calls) -> Self {
+        DripSink::of_most(alloc, 1, calls)
+    }
+
+    /// Takes so many bytes a call at most, and one at least.
+    pub fn of_most(alloc: Global, most: usize, calls: Calls) -> Self {
+        DripSink {
+            taken: Vec::new(alloc),
+            calls,
+            most,
+        }
+    }
 }
 
 impl Sink for DripSink {
@@ -75,39 +117,26 @@ impl Sink for DripSink {
 
     ghost tells = { λ _. true };
 
-    ghost interruptions = { λ d. d.calls.interruptions };
+    ghost interruptions = { λ d. d.calls.counts.interruptions };
 
-    ghost failures = { λ d. d.calls.failures };
+    ghost failures = { λ d. d.calls.counts.failures };
 
     fn write(&mut self, bytes: &[u8]) -> Result<usize, Trouble> {
-        let call = self.calls.made;
-        self.calls.made = call.saturating_add(1);
-        let trouble = if call == self.calls.troubled {
+        let count = bytes.len().min(self.most.max(1));
+        let trouble = if self.calls.is_troubled() {
             self.calls.trouble
-        } else if bytes.is_empty() {
-            return Ok(0);
-        } else if self.taken.push(bytes[0]).is_ok() {
-            return Ok(1);
+        } else if self.taken.extend_from_slice(&bytes[..count]).is_ok() {
+            return Ok(count);
         } else {
             Trouble::Failed
         };
-        count(
-            trouble,
-            &mut self.calls.interruptions,
-            &mut self.calls.failures,
-        );
+        self.calls.counts.count(trouble);
         Err(trouble)
     }
 
     fn flush(&mut self) -> Result<(), Trouble> {
-        let call = self.calls.made;
-        self.calls.made = call.saturating_add(1);
-        if call == self.calls.troubled {
-            count(
-                Trouble::Failed,
-                &mut self.calls.interruptions,
-                &mut self.calls.failures,
-            );
+        if self.calls.is_troubled() {
+            self.calls.counts.count(Trouble::Failed);
             return Err(Trouble::Failed);
         }
         Ok(())

@@ -8,7 +8,11 @@ mod devices;
 #[cfg(test)]
 mod drip;
 #[cfg(test)]
+mod limits;
+#[cfg(test)]
 mod memory;
+#[cfg(test)]
+mod order;
 #[cfg(test)]
 mod program;
 #[cfg(test)]
@@ -16,6 +20,10 @@ mod rows;
 #[cfg(test)]
 mod script;
 #[cfg(test)]
+mod std_devices;
+#[cfg(test)]
 mod tiles;
+#[cfg(test)]
+mod troubles;
 #[cfg(test)]
 mod wire;

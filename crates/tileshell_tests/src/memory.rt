@@ -1,7 +1,19 @@
 //! Runs over bytes in memory.
 
+ghost use Rattle.std.specs.Prelude.{◌≡◌};
+
+use crate::drip::{Calls, DripSink, DripSource};
 use std::alloc::{AllocError, Global};
-use tileshell::{FromRead, FromWrite, Options, Outcome, run};
+use std::process::Abort;
+use tileshell::{DeviceName, FromRead, FromWrite, Options, Outcome, run};
+
+/// How a run is to end, its replies, and the tile that it is to write.
+#[derive(Clone, Copy, Debug)]
+pub struct Wanted<'a> {
+    pub outcome: Outcome,
+    pub replies: &'a [u8],
+    pub tile: &'a [u8],
+}
 
 /// What a run did: how it ended, its replies, and the tile that it wrote.
 #[derive(Debug, Drop)]
@@ -11,8 +23,15 @@ pub struct Ran {
     pub tile: Vec<u8>,
 }
 
-/// Runs the script on the tile.
-pub fn edited(alloc: Global, tile: &[u8], script: &[u8]) -> Ran {
+/// A run that goes one step back, and that is strict or not.
+pub fn options(strict: bool) -> Options
+    ensures { result.depth ≡ 1 }
+{
+    Options { depth: 1, strict }
+}
+
+/// Runs the script on the tile, over readers and writers of std.
+pub fn edited(alloc: Global, tile: &[u8], script: &[u8], strict: bool) -> Ran {
     let mut replies = FromWrite::new(Vec::new(alloc));
     let mut out = FromWrite::new(Vec::new(alloc));
     let outcome = run(
@@ -21,15 +40,81 @@ pub fn edited(alloc: Global, tile: &[u8], script: &[u8]) -> Ran {
         &mut FromRead::new(script),
         &mut replies,
         &mut out,
-        Options {
-            depth: 1,
-            strict: false,
-        },
+        options(strict),
     );
     Ran {
         outcome,
         replies: replies.into_inner(),
         tile: out.into_inner(),
+    }
+}
+
+/// The four devices of a run, each of which gives or takes one byte a call.
+#[derive(Drop)]
+pub struct Drips<'a> {
+    pub tile: DripSource<'a>,
+    pub script: DripSource<'a>,
+    pub replies: DripSink,
+    pub out: DripSink,
+}
+
+impl<'a> Drips<'a> {
+    pub fn new(alloc: Global, tile: &'a [u8], script: &'a [u8]) -> Self {
+        Drips {
+            tile: DripSource::new(tile, Calls::untroubled()),
+            script: DripSource::new(script, Calls::untroubled()),
+            replies: DripSink::new(alloc, Calls::untroubled()),
+            out: DripSink::new(alloc, Calls::untroubled()),
+        }
+    }
+
+    pub fn set_calls(&mut self, device: DeviceName, calls: Calls) {
+        match device {
+            DeviceName::Tile => self.tile.calls = calls,
+            DeviceName::Script => self.script.calls = calls,
+            DeviceName::Replies => self.replies.calls = calls,
+            DeviceName::Out => self.out.calls = calls,
+        }
+    }
+
+    pub fn run(&mut self, alloc: Global, strict: bool) -> Outcome {
+        run(
+            alloc,
+            &mut self.tile,
+            &mut self.script,
+            &mut self.replies,
+            &mut self.out,
+            options(strict),
+        )
+    }
+}
+
+/// The script on the tile does what is wanted, over readers and writers of std.
+pub fn assert_edits(
+    rt: &(impl Abort + AllocGlobal),
+    tile: &[u8],
+    script: &[u8],
+    strict: bool,
+    want: Wanted<'_>,
+) {
+    let ran = edited(rt.alloc(), tile, script, strict);
+    assert_eq!(rt; ran.outcome, want.outcome);
+    assert_eq!(rt; ran.replies.as_slice(), want.replies);
+    assert!(rt; ran.tile.as_slice() == want.tile);
+}
+
+/// The script on the tile does what is wanted, over readers and writers of std and one byte a call.
+/// A strict run does too where no line is refused.
+pub fn assert_runs(rt: &(impl Abort + AllocGlobal), tile: &[u8], script: &[u8], want: Wanted<'_>) {
+    for strict in [false, true] {
+        if strict && want.outcome != Outcome::Done {
+            return;
+        }
+        assert_edits(rt, tile, script, strict, want);
+        let mut drips = Drips::new(rt.alloc(), tile, script);
+        assert_eq!(rt; drips.run(rt.alloc(), strict), want.outcome);
+        assert_eq!(rt; drips.replies.taken.as_slice(), want.replies);
+        assert!(rt; drips.out.taken.as_slice() == want.tile);
     }
 }
 

@@ -1,6 +1,7 @@
-use std::alloc::Global;
+//! The lines of a script, and what they ask for.
+
 use std::test::Fail;
-use tile_script::{ParseError, Request, first_line, parse_line};
+use tile_script::{Cut, LineCutter, ParseError, Request, parse_line};
 use tileshell::{Command, LayerChoice};
 
 const REFUSED: [(&[u8], ParseError); 13] = [
@@ -96,17 +97,37 @@ fn reads_rename_layer(rt: HostRuntime) -> Result<(), Fail> {
 }
 
 #[test]
-fn cuts_lines(rt: HostRuntime) {
-    let mut rest: &[u8] = b"undo\n\nundo";
-    let lines: [&[u8]; 3] = [b"undo", b"", b"undo"];
-    for line in &lines {
-        match first_line(rest) {
-            Some((found, after)) => {
-                assert_eq!(rt; found, *line);
-                rest = after;
-            }
-            None => assert!(rt; false),
+fn cuts_lines(rt: HostRuntime) -> Result<(), Fail> {
+    let mut cutter = LineCutter::new(rt.alloc())?;
+    let mut lines = Vec::new(rt.alloc());
+    for byte in b"undo\n\nundo" {
+        cutter.push(*byte);
+        if let Some(Cut::Line(line)) = cutter.line() {
+            lines.extend_from_slice(line)?;
+            lines.push(b'|')?;
         }
     }
-    assert!(rt; first_line(rest).is_none());
+    assert_eq!(rt; lines.as_slice(), b"undo||".as_slice());
+    assert!(rt; matches!(cutter.rest(), Some(Cut::Line(b"undo"))));
+    cutter.push(b'\n');
+    assert!(rt; matches!(cutter.line(), Some(Cut::Line(b"undo"))));
+    assert!(rt; cutter.rest().is_none());
+    Ok(())
+}
+
+#[test]
+fn cuts_long_lines(rt: HostRuntime) -> Result<(), Fail> {
+    let mut cutter = LineCutter::new(rt.alloc())?;
+    for _ in 0..65_536 {
+        cutter.push(b'a');
+    }
+    assert!(rt; matches!(cutter.rest(), Some(Cut::Line(line)) if line.len() == 65_536));
+    cutter.push(b'a');
+    assert!(rt; matches!(cutter.rest(), Some(Cut::TooLong)));
+    cutter.push(b'\n');
+    assert!(rt; matches!(cutter.line(), Some(Cut::TooLong)));
+    cutter.push(b'b');
+    assert!(rt; cutter.line().is_none());
+    assert!(rt; matches!(cutter.rest(), Some(Cut::Line(b"b"))));
+    Ok(())
 }

@@ -1,6 +1,6 @@
 //! Numbers, fields and documents at the limits of the wire format.
 
-use crate::memory::{edited, joined};
+use crate::memory::{Wanted, assert_runs, edited, joined};
 use crate::tiles::{BEHIND_NAME, T0};
 use mvt_wire::{
     Body, BodyRef, Document, Field, Items, MAX_FILE, ReadError, TileItem, Varint, WriteError,
@@ -86,12 +86,14 @@ fn unknown_fields_stay_in_their_places(rt: HostRuntime) -> Result<(), Fail> {
             b"\x22\x03\x09\x32\x22\x1a\x01k\x22\x02\x20\x05\x28\x80\x20\x78\x02\x80\x01\x07".as_slice(),
         ],
     )?;
-    let ran = edited(rt.alloc(), &tile, b"");
-    assert_eq!(rt; ran.outcome, Outcome::Done);
-    assert_eq!(rt; ran.tile.as_slice(), tile.as_slice());
-    let wide = edited(rt.alloc(), b"\x1a\x80\x00", b"");
-    assert_eq!(rt; wide.outcome, Outcome::Done);
-    assert_eq!(rt; wide.tile.as_slice(), b"\x1a\x80\x00".as_slice());
+    for tile in [tile.as_slice(), b"\x1a\x80\x00".as_slice()] {
+        let want = Wanted {
+            outcome: Outcome::Done,
+            replies: b"",
+            tile,
+        };
+        assert_runs(&rt, tile, b"", want);
+    }
     Ok(())
 }
 
@@ -138,6 +140,7 @@ fn a_full_file_takes_no_longer_name(rt: HostRuntime) -> Result<(), Fail> {
         rt.alloc(),
         &file,
         b"rename-layer #0 \"bb\"\nrename-layer #0 \"b\"\n",
+        false,
     );
     assert_eq!(rt; ran.outcome, Outcome::SomeRefused);
     assert_eq!(rt;
@@ -148,7 +151,7 @@ fn a_full_file_takes_no_longer_name(rt: HostRuntime) -> Result<(), Fail> {
     assert!(rt; ran.tile.as_slice().starts_with(b"\x1a\x1e\x0a\x01b"));
     assert_eq!(rt; &ran.tile[5..32], BEHIND_NAME.as_slice());
     file.push(0)?;
-    let refused = edited(rt.alloc(), &file, b"");
+    let refused = edited(rt.alloc(), &file, b"", false);
     assert_eq!(rt;
         refused.outcome,
         Outcome::TileRefused(TileFault::FileTooLarge)

@@ -1,0 +1,250 @@
+//! Runs whose devices are interrupted, and runs whose devices fail.
+
+use crate::drip::{Calls, DripSink};
+use crate::memory::{Drips, Ran, Wanted, options};
+use crate::std_devices::{Deaf, Slip, SlipReader, SlipWriter};
+use crate::tiles::{RENAME, ROADS, T0};
+use std::alloc::Global;
+use std::io::{BufWriter, ErrorKind};
+use std::process::Abort;
+use std::test::Fail;
+use tileshell::{DeviceName, FromRead, FromWrite, Outcome, run};
+
+const FAULT_OF_TILE: Outcome = Outcome::Device(DeviceName::Tile);
+
+const FAULT_OF_SCRIPT: Outcome = Outcome::Device(DeviceName::Script);
+
+const FAULT_OF_REPLIES: Outcome = Outcome::Device(DeviceName::Replies);
+
+const FAULT_OF_OUT: Outcome = Outcome::Device(DeviceName::Out);
+
+/// What was written is what the outcome says, where a run without trouble is as wanted.
+fn assert_written(rt: &impl Abort, drips: &Drips<'_>, outcome: Outcome, want: Wanted<'_>) {
+    let replies = drips.replies.taken.as_slice();
+    let tile = drips.out.taken.as_slice();
+    assert!(rt; want.replies.starts_with(replies));
+    assert!(rt; want.tile.starts_with(tile));
+    if outcome == want.outcome {
+        assert_eq!(rt; replies, want.replies);
+        assert_eq!(rt; tile, want.tile);
+    } else if outcome == FAULT_OF_OUT {
+        assert_eq!(rt; replies, want.replies);
+    } else {
+        assert_eq!(rt; drips.out.calls.made, 0);
+    }
+    if outcome == FAULT_OF_SCRIPT {
+        assert!(rt; replies.is_empty() || replies.ends_with(b"\n"));
+    }
+    if outcome == FAULT_OF_TILE {
+        assert_eq!(rt; drips.replies.calls.made, 0);
+    }
+}
+
+#[test]
+fn a_thousand_interrupted_calls_are_made_again(rt: HostRuntime) {
+    let want = Wanted {
+        outcome: Outcome::Done,
+        replies: b"ok\n",
+        tile: &ROADS,
+    };
+    for (tile, script, replies, out, outcome) in [
+        (1000, 0, 0, 0, Outcome::Done),
+        (1001, 0, 0, 0, FAULT_OF_TILE),
+        (0, 1000, 0, 0, Outcome::Done),
+        (0, 1001, 0, 0, FAULT_OF_SCRIPT),
+        (600, 400, 0, 0, Outcome::Done),
+        (600, 401, 0, 0, FAULT_OF_SCRIPT),
+        (0, 0, 1000, 0, Outcome::Done),
+        (0, 0, 1001, 0, FAULT_OF_REPLIES),
+        (250, 250, 250, 250, Outcome::Done),
+        (250, 250, 250, 251, FAULT_OF_OUT),
+    ] {
+        let mut drips = Drips::new(rt.alloc(), &T0, RENAME);
+        drips.tile.calls = Calls::interrupted(tile);
+        drips.script.calls = Calls::interrupted(script);
+        drips.replies.calls = Calls::interrupted(replies);
+        drips.out.calls = Calls::interrupted(out);
+        let outcome_met = drips.run(rt.alloc(), false);
+        assert_eq!(rt; outcome_met, outcome, "{tile} {script} {replies} {out}");
+        assert_written(&rt, &drips, outcome, want);
+        if outcome == FAULT_OF_SCRIPT {
+            assert_eq!(rt; drips.replies.calls.made, 0);
+        }
+    }
+}
+
+/// How often each device is called in a run without trouble: once for each byte, and once for the
+/// end of a source and for each flush of a sink.
+type CallCounts = [(DeviceName, u64); 4];
+
+fn call_counts(tile: u64, script: u64, replies: u64, out: u64) -> CallCounts {
+    [
+        (DeviceName::Tile, tile),
+        (DeviceName::Script, script),
+        (DeviceName::Replies, replies),
+        (DeviceName::Out, out),
+    ]
+}
+
+/// Each device fails once at each of its calls.
+fn assert_fails_at_each_call(
+    rt: &(impl Abort + AllocGlobal),
+    script: &[u8],
+    counts: CallCounts,
+    want: Wanted<'_>,
+) {
+    for (device, count) in counts {
+        for call in 0..=count {
+            let mut drips = Drips::new(rt.alloc(), &T0, script);
+            drips.set_calls(device, Calls::failing_at(call));
+            let outcome = drips.run(rt.alloc(), false);
+            if call < count {
+                assert_eq!(rt; outcome, Outcome::Device(device), "{device} at {call}");
+            } else {
+                assert_eq!(rt; outcome, want.outcome, "{device} at {call}");
+            }
+            assert_written(rt, &drips, outcome, want);
+        }
+    }
+}
+
+#[test]
+fn a_device_that_fails_is_named(rt: HostRuntime) {
+    let renamed = Wanted {
+        outcome: Outcome::Done,
+        replies: b"ok\n",
+        tile: &ROADS,
+    };
+    assert_fails_at_each_call(&rt, RENAME, call_counts(33, 25, 4, 37), renamed);
+    let undone = Wanted {
+        outcome: Outcome::SomeRefused,
+        replies: b"ok\nline 2 refused 12 UnknownCommand\nok\n",
+        tile: &T0,
+    };
+    let script = b"rename-layer \"a\" \"roads\"\nfrob\nundo\n";
+    assert_fails_at_each_call(&rt, script, call_counts(33, 36, 42, 33), undone);
+    let refused = Wanted {
+        outcome: Outcome::SomeRefused,
+        replies: b"line 4 refused 50 NothingToUndo\n",
+        tile: &T0,
+    };
+    let script = b"# note\n\n \t\nundo";
+    assert_fails_at_each_call(&rt, script, call_counts(33, 16, 33, 33), refused);
+}
+
+#[test]
+fn a_strict_run_stops_before_the_script_fails(rt: HostRuntime) {
+    for (strict, outcome, reads) in [(true, Outcome::StrictStop, 5), (false, FAULT_OF_SCRIPT, 6)] {
+        let mut drips = Drips::new(rt.alloc(), &T0, b"undo\n");
+        drips.script.calls = Calls::failing_at(5);
+        assert_eq!(rt; drips.run(rt.alloc(), strict), outcome);
+        assert_eq!(rt; drips.script.calls.made, reads);
+        assert_eq!(rt;
+            drips.replies.taken.as_slice(),
+            b"line 1 refused 50 NothingToUndo\n".as_slice()
+        );
+        assert_eq!(rt; drips.out.calls.made, 0);
+    }
+}
+
+#[test]
+fn replies_that_nobody_takes_are_a_fault(rt: HostRuntime) -> Result<(), Fail> {
+    for strict in [false, true] {
+        let mut drips = Drips::new(rt.alloc(), &T0, b"undo\n");
+        let mut deaf = FromWrite::new(Deaf { error: None });
+        let outcome = run(
+            rt.alloc(),
+            &mut drips.tile,
+            &mut drips.script,
+            &mut deaf,
+            &mut drips.out,
+            options(strict),
+        );
+        assert_eq!(rt; outcome, FAULT_OF_REPLIES);
+        let mut held_back = FromWrite::new(BufWriter::new(rt.alloc(), Deaf { error: None })?);
+        let mut drips = Drips::new(rt.alloc(), &T0, b"undo\n");
+        let outcome = run(
+            rt.alloc(),
+            &mut drips.tile,
+            &mut drips.script,
+            &mut held_back,
+            &mut drips.out,
+            options(strict),
+        );
+        assert_eq!(rt; outcome, FAULT_OF_REPLIES);
+        assert_eq!(rt; drips.script.calls.made, 5);
+        assert_eq!(rt; drips.out.calls.made, 0);
+    }
+    Ok(())
+}
+
+#[test]
+fn what_a_failed_file_took_is_a_front(rt: HostRuntime) {
+    let mut drips = Drips::new(rt.alloc(), &T0, RENAME);
+    drips.out = DripSink::of_most(rt.alloc(), 10, Calls::failing_at(1));
+    assert_eq!(rt; drips.run(rt.alloc(), false), FAULT_OF_OUT);
+    assert_eq!(rt; drips.replies.taken.as_slice(), b"ok\n".as_slice());
+    assert_eq!(rt; drips.out.taken.as_slice(), &ROADS[..10]);
+}
+
+/// Renames over readers and writers of std, of which one answers an error at its third call.
+fn renamed_with_slip(alloc: Global, device: DeviceName, kind: ErrorKind) -> Ran {
+    let slip_of = |name: DeviceName| {
+        let calls_before = if name == device { Some(2) } else { None };
+        Slip::new(calls_before, kind)
+    };
+    let mut tile = FromRead::new(SlipReader {
+        rest: &T0,
+        slip: slip_of(DeviceName::Tile),
+    });
+    let mut script = FromRead::new(SlipReader {
+        rest: RENAME,
+        slip: slip_of(DeviceName::Script),
+    });
+    let mut replies = FromWrite::new(SlipWriter {
+        taken: Vec::new(alloc),
+        slip: slip_of(DeviceName::Replies),
+    });
+    let mut out = FromWrite::new(SlipWriter {
+        taken: Vec::new(alloc),
+        slip: slip_of(DeviceName::Out),
+    });
+    let outcome = run(
+        alloc,
+        &mut tile,
+        &mut script,
+        &mut replies,
+        &mut out,
+        options(false),
+    );
+    Ran {
+        outcome,
+        replies: replies.into_inner().taken,
+        tile: out.into_inner().taken,
+    }
+}
+
+#[test]
+fn an_error_in_mid_stream_is_a_fault(rt: HostRuntime) {
+    for (device, replies, tile) in [
+        (DeviceName::Tile, b"".as_slice(), b"".as_slice()),
+        (DeviceName::Script, b"".as_slice(), b"".as_slice()),
+        (DeviceName::Replies, b"ok".as_slice(), b"".as_slice()),
+        (DeviceName::Out, b"ok\n".as_slice(), b"\x1a\x22".as_slice()),
+    ] {
+        for kind in [
+            ErrorKind::Other,
+            ErrorKind::WouldBlock,
+            ErrorKind::UnexpectedEof,
+        ] {
+            let ran = renamed_with_slip(rt.alloc(), device, kind);
+            assert_eq!(rt; ran.outcome, Outcome::Device(device), "{kind:?}");
+            assert_eq!(rt; ran.replies.as_slice(), replies, "{device} {kind:?}");
+            assert_eq!(rt; ran.tile.as_slice(), tile, "{device} {kind:?}");
+        }
+        let ran = renamed_with_slip(rt.alloc(), device, ErrorKind::Interrupted);
+        assert_eq!(rt; ran.outcome, Outcome::Done);
+        assert_eq!(rt; ran.replies.as_slice(), b"ok\n".as_slice());
+        assert_eq!(rt; ran.tile.as_slice(), ROADS.as_slice());
+    }
+}
