@@ -16,4 +16,5 @@ pub mod Reading
 pub mod Finishing
 pub mod Courses
 pub mod Headlines
+pub mod InMemory
 pub mod DeviceLaws

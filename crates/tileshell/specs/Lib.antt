@@ -6,6 +6,7 @@ pub mod Laws
 pub mod RunLaws
 pub mod Course
 pub mod Headline
+pub mod InMemory
 pub mod Steps
 pub mod DeviceLaws
 pub mod Outcomes

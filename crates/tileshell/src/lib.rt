@@ -3,6 +3,7 @@
 
 mod created;
 mod editor;
+mod in_memory;
 pub mod laws;
 mod outcome;
 mod program;
@@ -11,6 +12,7 @@ mod reply;
 mod runs;
 mod session;
 
+pub use in_memory::{Edited, edit};
 pub use mvt_edit::{Command, LayerChoice, Refusal, laws as edit_laws};
 pub use outcome::{DeviceName, Options, Outcome, TileFault};
 pub use program::shell;

@@ -1,0 +1,68 @@
+-- What an edit of a tile in memory gives.
+use Rattle.std.specs.Prelude.{◌≡◌, ◌≢◌, ◌⊎◌, ◌↔◌, ℕ, ◌<◌, ◌≤◌, Bool, List, [], length, Some, None, IsSome, if◌then◌else◌}
+use Rattle.std.specs.declared.option.Option.{Option}
+use Rattle.std.specs.declared.vec.Vec.{Vec}
+use Rattle.std.specs.declared.alloc.Global.{Global}
+use Rattle.mvt_wire.specs.Opens.{OpensAs}
+use Rattle.mvt_wire.specs.Plain.{Document}
+use Rattle.tileshell.specs.Course.{OpensAsNothing, IsFaultOf}
+use Rattle.tileshell.specs.Headline.{outcome_of}
+use Rattle.tileshell.specs.Replies.{HasNoWant}
+use Rattle.tileshell.specs.Run.{Progress, is_over, ran, tile_of}
+use Rattle.tileshell.specs.declared.in_memory.Edited.{Edited}
+use Rattle.tileshell.specs.declared.outcome.DeviceName.{DeviceName}
+use Rattle.tileshell.specs.declared.outcome.DeviceName.TheVariants as devices
+use Rattle.tileshell.specs.declared.outcome.Options.{Options}
+use Rattle.tileshell.specs.declared.outcome.Outcome.{Outcome}
+use Rattle.tileshell.specs.declared.outcome.Outcome.TheVariants as outcomes
+use Rattle.tileshell.specs.declared.outcome.TileFault.{TileFault}
+use Rattle.tileshell.specs.declared.runs.TheConstants.{MAX_SCRIPT}
+
+-- what is handed out where the run ended so: the tile where it was written, and a sink here fails only for want of memory
+abbrev pub handed_out : Outcome → Vec ℕ Global → Vec ℕ Global → Edited
+handed_out outcomes.Done replies out = record { outcome = outcomes.Done; replies = replies; tile = Some out }
+handed_out outcomes.SomeRefused replies out = record { outcome = outcomes.SomeRefused; replies = replies; tile = Some out }
+handed_out (outcomes.Device devices.Replies) replies out = record { outcome = outcomes.NoMemory; replies = replies; tile = None }
+handed_out (outcomes.Device devices.Out) replies out = record { outcome = outcomes.NoMemory; replies = replies; tile = None }
+handed_out outcome replies out = record { outcome = outcome; replies = replies; tile = None }
+
+-- the bytes of the tile, where there is one
+abbrev pub bytes_in : Option (Vec ℕ Global) → Option (List ℕ)
+bytes_in None = None
+bytes_in (Some tile) = Some tile.items
+
+-- the tile of a run that comes to this progress: none where a strict run is over
+abbrev pub tile_given : Bool → Progress → Option (List ℕ)
+tile_given strict progress = if is_over strict progress then None else Some (tile_of progress)
+
+-- the outcome, the replies and the tile are those of the script on the document
+pub record IsEditOf (options : Options) (document : Document) (script : List ℕ) (edited : Edited) : Type 0 where
+  pub outcome : edited.outcome ≡ outcome_of options.strict (ran document options script)
+  pub replies : edited.replies.items ≡ (ran document options script).replies
+  pub tile : bytes_in edited.tile ≡ tile_given options.strict (ran document options script)
+
+-- for every tile that opens and every script that is not too long, where memory was refused to nothing
+abbrev pub EditsTile : Options → List ℕ → List ℕ → Edited → Type 0
+EditsTile options tile script edited =
+    (document : Document) → OpensAs tile document → length script ≤ MAX_SCRIPT → edited.outcome ≢ outcomes.NoMemory → HasNoWant edited.replies.items
+    → IsEditOf options document script edited
+
+-- the tile is refused for what is wrong with it, and there is nothing more
+pub record IsRefusal (tile : List ℕ) (edited : Edited) : Type 0 where
+  pub fault : TileFault
+  pub outcome : edited.outcome ≡ outcomes.TileRefused fault
+  pub is_fault : IsFaultOf fault tile
+  pub no_replies : edited.replies.items ≡ []
+  pub no_tile : edited.tile ≡ None
+
+-- for every tile that opens as no document
+abbrev pub RefusesFile : List ℕ → Edited → Type 0
+RefusesFile tile edited = OpensAsNothing tile → edited.outcome ≢ outcomes.NoMemory → IsRefusal tile edited
+
+-- a device is named only where the script is too long, and then the script
+abbrev pub NamesLongScript : List ℕ → Edited → Type 0
+NamesLongScript script edited = (name : DeviceName) → edited.outcome ≡ outcomes.Device name → (name ≡ devices.Script) × (MAX_SCRIPT < length script)
+
+-- there is a tile exactly where the run came to its end
+abbrev pub GivesTile : Edited → Type 0
+GivesTile edited = IsSome edited.tile ↔ ((edited.outcome ≡ outcomes.Done) ⊎ (edited.outcome ≡ outcomes.SomeRefused))

@@ -1,0 +1,135 @@
+//! An edit of a tile in memory, by a script in memory.
+
+ghost use Rattle.std.specs.Prelude.{◌≡◌, [], true, Some};
+ghost use Rattle.tileshell.specs.InMemory.{EditsTile, RefusesFile, NamesLongScript, GivesTile, handed_out};
+
+use crate::outcome::{DeviceName, Options, Outcome};
+use crate::runs::run;
+use std::alloc::Global;
+use tile_device::{Counts, Sink, Source, Trouble};
+
+/// What an edit of a tile in memory gave.
+#[derive(Debug, Drop)]
+pub struct Edited {
+    /// How the run ended: with `NoMemory` too where memory was refused to the replies.
+    pub outcome: Outcome,
+    /// The replies to the lines that were carried out. With `NoMemory` the last may be cut short.
+    pub replies: Vec<u8>,
+    /// The edited tile, where the run came to the end of the script.
+    pub tile: Option<Vec<u8>>,
+}
+
+/// Edits the tile by the lines of the script, as `run` does, with no devices. The tile and the
+/// script stay as they are. A line to which memory was refused is replied to as such, and the lines
+/// behind it are carried out.
+pub fn edit(alloc: Global, tile: &[u8], script: &[u8], options: Options) -> Edited
+    requires { options.depth ≡ 1 }
+
+    // Where memory is not wanted: the script on the document.
+    ensures edits { EditsTile options tile.now script.now result }
+
+    // A tile that opens as no document is refused for what is wrong with it.
+    ensures refuses { RefusesFile tile.now result }
+
+    // No device is named, but the script where it is too long.
+    ensures names_long_script { NamesLongScript script.now result }
+    ensures gives_tile { GivesTile result }
+{
+    let mut replies = Gathered::new(alloc);
+    let mut out = Gathered::new(alloc);
+    let outcome = run(
+        alloc,
+        &mut Unread { rest: tile },
+        &mut Unread { rest: script },
+        &mut replies,
+        &mut out,
+        options,
+    );
+    hand_out(outcome, replies.bytes, out.bytes)
+}
+
+fn hand_out(outcome: Outcome, replies: Vec<u8>, out: Vec<u8>) -> Edited
+    ensures { result ≡ handed_out outcome replies out }
+{
+    match outcome {
+        Outcome::Done | Outcome::SomeRefused => Edited {
+            outcome,
+            replies,
+            tile: Some(out),
+        },
+        Outcome::Device(DeviceName::Replies | DeviceName::Out) => Edited {
+            outcome: Outcome::NoMemory,
+            replies,
+            tile: None,
+        },
+        _ => Edited {
+            outcome,
+            replies,
+            tile: None,
+        },
+    }
+}
+
+/// Gives bytes in memory. Reading them never fails.
+#[derive(Drop)]
+struct Unread<'a> {
+    rest: &'a [u8],
+}
+
+impl Source for Unread<'_> {
+    ghost left = { λ unread. Some unread.rest.now };
+
+    ghost tells = { λ _. true };
+
+    ghost interruptions = { λ _. 0 };
+
+    ghost failures = { λ _. 0 };
+
+    fn read(&mut self, buffer: &mut [u8]) -> Result<usize, Trouble> {
+        let count = self.rest.len().min(buffer.len());
+        buffer[..count].copy_from_slice(&self.rest[..count]);
+        self.rest = &self.rest[count..];
+        Ok(count)
+    }
+}
+
+/// Gathers what is written. A growth that is refused is a failure.
+#[derive(Drop)]
+struct Gathered {
+    bytes: Vec<u8>,
+    counts: Counts,
+}
+
+impl Gathered {
+    fn new(alloc: Global) -> Self
+        ensures bytes { result.bytes.items ≡ [] }
+        ensures failures { result.counts.failures ≡ 0 }
+    {
+        Gathered {
+            bytes: Vec::new(alloc),
+            counts: Counts::default(),
+        }
+    }
+}
+
+impl Sink for Gathered {
+    ghost written = { λ gathered. Some gathered.bytes.items };
+
+    ghost tells = { λ _. true };
+
+    ghost interruptions = { λ _. 0 };
+
+    ghost failures = { λ gathered. gathered.counts.failures };
+
+    fn write(&mut self, bytes: &[u8]) -> Result<usize, Trouble> {
+        if self.bytes.extend_from_slice(bytes).is_err() {
+            self.counts.count(Trouble::Failed);
+            return Err(Trouble::Failed);
+        }
+        Ok(bytes.len())
+    }
+
+    fn flush(&mut self) -> Result<(), Trouble> {
+        Ok(())
+    }
+}
