@@ -59,10 +59,10 @@ unfailed A m n named other = elim (same_or_not m n) [
 ]
 
 module _ (options : Options) (tile script replies out : List ℕ) where
-  abbrev before : Devices
+  abbrev pub before : Devices
   before = devices_with tile script (held [] 0) (held [] 0)
 
-  abbrev after : (outcome : Outcome) → RunsInMemory options tile script replies out outcome → Devices
+  abbrev pub after : (outcome : Outcome) → RunsInMemory options tile script replies out outcome → Devices
   after outcome r = devices_with r.tile_left r.script_left (held replies r.replies_failures) (held out r.out_failures)
 
   all_low : HaveLowCounts before

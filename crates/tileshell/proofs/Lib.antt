@@ -17,4 +17,5 @@ pub mod Finishing
 pub mod Courses
 pub mod Headlines
 pub mod InMemory
+pub mod LongScripts
 pub mod DeviceLaws

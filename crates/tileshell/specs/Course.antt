@@ -72,6 +72,7 @@ pub record IsWritten (output : Output) (bytes : List ℕ) : Type 0 where
 -- the script was read to its end, and each line was carried out and replied to
 pub record CarriesThrough (strict : Bool) (start : Progress) (script : Intake) (output : Output) (progress : Progress) : Type 0 where
   pub whole : script.is_whole ≡ true
+  pub within : length script.bytes ≤ MAX_SCRIPT
   pub untroubled : script.trouble ≡ None
   pub walk : Walk strict start (lines_in script) progress
   pub goes_on : is_over strict progress ≡ false

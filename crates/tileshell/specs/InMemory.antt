@@ -1,14 +1,15 @@
 -- What an edit of a tile in memory gives.
-use Rattle.std.specs.Prelude.{◌≡◌, ◌≢◌, ◌⊎◌, ◌↔◌, ℕ, ◌<◌, ◌≤◌, Bool, List, [], length, Some, None, IsSome, if◌then◌else◌}
+use Rattle.std.specs.Prelude.{◌≡◌, ◌≢◌, ◌⊎◌, ◌↔◌, ℕ, ◌<◌, ◌≤◌, Bool, false, List, [], length, take, Some, None, IsSome, if◌then◌else◌}
 use Rattle.std.specs.declared.option.Option.{Option}
 use Rattle.std.specs.declared.vec.Vec.{Vec}
 use Rattle.std.specs.declared.alloc.Global.{Global}
 use Rattle.mvt_wire.specs.Opens.{OpensAs}
 use Rattle.mvt_wire.specs.Plain.{Document}
+use Rattle.tile_script.specs.Lines.{whole_lines}
 use Rattle.tileshell.specs.Course.{OpensAsNothing, IsFaultOf}
 use Rattle.tileshell.specs.Headline.{outcome_of}
 use Rattle.tileshell.specs.Replies.{HasNoWant}
-use Rattle.tileshell.specs.Run.{Progress, is_over, ran, tile_of}
+use Rattle.tileshell.specs.Run.{Progress, after_lines, at_first, is_over, ran, tile_of}
 use Rattle.tileshell.specs.declared.in_memory.Edited.{Edited}
 use Rattle.tileshell.specs.declared.outcome.DeviceName.{DeviceName}
 use Rattle.tileshell.specs.declared.outcome.DeviceName.TheVariants as devices
@@ -58,6 +59,22 @@ pub record IsRefusal (tile : List ℕ) (edited : Edited) : Type 0 where
 -- for every tile that opens as no document
 abbrev pub RefusesFile : List ℕ → Edited → Type 0
 RefusesFile tile edited = OpensAsNothing tile → edited.outcome ≢ outcomes.NoMemory → IsRefusal tile edited
+
+-- where a run comes that reads only so much of the script as may be read
+abbrev pub ran_cut : Document → Options → List ℕ → Progress
+ran_cut document options script = after_lines options.strict (at_first document options.depth) (whole_lines (take MAX_SCRIPT script))
+
+-- its whole lines were carried out and replied to, and there is no tile
+pub record IsCutOff (options : Options) (document : Document) (script : List ℕ) (edited : Edited) : Type 0 where
+  pub outcome : edited.outcome ≡ outcomes.Device devices.Script
+  pub replies : edited.replies.items ≡ (ran_cut document options script).replies
+  pub no_tile : edited.tile ≡ None
+
+-- for every tile that opens and every script that is too long, where the run is not strict and memory was refused to nothing
+abbrev pub CutsLongScript : Options → List ℕ → List ℕ → Edited → Type 0
+CutsLongScript options tile script edited =
+    (document : Document) → OpensAs tile document → MAX_SCRIPT < length script → options.strict ≡ false → edited.outcome ≢ outcomes.NoMemory → HasNoWant edited.replies.items
+    → IsCutOff options document script edited
 
 -- a device is named only where the script is too long, and then the script
 abbrev pub NamesLongScript : List ℕ → Edited → Type 0

@@ -1,7 +1,7 @@
 //! An edit of a tile in memory, by a script in memory.
 
 ghost use Rattle.std.specs.Prelude.{◌≡◌, [], true, Some};
-ghost use Rattle.tileshell.specs.InMemory.{EditsTile, RefusesFile, NamesLongScript, GivesTile, handed_out};
+ghost use Rattle.tileshell.specs.InMemory.{EditsTile, RefusesFile, CutsLongScript, NamesLongScript, GivesTile, handed_out};
 
 use crate::outcome::{DeviceName, Options, Outcome};
 use crate::runs::run;
@@ -30,6 +30,9 @@ pub fn edit(alloc: Global, tile: &[u8], script: &[u8], options: Options) -> Edit
 
     // A tile that opens as no document is refused for what is wrong with it.
     ensures refuses { RefusesFile tile.now result }
+
+    // Of a script that is too long, the lines that end within MAX_SCRIPT bytes.
+    ensures cuts_long_script { CutsLongScript options tile.now script.now result }
 
     // No device is named, but the script where it is too long.
     ensures names_long_script { NamesLongScript script.now result }

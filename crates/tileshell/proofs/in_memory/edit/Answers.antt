@@ -1,6 +1,7 @@
 use Rattle.std.proofs.Common.{sym, subst}
-use Rattle.tileshell.specs.InMemory.{EditsTile, RefusesFile, NamesLongScript}
+use Rattle.tileshell.specs.InMemory.{EditsTile, RefusesFile, CutsLongScript, NamesLongScript}
 use Rattle.tileshell.proofs.InMemory.{RunsInMemory, from_new, edits_tile, refuses_file, names_long_script}
+use Rattle.tileshell.proofs.LongScripts.{cuts_long_script}
 use Rattle.tileshell.proofs.in_memory.edit.Goals as goal
 
 -- the run, over the devices that the function makes
@@ -23,6 +24,11 @@ pub returns-clause-refuses : goal.returns-clause-refuses
 returns-clause-refuses c =
     subst (RefusesFile c.args.tile.now) (sym c.hand_out.ensures)
     (refuses_file c.args.options _ c.args.script.now _ _ c.run-outcome.result (in_memory c))
+
+pub returns-clause-cuts_long_script : goal.returns-clause-cuts_long_script
+returns-clause-cuts_long_script c =
+    subst (CutsLongScript c.args.options c.args.tile.now c.args.script.now) (sym c.hand_out.ensures)
+    (cuts_long_script _ _ _ _ _ c.run-outcome.result (in_memory c))
 
 pub returns-clause-names_long_script : goal.returns-clause-names_long_script
 returns-clause-names_long_script c =

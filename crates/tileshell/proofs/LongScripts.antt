@@ -1,0 +1,110 @@
+-- What an edit of a tile in memory gives for a script that is too long.
+use Rattle.std.proofs.Common.{◌≡◌, ◌≢◌, ℕ, ◌+◌, ◌<◌, ◌≤◌, ◌⊎◌, true, false, List, [], ◌++◌, length, take, Some, None, refl, sym, ap, subst, ◌∙◌, inl, inr, arith, append-nil, length-append}
+use Rattle.std.specs.Prelude.{IsSome, is_some}
+use Rattle.std.specs.declared.option.Option.{Option}
+use Rattle.std.specs.declared.vec.Vec.{Vec}
+use Rattle.std.specs.declared.alloc.Global.{Global}
+use Rattle.std.proofs.lemmas.List.{take-append-le}
+use Rattle.mvt_wire.specs.Opens.{OpensAs}
+use Rattle.mvt_wire.specs.Plain.{Document}
+use Rattle.mvt_wire.proofs.SameBytes.{one_document_by_bytes}
+use Rattle.tile_device.specs.Device.{interruptions_in, failures_in}
+use Rattle.tile_device.specs.Seen.{Intake, Supplies}
+use Rattle.tile_device.specs.declared.device.Trouble.{Trouble}
+use Rattle.tile_device.specs.declared.device.Trouble.TheVariants.{Interrupted, Failed}
+use Rattle.tile_script.specs.Lines.{whole_lines}
+use Rattle.tileshell.specs.Course.{start_of, lines_in, IsFaulty, IsOpened, CarriesThrough}
+use Rattle.tileshell.specs.InMemory.{handed_out, ran_cut, IsCutOff, CutsLongScript}
+use Rattle.tileshell.specs.Replies.{HasNoWant}
+use Rattle.tileshell.specs.Run.{Progress, after_lines}
+use Rattle.tileshell.specs.declared.outcome.DeviceName.TheVariants as devices
+use Rattle.tileshell.specs.declared.outcome.Options.{Options}
+use Rattle.tileshell.specs.declared.outcome.Outcome.{Outcome}
+use Rattle.tileshell.specs.declared.outcome.Outcome.TheVariants as outcomes
+use Rattle.tileshell.specs.declared.outcome.TileFault.{TileFault}
+use Rattle.tileshell.specs.declared.outcome.TileFault.TheVariants as faults
+use Rattle.tileshell.specs.declared.runs.TheConstants.{MAX_SCRIPT}
+use Rattle.tileshell.proofs.InMemory.{held, RunsInMemory}
+use Rattle.tileshell.proofs.Replying.{walks_are_runs}
+
+-- ---- what a source in memory gives
+
+-- what it gave, and what it has left, are all that it had
+given : (all left : List ℕ) (intake : Intake) → Supplies (held all 0) (held left 0) intake → all ≡ intake.bytes ++ left
+given all left intake supplies = supplies.bytes refl
+
+given_whole : (all left : List ℕ) (intake : Intake) → Supplies (held all 0) (held left 0) intake → intake.is_whole ≡ true → length intake.bytes ≡ length all
+given_whole all left intake supplies whole =
+    let none : left ≡ [] = supplies.whole refl whole in
+    omega (arith, ap length (given all left intake supplies), length-append intake.bytes left, ap length none)
+
+given_bytes : (all left : List ℕ) (intake : Intake) → Supplies (held all 0) (held left 0) intake → intake.is_whole ≡ true → intake.bytes ≡ all
+given_bytes all left intake supplies whole =
+    let none : left ≡ [] = supplies.whole refl whole in
+    sym (given all left intake supplies ∙ ap (λ (t : List ℕ). intake.bytes ++ t) none ∙ append-nil intake.bytes)
+
+no_trouble : (all left : List ℕ) (intake : Intake) → Supplies (held all 0) (held left 0) intake → intake.trouble ≡ None
+no_trouble all left intake supplies = none_met intake.trouble (omega (arith, supplies.meets.interruptions)) (omega (arith, supplies.meets.failures))
+  where
+    none_met : (trouble : Option Trouble) → interruptions_in trouble ≡ 0 → failures_in trouble ≡ 0 → trouble ≡ None
+    none_met None interruptions failures = refl
+    none_met (Some Interrupted) interruptions failures = absurd (omega (arith, interruptions))
+    none_met (Some Failed) interruptions failures = absurd (omega (arith, failures))
+
+-- ---- how the run ends
+
+module _ (options : Options) (tile script : List ℕ) (replies out : Vec ℕ Global) (document : Document) (opens : OpensAs tile document) (long : MAX_SCRIPT < length script) where
+  -- no script that is too long is read to its end
+  not_through : (A : Type 0) (start progress : Progress) (outcome : Outcome) (r : RunsInMemory options tile script replies.items out.items outcome)
+      → CarriesThrough options.strict start r.runs.course.script r.runs.course.replies progress → A
+  not_through A start progress outcome r carried =
+      let no : ⊥ = omega (arith, long, carried.within, given_whole script r.script_left r.runs.course.script r.runs.script carried.whole) in absurd no
+
+  opened_as : (outcome : Outcome) (r : RunsInMemory options tile script replies.items out.items outcome) (opened : Document) → IsOpened r.runs.course.tile opened → opened ≡ document
+  opened_as outcome r opened is =
+      let all : r.runs.course.tile.bytes ≡ tile = given_bytes tile r.tile_left r.runs.course.tile r.runs.tile is.whole in
+      one_document_by_bytes opened document is.opens.settled opens.settled (is.opens.spelled ∙ all ∙ sym opens.spelled)
+
+  not_faulty : (A : Type 0) (fault : TileFault) (left : List ℕ) (intake : Intake) → Supplies (held tile 0) (held left 0) intake → IsFaulty fault intake → A
+  not_faulty A (faults.BadWire place) left intake supplies faulty =
+      absurd (faulty.1.1 document (subst (λ (t : List ℕ). OpensAs t document) (sym (given_bytes tile left intake supplies faulty.0)) opens))
+  not_faulty A faults.FileTooLarge left intake supplies faulty =
+      let no : ⊥ = omega (arith, opens.within, faulty, ap length (given tile left intake supplies), length-append intake.bytes left) in absurd no
+
+  -- so much was read of the script as may be read
+  first_lines : (left : List ℕ) (intake : Intake) → Supplies (held script 0) (held left 0) intake → intake.is_whole ≡ false → (IsSome intake.trouble ⊎ (MAX_SCRIPT < length intake.bytes))
+      → lines_in intake ≡ whole_lines (take MAX_SCRIPT script)
+  first_lines left intake supplies cut (inl some) = let no : is_some intake.trouble ≡ false = ap is_some (no_trouble script left intake supplies) in absurd cc
+  first_lines left intake supplies cut (inr more) =
+      let read : MAX_SCRIPT ≤ length intake.bytes = omega arith in
+      rw cut (ap whole_lines (sym (take-append-le MAX_SCRIPT intake.bytes left read) ∙ ap (take MAX_SCRIPT) (sym (given script left intake supplies))))
+
+  replies_are : (r : RunsInMemory options tile script replies.items out.items (outcomes.Device devices.Script)) → HasNoWant replies.items
+      → replies.items ≡ (ran_cut document options script).replies
+  replies_are r no_want =
+      let stops = r.runs.ends.between in
+      let written : replies.items ≡ stops.progress.replies = r.runs.replies.bytes refl ∙ stops.replies.all in
+      let made = walks_are_runs options.strict (start_of options r.runs.ends.document) stops.progress (lines_in r.runs.course.script) stops.progress.replies stops.walk refl (subst HasNoWant written no_want) in
+      let lines = first_lines r.script_left r.runs.course.script r.runs.script stops.cut stops.cause in
+      let all = made ∙ ap (after_lines options.strict (start_of options r.runs.ends.document)) lines
+      ∙ ap (λ (d : Document). ran_cut d options script) (opened_as (outcomes.Device devices.Script) r r.runs.ends.document r.runs.ends.opened) in
+      written ∙ ap (λ (p : Progress). p.replies) all
+
+  cut_off : options.strict ≡ false → (outcome : Outcome) → RunsInMemory options tile script replies.items out.items outcome
+      → (handed_out outcome replies out).outcome ≢ outcomes.NoMemory → HasNoWant (handed_out outcome replies out).replies.items → IsCutOff options document script (handed_out outcome replies out)
+  cut_off lenient outcomes.Done r memory no_want = not_through _ (start_of options r.runs.ends.document) r.runs.ends.progress outcomes.Done r r.runs.ends.carried
+  cut_off lenient outcomes.SomeRefused r memory no_want = not_through _ (start_of options r.runs.ends.document) r.runs.ends.progress outcomes.SomeRefused r r.runs.ends.carried
+  cut_off lenient outcomes.StrictStop r memory no_want =
+      let over = rw lenient at r.runs.ends.between.over in absurd cc
+  cut_off lenient (outcomes.TileRefused fault) r memory no_want = not_faulty _ fault r.tile_left r.runs.course.tile r.runs.tile r.runs.ends.1
+  cut_off lenient (outcomes.Device devices.Tile) r memory no_want =
+      let no : is_some r.runs.course.tile.trouble ≡ false = ap is_some (no_trouble tile r.tile_left r.runs.course.tile r.runs.tile) in
+      let some : is_some r.runs.course.tile.trouble ≡ true = r.runs.ends.0 in absurd cc
+  cut_off lenient (outcomes.Device devices.Script) r memory no_want = record { outcome = refl; replies = replies_are r no_want; no_tile = refl }
+  cut_off lenient (outcomes.Device devices.Replies) r memory no_want = absurd (memory refl)
+  cut_off lenient (outcomes.Device devices.Out) r memory no_want = absurd (memory refl)
+  cut_off lenient outcomes.NoMemory r memory no_want = absurd (memory refl)
+
+pub cuts_long_script : (options : Options) (tile script : List ℕ) (replies out : Vec ℕ Global) (outcome : Outcome) → RunsInMemory options tile script replies.items out.items outcome
+    → CutsLongScript options tile script (handed_out outcome replies out)
+cuts_long_script options tile script replies out outcome r document opens long lenient memory no_want = cut_off options tile script replies out document opens long lenient outcome r memory no_want
