@@ -7,21 +7,21 @@ use Rattle.std.proofs.lemmas.List.{drop_at}
 use Rattle.mvt_wire.specs.Opens.{OpensAs}
 use Rattle.mvt_wire.specs.Plain.{Document}
 use Rattle.tile_device.specs.Seen.{Seen}
-use Rattle.tileshell.specs.Course.{OpensAsNothing, IsFaultOf}
-use Rattle.tileshell.specs.DeviceLaws.{GivesUp, HasCause, HaveLowCounts}
-use Rattle.tileshell.specs.Headline.{Devices, AllServe, IsRunOf, Runs, outcome_of, tile_written}
+use Rattle.tile_run.specs.Course.{OpensAsNothing, IsFaultOf}
+use Rattle.tile_run.specs.DeviceLaws.{GivesUp, HasCause, HaveLowCounts}
+use Rattle.tile_run.specs.Headline.{Devices, AllServe, IsRunOf, Runs, outcome_of, tile_written}
 use Rattle.tileshell.specs.InMemory.{handed_out, bytes_in, tile_given, IsEditOf, EditsTile, RefusesFile, NamesLongScript}
-use Rattle.tileshell.specs.Replies.{HasNoWant}
-use Rattle.tileshell.specs.Run.{Progress, is_over, ran, tile_of}
-use Rattle.tileshell.specs.declared.outcome.DeviceName.{DeviceName}
-use Rattle.tileshell.specs.declared.outcome.DeviceName.TheVariants as devices
-use Rattle.tileshell.specs.declared.outcome.Options.{Options}
-use Rattle.tileshell.specs.declared.outcome.Outcome.{Outcome}
-use Rattle.tileshell.specs.declared.outcome.Outcome.TheVariants as outcomes
-use Rattle.tileshell.specs.declared.outcome.TileFault.{TileFault}
-use Rattle.tileshell.specs.declared.runs.TheConstants.{MAX_SCRIPT}
-use Rattle.tileshell.proofs.DeviceLaws.{failed_is_named, named_for_cause}
-use Rattle.tileshell.proofs.Headlines.{headline, refuses_tile}
+use Rattle.tile_run.specs.Replies.{HasNoWant}
+use Rattle.tile_run.specs.Run.{Progress, is_over, ran, tile_of}
+use Rattle.tile_run.specs.declared.outcome.DeviceName.{DeviceName}
+use Rattle.tile_run.specs.declared.outcome.DeviceName.TheVariants as devices
+use Rattle.tile_run.specs.declared.outcome.Options.{Options}
+use Rattle.tile_run.specs.declared.outcome.Outcome.{Outcome}
+use Rattle.tile_run.specs.declared.outcome.Outcome.TheVariants as outcomes
+use Rattle.tile_run.specs.declared.outcome.TileFault.{TileFault}
+use Rattle.tile_run.specs.declared.runs.TheConstants.{MAX_SCRIPT}
+use Rattle.tile_run.proofs.DeviceLaws.{failed_is_named, named_for_cause}
+use Rattle.tile_run.proofs.Headlines.{headline, refuses_tile}
 
 -- a device in memory with these bytes, of which so many calls failed
 abbrev pub held : List ℕ → ℕ → Seen

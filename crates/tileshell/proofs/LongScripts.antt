@@ -1,5 +1,5 @@
 -- What an edit of a tile in memory gives for a script that is too long.
-use Rattle.std.proofs.Common.{◌≡◌, ◌≢◌, ℕ, ◌+◌, ◌<◌, ◌≤◌, ◌⊎◌, true, false, List, [], ◌++◌, length, take, Some, None, refl, sym, ap, subst, ◌∙◌, inl, inr, arith, append-nil, length-append}
+use Rattle.std.proofs.Common.{◌≡◌, ◌≢◌, ℕ, ◌<◌, ◌≤◌, ◌⊎◌, true, false, List, [], ◌++◌, length, take, Some, None, refl, sym, ap, subst, ◌∙◌, inl, inr, arith, append-nil, length-append}
 use Rattle.std.specs.Prelude.{IsSome, is_some}
 use Rattle.std.specs.declared.option.Option.{Option}
 use Rattle.std.specs.declared.vec.Vec.{Vec}
@@ -13,19 +13,19 @@ use Rattle.tile_device.specs.Seen.{Intake, Supplies}
 use Rattle.tile_device.specs.declared.device.Trouble.{Trouble}
 use Rattle.tile_device.specs.declared.device.Trouble.TheVariants.{Interrupted, Failed}
 use Rattle.tile_script.specs.Lines.{whole_lines}
-use Rattle.tileshell.specs.Course.{start_of, lines_in, IsFaulty, IsOpened, CarriesThrough}
+use Rattle.tile_run.specs.Course.{start_of, lines_in, IsFaulty, IsOpened, CarriesThrough}
 use Rattle.tileshell.specs.InMemory.{handed_out, ran_cut, IsCutOff, CutsLongScript}
-use Rattle.tileshell.specs.Replies.{HasNoWant}
-use Rattle.tileshell.specs.Run.{Progress, after_lines}
-use Rattle.tileshell.specs.declared.outcome.DeviceName.TheVariants as devices
-use Rattle.tileshell.specs.declared.outcome.Options.{Options}
-use Rattle.tileshell.specs.declared.outcome.Outcome.{Outcome}
-use Rattle.tileshell.specs.declared.outcome.Outcome.TheVariants as outcomes
-use Rattle.tileshell.specs.declared.outcome.TileFault.{TileFault}
-use Rattle.tileshell.specs.declared.outcome.TileFault.TheVariants as faults
-use Rattle.tileshell.specs.declared.runs.TheConstants.{MAX_SCRIPT}
+use Rattle.tile_run.specs.Replies.{HasNoWant}
+use Rattle.tile_run.specs.Run.{Progress, after_lines}
+use Rattle.tile_run.specs.declared.outcome.DeviceName.TheVariants as devices
+use Rattle.tile_run.specs.declared.outcome.Options.{Options}
+use Rattle.tile_run.specs.declared.outcome.Outcome.{Outcome}
+use Rattle.tile_run.specs.declared.outcome.Outcome.TheVariants as outcomes
+use Rattle.tile_run.specs.declared.outcome.TileFault.{TileFault}
+use Rattle.tile_run.specs.declared.outcome.TileFault.TheVariants as faults
+use Rattle.tile_run.specs.declared.runs.TheConstants.{MAX_SCRIPT}
 use Rattle.tileshell.proofs.InMemory.{held, RunsInMemory}
-use Rattle.tileshell.proofs.Replying.{walks_are_runs}
+use Rattle.tile_run.proofs.Replying.{walks_are_runs}
 
 -- ---- what a source in memory gives
 

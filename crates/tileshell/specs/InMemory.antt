@@ -6,18 +6,18 @@ use Rattle.std.specs.declared.alloc.Global.{Global}
 use Rattle.mvt_wire.specs.Opens.{OpensAs}
 use Rattle.mvt_wire.specs.Plain.{Document}
 use Rattle.tile_script.specs.Lines.{whole_lines}
-use Rattle.tileshell.specs.Course.{OpensAsNothing, IsFaultOf}
-use Rattle.tileshell.specs.Headline.{outcome_of}
-use Rattle.tileshell.specs.Replies.{HasNoWant}
-use Rattle.tileshell.specs.Run.{Progress, after_lines, at_first, is_over, ran, tile_of}
+use Rattle.tile_run.specs.Course.{OpensAsNothing, IsFaultOf}
+use Rattle.tile_run.specs.Headline.{outcome_of}
+use Rattle.tile_run.specs.Replies.{HasNoWant}
+use Rattle.tile_run.specs.Run.{Progress, after_lines, at_first, is_over, ran, tile_of}
 use Rattle.tileshell.specs.declared.in_memory.Edited.{Edited}
-use Rattle.tileshell.specs.declared.outcome.DeviceName.{DeviceName}
-use Rattle.tileshell.specs.declared.outcome.DeviceName.TheVariants as devices
-use Rattle.tileshell.specs.declared.outcome.Options.{Options}
-use Rattle.tileshell.specs.declared.outcome.Outcome.{Outcome}
-use Rattle.tileshell.specs.declared.outcome.Outcome.TheVariants as outcomes
-use Rattle.tileshell.specs.declared.outcome.TileFault.{TileFault}
-use Rattle.tileshell.specs.declared.runs.TheConstants.{MAX_SCRIPT}
+use Rattle.tile_run.specs.declared.outcome.DeviceName.{DeviceName}
+use Rattle.tile_run.specs.declared.outcome.DeviceName.TheVariants as devices
+use Rattle.tile_run.specs.declared.outcome.Options.{Options}
+use Rattle.tile_run.specs.declared.outcome.Outcome.{Outcome}
+use Rattle.tile_run.specs.declared.outcome.Outcome.TheVariants as outcomes
+use Rattle.tile_run.specs.declared.outcome.TileFault.{TileFault}
+use Rattle.tile_run.specs.declared.runs.TheConstants.{MAX_SCRIPT}
 
 -- what is handed out where the run ended so: the tile where it was written, and a sink here fails only for want of memory
 abbrev pub handed_out : Outcome → Vec ℕ Global → Vec ℕ Global → Edited

@@ -3,10 +3,9 @@
 ghost use Rattle.std.specs.Prelude.{◌≡◌, [], true, Some};
 ghost use Rattle.tileshell.specs.InMemory.{EditsTile, RefusesFile, CutsLongScript, NamesLongScript, GivesTile, handed_out};
 
-use crate::outcome::{DeviceName, Options, Outcome};
-use crate::runs::run;
 use std::alloc::Global;
 use tile_device::{Counts, Sink, Source, Trouble};
+use tile_run::{DeviceName, Options, Outcome, run};
 
 /// What an edit of a tile in memory gave.
 #[derive(Debug, Drop)]

@@ -3,14 +3,13 @@
 ghost use Rattle.std.specs.Prelude.{◌≡◌};
 
 use crate::created::Created;
-use crate::outcome::{DeviceName, Options, Outcome};
-use crate::runs::run;
 use clap::{Arg, ArgAction, ArgMatches, Command};
 use std::alloc::Global;
 use std::fs;
 use std::io::{self, BufWriter, Read};
 use std::rt::Files;
 use tile_device::{FromRead, FromWrite};
+use tile_run::{DeviceName, Options, Outcome, run};
 
 /// What `--version` tells behind the name of the program.
 const VERSION: &str = "0.1.0";

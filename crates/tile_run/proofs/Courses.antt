@@ -1,0 +1,201 @@
+-- How a run ends, from what its steps answer.
+use Rattle.std.proofs.Common.{◌≡◌, ℕ, ◌+◌, ◌≤◌, true, false, [], length, refl, arith, sym, ap, subst, ◌∙◌, inl, inr}
+use Rattle.std.specs.Prelude.{Result, Ok, Err}
+use Rattle.mvt_wire.specs.declared.TheConstants.{MAX_FILE}
+use Rattle.mvt_wire.specs.declared.document.Document as program
+use Rattle.mvt_wire.specs.Stands.{document_of}
+use Rattle.mvt_wire.specs.Wire.{bytes_of}
+use Rattle.tile_device.specs.Seen.{Seen, Intake, Output, nothing_read, written}
+use Rattle.tile_device.proofs.Sending.{receives_nothing}
+use Rattle.tile_device.proofs.Supplying.{supplies_nothing}
+use Rattle.tile_run.specs.Course.{Course, Ends, IsWritten, StopsAtTile, start_of}
+use Rattle.tile_run.specs.Headline.{Devices, Runs}
+use Rattle.tile_run.specs.History.{History, present_document}
+use Rattle.tile_run.specs.Outcomes.{opening_outcome, script_outcome, writing_outcome}
+use Rattle.tile_run.specs.Run.{at_first}
+use Rattle.tile_run.specs.Session.{StandsFor}
+use Rattle.tile_run.specs.Steps.{Reads, Writes, OpensTile, CarriesOutScript, WritesTile}
+use Rattle.tile_run.specs.declared.editor.Editor.{Editor}
+use Rattle.tile_run.specs.declared.outcome.Options.{Options}
+use Rattle.tile_run.specs.declared.outcome.Outcome.{Outcome}
+use Rattle.tile_run.specs.declared.outcome.Outcome.TheVariants as outcomes
+use Rattle.tile_run.specs.declared.outcome.ScriptStop.{ScriptStop}
+use Rattle.tile_run.specs.declared.outcome.ScriptStop.TheVariants as script_stops
+use Rattle.tile_run.specs.declared.outcome.Unopened.{Unopened}
+use Rattle.tile_run.specs.declared.outcome.Unopened.TheVariants as unopened
+use Rattle.tile_run.specs.declared.outcome.Unwritten.{Unwritten}
+use Rattle.tile_run.specs.declared.outcome.Unwritten.TheVariants as unwritten
+use Rattle.tile_run.specs.declared.runs.TheConstants.{MAX_RETRIES}
+use Rattle.tile_run.proofs.Reading.{all_replies}
+
+abbrev seen : Seen → Seen → Seen → Seen → Devices
+seen tile script replies out = record { tile = tile; script = script; replies = replies; out = out }
+
+-- ---- with the tile
+
+-- what opening a tile takes
+abbrev pub Opening : Seen → Seen → ℕ → ℕ → Result program.Document Unopened → Type 0
+Opening t0 t1 before after result = (tile : Intake) × (length tile.bytes ≤ MAX_FILE + 1) × OpensTile result tile × Reads t0 t1 before after tile
+
+abbrev at_tile : Intake → Course
+at_tile tile = record { tile = tile; script = nothing_read; replies = written 0 []; out = written 0 [] }
+
+stops_at_tile : (tile : Intake) → StopsAtTile (at_tile tile)
+stops_at_tile tile = record { script = refl; replies = all_replies 0 []; out = all_replies 0 [] }
+
+opening_ends : (options : Options) (stop : Unopened) (tile : Intake) → OpensTile (Err stop) tile → Ends options (opening_outcome stop) (at_tile tile)
+opening_ends options unopened.Device tile opens = (opens, stops_at_tile tile)
+opening_ends options (unopened.Refused fault) tile opens = (opens.0, opens.1, stops_at_tile tile)
+opening_ends options unopened.NoMemory tile opens = record { untroubled = opens; replied = inl (refl, all_replies 0 []); out = all_replies 0 [] }
+
+pub runs_to_tile : (options : Options) (t0 t1 s r o : Seen) (before after : ℕ) (stop : Unopened) (outcome : Outcome) → before ≡ MAX_RETRIES
+    → Opening t0 t1 before after (Err stop) → outcome ≡ opening_outcome stop → Runs options (seen t0 s r o) (seen t1 s r o) outcome
+runs_to_tile options t0 t1 s r o before after stop outcome all opening is =
+    let tile = opening.0 in
+    let reads = opening.3 in
+    record {
+      course = at_tile tile;
+      ends = subst (λ (t : Outcome). Ends options t (at_tile tile)) (sym is) (opening_ends options stop tile opening.2);
+      patient = record {
+        within = omega (arith, all, reads.spent);
+        tile = λ e. let none = reads.last e in omega (arith, all, reads.spent, none);
+        script = λ e. absurd cc;
+        replies = λ e. absurd cc;
+        out = λ e. absurd cc;
+      };
+      tile = reads.supplies;
+      script = supplies_nothing s;
+      replies = receives_nothing r;
+      out = receives_nothing o;
+      tile_within = opening.1;
+      script_within = omega arith;
+    }
+
+-- ---- with the script or its replies
+
+-- what carrying out the script of a tile that opened takes
+abbrev pub CarryingOut : Options → program.Document → Seen → Seen → Seen → Seen → ℕ → ℕ → Editor → Result (Unit {0}) ScriptStop → Type 0
+CarryingOut options document s0 s1 r0 r1 before after editor result = CarriesOutScript options.strict (at_first (document_of document) 1) s0 s1 r0 r1 before after editor result
+
+-- it begins at the depth of the options
+from_start : (options : Options) (document : program.Document) (s0 s1 r0 r1 : Seen) (before after : ℕ) (editor : Editor) (result : Result (Unit {0}) ScriptStop) → options.depth ≡ 1
+    → CarryingOut options document s0 s1 r0 r1 before after editor result → CarriesOutScript options.strict (start_of options (document_of document)) s0 s1 r0 r1 before after editor result
+from_start options document s0 s1 r0 r1 before after editor result one carries =
+    subst (λ (depth : ℕ). CarriesOutScript options.strict (at_first (document_of document) depth) s0 s1 r0 r1 before after editor result) (sym one) carries
+
+script_ends : (options : Options) (stop : ScriptStop) (t0 t1 s0 s1 r0 r1 : Seen) (before mid after : ℕ) (document : program.Document) (editor : Editor)
+    → (opening : Opening t0 t1 before mid (Ok document))
+    → (c : CarriesOutScript options.strict (start_of options (document_of document)) s0 s1 r0 r1 mid after editor (Err stop))
+    → Ends options (script_outcome stop) (record { tile = opening.0; script = c.script; replies = c.replies; out = written 0 [] })
+script_ends options script_stops.Script t0 t1 s0 s1 r0 r1 before mid after document editor opening c = record { document = document_of document; opened = opening.2; between = c.ends; out = all_replies 0 [] }
+script_ends options script_stops.Replies t0 t1 s0 s1 r0 r1 before mid after document editor opening c = record { document = document_of document; opened = opening.2; between = c.ends; out = all_replies 0 [] }
+script_ends options script_stops.Strict t0 t1 s0 s1 r0 r1 before mid after document editor opening c = record { document = document_of document; opened = opening.2; between = c.ends; out = all_replies 0 [] }
+script_ends options script_stops.NoMemory t0 t1 s0 s1 r0 r1 before mid after document editor opening c = record { untroubled = opening.2.untroubled; replied = inl c.ends; out = all_replies 0 [] }
+
+pub runs_to_script : (options : Options) (t0 t1 s0 s1 r0 r1 o : Seen) (before mid after : ℕ) (document : program.Document) (editor : Editor) (stop : ScriptStop) (outcome : Outcome)
+    → options.depth ≡ 1 → before ≡ MAX_RETRIES → Opening t0 t1 before mid (Ok document) → CarryingOut options document s0 s1 r0 r1 mid after editor (Err stop)
+    → outcome ≡ script_outcome stop → Runs options (seen t0 s0 r0 o) (seen t1 s1 r1 o) outcome
+runs_to_script options t0 t1 s0 s1 r0 r1 o before mid after document editor stop outcome one all opening carries is =
+    let tile = opening.0 in
+    let reads = opening.3 in
+    let c = from_start options document s0 s1 r0 r1 mid after editor (Err stop) one carries in
+    let course : Course = record { tile = tile; script = c.script; replies = c.replies; out = written 0 [] } in
+    record {
+      course = course;
+      ends = subst (λ (t : Outcome). Ends options t course) (sym is) (script_ends options stop t0 t1 s0 s1 r0 r1 before mid after document editor opening c);
+      patient = record {
+        within = omega (arith, all, reads.spent, c.spent);
+        tile = λ e. let no = sym opening.2.untroubled ∙ e in absurd cc;
+        script = λ e. let none = c.last_read e in omega (arith, all, reads.spent, c.spent, none);
+        replies = λ e. let none = c.last_write e in omega (arith, all, reads.spent, c.spent, none);
+        out = λ e. absurd cc;
+      };
+      tile = reads.supplies;
+      script = c.supplies;
+      replies = c.receives;
+      out = receives_nothing o;
+      tile_within = opening.1;
+      script_within = c.within;
+    }
+
+-- ---- with the tile to write
+
+-- what writing the document of the session takes
+abbrev pub Writing : program.Document → Seen → Seen → ℕ → ℕ → Result (Unit {0}) Unwritten → Type 0
+Writing document o0 o1 before after result = (out : Output) × WritesTile (bytes_of (document_of document)) out result × Writes o0 o1 before after out
+
+-- the document is the present one of the history of the session
+abbrev pub IsPresent : Editor → program.Document → Type 0
+IsPresent editor document = (history : History) → StandsFor editor.session history → document_of document ≡ present_document history
+
+module _ (options : Options) (t0 t1 s0 s1 r0 r1 o0 o1 : Seen) (before mid after last : ℕ) (read edited : program.Document) (editor : Editor) (one : options.depth ≡ 1) (all : before ≡ MAX_RETRIES)
+    (opening : Opening t0 t1 before mid (Ok read)) (carries : CarryingOut options read s0 s1 r0 r1 mid after editor (Ok tt)) (present : IsPresent editor edited) where
+  abbrev carried : CarriesOutScript options.strict (start_of options (document_of read)) s0 s1 r0 r1 mid after editor (Ok tt)
+  carried = from_start options read s0 s1 r0 r1 mid after editor (Ok tt) one carries
+
+  abbrev course_with : Output → Course
+  course_with out = record { tile = opening.0; script = carried.script; replies = carried.replies; out = out }
+
+  with_out : (outcome : Outcome) (out : Output) → Writes o0 o1 after last out → Ends options outcome (course_with out) → Runs options (seen t0 s0 r0 o0) (seen t1 s1 r1 o1) outcome
+  with_out outcome out writes ends = record {
+    course = course_with out;
+    ends = ends;
+    patient = record {
+      within = omega (arith, all, opening.3.spent, carried.spent, writes.spent);
+      tile = λ e. let no = sym opening.2.untroubled ∙ e in absurd cc;
+      script = λ e. let no = sym carried.ends.1.untroubled ∙ e in absurd cc;
+      replies = λ e. let no = sym carried.ends.1.replies.untroubled ∙ e in absurd cc;
+      out = λ e. let none = writes.last e in omega (arith, all, opening.3.spent, carried.spent, writes.spent, none);
+    };
+    tile = opening.3.supplies;
+    script = carried.supplies;
+    replies = carried.receives;
+    out = writes.receives;
+    tile_within = opening.1;
+    script_within = carried.within;
+  }
+
+  file_is : bytes_of (document_of edited) ≡ bytes_of (present_document carried.ends.0.history)
+  file_is = ap bytes_of (present carried.ends.0.history carried.ends.2.stands)
+
+  out_ends : (stop : Unwritten) (out : Output) → WritesTile {A = Unit {0}} (bytes_of (document_of edited)) out (Err stop) → Ends options (writing_outcome stop) (course_with out)
+  out_ends unwritten.Device out writes = record {
+    document = document_of read;
+    opened = opening.2;
+    progress = carried.ends.0;
+    carried = carried.ends.1;
+    front = (writes.0.0, sym file_is ∙ writes.0.1);
+    trouble = writes.1;
+  }
+  out_ends unwritten.NoMemory out writes = record {
+    untroubled = opening.2.untroubled;
+    replied = inr (record { document = document_of read; opened = opening.2; progress = carried.ends.0; carried = carried.ends.1 });
+    out = writes;
+  }
+
+  pub runs_to_out : (stop : Unwritten) (outcome : Outcome) → Writing edited o0 o1 after last (Err stop) → outcome ≡ writing_outcome stop → Runs options (seen t0 s0 r0 o0) (seen t1 s1 r1 o1) outcome
+  runs_to_out stop outcome writing is =
+      subst (λ (t : Outcome). Runs options (seen t0 s0 r0 o0) (seen t1 s1 r1 o1) t) (sym is) (with_out (writing_outcome stop) writing.0 writing.2 (out_ends stop writing.0 writing.1))
+
+  is_written : (out : Output) → IsWritten out (bytes_of (document_of edited)) → IsWritten out (bytes_of (present_document carried.ends.0.history))
+  is_written out writes = subst (IsWritten out) file_is writes
+
+  pub runs_through : Writing edited o0 o1 after last (Ok tt) → editor.any_refused ≡ false → Runs options (seen t0 s0 r0 o0) (seen t1 s1 r1 o1) outcomes.Done
+  runs_through writing none = with_out outcomes.Done writing.0 writing.2 (record {
+    document = document_of read;
+    opened = opening.2;
+    progress = carried.ends.0;
+    carried = carried.ends.1;
+    refused = sym carried.ends.2.refused ∙ none;
+    out = is_written writing.0 writing.1;
+  })
+
+  pub runs_with_refusals : Writing edited o0 o1 after last (Ok tt) → editor.any_refused ≡ true → Runs options (seen t0 s0 r0 o0) (seen t1 s1 r1 o1) outcomes.SomeRefused
+  runs_with_refusals writing some = with_out outcomes.SomeRefused writing.0 writing.2 (record {
+    document = document_of read;
+    opened = opening.2;
+    progress = carried.ends.0;
+    carried = carried.ends.1;
+    refused = sym carried.ends.2.refused ∙ some;
+    out = is_written writing.0 writing.1;
+  })

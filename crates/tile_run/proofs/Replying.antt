@@ -1,0 +1,173 @@
+-- What lines add to the replies.
+use Rattle.std.proofs.Common.{◌≡◌, ℕ, ◌+◌, Bool, true, false, List, [], ◌∷◌, ◌++◌, length, Option, Some, None, Result, Ok, Err, refl, sym, ap, subst, ◌∙◌, inl, inr, append_assoc, append-nil, length-append, arith}
+use Rattle.std.proofs.lemmas.Bool.{cases_Bool}
+use Rattle.std.proofs.lemmas.List.{append_cancel_left}
+use Rattle.tile_script.specs.Request.{Request}
+use Rattle.tile_script.specs.Line.{answer_to}
+use Rattle.tile_script.specs.Lines.{lines_of}
+use Rattle.tile_run.specs.History.{History, carried_out}
+use Rattle.tile_run.specs.Replies.{accepted_reply, refused_reply, want_of_memory, HasNoWant}
+use Rattle.tile_run.specs.Run.{Progress, ran, tile_of, settled_by, answered_by, after_line, is_over, after_lines, MayFollow, Walk}
+use Rattle.tile_run.specs.RunLaws.{RepliesStand, RefusedLinesChangeNothing, SilentLinesChangeNothing, StrictRunsStop, AcceptedRunsAreAlike, WalksWithoutWantAreRuns, RunsAreWalks}
+use Rattle.tile_script.specs.declared.parse_error.ParseError.{ParseError}
+use Rattle.tile_run.specs.declared.refused.Refused.{Refused}
+use Rattle.tile_run.specs.declared.refused.Refused.TheVariants as refused
+use Rattle.tile_run.proofs.Overs.{over_stays, goes_on, walk_over, walk_on}
+use Rattle.tile_run.proofs.Fronts.{after_lines-append, fronts_stand}
+
+-- ---- replies are added at the end
+
+record Adds (p q : Progress) : Type 0 where
+  reply : List ℕ
+  is : q.replies ≡ p.replies ++ reply
+
+adds_none : (p q : Progress) → q.replies ≡ p.replies → Adds p q
+adds_none p q e = record { reply = []; is = e ∙ sym (append-nil p.replies) }
+
+adds_both : (p q r : Progress) → Adds p q → Adds q r → Adds p r
+adds_both p q r first second = record {
+  reply = first.reply ++ second.reply;
+  is = second.is ∙ ap (λ (xs : List ℕ). xs ++ second.reply) first.is ∙ append_assoc p.replies first.reply second.reply;
+}
+
+settled_adds : (p : Progress) (result : Result History Refused) → Adds p (settled_by p result)
+settled_adds p (Ok history) = record { reply = accepted_reply; is = refl }
+settled_adds p (Err reason) = record { reply = refused_reply (p.lines + 1) reason; is = refl }
+
+answer_adds : (p : Progress) (answer : Result (Option Request) ParseError) → Adds p (answered_by p answer)
+answer_adds p (Ok None) = adds_none p (answered_by p (Ok None)) refl
+answer_adds p (Ok (Some request)) = settled_adds p (carried_out request p.history)
+answer_adds p (Err error) = record { reply = refused_reply (p.lines + 1) (refused.Parse error); is = refl }
+
+lines_add : (strict : Bool) (p : Progress) (lines : List (List ℕ)) → Adds p (after_lines strict p lines)
+lines_add strict p [] = adds_none p p refl
+lines_add strict p (line ∷ lines) =
+    elim (cases_Bool (is_over strict p)) [
+      | inl over ↦ rw over (adds_none p p refl)
+      | inr on ↦ rw on (adds_both p (after_line p line) (after_lines strict (after_line p line) lines) (answer_adds p (answer_to line)) (lines_add strict (after_line p line) lines))
+    ]
+
+pub replies_stand : RepliesStand
+replies_stand document options front rest ends =
+    let adds = lines_add options.strict (ran document options front) (lines_of rest) in
+    (adds.reply, ap (λ (q : Progress). q.replies) (fronts_stand document options front rest ends) ∙ adds.is)
+
+-- ---- which lines change nothing
+
+apart : (line : ℕ) (reason : Refused) → accepted_reply ≡ refused_reply line reason → ⊥
+apart line reason e = cc
+
+settled_refused : (p : Progress) (result : Result History Refused) (reason : Refused) → (settled_by p result).replies ≡ p.replies ++ refused_reply (p.lines + 1) reason → ((settled_by p result).history ≡ p.history) × (tile_of (settled_by p result) ≡ tile_of p) × ((settled_by p result).any_refused ≡ true)
+settled_refused p (Ok history) reason e = absurd (apart (p.lines + 1) reason (append_cancel_left p.replies accepted_reply (refused_reply (p.lines + 1) reason) e))
+settled_refused p (Err other) reason e = (refl, refl, refl)
+
+something : (xs : List ℕ) (b : ℕ) (more : List ℕ) → xs ≡ xs ++ b ∷ more → ⊥
+something xs b more e = let longer : length xs ≡ length (xs ++ b ∷ more) = ap length e in omega (arith, length-append xs (b ∷ more))
+
+answer_refused : (p : Progress) (answer : Result (Option Request) ParseError) (reason : Refused) → (answered_by p answer).replies ≡ p.replies ++ refused_reply (p.lines + 1) reason → ((answered_by p answer).history ≡ p.history) × (tile_of (answered_by p answer) ≡ tile_of p) × ((answered_by p answer).any_refused ≡ true)
+answer_refused p (Ok None) reason e = absurd (something p.replies _ _ e)
+answer_refused p (Ok (Some request)) reason e = settled_refused p (carried_out request p.history) reason e
+answer_refused p (Err error) reason e = (refl, refl, refl)
+
+pub refused_lines : RefusedLinesChangeNothing
+refused_lines p line reason e = answer_refused p (answer_to line) reason e
+
+settled_silent : (p : Progress) (result : Result History Refused) → (settled_by p result).replies ≡ p.replies → ⊥
+settled_silent p (Ok history) e = something p.replies _ _ (sym e)
+settled_silent p (Err reason) e = something p.replies _ _ (sym e)
+
+answer_silent : (p : Progress) (answer : Result (Option Request) ParseError) → (answered_by p answer).replies ≡ p.replies → answered_by p answer ≡ record p { lines = p.lines + 1 }
+answer_silent p (Ok None) e = refl
+answer_silent p (Ok (Some request)) e = absurd (settled_silent p (carried_out request p.history) e)
+answer_silent p (Err error) e = absurd (something p.replies _ _ (sym e))
+
+pub silent_lines : SilentLinesChangeNothing
+silent_lines p line e = answer_silent p (answer_to line) e
+
+-- ---- strict runs
+
+pub runs_stop : StrictRunsStop
+runs_stop p lines more over = after_lines-append true p lines more ∙ over_stays true (after_lines true p lines) more over
+
+-- that a line was refused stays so
+settled_stays : (p : Progress) (result : Result History Refused) → p.any_refused ≡ true → (settled_by p result).any_refused ≡ true
+settled_stays p (Ok history) refused = refused
+settled_stays p (Err reason) refused = refl
+
+refused_stays : (p : Progress) (answer : Result (Option Request) ParseError) → p.any_refused ≡ true → (answered_by p answer).any_refused ≡ true
+refused_stays p (Ok None) refused = refused
+refused_stays p (Ok (Some request)) refused = settled_stays p (carried_out request p.history) refused
+refused_stays p (Err error) refused = refl
+
+lines_stay_refused : (p : Progress) (lines : List (List ℕ)) → p.any_refused ≡ true → (after_lines false p lines).any_refused ≡ true
+lines_stay_refused p [] refused = refused
+lines_stay_refused p (line ∷ lines) refused = lines_stay_refused (after_line p line) lines (refused_stays p (answer_to line) refused)
+
+pub runs_are_alike : AcceptedRunsAreAlike
+runs_are_alike p [] accepted = refl
+runs_are_alike p (line ∷ lines) accepted =
+    elim (cases_Bool p.any_refused) [
+      | inl refused ↦ absurd (let stays = lines_stay_refused p (line ∷ lines) refused in cc)
+      | inr none ↦ goes_on true p line lines none ∙ runs_are_alike (after_line p line) lines accepted
+    ]
+
+-- ---- walks
+
+follow_adds : (p : Progress) (line : List ℕ) (q : Progress) → MayFollow p line q → Adds p q
+follow_adds p line q (inl e) = subst (Adds p) (sym e) (answer_adds p (answer_to line))
+follow_adds p line q (inr (takes, e)) = subst (Adds p) (sym e) (record { reply = want_of_memory (p.lines + 1); is = refl })
+
+walk_adds : (strict : Bool) (p : Progress) (lines : List (List ℕ)) (q : Progress) → Walk strict p lines q → Adds p q
+walk_adds strict p [] q walk = adds_none p q (ap (λ (r : Progress). r.replies) walk)
+walk_adds strict p (line ∷ lines) q walk =
+    elim (cases_Bool (is_over strict p)) [
+      | inl over ↦ adds_none p q (ap (λ (r : Progress). r.replies) (walk_over strict p q (line ∷ lines) over walk))
+      | inr on ↦ (
+          let steps = walk_on strict p q line lines on walk in
+          adds_both p steps.0 q (follow_adds p line steps.0 steps.1) (walk_adds strict steps.0 lines q steps.2)
+          )
+    ]
+
+-- what was added is the one reply and then the others
+cut : (p next q : Progress) (added : List ℕ) → q.replies ≡ p.replies ++ added → (first : Adds p next) → (others : Adds next q) → added ≡ first.reply ++ others.reply
+unfolding adds_both
+cut p next q added e first others = append_cancel_left p.replies added (first.reply ++ others.reply) (sym e ∙ (adds_both p next q first others).is)
+
+no_want_behind : (front rest : List ℕ) → HasNoWant (front ++ rest) → HasNoWant rest
+no_want_behind front rest none line before behind e =
+    none line (front ++ before) behind (
+    ap (λ (xs : List ℕ). front ++ xs) e ∙ sym (append_assoc front (before ++ want_of_memory line) behind)
+    ∙ ap (λ (xs : List ℕ). xs ++ behind) (sym (append_assoc front before (want_of_memory line)))
+    )
+
+pub runs_are_walks : RunsAreWalks
+runs_are_walks strict p [] = refl
+runs_are_walks strict p (line ∷ lines) =
+    elim (cases_Bool (is_over strict p)) [
+      | inl over ↦ rw over refl
+      | inr on ↦ rw on (after_line p line, inl refl, runs_are_walks strict (after_line p line) lines)
+    ]
+
+-- no reply says that memory was refused, so it was not at this line
+follows_as_run : (p next q : Progress) (line added : List ℕ) → MayFollow p line next → Adds next q → q.replies ≡ p.replies ++ added → HasNoWant added → next ≡ after_line p line
+follows_as_run p next q line added (inl follows) others e none = follows
+follows_as_run p next q line added (inr (takes, follows)) others e none =
+    let first : Adds p next = record { reply = want_of_memory (p.lines + 1); is = ap (λ (r : Progress). r.replies) follows } in
+    absurd (none (p.lines + 1) [] others.reply (cut p next q added e first others))
+
+pub walks_are_runs : WalksWithoutWantAreRuns
+walks_are_runs strict p q [] added walk e none = walk
+walks_are_runs strict p q (line ∷ lines) added walk e none =
+    elim (cases_Bool (is_over strict p)) [
+      | inl over ↦ rw over (walk_over strict p q (line ∷ lines) over walk)
+      | inr on ↦ (
+          let steps = walk_on strict p q line lines on walk in
+          let others = walk_adds strict steps.0 lines q steps.2 in
+          let first = follow_adds p line steps.0 steps.1 in
+          let rest = no_want_behind first.reply others.reply (subst HasNoWant (cut p steps.0 q added e first others) none) in
+          rw on (
+          walks_are_runs strict steps.0 q lines others.reply steps.2 others.is rest
+          ∙ ap (λ (r : Progress). after_lines strict r lines) (follows_as_run p steps.0 q line added steps.1 others e none)
+          )
+          )
+    ]

@@ -1,0 +1,5 @@
+use Rattle.tile_run.proofs.Standing.{standing_commands}
+use Rattle.tile_run.proofs.laws.standing_commands.Goals as goal
+
+pub returns : goal.returns
+returns c = standing_commands

@@ -1,0 +1,8 @@
+use Rattle.tile_run.proofs.Headlines.{headline, refuses_tile}
+use Rattle.tile_run.proofs.runs.run.Goals as goal
+
+pub returns-clause-headline : goal.returns-clause-headline
+returns-clause-headline g c = headline c.args.options _ _ _ c.edit.ensures.course
+
+pub returns-clause-refuses_tile : goal.returns-clause-refuses_tile
+returns-clause-refuses_tile g c = refuses_tile c.args.options _ _ _ c.edit.ensures.course

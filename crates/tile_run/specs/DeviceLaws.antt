@@ -1,0 +1,58 @@
+-- Laws on the devices of a run: what their troubles have to do with its outcome.
+use Rattle.std.specs.Prelude.{◌≡◌, ◌≢◌, ◌⊎◌, ℕ, ◌<◌, List, length, IsTrue, Some}
+use Rattle.tile_run.specs.declared.runs.TheConstants.{MAX_RETRIES, MAX_SCRIPT}
+use Rattle.tile_run.specs.declared.outcome.Options.{Options}
+use Rattle.tile_run.specs.declared.outcome.Outcome.{Outcome}
+use Rattle.tile_run.specs.declared.outcome.Outcome.TheVariants as outcomes
+use Rattle.tile_run.specs.declared.outcome.DeviceName.{DeviceName}
+use Rattle.tile_run.specs.declared.outcome.DeviceName.TheVariants as devices
+use Rattle.tile_device.specs.Seen.{Seen}
+use Rattle.tile_run.specs.Headline.{Devices, HasLowCounts, Runs, all_interruptions}
+
+-- a call of the device failed: its count of failures is another
+abbrev pub HasFailed : Seen → Seen → Type 0
+HasFailed before after = after.failures ≢ before.failures
+
+-- counts that are far from where they stop
+pub record HaveLowCounts (devices : Devices) : Type 0 where
+  pub tile : HasLowCounts devices.tile
+  pub script : HasLowCounts devices.script
+  pub replies : HasLowCounts devices.replies
+  pub out : HasLowCounts devices.out
+
+-- over all devices more calls were interrupted than are made again
+abbrev pub AreWornOut : Devices → Devices → Type 0
+AreWornOut before after = MAX_RETRIES < all_interruptions before after
+
+-- where a call of a device failed, the run ends with that device
+pub record NamesTheFailed (before after : Devices) (outcome : Outcome) : Type 0 where
+  pub tile : HasFailed before.tile after.tile → outcome ≡ outcomes.Device devices.Tile
+  pub script : HasFailed before.script after.script → outcome ≡ outcomes.Device devices.Script
+  pub replies : HasFailed before.replies after.replies → outcome ≡ outcomes.Device devices.Replies
+  pub out : HasFailed before.out after.out → outcome ≡ outcomes.Device devices.Out
+
+abbrev pub FailedDevicesAreNamed : Type 0
+FailedDevicesAreNamed = (options : Options) (before after : Devices) (outcome : Outcome) → Runs options before after outcome → NamesTheFailed before after outcome
+
+-- Where more calls were interrupted than are made again, the run ends with a device.
+abbrev pub WornOutRunsNameADevice : Type 0
+WornOutRunsNameADevice = (options : Options) (before after : Devices) (outcome : Outcome) → Runs options before after outcome → HaveLowCounts before → AreWornOut before after → (name : DeviceName) × (outcome ≡ outcomes.Device name)
+
+-- a call of this device failed, or one of its calls was the interruption that was one too many
+abbrev pub GivesUp : Devices → Devices → Seen → Seen → Type 0
+GivesUp before after old new = HasFailed old new ⊎ ((old.interruptions < new.interruptions) × AreWornOut before after)
+
+-- it tells its bytes, and they are more than a script may have
+abbrev pub IsTooLong : Seen → Seen → Type 0
+IsTooLong before after = (script : List ℕ) → before.bytes ≡ Some script → IsTrue after.tells → MAX_SCRIPT < length script
+
+-- why a run ends with this device
+abbrev pub HasCause : DeviceName → Devices → Devices → Type 0
+HasCause devices.Tile before after = GivesUp before after before.tile after.tile
+HasCause devices.Script before after = GivesUp before after before.script after.script ⊎ IsTooLong before.script after.script
+HasCause devices.Replies before after = GivesUp before after before.replies after.replies
+HasCause devices.Out before after = GivesUp before after before.out after.out
+
+-- A device is named only where it gave up, or where the script is too long.
+abbrev pub DevicesAreNamedForCause : Type 0
+DevicesAreNamedForCause = (options : Options) (before after : Devices) (name : DeviceName) → Runs options before after (outcomes.Device name) → HaveLowCounts before → HasCause name before after

@@ -1,0 +1,136 @@
+-- The headline: what a run does where no device and no growth fails it.
+use Rattle.std.specs.Prelude.{◌≡◌, ◌≢◌, ℕ, Bool, ◌+◌, ◌-◌, ◌^◌, ◌≤◌, List, [], ◌∷◌, ◌++◌, length, IsTrue, Some, None, if◌then◌else◌}
+use Rattle.std.specs.declared.option.Option.{Option}
+use Rattle.std.specs.Io.{appended_bytes}
+use Rattle.std.specs.Io.KnownBytes.{Appends}
+use Rattle.mvt_wire.specs.declared.TheConstants.{MAX_FILE}
+use Rattle.mvt_wire.specs.Plain.{Document}
+use Rattle.mvt_wire.specs.Opens.{OpensAs}
+use Rattle.tile_run.specs.declared.runs.TheConstants.{MAX_RETRIES, MAX_SCRIPT}
+use Rattle.tile_run.specs.declared.outcome.Options.{Options}
+use Rattle.tile_device.specs.declared.device.Source.{Ghosts as SourceMembers}
+use Rattle.tile_device.specs.declared.device.Sink.{Ghosts as SinkMembers}
+use Rattle.tile_run.specs.declared.outcome.Outcome.{Outcome}
+use Rattle.tile_run.specs.declared.outcome.Outcome.TheVariants as outcomes
+use Rattle.tile_run.specs.declared.outcome.DeviceName.TheVariants as devices
+use Rattle.tile_run.specs.declared.outcome.TileFault.{TileFault}
+use Rattle.tile_run.specs.Course.{Course, Ends, IsPatient, OpensAsNothing, IsFaultOf}
+use Rattle.tile_run.specs.Replies.{HasNoWant}
+use Rattle.tile_script.specs.Lines.{lines_of}
+use Rattle.tile_run.specs.Run.{Progress, after_lines, is_over, ran, tile_of}
+use Rattle.tile_device.specs.Seen.{Seen, source_at, sink_at, Supplies, Receives}
+
+-- the four devices of a run at one moment
+pub record Devices : Type 0 where
+  pub tile : Seen
+  pub script : Seen
+  pub replies : Seen
+  pub out : Seen
+
+abbrev pub devices_at : {A B C D : Type 0} → SourceMembers A → SourceMembers B → SinkMembers C → SinkMembers D → A → B → C → D → Devices
+devices_at a b c d tile script replies out = record {
+  tile = source_at a tile;
+  script = source_at b script;
+  replies = sink_at c replies;
+  out = sink_at d out;
+}
+
+-- counts stop at 2^64 - 1: these are far below that
+pub record HasLowCounts (device : Seen) : Type 0 where
+  pub interruptions : device.interruptions ≤ 2 ^ 63
+  pub failures : device.failures ≤ 2 ^ 63
+
+-- the device tells its bytes at the end, and no call of it failed
+pub record Serves (before after : Seen) : Type 0 where
+  pub tells : IsTrue after.tells
+  pub low : HasLowCounts before
+  pub unfailing : after.failures ≡ before.failures
+
+-- how many calls of the device were interrupted
+abbrev pub interruptions_between : Seen → Seen → ℕ
+interruptions_between before after = after.interruptions - before.interruptions
+
+abbrev pub all_interruptions : Devices → Devices → ℕ
+all_interruptions before after =
+    interruptions_between before.tile after.tile + interruptions_between before.script after.script
+    + interruptions_between before.replies after.replies + interruptions_between before.out after.out
+
+-- no call failed, and over all devices no more were interrupted than are made again
+pub record AllServe (before after : Devices) : Type 0 where
+  pub tile : Serves before.tile after.tile
+  pub script : Serves before.script after.script
+  pub replies : Serves before.replies after.replies
+  pub out : Serves before.out after.out
+  pub patient : all_interruptions before after ≤ MAX_RETRIES
+
+-- the replies that were written between two moments are known, and none is a want of memory
+abbrev pub TellsNoWant : Option (List ℕ) → Option (List ℕ) → Type 0
+TellsNoWant None new = ⊥
+TellsNoWant (Some old) None = ⊥
+TellsNoWant (Some old) (Some new) = HasNoWant (appended_bytes old new)
+
+-- how a run ends that comes to this progress
+abbrev pub outcome_of : Bool → Progress → Outcome
+outcome_of strict progress = if is_over strict progress then outcomes.StrictStop else (if progress.any_refused then outcomes.SomeRefused else outcomes.Done)
+
+-- the tile is written, unless a strict run is over
+abbrev pub tile_written : Bool → Progress → List ℕ
+tile_written strict progress = if is_over strict progress then [] else tile_of progress
+
+-- The tile is opened and edited: the outcome, the replies and the tile written are those of the script on that document.
+-- The same holds of each prefix of whole lines, and the script goes on from there.
+pub record IsRunOf (options : Options) (document : Document) (script : List ℕ) (before after : Devices) (outcome : Outcome) : Type 0 where
+  pub ends : outcome ≡ outcome_of options.strict (ran document options script)
+  pub replies : Appends before.replies.bytes after.replies.bytes (ran document options script).replies
+  pub out : Appends before.out.bytes after.out.bytes (tile_written options.strict (ran document options script))
+  pub prefixes : (front more : List ℕ) → script ≡ front ++ 10 ∷ more → ran document options script ≡ after_lines options.strict (ran document options (front ++ 10 ∷ [])) (lines_of more)
+
+-- for every tile that opens and every script that is not too long
+abbrev pub Headline : Options → Devices → Devices → Outcome → Type 0
+Headline options before after outcome =
+    (file script : List ℕ) (document : Document) → before.tile.bytes ≡ Some file → OpensAs file document
+    → before.script.bytes ≡ Some script → length script ≤ MAX_SCRIPT
+    → AllServe before after → TellsNoWant before.replies.bytes after.replies.bytes → outcome ≢ outcomes.NoMemory
+    → IsRunOf options document script before after outcome
+
+-- for every tile that opens as no document: it is refused for what is wrong with it
+abbrev pub RefusesTile : Devices → Devices → Outcome → Type 0
+RefusesTile before after outcome =
+    (file : List ℕ) → before.tile.bytes ≡ Some file → OpensAsNothing file → AllServe before after → outcome ≢ outcomes.NoMemory
+    → (fault : TileFault) × (outcome ≡ outcomes.TileRefused fault) × IsFaultOf fault file
+
+-- a course that ends so, and that the devices bear out
+pub record Runs (options : Options) (before after : Devices) (outcome : Outcome) : Type 0 where
+  pub course : Course
+  pub ends : Ends options outcome course
+  pub patient : IsPatient course
+  pub tile : Supplies before.tile after.tile course.tile
+  pub script : Supplies before.script after.script course.script
+  pub replies : Receives before.replies after.replies course.replies
+  pub out : Receives before.out after.out course.out
+  pub tile_within : length course.tile.bytes ≤ MAX_FILE + 1
+  pub script_within : length course.script.bytes ≤ MAX_SCRIPT + 1
+
+-- the run ends before the tile is written, and out is as it was
+abbrev pub LeavesOut : Outcome → Type 0
+LeavesOut outcomes.Done = ⊥
+LeavesOut outcomes.SomeRefused = ⊥
+LeavesOut outcomes.StrictStop = Unit {0}
+LeavesOut (outcomes.TileRefused fault) = Unit {0}
+LeavesOut (outcomes.Device devices.Tile) = Unit {0}
+LeavesOut (outcomes.Device devices.Script) = Unit {0}
+LeavesOut (outcomes.Device devices.Replies) = Unit {0}
+LeavesOut (outcomes.Device devices.Out) = ⊥
+LeavesOut outcomes.NoMemory = Unit {0}
+
+-- the run ends with the tile, and script and replies are as they were
+abbrev pub LeavesReplies : Outcome → Type 0
+LeavesReplies outcomes.Done = ⊥
+LeavesReplies outcomes.SomeRefused = ⊥
+LeavesReplies outcomes.StrictStop = ⊥
+LeavesReplies (outcomes.TileRefused fault) = Unit {0}
+LeavesReplies (outcomes.Device devices.Tile) = Unit {0}
+LeavesReplies (outcomes.Device devices.Script) = ⊥
+LeavesReplies (outcomes.Device devices.Replies) = ⊥
+LeavesReplies (outcomes.Device devices.Out) = ⊥
+LeavesReplies outcomes.NoMemory = ⊥

@@ -1,0 +1,11 @@
+pub mod History
+pub mod Replies
+pub mod Run
+pub mod Session
+pub mod Laws
+pub mod RunLaws
+pub mod Course
+pub mod Headline
+pub mod Steps
+pub mod DeviceLaws
+pub mod Outcomes

@@ -1,0 +1,77 @@
+-- What a script does to a tile, line by line.
+use Rattle.std.specs.Prelude.{◌≡◌, ℕ, ◌+◌, Bool, true, false, ◌&&◌, if◌then◌else◌, MatchBool, List, [], ◌∷◌, ◌++◌, Option, Some, None, Result, Ok, Err, ◌⊎◌}
+use Rattle.mvt_wire.specs.Plain.{Document}
+use Rattle.mvt_wire.specs.Wire.{bytes_of}
+use Rattle.tile_script.specs.Request.{Request}
+use Rattle.tile_script.specs.Line.{answer_to, TakesMemory}
+use Rattle.tile_script.specs.Lines.{lines_of}
+use Rattle.tile_run.specs.History.{History, begun, present_document, carried_out}
+use Rattle.tile_run.specs.Replies.{accepted_reply, refused_reply}
+use Rattle.tile_run.specs.declared.outcome.Options.{Options}
+use Rattle.tile_script.specs.declared.parse_error.ParseError.{ParseError}
+use Rattle.tile_script.specs.declared.parse_error.ParseError.TheVariants as parse
+use Rattle.tile_run.specs.declared.refused.Refused.{Refused}
+use Rattle.tile_run.specs.declared.refused.Refused.TheVariants as refused
+
+-- how many lines were carried out, what stands, what was replied, and whether a line was refused
+pub record Progress : Type 0 where
+  pub lines : ℕ
+  pub history : History
+  pub replies : List ℕ
+  pub any_refused : Bool
+
+abbrev pub at_first : Document → ℕ → Progress
+at_first document depth = record { lines = 0; history = begun document depth; replies = []; any_refused = false }
+
+abbrev pub silent : Progress → Progress
+silent p = record { lines = p.lines + 1; history = p.history; replies = p.replies; any_refused = p.any_refused }
+
+abbrev pub accepted : History → Progress → Progress
+accepted history p = record { lines = p.lines + 1; history = history; replies = p.replies ++ accepted_reply; any_refused = p.any_refused }
+
+-- a refused line changes nothing but the replies
+abbrev pub refused_for : Refused → Progress → Progress
+refused_for reason p = record { lines = p.lines + 1; history = p.history; replies = p.replies ++ refused_reply (p.lines + 1) reason; any_refused = true }
+
+abbrev pub settled_by : Progress → Result History Refused → Progress
+settled_by p (Ok history) = accepted history p
+settled_by p (Err reason) = refused_for reason p
+
+abbrev pub answered_by : Progress → Result (Option Request) ParseError → Progress
+answered_by p (Ok None) = silent p
+answered_by p (Ok (Some request)) = settled_by p (carried_out request p.history)
+answered_by p (Err error) = refused_for (refused.Parse error) p
+
+-- one line
+abbrev pub after_line : Progress → List ℕ → Progress
+after_line p line = answered_by p (answer_to line)
+
+-- a strict run is over behind its first refused line
+abbrev pub is_over : Bool → Progress → Bool
+is_over strict p = strict && p.any_refused
+
+-- the lines in order, up to the one behind which the run is over
+abbrev pub after_lines : Bool → Progress → List (List ℕ) → Progress
+after_lines strict p [] = p
+after_lines strict p (line ∷ lines) = if is_over strict p then p else after_lines strict (after_line p line) lines
+
+-- a whole script, on a tile that opens as this document
+abbrev pub ran : Document → Options → List ℕ → Progress
+ran document options script = after_lines options.strict (at_first document options.depth) (lines_of script)
+
+-- the bytes of the present document
+abbrev pub tile_of : Progress → List ℕ
+tile_of p = bytes_of (present_document p.history)
+
+-- a line to which memory was refused: it is refused so, and changes nothing
+abbrev pub without_memory : Progress → Progress
+without_memory p = refused_for (refused.Parse parse.NoMemory) p
+
+-- One line, where growths may be refused. None is before a line is known to be readable and to ask for something.
+abbrev pub MayFollow : Progress → List ℕ → Progress → Type 0
+MayFollow p line q = (q ≡ after_line p line) ⊎ (TakesMemory line × (q ≡ without_memory p))
+
+-- the lines in order, where growths may be refused, up to the one behind which the run is over
+abbrev pub Walk : Bool → Progress → List (List ℕ) → Progress → Type 0
+Walk strict p [] q = q ≡ p
+Walk strict p (line ∷ lines) q = MatchBool (is_over strict p) (q ≡ p) ((next : Progress) × MayFollow p line next × Walk strict next lines q)

@@ -1,0 +1,96 @@
+-- Laws over whole runs, in the words of scripts, replies and tiles.
+use Rattle.std.specs.Prelude.{◌≡◌, ◌⊎◌, ℕ, ◌+◌, ◌≤◌, Bool, true, false, List, [], ◌∷◌, ◌++◌, length, take, Some, Ok}
+use Rattle.mvt_wire.specs.Plain.{Document}
+use Rattle.mvt_command.specs.Command.{Command}
+use Rattle.tile_script.specs.Request.{Edit, Undo}
+use Rattle.mvt_edit.specs.Meaning.{applied}
+use Rattle.tile_script.specs.Line.{answer_to}
+use Rattle.tile_script.specs.Lines.{lines_of, HasNoLineFeed}
+use Rattle.tile_run.specs.History.{History, IsSound, present_document}
+use Rattle.tile_run.specs.Replies.{accepted_reply, refused_reply, HasNoWant}
+use Rattle.tile_run.specs.Run.{Progress, after_line, after_lines, is_over, ran, tile_of, Walk}
+use Rattle.tile_run.specs.declared.outcome.Options.{Options}
+use Rattle.tile_run.specs.declared.refused.Refused.{Refused}
+
+-- ---- fronts
+
+-- bytes with a line feed behind them
+abbrev pub with_feed : List ℕ → List ℕ
+with_feed text = text ++ 10 ∷ []
+
+-- a front of a script that ends where a line ends: nothing, or bytes up to a line feed
+abbrev pub EndsWithALine : List ℕ → Type 0
+EndsWithALine front = (front ≡ []) ⊎ ((text : List ℕ) × (front ≡ with_feed text))
+
+-- The lines of such a front are the first lines of the script.
+abbrev pub FrontsHaveFirstLines : Type 0
+FrontsHaveFirstLines = (front rest : List ℕ) → EndsWithALine front → lines_of (front ++ rest) ≡ lines_of front ++ lines_of rest
+
+-- The run on such a front comes to where the run on the whole script is after those lines, and the others go on from there.
+abbrev pub FrontsStand : Type 0
+FrontsStand = (document : Document) (options : Options) (front rest : List ℕ) → EndsWithALine front → ran document options (front ++ rest) ≡ after_lines options.strict (ran document options front) (lines_of rest)
+
+-- What was replied to such a front stays at the front of what is replied to the whole script.
+abbrev pub RepliesStand : Type 0
+RepliesStand = (document : Document) (options : Options) (front rest : List ℕ) → EndsWithALine front → (more : List ℕ) × ((ran document options (front ++ rest)).replies ≡ (ran document options front).replies ++ more)
+
+-- ---- lines that change nothing
+
+-- A line that is refused changes neither the tile nor what undo takes back. That it was refused is kept.
+abbrev pub RefusedLinesChangeNothing : Type 0
+RefusedLinesChangeNothing = (p : Progress) (line : List ℕ) (reason : Refused) → (after_line p line).replies ≡ p.replies ++ refused_reply (p.lines + 1) reason → ((after_line p line).history ≡ p.history) × (tile_of (after_line p line) ≡ tile_of p) × ((after_line p line).any_refused ≡ true)
+
+-- A line without a reply is counted, and changes nothing else.
+abbrev pub SilentLinesChangeNothing : Type 0
+SilentLinesChangeNothing = (p : Progress) (line : List ℕ) → (after_line p line).replies ≡ p.replies → after_line p line ≡ record p { lines = p.lines + 1 }
+
+-- A strict run ends with the first line that is refused: what follows it changes nothing.
+abbrev pub StrictRunsStop : Type 0
+StrictRunsStop = (p : Progress) (lines more : List (List ℕ)) → is_over true (after_lines true p lines) ≡ true → after_lines true p (lines ++ more) ≡ after_lines true p lines
+
+-- Where no line is refused, a strict run comes to what one that is not strict comes to.
+abbrev pub AcceptedRunsAreAlike : Type 0
+AcceptedRunsAreAlike = (p : Progress) (lines : List (List ℕ)) → (after_lines false p lines).any_refused ≡ false → after_lines true p lines ≡ after_lines false p lines
+
+-- ---- what stands
+
+-- the commands make the second document of the first one, one after the other, and each is accepted
+abbrev pub Makes : Document → List Command → Document → Type 0
+Makes document [] made = made ≡ document
+Makes document (command ∷ commands) made = (next : Document) × (applied command document ≡ Ok next) × Makes next commands made
+
+-- a history of a tile in which undo goes back at most depth commands
+pub record IsHistoryOf (document : Document) (depth : ℕ) (history : History) : Type 0 where
+  pub start : history.start ≡ document
+  pub within_commands : history.present ≤ length history.commands
+  pub above_floor : history.floor ≤ history.present
+  pub within_depth : history.present ≤ history.floor + depth
+  pub makes : Makes document (take history.present history.commands) (present_document history)
+
+-- After every script the tile is the one at the start with the standing commands carried out in order.
+abbrev pub StandingCommands : Type 0
+StandingCommands = (document : Document) (options : Options) (script : List ℕ) → 1 ≤ options.depth → IsHistoryOf document options.depth (ran document options script).history
+
+-- ---- undo
+
+-- A line whose command is accepted and then a line that asks for undo: both are accepted, and the tile is as before.
+abbrev pub UndoInARun : Type 0
+UndoInARun = (strict : Bool) (p : Progress) (line undo : List ℕ) (command : Command) (edited : Document) → IsSound p.history → is_over strict p ≡ false → answer_to line ≡ Ok (Some (Edit command)) → applied command (present_document p.history) ≡ Ok edited → answer_to undo ≡ Ok (Some Undo) → ((after_lines strict p (line ∷ undo ∷ [])).replies ≡ p.replies ++ accepted_reply ++ accepted_reply) × (tile_of (after_lines strict p (line ∷ undo ∷ [])) ≡ tile_of p)
+
+-- The same of a script: these two lines behind it are accepted, and it makes the same tile.
+abbrev pub UndoInAScript : Type 0
+UndoInAScript = (document : Document) (options : Options) (front line undo : List ℕ) (command : Command) (edited : Document) → 1 ≤ options.depth → EndsWithALine front → is_over options.strict (ran document options front) ≡ false → HasNoLineFeed line → HasNoLineFeed undo → answer_to line ≡ Ok (Some (Edit command)) → applied command (present_document (ran document options front).history) ≡ Ok edited → answer_to undo ≡ Ok (Some Undo) → ((ran document options (front ++ with_feed line ++ with_feed undo)).replies ≡ (ran document options front).replies ++ accepted_reply ++ accepted_reply) × (tile_of (ran document options (front ++ with_feed line ++ with_feed undo)) ≡ tile_of (ran document options front))
+
+-- ---- want of memory
+
+-- Where growths may be refused, and no reply says that one was, all comes as where none is refused.
+abbrev pub WalksWithoutWantAreRuns : Type 0
+WalksWithoutWantAreRuns = (strict : Bool) (p q : Progress) (lines : List (List ℕ)) (added : List ℕ) → Walk strict p lines q → q.replies ≡ p.replies ++ added → HasNoWant added → q ≡ after_lines strict p lines
+
+-- The run with all memory is one of the walks.
+abbrev pub RunsAreWalks : Type 0
+RunsAreWalks = (strict : Bool) (p : Progress) (lines : List (List ℕ)) → Walk strict p lines (after_lines strict p lines)
+
+-- With all memory no reply says that memory was refused. So a walk is the run exactly where none says so.
+abbrev pub RunsHaveNoWant : Type 0
+RunsHaveNoWant = (document : Document) (options : Options) (script : List ℕ) → HasNoWant (ran document options script).replies

@@ -1,0 +1,190 @@
+-- What the steps of a run answer.
+use Rattle.std.specs.Prelude.{◌≡◌, ℕ, ◌+◌, ◌≤◌, Bool, true, false, List, [], ◌∷◌, ◌++◌, length, Option, Some, None, IsSome, Result, Ok, Err}
+use Rattle.mvt_wire.specs.declared.document.Document.{Document}
+use Rattle.mvt_wire.specs.Stands.{document_of}
+use Rattle.tile_device.specs.Seen.{Seen, Intake, Output, IsFront, Receives, Supplies, nothing_read, written}
+use Rattle.tile_device.specs.declared.device.Trouble.TheVariants.{Interrupted}
+use Rattle.tile_script.specs.Cutting.{Holding, after_pushes, nothing_held}
+use Rattle.tile_script.specs.Lines.{whole_lines}
+use Rattle.tile_run.specs.declared.editor.Editor.{Editor}
+use Rattle.tile_run.specs.declared.outcome.LineStop.{LineStop}
+use Rattle.tile_run.specs.declared.outcome.LineStop.TheVariants as line_stops
+use Rattle.tile_run.specs.declared.outcome.ScriptStop.{ScriptStop}
+use Rattle.tile_run.specs.declared.outcome.ScriptStop.TheVariants as script_stops
+use Rattle.tile_run.specs.declared.outcome.Unopened.{Unopened}
+use Rattle.tile_run.specs.declared.outcome.Unopened.TheVariants as unopened
+use Rattle.tile_run.specs.declared.outcome.Unwritten.{Unwritten}
+use Rattle.tile_run.specs.declared.outcome.Unwritten.TheVariants as unwritten
+use Rattle.tile_run.specs.declared.refused.Refused.{Refused}
+use Rattle.tile_run.specs.declared.runs.TheConstants.{MAX_SCRIPT}
+use Rattle.tile_run.specs.declared.session.Session.{Session}
+use Rattle.tile_run.specs.Course.{IsOpened, IsFaulty, IsWritten, CarriesThrough, StopsStrictly, StopsAtScript, StopsAtReplies}
+use Rattle.tile_run.specs.History.{History}
+use Rattle.tile_run.specs.Replies.{accepted_reply, refused_reply}
+use Rattle.tile_run.specs.Run.{Progress, is_over, MayFollow, Walk}
+use Rattle.tile_run.specs.Session.{StandsFor}
+
+-- ---- devices, with the retries that are left before a step and after it
+
+-- a source gave this
+pub record Reads (old new : Seen) (before after : ℕ) (intake : Intake) : Type 0 where
+  pub supplies : Supplies old new intake
+  pub spent : after + intake.retries ≡ before
+  pub last : intake.trouble ≡ Some Interrupted → after ≡ 0
+
+-- a sink took this
+pub record Writes (old new : Seen) (before after : ℕ) (output : Output) : Type 0 where
+  pub receives : Receives old new output
+  pub spent : after + output.retries ≡ before
+  pub last : output.trouble ≡ Some Interrupted → after ≡ 0
+
+-- ---- the tile
+
+abbrev pub OpensTile : Result Document Unopened → Intake → Type 0
+OpensTile (Ok document) tile = IsOpened tile (document_of document)
+OpensTile (Err unopened.Device) tile = IsSome tile.trouble
+OpensTile (Err (unopened.Refused fault)) tile = (tile.trouble ≡ None) × IsFaulty fault tile
+OpensTile (Err unopened.NoMemory) tile = tile.trouble ≡ None
+
+-- ---- a line
+
+-- what is replied to the line of this number, by what was answered to it
+abbrev pub reply_to : {A : Type 0} → ℕ → Result A Refused → List ℕ
+reply_to line (Ok done) = accepted_reply
+reply_to line (Err reason) = refused_reply line reason
+
+-- the progress after a line to which this was answered
+abbrev pub answered : {A : Type 0} → Progress → History → Option (Result A Refused) → Progress
+answered p history None = record { lines = p.lines + 1; history = history; replies = p.replies; any_refused = p.any_refused }
+answered p history (Some (Ok done)) = record { lines = p.lines + 1; history = history; replies = p.replies ++ accepted_reply; any_refused = p.any_refused }
+answered p history (Some (Err reason)) = record { lines = p.lines + 1; history = history; replies = p.replies ++ refused_reply (p.lines + 1) reason; any_refused = true }
+
+-- the session stands for the history of a progress that may follow
+pub record CarriesOut {A : Type 0} (session : Session) (line : List ℕ) (answer : Option (Result A Refused)) (p : Progress) : Type 0 where
+  pub history : History
+  pub follows : MayFollow p line (answered p history answer)
+  pub stands : StandsFor session history
+
+-- the editor has come to this progress
+pub record IsAt (editor : Editor) (is_strict : Bool) (p : Progress) : Type 0 where
+  pub strict : editor.strict ≡ is_strict
+  pub stands : StandsFor editor.session p.history
+  pub lines : editor.lines ≡ p.lines
+  pub refused : editor.any_refused ≡ p.any_refused
+
+-- the line was carried out and replied to, and the run is over or goes on
+pub record Advances (old new : Seen) (before after : ℕ) (editor : Editor) (strict : Bool) (line : List ℕ) (p : Progress) (is_last : Bool) : Type 0 where
+  pub next : Progress
+  pub follows : MayFollow p line next
+  pub at : IsAt editor strict next
+  pub over : is_over strict next ≡ is_last
+  pub reply : List ℕ
+  pub replied : next.replies ≡ p.replies ++ reply
+  pub retries : ℕ
+  pub writes : Writes old new before after (written retries reply)
+
+-- the reply to the line met trouble
+pub record Falters (old new : Seen) (before after : ℕ) (line : List ℕ) (p : Progress) : Type 0 where
+  pub next : Progress
+  pub follows : MayFollow p line next
+  pub reply : List ℕ
+  pub replied : next.replies ≡ p.replies ++ reply
+  pub output : Output
+  pub is_front : IsFront output.bytes reply
+  pub trouble : IsSome output.trouble
+  pub writes : Writes old new before after output
+
+abbrev pub AnswersLine : Seen → Seen → ℕ → ℕ → Editor → Bool → List ℕ → Progress → Result (Unit {0}) LineStop → Type 0
+AnswersLine old new before after editor strict line p (Ok done) = Advances old new before after editor strict line p false
+AnswersLine old new before after editor strict line p (Err line_stops.Strict) = Advances old new before after editor strict line p true
+AnswersLine old new before after editor strict line p (Err line_stops.Replies) = Falters old new before after line p
+
+-- ---- lines
+
+-- The lines were carried out and replied to, and the run is over or goes on. Between its start and
+-- now the replies took no more retries than were left at the start.
+pub record Comes (strict : Bool) (start : Progress) (lines : List (List ℕ)) (first now : Seen) (before after : ℕ) (is_last : Bool) : Type 0 where
+  pub progress : Progress
+  pub walk : Walk strict start lines progress
+  pub over : is_over strict progress ≡ is_last
+  pub retries : ℕ
+  pub writes : Writes first now before after (written retries progress.replies)
+
+-- the same, where the editor has come there and goes on
+pub record ComesTo (strict : Bool) (start : Progress) (lines : List (List ℕ)) (first now : Seen) (before after : ℕ) (editor : Editor) : Type 0 where
+  pub comes : Comes strict start lines first now before after false
+  pub at : IsAt editor strict comes.progress
+
+-- the reply to one of the lines met trouble
+pub record IsCutShort (strict : Bool) (start : Progress) (lines : List (List ℕ)) (first now : Seen) (before after : ℕ) : Type 0 where
+  pub done : List (List ℕ)
+  pub line : List ℕ
+  pub more : List (List ℕ)
+  pub split : lines ≡ done ++ line ∷ more
+  pub progress : Progress
+  pub walk : Walk strict start done progress
+  pub goes_on : is_over strict progress ≡ false
+  pub next : Progress
+  pub follows : MayFollow progress line next
+  pub reply : List ℕ
+  pub replied : next.replies ≡ progress.replies ++ reply
+  pub front : List ℕ
+  pub is_front : IsFront front reply
+  pub output : Output
+  pub bytes : output.bytes ≡ progress.replies ++ front
+  pub trouble : IsSome output.trouble
+  pub writes : Writes first now before after output
+
+abbrev pub CarriesOutLines : Bool → Progress → List (List ℕ) → Seen → Seen → ℕ → ℕ → Editor → Result (Unit {0}) LineStop → Type 0
+CarriesOutLines strict start lines first now before after editor (Ok done) = ComesTo strict start lines first now before after editor
+CarriesOutLines strict start lines first now before after editor (Err line_stops.Strict) = Comes strict start lines first now before after true
+CarriesOutLines strict start lines first now before after editor (Err line_stops.Replies) = IsCutShort strict start lines first now before after
+
+-- the cutter was given these bytes
+abbrev pub WasGiven : Holding → List ℕ → Type 0
+WasGiven cutter bytes = cutter ≡ after_pushes nothing_held bytes
+
+-- ---- the script
+
+-- how the carrying out of the script ended
+abbrev pub EndsScript : Bool → Progress → Intake → Output → Editor → Result (Unit {0}) ScriptStop → Type 0
+EndsScript strict start script replies editor (Ok done) = (progress : Progress) × CarriesThrough strict start script replies progress × IsAt editor strict progress
+EndsScript strict start script replies editor (Err script_stops.Script) = StopsAtScript strict start script replies
+EndsScript strict start script replies editor (Err script_stops.Replies) = StopsAtReplies strict start script replies
+EndsScript strict start script replies editor (Err script_stops.Strict) = StopsStrictly strict start script replies
+EndsScript strict start script replies editor (Err script_stops.NoMemory) = (script ≡ nothing_read) × IsWritten replies []
+
+-- the script was read and its lines were carried out, up to where that ended
+pub record CarriesOutScript (strict : Bool) (start : Progress) (s0 s1 r0 r1 : Seen) (before after : ℕ) (editor : Editor) (result : Result (Unit {0}) ScriptStop) : Type 0 where
+  pub script : Intake
+  pub within : length script.bytes ≤ MAX_SCRIPT + 1
+  pub supplies : Supplies s0 s1 script
+  pub replies : Output
+  pub receives : Receives r0 r1 replies
+  pub spent : after + script.retries + replies.retries ≡ before
+  pub last_read : script.trouble ≡ Some Interrupted → after ≡ 0
+  pub last_write : replies.trouble ≡ Some Interrupted → after ≡ 0
+  pub ends : EndsScript strict start script replies editor result
+
+-- The script was read to its end, and its whole lines were carried out: what the cutter holds is left. What
+-- reading did not take of the retries was allowed for the replies.
+pub record ReadsWhole (strict : Bool) (start : Progress) (s0 s1 r0 r1 : Seen) (before after : ℕ) (editor : Editor) (cutter : Holding) : Type 0 where
+  pub bytes : List ℕ
+  pub within : length bytes ≤ MAX_SCRIPT
+  pub given : WasGiven cutter bytes
+  pub retries : ℕ
+  pub supplies : Supplies s0 s1 (record { bytes = bytes; is_whole = true; retries = retries; trouble = None })
+  pub allowed : ℕ
+  pub share : allowed + retries ≡ before
+  pub comes : ComesTo strict start (whole_lines bytes) r0 r1 allowed after editor
+
+abbrev pub CarriesOutPieces : Bool → Progress → Seen → Seen → Seen → Seen → ℕ → ℕ → Editor → Holding → Result (Unit {0}) ScriptStop → Type 0
+CarriesOutPieces strict start s0 s1 r0 r1 before after editor cutter (Ok done) = ReadsWhole strict start s0 s1 r0 r1 before after editor cutter
+CarriesOutPieces strict start s0 s1 r0 r1 before after editor cutter (Err stop) = CarriesOutScript strict start s0 s1 r0 r1 before after editor (Err stop)
+
+-- ---- the tile to write
+
+abbrev pub WritesTile : {A : Type 0} → List ℕ → Output → Result A Unwritten → Type 0
+WritesTile file out (Ok done) = IsWritten out file
+WritesTile file out (Err unwritten.Device) = IsFront out.bytes file × IsSome out.trouble
+WritesTile file out (Err unwritten.NoMemory) = IsWritten out []

@@ -1,0 +1,198 @@
+//! The lines of a script, carried out and replied to as they are read.
+
+ghost use Rattle.std.specs.Prelude.{◌≡◌, ℕ, ◌+◌, ◌^◌, ◌<◌, ◌≤◌, Bool, List, ◌++◌, false, length};
+ghost use Rattle.mvt_wire.specs.Plain.{Document as PlainDocument};
+ghost use Rattle.mvt_wire.specs.Stands.{document_of};
+ghost use Rattle.tile_device.specs.Seen.{Seen, Sends, Spends, source_at, sink_at};
+ghost use Rattle.tile_device.specs.Device.{trouble_of};
+ghost use Rattle.tile_script.specs.CutStands.{cut_seen};
+ghost use Rattle.tile_script.specs.Cutting.{cut_of, nothing_held};
+ghost use Rattle.tile_script.specs.Lines.{whole_lines};
+ghost use Rattle.tile_run.specs.History.{History, present_document};
+ghost use Rattle.tile_run.specs.Run.{Progress, at_first, is_over};
+ghost use Rattle.tile_run.specs.Session.{StandsFor};
+ghost use Rattle.tile_run.specs.Steps.{AnswersLine, CarriesOut, CarriesOutLines, CarriesOutPieces, CarriesOutScript, ComesTo, IsAt, WasGiven};
+
+use crate::outcome::{LineStop, ScriptStop};
+use crate::refused::Refused;
+use crate::reply::reply;
+use crate::runs::MAX_SCRIPT;
+use crate::session::Session;
+use mvt_wire::Document;
+use std::alloc::Global;
+use tile_device::{Retries, Sink, Source, read_some};
+use tile_script::{Cut, LineCutter, parse_cut};
+
+/// How many bytes of a script one read asks for at most.
+const PIECE: usize = 4096;
+
+/// A session, and what the lines so far have come to.
+#[derive(Drop)]
+pub(crate) struct Editor {
+    session: Session,
+    /// Whether the first refused line ends the run.
+    strict: bool,
+    /// How many lines came so far, blank ones and comments too.
+    lines: u64,
+    any_refused: bool,
+}
+
+impl Editor {
+    pub(crate) fn start(alloc: Global, document: Document, strict: bool) -> Self
+        ensures { IsAt result strict (at_first (document_of document) 1) }
+    {
+        Editor {
+            session: Session::start(alloc, document),
+            strict,
+            lines: 0,
+            any_refused: false,
+        }
+    }
+
+    pub(crate) fn document(&self) -> &Document
+        ensures { (history : History) → StandsFor self.now.session history
+            → document_of result.now ≡ present_document history }
+    {
+        self.session.document()
+    }
+
+    pub(crate) fn any_refused(&self) -> bool
+        ensures { result ≡ self.now.any_refused }
+    {
+        self.any_refused
+    }
+
+    /// Reads the script to its end, or to the first byte that is too many. Each line is carried out
+    /// and replied to when it is complete, before the next read.
+    pub(crate) fn carry_out_script<R: Source, W: Sink>(
+        &mut self,
+        alloc: Global,
+        script: &mut R,
+        replies: &mut W,
+        retries: &mut Retries,
+    ) -> Result<(), ScriptStop>
+        requires { self.old.lines ≡ 0 }
+        ensures { (strict : Bool) (document : PlainDocument) → IsAt self.old strict (at_first document 1)
+            → CarriesOutScript strict (at_first document 1)
+            (source_at R.Source script.old) (source_at R.Source script.new)
+            (sink_at W.Sink replies.old) (sink_at W.Sink replies.new)
+            retries.old retries.new self.new result }
+    {
+        let mut cutter = LineCutter::new(alloc)?;
+        self.carry_out_pieces(alloc, &mut cutter, script, replies, retries)?;
+        let Some(rest) = cutter.rest() else {
+            return Ok(());
+        };
+        self.carry_out(alloc, rest, replies, retries)?;
+        Ok(())
+    }
+
+    /// Reads the script piece by piece, and carries out the lines that are complete.
+    fn carry_out_pieces<R: Source, W: Sink>(
+        &mut self,
+        alloc: Global,
+        cutter: &mut LineCutter,
+        script: &mut R,
+        replies: &mut W,
+        retries: &mut Retries,
+    ) -> Result<(), ScriptStop>
+        requires lines { self.old.lines ≡ 0 }
+        requires cutter { cutter.old ≡ nothing_held }
+        ensures lines { self.new.lines ≤ MAX_SCRIPT }
+        ensures pieces { (strict : Bool) (document : PlainDocument) → IsAt self.old strict (at_first document 1)
+            → CarriesOutPieces strict (at_first document 1)
+            (source_at R.Source script.old) (source_at R.Source script.new)
+            (sink_at W.Sink replies.old) (sink_at W.Sink replies.new)
+            retries.old retries.new self.new cutter.new result }
+    {
+        let mut piece = [0; PIECE];
+        let mut room = MAX_SCRIPT;
+        loop {
+            let size = PIECE.min(room + 1);
+            let Ok(count) = read_some(script, &mut piece[..size], retries) else {
+                return Err(ScriptStop::Script);
+            };
+            if count == 0 {
+                return Ok(());
+            }
+            self.carry_out_lines(alloc, cutter, &piece[..count.min(room)], replies, retries)?;
+            if count > room {
+                return Err(ScriptStop::Script);
+            }
+            room -= count;
+        }
+    }
+
+    /// Cuts the bytes into lines, and carries out those that are complete.
+    fn carry_out_lines<W: Sink>(
+        &mut self,
+        alloc: Global,
+        cutter: &mut LineCutter,
+        bytes: &[u8],
+        replies: &mut W,
+        retries: &mut Retries,
+    ) -> Result<(), LineStop>
+        requires { self.old.lines + length bytes.now < 2 ^ 64 }
+        ensures lines { self.new.lines ≤ self.old.lines + length bytes.now }
+        ensures cutter { (before : List ℕ) → WasGiven cutter.old before
+            → result ≡ Ok tt → WasGiven cutter.new (before ++ bytes.now) }
+        ensures comes { (strict : Bool) (start : Progress) (before : List ℕ) (first : Seen) (retries_first : ℕ)
+            → WasGiven cutter.old before
+            → ComesTo strict start (whole_lines before) first (sink_at W.Sink replies.old) retries_first retries.old self.old
+            → CarriesOutLines strict start (whole_lines (before ++ bytes.now)) first (sink_at W.Sink replies.new) retries_first retries.new self.new result }
+    {
+        for byte in bytes {
+            cutter.push(*byte);
+            let Some(line) = cutter.line() else {
+                continue;
+            };
+            self.carry_out(alloc, line, replies, retries)?;
+        }
+        Ok(())
+    }
+
+    /// Carries out a line and replies to it.
+    fn carry_out<W: Sink>(
+        &mut self,
+        alloc: Global,
+        cut: Cut<'_>,
+        replies: &mut W,
+        retries: &mut Retries,
+    ) -> Result<(), LineStop>
+        requires { self.old.lines + 1 < 2 ^ 64 }
+        ensures lines { self.new.lines ≡ self.old.lines + 1 }
+        ensures answers { (strict : Bool) (p : Progress) (line : List ℕ) → IsAt self.old strict p → is_over strict p ≡ false
+            → cut_of line ≡ cut_seen cut.entry
+            → AnswersLine (sink_at W.Sink replies.old) (sink_at W.Sink replies.new) retries.old retries.new self.new strict line p result }
+    {
+        self.lines += 1;
+        let Some(answer) = carry_out_line(alloc, &mut self.session, cut) else {
+            return Ok(());
+        };
+        let refused = answer.is_err();
+        if reply(replies, self.lines, answer, retries).is_err() {
+            return Err(LineStop::Replies);
+        }
+        if !refused {
+            return Ok(());
+        }
+        self.any_refused = true;
+        if self.strict {
+            Err(LineStop::Strict)
+        } else {
+            Ok(())
+        }
+    }
+}
+
+/// What is answered to a line that asks for something.
+fn carry_out_line(alloc: Global, session: &mut Session, cut: Cut<'_>) -> Option<Result<(), Refused>>
+    ensures { (p : Progress) (line : List ℕ) → StandsFor session.old p.history → cut_of line ≡ cut_seen cut.entry
+        → CarriesOut session.new line result p }
+{
+    match parse_cut(alloc, cut) {
+        Ok(None) => None,
+        Ok(Some(request)) => Some(session.carry_out(&request)),
+        Err(error) => Some(Err(Refused::Parse(error))),
+    }
+}

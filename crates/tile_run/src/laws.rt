@@ -1,0 +1,75 @@
+//! Laws of histories and of whole runs. Each function does nothing: its contract is the law.
+
+ghost use Rattle.tile_run.specs.DeviceLaws.{FailedDevicesAreNamed, WornOutRunsNameADevice, DevicesAreNamedForCause};
+ghost use Rattle.tile_run.specs.Laws.{UndoAtOnce, StaysSound, HistoryFits};
+ghost use Rattle.tile_run.specs.RunLaws.{FrontsHaveFirstLines, FrontsStand, RepliesStand, RefusedLinesChangeNothing, SilentLinesChangeNothing, StrictRunsStop, AcceptedRunsAreAlike, StandingCommands, UndoInARun, UndoInAScript, WalksWithoutWantAreRuns, RunsAreWalks, RunsHaveNoWant};
+
+/// An undo right after a command brings back the tile that stood before it.
+pub fn undo_at_once()
+    ensures { UndoAtOnce }
+{}
+
+/// In each history that requests make, the undo of the last command is at hand.
+pub fn stays_sound()
+    ensures { StaysSound }
+{}
+
+/// Neither a command nor an undo leads from a tile that can be written to one that can not.
+pub fn history_fits()
+    ensures { HistoryFits }
+{}
+
+/// After each front of whole lines the run has come to where it comes on that front alone. So the
+/// document, the history and the replies there are those of the front.
+pub fn prefixes_stand()
+    ensures lines { FrontsHaveFirstLines }
+    ensures progress { FrontsStand }
+    ensures replies { RepliesStand }
+{}
+
+/// A line that is refused leaves the tile and the history as they were, and so does a line without
+/// a reply.
+pub fn refused_lines_change_nothing()
+    ensures refused { RefusedLinesChangeNothing }
+    ensures silent { SilentLinesChangeNothing }
+{}
+
+/// A strict run stops with its first line that is refused. Where none is refused, it comes to what
+/// a run that is not strict comes to.
+pub fn strict_runs_stop()
+    ensures stop { StrictRunsStop }
+    ensures alike { AcceptedRunsAreAlike }
+{}
+
+/// After any script the tile is the one read at the start, with the commands that stand carried
+/// out in order. Each of them was accepted, and undo goes back over no more than it may.
+pub fn standing_commands()
+    ensures { StandingCommands }
+{}
+
+/// A line with a command that is accepted, and a line that takes it back, leave the tile as it was.
+pub fn undo_in_a_script()
+    ensures progress { UndoInARun }
+    ensures script { UndoInAScript }
+{}
+
+/// Where growths may be refused, all comes as it would with all memory, unless a reply says that
+/// memory was refused. With all memory no reply says so.
+pub fn want_is_replied()
+    ensures without_want { WalksWithoutWantAreRuns }
+    ensures with_memory { RunsAreWalks }
+    ensures never { RunsHaveNoWant }
+{}
+
+/// Where a call of a device failed, the run ends with that device. Where more calls were interrupted
+/// than are made again, it ends with a device.
+pub fn failed_devices_are_named()
+    ensures failed { FailedDevicesAreNamed }
+    ensures worn_out { WornOutRunsNameADevice }
+{}
+
+/// A run ends with a device only where one of its calls failed, where its interruption was one too
+/// many, or where it is the script and too long.
+pub fn devices_are_named_for_cause()
+    ensures { DevicesAreNamedForCause }
+{}

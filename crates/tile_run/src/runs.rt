@@ -1,0 +1,126 @@
+//! The whole product: a tile and a script are read, the replies and the edited tile are written.
+
+ghost use Rattle.std.specs.Prelude.{◌≡◌, ◌+◌, ◌≤◌, length};
+ghost use Rattle.mvt_wire.specs.Stands.{document_of};
+ghost use Rattle.mvt_wire.specs.Wire.{bytes_of};
+ghost use Rattle.tile_device.specs.Seen.{Intake, Output, source_at, sink_at};
+ghost use Rattle.tile_run.specs.Headline.{Headline, RefusesTile, Runs, LeavesOut, LeavesReplies, devices_at};
+ghost use Rattle.tile_run.specs.Steps.{Reads, Writes, OpensTile, WritesTile};
+
+use crate::editor::Editor;
+use crate::outcome::{Options, Outcome, TileFault, Unopened, Unwritten};
+use mvt_wire::{Document, MAX_FILE, ReadError, read_document, write_document};
+use std::alloc::Global;
+use tile_device::{Retries, Sink, Source, read_to_limit, write_and_flush};
+
+/// The longest script in bytes.
+pub const MAX_SCRIPT: usize = 16_777_216;
+
+/// How many interrupted calls are made again in a run, over all devices.
+pub const MAX_RETRIES: u32 = 1000;
+
+/// Edits the tile by the lines of the script, answers each line that asks for something, and
+/// writes the edited tile.
+pub fn run<R1: Source, R2: Source, W1: Sink, W2: Sink>(
+    alloc: Global,
+    tile: &mut R1,
+    script: &mut R2,
+    replies: &mut W1,
+    out: &mut W2,
+    options: Options,
+) -> Outcome
+    requires { options.depth ≡ 1 }
+
+    // Where no device fails and memory is not wanted: the script on the document.
+    ensures headline { Headline options
+        (devices_at R1.Source R2.Source W1.Sink W2.Sink tile.old script.old replies.old out.old)
+        (devices_at R1.Source R2.Source W1.Sink W2.Sink tile.new script.new replies.new out.new)
+        result }
+
+    // A tile that opens as no document is refused for what is wrong with it.
+    ensures refuses_tile { RefusesTile
+        (devices_at R1.Source R2.Source W1.Sink W2.Sink tile.old script.old replies.old out.old)
+        (devices_at R1.Source R2.Source W1.Sink W2.Sink tile.new script.new replies.new out.new)
+        result }
+
+    // In each other case too: what was read and written, by the outcome.
+    ensures course { Runs options
+        (devices_at R1.Source R2.Source W1.Sink W2.Sink tile.old script.old replies.old out.old)
+        (devices_at R1.Source R2.Source W1.Sink W2.Sink tile.new script.new replies.new out.new)
+        result }
+    ensures out_as_it_was { LeavesOut result → out.new ≡ out.old }
+    ensures script_as_it_was { LeavesReplies result → script.new ≡ script.old }
+    ensures replies_as_they_were { LeavesReplies result → replies.new ≡ replies.old }
+{
+    edit(alloc, tile, script, replies, out, options)
+}
+
+fn edit<R1: Source, R2: Source, W1: Sink, W2: Sink>(
+    alloc: Global,
+    tile: &mut R1,
+    script: &mut R2,
+    replies: &mut W1,
+    out: &mut W2,
+    options: Options,
+) -> Outcome
+    requires { options.depth ≡ 1 }
+    ensures course { Runs options
+        (devices_at R1.Source R2.Source W1.Sink W2.Sink tile.old script.old replies.old out.old)
+        (devices_at R1.Source R2.Source W1.Sink W2.Sink tile.new script.new replies.new out.new)
+        result }
+    ensures out_as_it_was { LeavesOut result → out.new ≡ out.old }
+    ensures script_as_it_was { LeavesReplies result → script.new ≡ script.old }
+    ensures replies_as_they_were { LeavesReplies result → replies.new ≡ replies.old }
+{
+    let mut retries = Retries::new(MAX_RETRIES);
+    let document = match open(alloc, tile, &mut retries) {
+        Ok(document) => document,
+        Err(stop) => return stop.into(),
+    };
+    let mut editor = Editor::start(alloc, document, options.strict);
+    if let Err(stop) = editor.carry_out_script(alloc, script, replies, &mut retries) {
+        return stop.into();
+    }
+    if let Err(stop) = write_tile(alloc, editor.document(), out, &mut retries) {
+        return stop.into();
+    }
+    if editor.any_refused() {
+        Outcome::SomeRefused
+    } else {
+        Outcome::Done
+    }
+}
+
+/// Reads the tile to its end, or to the first byte that is too many, and opens it.
+fn open<R: Source>(alloc: Global, tile: &mut R, retries: &mut Retries) -> Result<Document, Unopened>
+    ensures { (intake : Intake) × (length intake.bytes ≤ MAX_FILE + 1) × OpensTile result intake
+        × Reads (source_at R.Source tile.old) (source_at R.Source tile.new) retries.old retries.new intake }
+{
+    let file = read_to_limit(alloc, tile, MAX_FILE + 1, retries)?;
+    match read_document(alloc, &file) {
+        Ok(document) => Ok(document),
+        Err(ReadError::BadWire { place }) => Err(Unopened::Refused(TileFault::BadWire { place })),
+        Err(ReadError::FileTooLarge) => Err(Unopened::Refused(TileFault::FileTooLarge)),
+        Err(ReadError::NoMemory) => Err(Unopened::NoMemory),
+    }
+}
+
+/// Writes the bytes of the document.
+fn write_tile<W: Sink>(
+    alloc: Global,
+    document: &Document,
+    out: &mut W,
+    retries: &mut Retries,
+) -> Result<(), Unwritten>
+    ensures writes { (output : Output) × WritesTile (bytes_of (document_of document.now)) output result
+        × Writes (sink_at W.Sink out.old) (sink_at W.Sink out.new) retries.old retries.new output }
+    ensures no_memory { result ≡ Err Unwritten.NoMemory → out.new ≡ out.old }
+{
+    let Ok(file) = write_document(alloc, document) else {
+        return Err(Unwritten::NoMemory);
+    };
+    if write_and_flush(out, &file, retries).is_err() {
+        return Err(Unwritten::Device);
+    }
+    Ok(())
+}

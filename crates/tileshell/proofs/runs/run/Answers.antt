@@ -1,8 +1,0 @@
-use Rattle.tileshell.proofs.Headlines.{headline, refuses_tile}
-use Rattle.tileshell.proofs.runs.run.Goals as goal
-
-pub returns-clause-headline : goal.returns-clause-headline
-returns-clause-headline g c = headline c.args.options _ _ _ c.edit.ensures.course
-
-pub returns-clause-refuses_tile : goal.returns-clause-refuses_tile
-returns-clause-refuses_tile g c = refuses_tile c.args.options _ _ _ c.edit.ensures.course

@@ -1,8 +1,0 @@
-use Rattle.std.proofs.Common.{[]}
-use Rattle.tile_device.specs.Seen.{written}
-use Rattle.tileshell.proofs.Budgets.{writes_nothing}
-use Rattle.tileshell.proofs.Reading.{all_replies}
-use Rattle.tileshell.proofs.runs.write_tile.Goals as goal
-
-pub returns-in_default-clause-writes : goal.returns-in_default-clause-writes
-returns-in_default-clause-writes g c = (written 0 [], all_replies 0 [], writes_nothing _ _)
