@@ -1,10 +1,10 @@
 //! A runtime with the files of the host, a script as its input, and what is printed kept.
 
-use std::alloc::{AllocError, Allocator, Global};
+use std::alloc::{Allocator, Global};
 use std::cell::RefCell;
 use std::fmt::Display;
 use std::fs::{Metadata, OpenOptions};
-use std::io::{self, BufRead, Lines};
+use std::io::{self, BufRead, ErrorKind, Lines};
 use std::rt::Files;
 
 /// What a program meets: the host's files, and streams in memory.
@@ -12,8 +12,8 @@ use std::rt::Files;
 pub struct Console<'a> {
     host: &'a HostRuntime,
     script: &'a [u8],
-    output: RefCell<Vec<u8>>,
-    errors: RefCell<Vec<u8>>,
+    output: Printed,
+    errors: Printed,
 }
 
 impl<'a> Console<'a> {
@@ -21,65 +21,90 @@ impl<'a> Console<'a> {
         Console {
             host,
             script,
-            output: RefCell::new(Vec::new(host.alloc())),
-            errors: RefCell::new(Vec::new(host.alloc())),
+            output: Printed::new(host.alloc()),
+            errors: Printed::new(host.alloc()),
         }
+    }
+
+    /// From here on each print on standard output fails.
+    pub fn close_output(&mut self) {
+        self.output.is_closed = true;
+    }
+
+    /// From here on each print on standard error fails.
+    pub fn close_errors(&mut self) {
+        self.errors.is_closed = true;
     }
 
     /// What was printed on standard output, and on standard error.
     pub fn printed(self) -> (Vec<u8>, Vec<u8>) {
         let Console { output, errors, .. } = self;
-        (output.into_inner(), errors.into_inner())
+        (output.into_bytes(), errors.into_bytes())
     }
 }
 
-/// Adds what the value displays, and an end.
-fn add<D: Display + Drop>(
+/// A stream that keeps what is printed.
+#[derive(Drop)]
+struct Printed {
     alloc: Global,
-    to: &RefCell<Vec<u8>>,
-    value: D,
-    end: &[u8],
-) -> io::Result<()> {
-    let text = value.to_string(alloc)?;
-    append(to, text.as_bytes())?;
-    append(to, end)?;
-    Ok(())
+    bytes: RefCell<Vec<u8>>,
+    is_closed: bool,
 }
 
-fn append(to: &RefCell<Vec<u8>>, bytes: &[u8]) -> Result<(), AllocError> {
-    match to.try_borrow_mut() {
-        Ok(mut all) => all.extend_from_slice(bytes),
-        Err(_) => Err(AllocError),
+impl Printed {
+    fn new(alloc: Global) -> Self {
+        Printed {
+            alloc,
+            bytes: RefCell::new(Vec::new(alloc)),
+            is_closed: false,
+        }
+    }
+
+    fn into_bytes(self) -> Vec<u8> {
+        let Printed { bytes, .. } = self;
+        bytes.into_inner()
+    }
+
+    fn add(&self, more: &[u8]) -> io::Result<()> {
+        if self.is_closed {
+            return Err(ErrorKind::BrokenPipe.into());
+        }
+        match self.bytes.try_borrow_mut() {
+            Ok(mut bytes) => bytes.extend_from_slice(more)?,
+            Err(_) => return Err(ErrorKind::Other.into()),
+        }
+        Ok(())
+    }
+
+    fn display<D: Display + Drop>(&self, value: D) -> io::Result<()> {
+        let text = value.to_string(self.alloc)?;
+        self.add(text.as_bytes())
     }
 }
 
 impl Print for Console<'_> {
     fn print<D: Display + Drop>(&self, value: D) -> io::Result<()> {
-        add(self.host.alloc(), &self.output, value, b"")
+        self.output.display(value)
     }
 
     fn println<D: Display + Drop>(&self, value: D) -> io::Result<()> {
-        add(self.host.alloc(), &self.output, value, b"\n")
+        self.output.display(value)?;
+        self.output.add(b"\n")
     }
 
     fn write_all(&self, bytes: &[u8]) -> io::Result<()> {
-        append(&self.output, bytes)?;
-        Ok(())
-    }
-
-    fn write_some(&self, bytes: &[u8]) -> io::Result<usize> {
-        append(&self.output, bytes)?;
-        Ok(bytes.len())
+        self.output.add(bytes)
     }
 }
 
 impl Eprint for Console<'_> {
     fn eprint<D: Display + Drop>(&self, value: D) -> io::Result<()> {
-        add(self.host.alloc(), &self.errors, value, b"")
+        self.errors.display(value)
     }
 
     fn eprintln<D: Display + Drop>(&self, value: D) -> io::Result<()> {
-        add(self.host.alloc(), &self.errors, value, b"\n")
+        self.errors.display(value)?;
+        self.errors.add(b"\n")
     }
 }
 

@@ -1,17 +1,35 @@
 //! The program, from its words to its status, over files.
 
 use crate::console::Console;
-use crate::tiles::T0;
+use crate::tiles::{RENAME, ROADS, T0};
+use std::process::Abort;
 use std::test::Fail;
 use std::{env, fs, io, process};
 use tileshell::shell;
 
-/// What the program did: its status, what it printed, and the file that it wrote.
+/// What the program did: its status, and what it printed.
 #[derive(Debug, Drop)]
-struct Shelled {
+struct Finished {
     status: u8,
     output: Vec<u8>,
     errors: Vec<u8>,
+}
+
+/// Runs the program on its words.
+fn shelled(console: Console<'_>, words: &[&str]) -> Finished {
+    let status = shell(&console, words);
+    let (output, errors) = console.printed();
+    Finished {
+        status,
+        output,
+        errors,
+    }
+}
+
+fn assert_shelled(rt: &impl Abort, done: &Finished, status: u8, output: &[u8], errors: &[u8]) {
+    assert_eq!(rt; done.status, status);
+    assert_eq!(rt; done.output.as_slice(), output);
+    assert_eq!(rt; done.errors.as_slice(), errors);
 }
 
 /// A file of this process alone, in the folder for such files.
@@ -22,16 +40,115 @@ fn path_of(rt: &HostRuntime, name: &str) -> io::Result<String> {
     Ok(text)
 }
 
-/// Runs the program on its words.
-fn run_shell(rt: &HostRuntime, script: &[u8], words: &[&str]) -> Shelled {
-    let console = Console::new(rt, script);
-    let status = shell(&console, words);
-    let (output, errors) = console.printed();
-    Shelled {
-        status,
-        output,
-        errors,
+/// What stands in the file, which is removed. Nothing where there is no file.
+fn taken(rt: &HostRuntime, path: &str) -> io::Result<Option<Vec<u8>>> {
+    let Ok(bytes) = fs::read(rt, path) else {
+        return Ok(None);
+    };
+    fs::remove_file(rt, path)?;
+    Ok(Some(bytes))
+}
+
+/// What the program does on a tile and a script, and the file that it writes.
+fn edited(
+    rt: &HostRuntime,
+    tile: &[u8],
+    script: &[u8],
+    is_strict: bool,
+) -> io::Result<(Finished, Option<Vec<u8>>)> {
+    let path = path_of(rt, "tile")?;
+    let out = path_of(rt, "out")?;
+    fs::write(rt, path.as_str(), tile)?;
+    let words = ["tileshell", path.as_str(), out.as_str(), "--strict"];
+    let count = if is_strict { 4 } else { 3 };
+    let done = shelled(Console::new(rt, script), &words[..count]);
+    fs::remove_file(rt, path.as_str())?;
+    Ok((done, taken(rt, out.as_str())?))
+}
+
+/// A tile and a script, and what the program does on them.
+#[derive(Clone, Copy)]
+struct Row<'a> {
+    tile: &'a [u8],
+    script: &'a [u8],
+    is_strict: bool,
+    status: u8,
+    output: &'a [u8],
+    errors: &'a [u8],
+    written: Option<&'a [u8]>,
+}
+
+const RENAMED: Row<'static> = Row {
+    tile: &T0,
+    script: RENAME,
+    is_strict: false,
+    status: 0,
+    output: b"ok\n",
+    errors: b"",
+    written: Some(&ROADS),
+};
+
+#[test]
+fn a_status_tells_how_the_run_ended(rt: HostRuntime) -> Result<(), Fail> {
+    let long = vec![in rt.alloc(); b'#'; 16_777_217]?;
+    for row in &[
+        RENAMED,
+        Row {
+            is_strict: true,
+            ..RENAMED
+        },
+        Row {
+            tile: b"",
+            script: b"",
+            output: b"",
+            written: Some(b""),
+            ..RENAMED
+        },
+        Row {
+            script: b"undo\n# note\n",
+            status: 1,
+            output: b"line 1 refused 50 NothingToUndo\n",
+            written: Some(&T0),
+            ..RENAMED
+        },
+        Row {
+            script: b"undo\nrename-layer #0 \"b\"\n",
+            is_strict: true,
+            status: 1,
+            output: b"line 1 refused 50 NothingToUndo\n",
+            written: None,
+            ..RENAMED
+        },
+        Row {
+            tile: &T0[..31],
+            status: 3,
+            output: b"",
+            errors: b"tileshell: tile refused: 1 BadWire place 0\n",
+            written: None,
+            ..RENAMED
+        },
+        Row {
+            tile: &long,
+            status: 3,
+            output: b"",
+            errors: b"tileshell: tile refused: 2 FileTooLarge\n",
+            written: None,
+            ..RENAMED
+        },
+        Row {
+            script: &long,
+            status: 4,
+            output: b"",
+            errors: b"tileshell: device fault: script\n",
+            written: None,
+            ..RENAMED
+        },
+    ] {
+        let (done, written) = edited(&rt, row.tile, row.script, row.is_strict)?;
+        assert_shelled(&rt, &done, row.status, row.output, row.errors);
+        assert!(rt; written.as_ref().map(|bytes| bytes.as_slice()) == row.written);
     }
+    Ok(())
 }
 
 #[test]
@@ -39,49 +156,82 @@ fn a_tile_is_edited_in_its_file(rt: HostRuntime) -> Result<(), Fail> {
     let path = path_of(&rt, "in-place")?;
     fs::write(&rt, path.as_str(), T0.as_slice())?;
     let words = ["tileshell", path.as_str(), path.as_str()];
-    let done = run_shell(&rt, b"rename-layer \"a\" \"b\"\n", &words);
-    let written = fs::read(&rt, path.as_str())?;
-    fs::remove_file(&rt, path.as_str())?;
-    assert_eq!(rt; done.status, 0);
-    assert_eq!(rt; done.output.as_slice(), b"ok\n".as_slice());
-    assert_eq!(rt; done.errors.len(), 0);
-    assert_eq!(rt; written.len(), 32);
-    assert_eq!(rt; &written[..5], b"\x1a\x1e\x0a\x01b".as_slice());
+    let done = shelled(Console::new(&rt, RENAME), &words);
+    let written = taken(&rt, path.as_str())?;
+    assert_shelled(&rt, &done, 0, b"ok\n", b"");
+    assert!(rt; written.as_ref().map(|bytes| bytes.as_slice()) == Some(ROADS.as_slice()));
     Ok(())
 }
 
 #[test]
-fn an_empty_tile_makes_an_empty_file(rt: HostRuntime) -> Result<(), Fail> {
-    let path = path_of(&rt, "empty")?;
-    fs::write(&rt, path.as_str(), b"".as_slice())?;
-    let out = path_of(&rt, "empty-out")?;
-    let words = ["tileshell", path.as_str(), out.as_str()];
-    let done = run_shell(&rt, b"", &words);
-    let written = fs::read(&rt, out.as_str());
-    fs::remove_file(&rt, path.as_str())?;
-    assert_eq!(rt; done.status, 0);
-    assert_eq!(rt; done.output.len(), 0);
-    assert_eq!(rt; done.errors.len(), 0);
-    assert_eq!(rt; written?.len(), 0);
-    fs::remove_file(&rt, out.as_str())?;
+fn a_script_is_read_from_its_file(rt: HostRuntime) -> Result<(), Fail> {
+    let tile = path_of(&rt, "tile")?;
+    let script = path_of(&rt, "script")?;
+    let out = path_of(&rt, "out")?;
+    fs::write(&rt, tile.as_str(), T0.as_slice())?;
+    fs::write(&rt, script.as_str(), RENAME)?;
+    let words = [
+        "tileshell",
+        "--script",
+        script.as_str(),
+        tile.as_str(),
+        out.as_str(),
+    ];
+    let done = shelled(Console::new(&rt, b"frob\n"), &words);
+    fs::remove_file(&rt, tile.as_str())?;
+    fs::remove_file(&rt, script.as_str())?;
+    let written = taken(&rt, out.as_str())?;
+    assert_shelled(&rt, &done, 0, b"ok\n", b"");
+    assert!(rt; written.as_ref().map(|bytes| bytes.as_slice()) == Some(ROADS.as_slice()));
     Ok(())
 }
 
 #[test]
-fn a_refused_line_gives_status_1(rt: HostRuntime) -> Result<(), Fail> {
-    let path = path_of(&rt, "refused")?;
-    fs::write(&rt, path.as_str(), T0.as_slice())?;
-    let words = ["tileshell", path.as_str(), path.as_str()];
-    let done = run_shell(&rt, b"undo\n", &words);
-    let written = fs::read(&rt, path.as_str())?;
-    fs::remove_file(&rt, path.as_str())?;
-    assert_eq!(rt; done.status, 1);
-    assert_eq!(rt;
-        done.output.as_slice(),
-        b"line 1 refused 50 NothingToUndo\n".as_slice()
-    );
-    assert_eq!(rt; done.errors.len(), 0);
-    assert_eq!(rt; written.as_slice(), T0.as_slice());
+fn files_are_opened_before_they_are_read(rt: HostRuntime) -> Result<(), Fail> {
+    let broken = path_of(&rt, "broken")?;
+    let missing = path_of(&rt, "missing")?;
+    fs::write(&rt, broken.as_str(), &T0[..31])?;
+    for (tile, errors) in [
+        (
+            broken.as_str(),
+            b"tileshell: device fault: script\n".as_slice(),
+        ),
+        (
+            missing.as_str(),
+            b"tileshell: device fault: tile\n".as_slice(),
+        ),
+    ] {
+        let words = [
+            "tileshell",
+            tile,
+            missing.as_str(),
+            "--script",
+            missing.as_str(),
+        ];
+        let done = shelled(Console::new(&rt, b""), &words);
+        assert_shelled(&rt, &done, 4, b"", errors);
+        assert!(rt; taken(&rt, missing.as_str())?.is_none());
+    }
+    fs::remove_file(&rt, broken.as_str())?;
+    Ok(())
+}
+
+#[test]
+fn a_device_that_fails_gives_status_4(rt: HostRuntime) -> Result<(), Fail> {
+    let tile = path_of(&rt, "tile")?;
+    let out = path_of(&rt, "out")?;
+    let nowhere = path_of(&rt, "missing/out")?;
+    fs::write(&rt, tile.as_str(), T0.as_slice())?;
+    let words = ["tileshell", tile.as_str(), nowhere.as_str()];
+    let unmade = shelled(Console::new(&rt, RENAME), &words);
+    let mut console = Console::new(&rt, RENAME);
+    console.close_output();
+    let words = ["tileshell", tile.as_str(), out.as_str()];
+    let unheard = shelled(console, &words);
+    fs::remove_file(&rt, tile.as_str())?;
+    assert_shelled(&rt, &unmade, 4, b"ok\n", b"tileshell: device fault: out\n");
+    assert_shelled(&rt, &unheard, 4, b"", b"tileshell: device fault: replies\n");
+    assert!(rt; taken(&rt, out.as_str())?.is_none());
     Ok(())
 }
 
@@ -91,8 +241,9 @@ fn a_command_line_is_refused(rt: HostRuntime) {
         ["tileshell", "one", "--frob"].as_slice(),
         ["tileshell", "one"].as_slice(),
         ["tileshell", "one", "two", "three"].as_slice(),
+        ["tileshell", "one", "two", "--script"].as_slice(),
     ] {
-        let done = run_shell(&rt, b"", words);
+        let done = shelled(Console::new(&rt, b""), words);
         assert_eq!(rt; done.status, 2);
         assert_eq!(rt; done.output.len(), 0);
         assert!(rt; done.errors.as_slice().starts_with(b"error: "));
@@ -100,73 +251,44 @@ fn a_command_line_is_refused(rt: HostRuntime) {
 }
 
 #[test]
-fn help_goes_to_standard_output(rt: HostRuntime) {
-    let done = run_shell(&rt, b"", &["tileshell", "--help"]);
+fn help_and_version_go_to_standard_output(rt: HostRuntime) {
+    let words = ["/usr/local/bin/tileshell", "--version"];
+    let done = shelled(Console::new(&rt, b""), &words);
+    assert_shelled(&rt, &done, 0, b"tileshell 0.1.0\n", b"");
+    let done = shelled(Console::new(&rt, b""), &["tileshell", "--help"]);
     assert_eq!(rt; done.status, 0);
     assert!(rt; done.output.len() > 0);
     assert_eq!(rt; done.errors.len(), 0);
 }
 
 #[test]
-fn what_is_no_tile_gives_status_3(rt: HostRuntime) -> Result<(), Fail> {
-    let path = path_of(&rt, "broken")?;
-    fs::write(&rt, path.as_str(), &T0[..31])?;
-    let out = path_of(&rt, "never")?;
-    let words = ["tileshell", path.as_str(), out.as_str()];
-    let done = run_shell(&rt, b"undo\n", &words);
-    fs::remove_file(&rt, path.as_str())?;
-    assert_eq!(rt; done.status, 3);
-    assert_eq!(rt; done.output.len(), 0);
-    assert_eq!(rt;
-        done.errors.as_slice(),
-        b"tileshell: tile refused: 1 BadWire place 0\n".as_slice()
-    );
-    assert!(rt; fs::read(&rt, out.as_str()).is_err());
-    Ok(())
-}
-
-#[test]
-fn a_file_that_is_too_long_gives_status_3(rt: HostRuntime) -> Result<(), Fail> {
-    let path = path_of(&rt, "long")?;
-    let long = vec![in rt.alloc(); 0u8; 16_777_217]?;
-    fs::write(&rt, path.as_str(), long.as_slice())?;
-    let words = ["tileshell", path.as_str(), path.as_str()];
-    let done = run_shell(&rt, b"", &words);
-    fs::remove_file(&rt, path.as_str())?;
-    assert_eq!(rt; done.status, 3);
-    assert_eq!(rt;
-        done.errors.as_slice(),
-        b"tileshell: tile refused: 2 FileTooLarge\n".as_slice()
-    );
-    Ok(())
-}
-
-#[test]
-fn a_file_that_cannot_be_opened_gives_status_4(rt: HostRuntime) -> Result<(), Fail> {
+fn a_print_that_fails_changes_no_status(rt: HostRuntime) -> Result<(), Fail> {
+    let tile = path_of(&rt, "tile")?;
+    let broken = path_of(&rt, "broken")?;
     let missing = path_of(&rt, "missing")?;
-    let words = ["tileshell", missing.as_str(), missing.as_str()];
-    let done = run_shell(&rt, b"", &words);
-    assert_eq!(rt; done.status, 4);
-    assert_eq!(rt;
-        done.errors.as_slice(),
-        b"tileshell: device fault: tile\n".as_slice()
-    );
-    Ok(())
-}
-
-#[test]
-fn a_file_that_cannot_be_made_gives_status_4(rt: HostRuntime) -> Result<(), Fail> {
-    let path = path_of(&rt, "good")?;
-    fs::write(&rt, path.as_str(), T0.as_slice())?;
-    let missing = path_of(&rt, "missing/out")?;
-    let words = ["tileshell", path.as_str(), missing.as_str()];
-    let done = run_shell(&rt, b"rename-layer #0 \"b\"", &words);
-    fs::remove_file(&rt, path.as_str())?;
-    assert_eq!(rt; done.status, 4);
-    assert_eq!(rt; done.output.as_slice(), b"ok\n".as_slice());
-    assert_eq!(rt;
-        done.errors.as_slice(),
-        b"tileshell: device fault: out\n".as_slice()
-    );
+    fs::write(&rt, tile.as_str(), T0.as_slice())?;
+    fs::write(&rt, broken.as_str(), &T0[..31])?;
+    for (status, words) in [
+        (0, ["tileshell", "--version"].as_slice()),
+        (0, ["tileshell", "--help"].as_slice()),
+        (0, ["tileshell", tile.as_str(), tile.as_str()].as_slice()),
+        (2, ["tileshell"].as_slice()),
+        (
+            3,
+            ["tileshell", broken.as_str(), missing.as_str()].as_slice(),
+        ),
+        (
+            4,
+            ["tileshell", missing.as_str(), missing.as_str()].as_slice(),
+        ),
+    ] {
+        let mut console = Console::new(&rt, b"# note\n");
+        console.close_output();
+        console.close_errors();
+        let done = shelled(console, words);
+        assert_eq!(rt; done.status, status, "{words:?}");
+    }
+    fs::remove_file(&rt, tile.as_str())?;
+    fs::remove_file(&rt, broken.as_str())?;
     Ok(())
 }
