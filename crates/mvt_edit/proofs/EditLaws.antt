@@ -94,11 +94,11 @@ fields_kept change ordinal (PlainInTile field ∷ document) = ap (λ rest. field
 fields_kept change zero (OfLayer layer ∷ document) = refl
 fields_kept change (suc ordinal) (OfLayer layer ∷ document) = fields_kept change ordinal document
 
-places_kept : (change : Layer → Layer) (n ordinal : ℕ) (document : Document) → positions_from is_layer n (change_layer change ordinal document) ≡ positions_from is_layer n document
-places_kept change n ordinal [] = refl
-places_kept change n ordinal (PlainInTile field ∷ document) = places_kept change (n + 1) ordinal document
-places_kept change n zero (OfLayer layer ∷ document) = refl
-places_kept change n (suc ordinal) (OfLayer layer ∷ document) = ap (λ rest. n ∷ rest) (places_kept change (n + 1) ordinal document)
+positions_kept : (change : Layer → Layer) (n ordinal : ℕ) (document : Document) → positions_from is_layer n (change_layer change ordinal document) ≡ positions_from is_layer n document
+positions_kept change n ordinal [] = refl
+positions_kept change n ordinal (PlainInTile field ∷ document) = positions_kept change (n + 1) ordinal document
+positions_kept change n zero (OfLayer layer ∷ document) = refl
+positions_kept change n (suc ordinal) (OfLayer layer ∷ document) = ap (λ rest. n ∷ rest) (positions_kept change (n + 1) ordinal document)
 
 -- ---- an accepted rename
 
@@ -126,7 +126,7 @@ is_renamed name ordinal old within free =
       rest = ap (λ ls. option_map without_names (slice_get ls ordinal)) all ∙ get_kept (renamed name) without_names ordinal (layers old) (rest_of_renamed name);
       others = λ other apart. ap (λ ls. slice_get ls other) all ∙ get-change_other (renamed name) ordinal (layers old) other apart;
       fields = fields_kept (renamed name) ordinal old;
-      places = places_kept (renamed name) 0 ordinal old;
+      positions = positions_kept (renamed name) 0 ordinal old;
     }
 
 pub rename_names : RenameNames

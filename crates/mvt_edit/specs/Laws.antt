@@ -9,11 +9,11 @@ use Rattle.mvt_edit.specs.Selection.{layers, layer_positions, name_of, selected}
 use Rattle.mvt_edit.specs.Meaning.{applied, is_name}
 use Rattle.mvt_edit.specs.declared.edit.Refusal.TheVariants.{NoLayer}
 
--- the layer at this place has this name
+-- the layer of this ordinal has this name
 abbrev pub HasName : List ℕ → ℕ → Document → Type 0
 HasName name ordinal document = option_map name_of (slice_get (layers document) ordinal) ≡ Some (Some name)
 
--- A name means the layer at a place exactly where that layer has the name, and no other layer has it.
+-- A name means the layer of an ordinal exactly where that layer has the name, and no other layer has it.
 abbrev pub NameMeansTheOne : Type 0
 NameMeansTheOne = (name : List ℕ) (document : Document) (ordinal : ℕ) → (selected (Named name) document ≡ Ok ordinal) ↔ ((other : ℕ) → HasName name other document ↔ (other ≡ ordinal))
 
@@ -34,14 +34,14 @@ field_in (PlainInTile field) = Some field
 abbrev pub without_names : Layer → Layer
 without_names layer = record { tag = layer.tag; width = layer.width; items = filter (λ item. not (is_name item)) layer.items }
 
--- a tile and the tile in which the layer at this place has this name, and no other layer has it
+-- a tile and the tile in which the layer of this ordinal has this name, and no other layer has it
 pub record IsRenamed (name : List ℕ) (ordinal : ℕ) (old new : Document) : Type 0 where
   pub named : option_map name_of (slice_get (layers new) ordinal) ≡ Some (Some name)
   pub alone : selected (Named name) new ≡ Ok ordinal
   pub rest : option_map without_names (slice_get (layers new) ordinal) ≡ option_map without_names (slice_get (layers old) ordinal)
   pub others : (other : ℕ) → other ≢ ordinal → slice_get (layers new) other ≡ slice_get (layers old) other
   pub fields : filter_map field_in new ≡ filter_map field_in old
-  pub places : layer_positions new ≡ layer_positions old
+  pub positions : layer_positions new ≡ layer_positions old
 
 -- A rename that is accepted names the layer that was meant, and keeps all but the names of that layer.
 abbrev pub RenameNames : Type 0

@@ -57,7 +57,7 @@ abbrev pub in_layer : (Layer → Layer) → TileItem → TileItem
 in_layer change (OfLayer layer) = OfLayer (change layer)
 in_layer change (PlainInTile field) = PlainInTile field
 
--- the tile with the layer at this place among the layers changed
+-- the tile with the layer of this ordinal changed
 abbrev pub change_layer : (Layer → Layer) → ℕ → Document → Document
 change_layer change ordinal [] = []
 change_layer change ordinal (PlainInTile field ∷ items) = PlainInTile field ∷ change_layer change ordinal items
@@ -66,7 +66,7 @@ change_layer change (suc ordinal) (OfLayer layer ∷ items) = OfLayer layer ∷ 
 
 -- ---- commands
 
--- the name is that of a layer at another place
+-- the name is that of a layer of another ordinal
 abbrev pub is_taken : List ℕ → ℕ → Document → Bool
 is_taken name ordinal document = list_any (λ other. not (other == ordinal)) (ordinals_of name document)
 

@@ -39,7 +39,7 @@ is_named name layer = option_map_or (bytes_eq name) (name_of layer) false
 abbrev pub positions_of : {A : Type 0} → (A → Bool) → List A → List ℕ
 positions_of {A} passes items = map (λ p. p.0) (filter (λ (p : ℕ × A). passes p.1) (enumerate_from 0 items))
 
--- the places of the layers with this name, among the layers
+-- the ordinals of the layers with this name
 abbrev pub ordinals_of : List ℕ → Document → List ℕ
 ordinals_of name document = positions_of (is_named name) (layers document)
 
@@ -55,7 +55,7 @@ the_one [] = Err NoLayer
 the_one (ordinal ∷ []) = Ok ordinal
 the_one (ordinal ∷ next ∷ more) = Err AmbiguousLayer
 
--- the place, among the layers, of the one that is meant
+-- the ordinal of the layer that is meant
 abbrev pub selected : LayerChoice → Document → Result ℕ Refusal
 selected (AtOrdinal ordinal) document = if nat_lt ordinal (length (layers document)) then Ok ordinal else Err NoLayer
 selected (Named name) document = the_one (ordinals_of name document)

@@ -11,6 +11,7 @@ ghost use Rattle.mvt_edit.specs.declared.edit.Refusal.TheVariants.{NoMemory};
 
 use crate::select::{last_name, layer_position, name_is_taken, selected_layer};
 use mvt_command::{Command, LayerChoice};
+use mvt_wire::tags::NAME_TAG;
 use mvt_wire::{Body, Document, Field, Items, LayerItem, TileItem, Varint, size};
 use std::alloc::{AllocError, AllocFailed, Global};
 use std::mem;
@@ -201,7 +202,7 @@ fn name_field(text: Items<u8>) -> LayerItem
     ensures { layer_item_of result ≡ name_field text.items }
 {
     LayerItem::Plain(Field {
-        tag: Varint::minimal(10),
+        tag: Varint::minimal(NAME_TAG),
         body: Body::Bytes {
             width: 1,
             bytes: text,

@@ -11,12 +11,10 @@ ghost use Rattle.mvt_edit.specs.Meaning.{name_positions, is_taken};
 
 use crate::edit::Refusal;
 use mvt_command::LayerChoice;
+use mvt_wire::tags::NAME;
 use mvt_wire::{Body, Layer, LayerItem, TileItem};
 
-/// The number of a layer's name among its fields.
-const NAME: u64 = 1;
-
-/// The place of the layer that is meant, among the layers.
+/// The ordinal of the layer that is meant.
 pub fn selected_layer(items: &[TileItem], choice: &LayerChoice) -> Result<usize, Refusal>
     ensures { result ≡ selected (layer_choice_of choice.now) (map tile_item_of items.now) }
 {
@@ -67,33 +65,33 @@ fn layer_named(items: &[TileItem], name: &[u8]) -> Result<usize, Refusal>
     found.ok_or(Refusal::NoLayer)
 }
 
-/// A layer at another place among the layers has this name.
+/// A layer of another ordinal has this name.
 pub(crate) fn name_is_taken(items: &[TileItem], name: &[u8], ordinal: usize) -> bool
     ensures { result ≡ is_taken name.now ordinal (map tile_item_of items.now) }
 {
-    let mut place = 0;
+    let mut current = 0;
     for item in items {
         if let TileItem::Layer(layer) = item {
-            if place != ordinal && is_named(layer, name) {
+            if current != ordinal && is_named(layer, name) {
                 return true;
             }
-            place += 1;
+            current += 1;
         }
     }
     false
 }
 
-/// Where in the tile the layer at this place among the layers stands.
+/// The position of the layer of this ordinal.
 pub(crate) fn layer_position(items: &[TileItem], ordinal: usize) -> Option<usize>
     ensures { result ≡ slice_get (layer_positions (map tile_item_of items.now)) ordinal }
 {
-    let mut place = 0;
+    let mut current = 0;
     for (position, item) in items.iter().enumerate() {
         if is_layer(item) {
-            if place == ordinal {
+            if current == ordinal {
                 return Some(position);
             }
-            place += 1;
+            current += 1;
         }
     }
     None

@@ -13,13 +13,8 @@ use crate::document::{Feature, Field, Layer, LayerItem, TileItem};
 use crate::faults::ReadError;
 use crate::front::{BodyRef, FieldRef, field_at_front};
 use crate::items::Items;
+use crate::tags::{FEATURE_TAG, LAYER_TAG};
 use std::alloc::{AllocError, Global};
-
-/// The tag of a feature: field 2, LEN.
-pub(crate) const FEATURE_TAG: u64 = 18;
-
-/// The tag of a layer: field 3, LEN.
-pub(crate) const LAYER_TAG: u64 = 26;
 
 /// How many bytes the shortest field takes: one for its tag, and one for its body.
 const SHORTEST_FIELD: usize = 2;

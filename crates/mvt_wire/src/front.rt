@@ -11,6 +11,7 @@ ghost use Rattle.mvt_wire.specs.Fronts.{front_of, body_front_of};
 use crate::body::Body;
 use crate::document::Field;
 use crate::items::Items;
+use crate::tags::{I32, I64, LEN, VARINT};
 use crate::varint::{Varint, read_varint};
 use std::alloc::{AllocError, Global};
 
@@ -61,16 +62,16 @@ fn body_at_front(wire_type: u64, bytes: &[u8]) -> Option<(BodyRef<'_>, usize)>
     ensures none { IfNone result ((body : PlainBody) (rest : List ℕ) → IsWholeBody wire_type body → bytes.now ≡ body_bytes body ++ rest → ⊥) }
 {
     match wire_type {
-        0 => {
+        VARINT => {
             let number = read_varint(bytes)?;
             Some((BodyRef::Number(number), usize::from(number.width)))
         }
-        1 => {
+        I64 => {
             let eight = bytes.first_chunk::<8>()?;
             Some((BodyRef::Eight(*eight), 8))
         }
-        2 => delimited_at_front(bytes),
-        5 => {
+        LEN => delimited_at_front(bytes),
+        I32 => {
             let four = bytes.first_chunk::<4>()?;
             Some((BodyRef::Four(*four), 4))
         }

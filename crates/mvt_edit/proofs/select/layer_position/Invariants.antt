@@ -6,7 +6,7 @@ use Rattle.mvt_edit.proofs.select.layer_position.Given as goal
 
 abbrev pub invariant-loop-position : goal.invariant-loop-position
 invariant-loop-position l = record {
-  within : l.place ≤ l.position;
-  before : l.place ≤ l.ordinal;
-  rest : slice_get (positions_from is_layer l.position (map tile_item_of (drop l.position l.items))) (l.ordinal - l.place) ≡ slice_get (layer_positions (map tile_item_of l.items)) l.ordinal;
+  within : l.current ≤ l.position;
+  before : l.current ≤ l.ordinal;
+  rest : slice_get (positions_from is_layer l.position (map tile_item_of (drop l.position l.items))) (l.ordinal - l.current) ≡ slice_get (layer_positions (map tile_item_of l.items)) l.ordinal;
 }

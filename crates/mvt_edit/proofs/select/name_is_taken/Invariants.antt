@@ -8,6 +8,6 @@ use Rattle.mvt_edit.proofs.select.name_is_taken.Given as goal
 
 abbrev pub invariant-loop-item : goal.invariant-loop-item
 invariant-loop-item l = record {
-  within : l.place ≤ l.item-index;
-  rest : list_any (λ other. not (other == l.ordinal)) (positions_from (is_named l.name) l.place (layers (map tile_item_of (drop l.item-index l.items)))) ≡ is_taken l.name l.ordinal (map tile_item_of l.items);
+  within : l.current ≤ l.item-index;
+  rest : list_any (λ other. not (other == l.ordinal)) (positions_from (is_named l.name) l.current (layers (map tile_item_of (drop l.item-index l.items)))) ≡ is_taken l.name l.ordinal (map tile_item_of l.items);
 }

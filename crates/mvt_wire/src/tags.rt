@@ -1,0 +1,31 @@
+//! The wire types of fields, and the field numbers of a tile's messages.
+
+/// The wire type of a number.
+pub const VARINT: u64 = 0;
+
+/// The wire type of eight bytes.
+pub const I64: u64 = 1;
+
+/// The wire type of a length and that many bytes.
+pub const LEN: u64 = 2;
+
+/// The wire type of four bytes.
+pub const I32: u64 = 5;
+
+/// The number of a tile's layers.
+pub const LAYERS: u64 = 3;
+
+/// The number of a layer's features.
+pub const FEATURES: u64 = 2;
+
+/// The number of a layer's name.
+pub const NAME: u64 = 1;
+
+/// The tag of a layer.
+pub const LAYER_TAG: u64 = 8 * LAYERS + LEN;
+
+/// The tag of a feature.
+pub const FEATURE_TAG: u64 = 8 * FEATURES + LEN;
+
+/// The tag of a layer's name.
+pub const NAME_TAG: u64 = 8 * NAME + LEN;
