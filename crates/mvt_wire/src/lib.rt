@@ -2,7 +2,6 @@
 #![tactic(auto)]
 
 mod body;
-mod copy;
 mod decode;
 mod document;
 mod encode;

@@ -66,12 +66,11 @@ fn the_shortest_spelling_is_the_least(rt: HostRuntime) {
 }
 
 #[test]
-fn a_copy_is_written_the_same(rt: HostRuntime) -> Result<(), Fail> {
+fn what_is_read_is_written_the_same(rt: HostRuntime) -> Result<(), Fail> {
     let document = read_document(rt.alloc(), &T0)?;
     assert_eq!(rt; size(&document), Some(32));
-    let copy = document.copy(rt.alloc())?;
     assert_eq!(rt;
-        write_document(rt.alloc(), &copy)?.as_slice(),
+        write_document(rt.alloc(), &document)?.as_slice(),
         T0.as_slice()
     );
     Ok(())
