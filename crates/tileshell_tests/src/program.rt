@@ -268,25 +268,19 @@ fn a_print_that_fails_changes_no_status(rt: HostRuntime) -> Result<(), Fail> {
     let missing = path_of(&rt, "missing")?;
     fs::write(&rt, tile.as_str(), T0.as_slice())?;
     fs::write(&rt, broken.as_str(), &T0[..31])?;
-    for (status, words) in [
-        (0, ["tileshell", "--version"].as_slice()),
-        (0, ["tileshell", "--help"].as_slice()),
-        (0, ["tileshell", tile.as_str(), tile.as_str()].as_slice()),
-        (2, ["tileshell"].as_slice()),
-        (
-            3,
-            ["tileshell", broken.as_str(), missing.as_str()].as_slice(),
-        ),
-        (
-            4,
-            ["tileshell", missing.as_str(), missing.as_str()].as_slice(),
-        ),
+    for (status, first, second) in [
+        (0, "--version", missing.as_str()),
+        (0, "--help", missing.as_str()),
+        (0, tile.as_str(), tile.as_str()),
+        (2, tile.as_str(), "--frob"),
+        (3, broken.as_str(), missing.as_str()),
+        (4, missing.as_str(), missing.as_str()),
     ] {
         let mut console = Console::new(&rt, b"# note\n");
         console.close_output();
         console.close_errors();
-        let done = shelled(console, words);
-        assert_eq!(rt; done.status, status, "{words:?}");
+        let done = shelled(console, &["tileshell", first, second]);
+        assert_eq!(rt; done.status, status, "{first} {second}");
     }
     fs::remove_file(&rt, tile.as_str())?;
     fs::remove_file(&rt, broken.as_str())?;

@@ -77,10 +77,10 @@ fn a_length_widens_and_comes_back(rt: HostRuntime) -> Result<(), Fail> {
         ],
     )?;
     assert_done(&rt, &T0, &rename, b"ok\n", &widened);
-    for back in [b"undo".as_slice(), b"rename-layer #0 \"a\"".as_slice()] {
-        let script = joined(rt.alloc(), &[&rename, back])?;
-        assert_done(&rt, &T0, &script, b"ok\nok\n", &T0);
-    }
+    let undone = joined(rt.alloc(), &[&rename, b"undo".as_slice()])?;
+    assert_done(&rt, &T0, &undone, b"ok\nok\n", &T0);
+    let named_back = joined(rt.alloc(), &[&rename, b"rename-layer #0 \"a\"".as_slice()])?;
+    assert_done(&rt, &T0, &named_back, b"ok\nok\n", &T0);
     Ok(())
 }
 

@@ -1,6 +1,6 @@
 //! Runs whose devices are interrupted, and runs whose devices fail.
 
-use crate::drip::{Calls, DripSink};
+use crate::drip::{Calls, DripSink, DripSource};
 use crate::memory::{Drips, Ran, Wanted, options};
 use crate::std_devices::{Deaf, Slip, SlipReader, SlipWriter};
 use crate::tiles::{RENAME, ROADS, T0};
@@ -8,7 +8,7 @@ use std::alloc::Global;
 use std::io::{BufWriter, ErrorKind};
 use std::process::Abort;
 use std::test::Fail;
-use tileshell::{DeviceName, FromRead, FromWrite, Outcome, run};
+use tileshell::{DeviceName, FromRead, FromWrite, Outcome, Sink, run};
 
 const FAULT_OF_TILE: Outcome = Outcome::Device(DeviceName::Tile);
 
@@ -60,10 +60,10 @@ fn a_thousand_interrupted_calls_are_made_again(rt: HostRuntime) {
         (250, 250, 250, 251, FAULT_OF_OUT),
     ] {
         let mut drips = Drips::new(rt.alloc(), &T0, RENAME);
-        drips.tile.calls = Calls::interrupted(tile);
-        drips.script.calls = Calls::interrupted(script);
-        drips.replies.calls = Calls::interrupted(replies);
-        drips.out.calls = Calls::interrupted(out);
+        drips.set_calls(DeviceName::Tile, Calls::interrupted(tile));
+        drips.set_calls(DeviceName::Script, Calls::interrupted(script));
+        drips.set_calls(DeviceName::Replies, Calls::interrupted(replies));
+        drips.set_calls(DeviceName::Out, Calls::interrupted(out));
         let outcome_met = drips.run(rt.alloc(), false);
         assert_eq!(rt; outcome_met, outcome, "{tile} {script} {replies} {out}");
         assert_written(&rt, &drips, outcome, want);
@@ -136,7 +136,7 @@ fn a_device_that_fails_is_named(rt: HostRuntime) {
 fn a_strict_run_stops_before_the_script_fails(rt: HostRuntime) {
     for (strict, outcome, reads) in [(true, Outcome::StrictStop, 5), (false, FAULT_OF_SCRIPT, 6)] {
         let mut drips = Drips::new(rt.alloc(), &T0, b"undo\n");
-        drips.script.calls = Calls::failing_at(5);
+        drips.set_calls(DeviceName::Script, Calls::failing_at(5));
         assert_eq!(rt; drips.run(rt.alloc(), strict), outcome);
         assert_eq!(rt; drips.script.calls.made, reads);
         assert_eq!(rt;
@@ -147,33 +147,31 @@ fn a_strict_run_stops_before_the_script_fails(rt: HostRuntime) {
     }
 }
 
+/// Refuses an `undo`, with its reply to this sink. Gives the outcome, and how often the script and
+/// `out` were called.
+fn refused_undo<W: Sink>(alloc: Global, replies: &mut W, strict: bool) -> (Outcome, u64, u64) {
+    let mut script = DripSource::new(b"undo\n", Calls::untroubled());
+    let mut out = DripSink::new(alloc, Calls::untroubled());
+    let outcome = run(
+        alloc,
+        &mut FromRead::new(T0.as_slice()),
+        &mut script,
+        replies,
+        &mut out,
+        options(strict),
+    );
+    (outcome, script.calls.made, out.calls.made)
+}
+
 #[test]
 fn replies_that_nobody_takes_are_a_fault(rt: HostRuntime) -> Result<(), Fail> {
     for strict in [false, true] {
-        let mut drips = Drips::new(rt.alloc(), &T0, b"undo\n");
+        let want = (FAULT_OF_REPLIES, 5, 0);
         let mut deaf = FromWrite::new(Deaf { error: None });
-        let outcome = run(
-            rt.alloc(),
-            &mut drips.tile,
-            &mut drips.script,
-            &mut deaf,
-            &mut drips.out,
-            options(strict),
-        );
-        assert_eq!(rt; outcome, FAULT_OF_REPLIES);
-        let mut held_back = FromWrite::new(BufWriter::new(rt.alloc(), Deaf { error: None })?);
-        let mut drips = Drips::new(rt.alloc(), &T0, b"undo\n");
-        let outcome = run(
-            rt.alloc(),
-            &mut drips.tile,
-            &mut drips.script,
-            &mut held_back,
-            &mut drips.out,
-            options(strict),
-        );
-        assert_eq!(rt; outcome, FAULT_OF_REPLIES);
-        assert_eq!(rt; drips.script.calls.made, 5);
-        assert_eq!(rt; drips.out.calls.made, 0);
+        assert_eq!(rt; refused_undo(rt.alloc(), &mut deaf, strict), want);
+        let held_back = BufWriter::new(rt.alloc(), Deaf { error: None })?;
+        let mut held_back = FromWrite::new(held_back);
+        assert_eq!(rt; refused_undo(rt.alloc(), &mut held_back, strict), want);
     }
     Ok(())
 }
