@@ -8,9 +8,9 @@ from pathlib import Path
 
 import peers
 from measure import COUNTED_MILLISECONDS, RUNS, SECONDS, Program, costliest, count_instructions, measure, run_once
-from report import DASH, Result, comparison, growth, instructions, memory, put_section, table, time
+from report import Result, comparison, divided, growth, instructions, memory, put_section, shown, table, time
 from targets import JOB, verdicts
-from tiles import generated_tiles, real_tiles
+from tiles import generated_tiles, real_tiles, smallest_map
 
 RESULTS = peers.HERE / "RESULTS.md"
 
@@ -106,10 +106,10 @@ def long_script(tileshell, tile):
         print(f"bench: {tile.name}, long script of {lines:,} lines", flush=True)
         script = script_of(LONG_PAIR * (lines // 2), tile)
         measured = run_once(tileshell, tile, script, LONG_SECONDS)
-        peak = f"{measured[1] // 1024:,}" if measured else DASH
-        rows.append([f"{lines:,}", f"{script.stat().st_size:,}", peak])
-    heading = f"### Peak memory of a long script: {tile.name}"
-    return heading + "\n\n" + table(["Lines", "Bytes of the script", f"Peak of {tileshell.name} in KiB"], rows)
+        milliseconds, peak = measured or (None, None)
+        rows.append([f"{lines:,}", f"{script.stat().st_size:,}", shown(divided(peak, 1024), 0), shown(milliseconds, 0)])
+    heading = f"### A long script: {tile.name}, {tileshell.name} alone, one run each"
+    return heading + "\n\n" + table(["Lines", "Bytes of the script", "Peak memory in KiB", "Milliseconds"], rows)
 
 
 def section(results, names):
@@ -126,12 +126,8 @@ def section(results, names):
     return "\n\n".join([*(f"### {heading}\n\n{text}" for heading, text in parts), dash])
 
 
-def main():
-    parser = argparse.ArgumentParser(description=__doc__)
-    parser.add_argument("tileshell", type=Path)
-    parser.add_argument("--title", default="Today", help="the section of RESULTS.md that is written")
-    arguments = parser.parse_args()
-
+def all_jobs(run):
+    """What is measured of these programs, as text, and when and where it was."""
     peers.check_needed()
     missing = peers.missing_optional()
     for package, loss in missing.items():
@@ -141,14 +137,33 @@ def main():
     if not {"gdal-bin", "qgis-common"} & missing.keys():
         tiles += real_tiles()
 
-    run = programs(arguments.tileshell.resolve())
     load_before = load()
     results = results_of(run, tiles, "valgrind" not in missing)
     parts = [conditions(load_before, missing), section(results, [program.name for program in run])]
     parts.append(long_script(run[0], maps(tiles)[0]))
     if "valgrind" not in missing:
         parts.append(costs(run[0], maps(tiles)[-1]))
-    text = "\n\n".join(parts)
+    return "\n\n".join(parts)
+
+
+def long_script_alone(run):
+    """The same of one job and of the first program."""
+    peers.check_needed(["g++"])
+    peers.build_measure()
+    load_before = load()
+    table_of_it = long_script(run[0], smallest_map())
+    return conditions(load_before, {}) + "\n\n" + table_of_it
+
+
+def main():
+    parser = argparse.ArgumentParser(description=__doc__)
+    parser.add_argument("tileshell", type=Path)
+    parser.add_argument("--title", default="Today", help="the section of RESULTS.md that is written")
+    parser.add_argument("--long-script", action="store_true", help="the job `long script` alone, for which g++ is enough")
+    arguments = parser.parse_args()
+
+    run = programs(arguments.tileshell.resolve())
+    text = long_script_alone(run) if arguments.long_script else all_jobs(run)
     print(text)
     put_section(RESULTS, arguments.title, text)
 

@@ -46,9 +46,9 @@ OPTIONAL = {
 }
 
 
-def check_needed():
+def check_needed(packages=NEEDED):
     """Ends the benchmark where a package is missing that it cannot go on without."""
-    missing = [package for package, is_there in NEEDED.items() if not is_there()]
+    missing = [package for package in packages if not NEEDED[package]()]
     if missing:
         sys.exit("bench: packages of Debian are missing: apt-get install " + " ".join(missing))
 
@@ -58,11 +58,15 @@ def missing_optional():
     return {package: loss for package, (is_there, loss) in OPTIONAL.items() if not is_there()}
 
 
-def build():
+def build_measure():
     BUILD.mkdir(exist_ok=True)
+    compile_program("measure")
+
+
+def build():
+    build_measure()
     messages = BUILD / "vector_tile.pb.cc"
     subprocess.run(["protoc", f"--proto_path={HERE}", f"--cpp_out={BUILD}", HERE / "vector_tile.proto"], check=True)
-    compile_program("measure")
     compile_program("protozero_peer")
     compile_program("protobuf_peer", f"-I{BUILD}", messages, "-lprotobuf-lite", "-pthread")
 

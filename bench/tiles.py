@@ -34,6 +34,10 @@ def generated(kind, mebibytes, layer):
     return Tile(f"{kind} {mebibytes} MiB", path, layer, kind)
 
 
+def smallest_map():
+    return generated("map", SIZES[0], "roads")
+
+
 def generated_tiles():
     tiles = [generated("map", size, "roads") for size in SIZES]
     return tiles + [generated("crumbs", size, "crumbs") for size in SIZES]
