@@ -7,6 +7,7 @@ mod program;
 
 pub use in_memory::{Edited, edit};
 pub use mvt_edit::{Command, LayerChoice, Refusal, laws as edit_laws};
+pub use mvt_wire::laws as wire_laws;
 pub use program::shell;
 pub use tile_device::{FromRead, FromWrite, Retries, Sink, Source, Trouble};
 pub use tile_run::{

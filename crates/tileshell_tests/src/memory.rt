@@ -5,7 +5,7 @@ ghost use Rattle.std.specs.Prelude.{◌≡◌};
 use crate::drip::{Calls, DripSink, DripSource};
 use std::alloc::{AllocError, Global};
 use std::process::Abort;
-use tileshell::{DeviceName, FromRead, FromWrite, Options, Outcome, run};
+use tileshell::{DeviceName, FromRead, FromWrite, Options, Outcome, edit, run};
 
 /// How a run is to end, its replies, and the tile that it is to write.
 #[derive(Clone, Copy, Debug)]
@@ -89,7 +89,7 @@ impl<'a> Drips<'a> {
     }
 }
 
-/// The script on the tile does what is wanted, over readers and writers of std.
+/// The script on the tile does what is wanted, over readers and writers of std and as a call.
 pub fn assert_edits(
     rt: &(impl Abort + AllocGlobal),
     tile: &[u8],
@@ -101,6 +101,13 @@ pub fn assert_edits(
     assert_eq!(rt; ran.outcome, want.outcome);
     assert_eq!(rt; ran.replies.as_slice(), want.replies);
     assert!(rt; ran.tile.as_slice() == want.tile);
+    let called = edit(rt.alloc(), tile, script, options(strict));
+    assert_eq!(rt; called.outcome, want.outcome);
+    assert_eq!(rt; called.replies.as_slice(), want.replies);
+    match &called.tile {
+        Some(bytes) => assert!(rt; bytes.as_slice() == want.tile),
+        None => assert_eq!(rt; want.tile.len(), 0),
+    }
 }
 
 /// The script on the tile does what is wanted, over readers and writers of std and one byte a call.
