@@ -65,7 +65,8 @@ fn edit_files<R: Files + Input + Print + Eprint + AllocGlobal>(
     tell(rt, outcome)
 }
 
-/// Opens the tile and then the script, before either is read. No path is standard input.
+/// Opens the tile and then the script, before either is read. Where no script is named, it is
+/// standard input.
 fn edit_file<R: Files + Input + Print + AllocGlobal>(
     rt: &R,
     tile: &str,

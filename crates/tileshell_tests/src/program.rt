@@ -88,65 +88,74 @@ const RENAMED: Row<'static> = Row {
     written: Some(&ROADS),
 };
 
+const ROWS: [Row<'static>; 6] = [
+    RENAMED,
+    Row {
+        is_strict: true,
+        ..RENAMED
+    },
+    Row {
+        tile: b"",
+        script: b"",
+        output: b"",
+        written: Some(b""),
+        ..RENAMED
+    },
+    Row {
+        script: b"undo\n# note\n",
+        status: 1,
+        output: b"line 1 refused 50 NothingToUndo\n",
+        written: Some(&T0),
+        ..RENAMED
+    },
+    Row {
+        script: b"undo\nrename-layer #0 \"b\"\n",
+        is_strict: true,
+        status: 1,
+        output: b"line 1 refused 50 NothingToUndo\n",
+        written: None,
+        ..RENAMED
+    },
+    Row {
+        tile: b"\x1a\x1e\x0a",
+        status: 3,
+        output: b"",
+        errors: b"tileshell: tile refused: 1 BadWire place 0\n",
+        written: None,
+        ..RENAMED
+    },
+];
+
 #[test]
 fn a_status_tells_how_the_run_ended(rt: HostRuntime) -> Result<(), Fail> {
-    let long = vec![in rt.alloc(); b'#'; 16_777_217]?;
-    for row in &[
-        RENAMED,
-        Row {
-            is_strict: true,
-            ..RENAMED
-        },
-        Row {
-            tile: b"",
-            script: b"",
-            output: b"",
-            written: Some(b""),
-            ..RENAMED
-        },
-        Row {
-            script: b"undo\n# note\n",
-            status: 1,
-            output: b"line 1 refused 50 NothingToUndo\n",
-            written: Some(&T0),
-            ..RENAMED
-        },
-        Row {
-            script: b"undo\nrename-layer #0 \"b\"\n",
-            is_strict: true,
-            status: 1,
-            output: b"line 1 refused 50 NothingToUndo\n",
-            written: None,
-            ..RENAMED
-        },
-        Row {
-            tile: &T0[..31],
-            status: 3,
-            output: b"",
-            errors: b"tileshell: tile refused: 1 BadWire place 0\n",
-            written: None,
-            ..RENAMED
-        },
-        Row {
-            tile: &long,
-            status: 3,
-            output: b"",
-            errors: b"tileshell: tile refused: 2 FileTooLarge\n",
-            written: None,
-            ..RENAMED
-        },
-        Row {
-            script: &long,
-            status: 4,
-            output: b"",
-            errors: b"tileshell: device fault: script\n",
-            written: None,
-            ..RENAMED
-        },
-    ] {
+    for row in &ROWS {
         let (done, written) = edited(&rt, row.tile, row.script, row.is_strict)?;
         assert_shelled(&rt, &done, row.status, row.output, row.errors);
         assert!(rt; written.as_ref().map(|bytes| bytes.as_slice()) == row.written);
+    }
+    Ok(())
+}
+
+#[test]
+fn what_is_too_long_is_told(rt: HostRuntime) -> Result<(), Fail> {
+    let long = vec![in rt.alloc(); b'#'; 16_777_217]?;
+    for (tile, script, status, errors) in [
+        (
+            long.as_slice(),
+            RENAME,
+            3,
+            b"tileshell: tile refused: 2 FileTooLarge\n".as_slice(),
+        ),
+        (
+            T0.as_slice(),
+            long.as_slice(),
+            4,
+            b"tileshell: device fault: script\n".as_slice(),
+        ),
+    ] {
+        let (done, written) = edited(&rt, tile, script, false)?;
+        assert_shelled(&rt, &done, status, b"", errors);
+        assert!(rt; written.is_none());
     }
     Ok(())
 }

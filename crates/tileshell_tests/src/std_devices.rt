@@ -1,5 +1,6 @@
 //! Readers and writers of std that meet trouble.
 
+use std::alloc::Global;
 use std::io::{self, ErrorKind, Read, Write};
 
 /// A reader and writer that takes no byte, or answers an error of one kind.
@@ -57,8 +58,14 @@ impl Slip {
 /// Gives one byte a call, but for its slip.
 #[derive(Drop)]
 pub struct SlipReader<'a> {
-    pub rest: &'a [u8],
-    pub slip: Slip,
+    rest: &'a [u8],
+    slip: Slip,
+}
+
+impl<'a> SlipReader<'a> {
+    pub fn new(rest: &'a [u8], slip: Slip) -> Self {
+        SlipReader { rest, slip }
+    }
 }
 
 impl Read for SlipReader<'_> {
@@ -77,7 +84,16 @@ impl Read for SlipReader<'_> {
 #[derive(Drop)]
 pub struct SlipWriter {
     pub taken: Vec<u8>,
-    pub slip: Slip,
+    slip: Slip,
+}
+
+impl SlipWriter {
+    pub fn new(alloc: Global, slip: Slip) -> Self {
+        SlipWriter {
+            taken: Vec::new(alloc),
+            slip,
+        }
+    }
 }
 
 impl Write for SlipWriter {

@@ -86,25 +86,35 @@ fn call_counts(tile: u64, script: u64, replies: u64, out: u64) -> CallCounts {
     ]
 }
 
-/// Each device fails once at each of its calls.
+/// A device fails at each of its calls in turn.
 fn assert_fails_at_each_call(
+    rt: &(impl Abort + AllocGlobal),
+    script: &[u8],
+    (device, count): (DeviceName, u64),
+    want: Wanted<'_>,
+) {
+    for call in 0..=count {
+        let mut drips = Drips::new(rt.alloc(), &T0, script);
+        drips.set_calls(device, Calls::failing_at(call));
+        let outcome = drips.run(rt.alloc(), false);
+        if call < count {
+            assert_eq!(rt; outcome, Outcome::Device(device), "{device} at {call}");
+        } else {
+            assert_eq!(rt; outcome, want.outcome, "{device} at {call}");
+        }
+        assert_written(rt, &drips, outcome, want);
+    }
+}
+
+/// Each device fails at each of its calls in turn.
+fn assert_devices_fail(
     rt: &(impl Abort + AllocGlobal),
     script: &[u8],
     counts: CallCounts,
     want: Wanted<'_>,
 ) {
-    for (device, count) in counts {
-        for call in 0..=count {
-            let mut drips = Drips::new(rt.alloc(), &T0, script);
-            drips.set_calls(device, Calls::failing_at(call));
-            let outcome = drips.run(rt.alloc(), false);
-            if call < count {
-                assert_eq!(rt; outcome, Outcome::Device(device), "{device} at {call}");
-            } else {
-                assert_eq!(rt; outcome, want.outcome, "{device} at {call}");
-            }
-            assert_written(rt, &drips, outcome, want);
-        }
+    for count in counts {
+        assert_fails_at_each_call(rt, script, count, want);
     }
 }
 
@@ -115,21 +125,21 @@ fn a_device_that_fails_is_named(rt: HostRuntime) {
         replies: b"ok\n",
         tile: &ROADS,
     };
-    assert_fails_at_each_call(&rt, RENAME, call_counts(33, 25, 4, 37), renamed);
+    assert_devices_fail(&rt, RENAME, call_counts(33, 25, 4, 37), renamed);
     let undone = Wanted {
         outcome: Outcome::SomeRefused,
         replies: b"ok\nline 2 refused 12 UnknownCommand\nok\n",
         tile: &T0,
     };
     let script = b"rename-layer \"a\" \"roads\"\nfrob\nundo\n";
-    assert_fails_at_each_call(&rt, script, call_counts(33, 36, 42, 33), undone);
+    assert_devices_fail(&rt, script, call_counts(33, 36, 42, 33), undone);
     let refused = Wanted {
         outcome: Outcome::SomeRefused,
         replies: b"line 4 refused 50 NothingToUndo\n",
         tile: &T0,
     };
     let script = b"# note\n\n \t\nundo";
-    assert_fails_at_each_call(&rt, script, call_counts(33, 16, 33, 33), refused);
+    assert_devices_fail(&rt, script, call_counts(33, 16, 33, 33), refused);
 }
 
 #[test]
@@ -191,22 +201,10 @@ fn renamed_with_slip(alloc: Global, device: DeviceName, kind: ErrorKind) -> Ran 
         let calls_before = if name == device { Some(2) } else { None };
         Slip::new(calls_before, kind)
     };
-    let mut tile = FromRead::new(SlipReader {
-        rest: &T0,
-        slip: slip_of(DeviceName::Tile),
-    });
-    let mut script = FromRead::new(SlipReader {
-        rest: RENAME,
-        slip: slip_of(DeviceName::Script),
-    });
-    let mut replies = FromWrite::new(SlipWriter {
-        taken: Vec::new(alloc),
-        slip: slip_of(DeviceName::Replies),
-    });
-    let mut out = FromWrite::new(SlipWriter {
-        taken: Vec::new(alloc),
-        slip: slip_of(DeviceName::Out),
-    });
+    let mut tile = FromRead::new(SlipReader::new(&T0, slip_of(DeviceName::Tile)));
+    let mut script = FromRead::new(SlipReader::new(RENAME, slip_of(DeviceName::Script)));
+    let mut replies = FromWrite::new(SlipWriter::new(alloc, slip_of(DeviceName::Replies)));
+    let mut out = FromWrite::new(SlipWriter::new(alloc, slip_of(DeviceName::Out)));
     let outcome = run(
         alloc,
         &mut tile,
