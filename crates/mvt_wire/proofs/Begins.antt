@@ -2,13 +2,14 @@
 use Rattle.std.proofs.Common.{◌≡◌, ℕ, ◌+◌, ◌-◌, ◌%◌, ◌<◌, ◌≤◌, List, ◌++◌, length, take, drop, refl, sym, ap, ◌∙◌, subst, arith}
 use Rattle.std.proofs.lemmas.List.{length-append, length-take-le, take-append-drop, take_rest}
 use Rattle.std.proofs.Math.Seq.{take-add}
-use Rattle.mvt_wire.specs.Plain.{Body, Spelled, Eight, Four, Delimited, Field}
+use Rattle.mvt_wire.specs.Plain.{Body, Spelled, Eight, Four, Delimited, Group, Field}
 use Rattle.mvt_wire.specs.Shape.{IsSpelling}
 use Rattle.mvt_wire.specs.Wire.{spell, body_bytes, field_bytes}
-use Rattle.mvt_wire.specs.Opens.{IsField, StoresField}
+use Rattle.mvt_wire.specs.Groups.{StoresField, IsFlatBody, IsGroup}
+use Rattle.mvt_wire.specs.Opens.{IsField}
 use Rattle.mvt_wire.specs.Parts.{IsWholeBody}
 use Rattle.mvt_wire.proofs.Spelling.{one_spelling, spelling_some}
-use Rattle.mvt_wire.proofs.Prefixes.{delimited-bytes, field-bytes, stored_width}
+use Rattle.mvt_wire.proofs.Prefixes.{delimited-bytes, field-bytes, stored_width, whole_body}
 
 -- the bytes from a place on, as the program cuts them
 abbrev pub from : ℕ → List ℕ → List ℕ
@@ -44,7 +45,7 @@ content_taken n w bytes s enough =
     ∙ ap (λ (x : List ℕ). spell (length (take n (from w bytes))) w ++ x) contents
     ∙ ap (λ (k : ℕ). spell (length (take n (from w bytes))) k ++ take n (from w bytes)) (sym (stored_width (length (take n (from w bytes))) w t))
 
-pub content_whole : (n w : ℕ) (bytes : List ℕ) → IsNumberAt n w bytes → n ≤ length (from w bytes) → IsWholeBody 2 (Delimited w (take n (from w bytes)))
+pub content_whole : (n w : ℕ) (bytes : List ℕ) → IsNumberAt n w bytes → n ≤ length (from w bytes) → IsFlatBody 2 (Delimited w (take n (from w bytes)))
 content_whole n w bytes s enough =
     let l : length (take n (from w bytes)) ≡ n = length-take-le n (from w bytes) enough in
     let some : 1 ≤ w = spelling_some n w s.valid in
@@ -55,13 +56,14 @@ content_whole n w bytes s enough =
     }
 
 -- no body of bytes stands at the front where its length is more than what is left
-pub content_cut : (n w : ℕ) (bytes : List ℕ) → IsNumberAt n w bytes → length (from w bytes) < n → (body : Body) (rest : List ℕ) → IsWholeBody 2 body → bytes ≡ body_bytes body ++ rest → ⊥
+pub content_cut : (n w : ℕ) (bytes : List ℕ) → IsNumberAt n w bytes → length (from w bytes) < n → (body : Body) (rest : List ℕ) → IsFlatBody 2 body → bytes ≡ body_bytes body ++ rest → ⊥
 content_cut n w bytes s short (Delimited v content) rest p e =
     let r = one_front n w (length content) v bytes (content ++ rest) s p.stored (e ∙ delimited-bytes v content rest p.stored) in
     omega (arith, r.0, ap length r.1, length-append content rest)
 content_cut n w bytes s short (Spelled number) rest p e = omega (arith, p.typed)
 content_cut n w bytes s short (Eight eight) rest p e = omega (arith, p.typed)
 content_cut n w bytes s short (Four four) rest p e = omega (arith, p.typed)
+content_cut n w bytes s short (Group group) rest p e = omega (arith, p.typed)
 
 -- ---- a field
 
@@ -76,8 +78,8 @@ pub tag_front : (v w : ℕ) (bytes : List ℕ) (f : Field) (rest : List ℕ) →
 tag_front v w bytes f rest s p e =
     one_front v w f.tag.value f.tag.width bytes (body_bytes f.body ++ rest) s p.number (e ∙ field-bytes f rest)
 
-pub body_front : (v w : ℕ) (bytes : List ℕ) (f : Field) (rest : List ℕ) → IsNumberAt v w bytes → IsField f → StoresField f → bytes ≡ field_bytes f ++ rest → IsWholeBody (v % 8) f.body × (from w bytes ≡ body_bytes f.body ++ rest)
+pub body_front : (v w : ℕ) (bytes : List ℕ) (f : Field) (rest : List ℕ) → IsNumberAt v w bytes → IsField f → StoresField f → bytes ≡ field_bytes f ++ rest → IsWholeBody v f.body × (from w bytes ≡ body_bytes f.body ++ rest)
 body_front v w bytes f rest s p q e =
     let r = tag_front v w bytes f rest s p e in
-    let kinds : f.tag.value % 8 ≡ v % 8 = ap (λ (k : ℕ). k % 8) r.0 in
-    (record { typed = sym p.tag.typed ∙ kinds; valid = p.body; stored = q }, sym r.1)
+    let whole : IsWholeBody f.tag.value f.body = whole_body IsGroup f (record { valid = p; stored = q }) in
+    (subst (λ (k : ℕ). IsWholeBody k f.body) r.0 whole, sym r.1)

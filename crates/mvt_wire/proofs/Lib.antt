@@ -1,5 +1,7 @@
 pub mod Begins
 pub mod Documents
+pub mod GroupSteps
+pub mod OpenBytes
 pub mod Prefixes
 pub mod Reaches
 pub mod SameBytes

@@ -3,7 +3,8 @@ use Rattle.std.proofs.Common.{◌≡◌, ℕ, List, [], ◌∷◌, map, refl, sy
 use Rattle.std.specs.List.{flat_map, AllByRecursion}
 use Rattle.mvt_wire.specs.Plain.{Number, Delimited, Field, Feature, LayerItem, OfFeature, PlainInLayer, Layer, TileItem, OfLayer, PlainInTile, Document}
 use Rattle.mvt_wire.specs.Wire.{field_bytes, layer_item_bytes, bytes_of}
-use Rattle.mvt_wire.specs.Opens.{IsField, StoresField, IsSettled}
+use Rattle.mvt_wire.specs.Groups.{StoresField}
+use Rattle.mvt_wire.specs.Opens.{IsField, IsSettled}
 use Rattle.mvt_wire.specs.Parts.{feature_field, layer_item_field, layer_field, tile_item_field, IsWholeField, IsWholeLayerItem, IsWholeTileItem}
 use Rattle.mvt_wire.proofs.Prefixes.{one_list}
 use Rattle.mvt_wire.proofs.Wholes.{all_with, layer_items_whole, tile_items_whole, layer_items_are_fields, tile_items_are_fields, layer_items-bytes_as_fields, tile_items-bytes_as_fields}

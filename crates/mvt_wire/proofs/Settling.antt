@@ -1,13 +1,14 @@
 -- Raising stored widths to the written ones: the document is settled, and its bytes stay.
-use Rattle.std.proofs.Common.{◌≡◌, ℕ, ◌≤◌, max, List, [], ◌∷◌, ◌++◌, length, map, refl, sym, ap, ◌∙◌, subst, arith}
+use Rattle.std.proofs.Common.{◌≡◌, ℕ, ◌/◌, ◌≤◌, max, List, [], ◌∷◌, ◌++◌, length, map, refl, sym, ap, ◌∙◌, subst, arith}
 use Rattle.std.specs.List.{flat_map, AllByRecursion}
 use Rattle.std.proofs.lemmas.List.{length-append}
 use Rattle.std.proofs.lemmas.List.Folds.{flat_map-map}
 use Rattle.mvt_wire.specs.declared.TheConstants.{MAX_FILE}
-use Rattle.mvt_wire.specs.Plain.{Body, Spelled, Eight, Four, Delimited, Field, LayerItem, OfFeature, PlainInLayer, TileItem, OfLayer, PlainInTile, Document}
+use Rattle.mvt_wire.specs.Plain.{Body, Spelled, Eight, Four, Delimited, Group, Field, LayerItem, OfFeature, PlainInLayer, TileItem, OfLayer, PlainInTile, Document}
 use Rattle.mvt_wire.specs.Shape.{IsSpelling, IsWidth, IsTag}
 use Rattle.mvt_wire.specs.Wire.{spell, minimal_width, spelling, delimited, body_bytes, field_bytes, layer_item_bytes, tile_item_bytes, bytes_of}
-use Rattle.mvt_wire.specs.Opens.{wire_type, IsBody, IsField, IsLayerItem, IsTileItem, IsDocument, StoresBody, StoresField, StoresLayerItem, StoresTileItem, IsSettled, OpensAs}
+use Rattle.mvt_wire.specs.Groups.{wire_type, IsBodyWith, IsGroup, StoresBody, StoresField}
+use Rattle.mvt_wire.specs.Opens.{IsField, IsLayerItem, IsTileItem, IsDocument, StoresLayerItem, StoresTileItem, IsSettled, OpensAs}
 use Rattle.mvt_wire.specs.Settle.{written_width, settle_body, settle_field, settle_layer_item, settle_tile_item, settle, IsShort, IsShortBody, IsShortField, IsShortLayerItem, IsShortTileItem, HasShortLengths}
 use Rattle.mvt_wire.proofs.Spelling.{minimal_width_short}
 use Rattle.mvt_wire.proofs.Wholes.{all_by, all_of_map, all_with, same_bytes}
@@ -42,6 +43,7 @@ body-bytes_settled (Spelled number) = refl
 body-bytes_settled (Eight bytes) = refl
 body-bytes_settled (Four bytes) = refl
 body-bytes_settled (Delimited width bytes) = written_again width bytes
+body-bytes_settled (Group bytes) = refl
 
 field-bytes_settled : (f : Field) → field_bytes (settle_field f) ≡ field_bytes f
 field-bytes_settled f = ap (λ (b : List ℕ). spelling f.tag ++ b) (body-bytes_settled f.body)
@@ -74,29 +76,32 @@ wire_type-settled (Spelled number) = refl
 wire_type-settled (Eight bytes) = refl
 wire_type-settled (Four bytes) = refl
 wire_type-settled (Delimited width bytes) = refl
+wire_type-settled (Group bytes) = refl
 
-body_valid : (b : Body) → IsBody b → IsBody (settle_body b)
-body_valid (Spelled number) p = p
-body_valid (Eight bytes) p = p
-body_valid (Four bytes) p = p
-body_valid (Delimited width bytes) p = written_is_width width bytes p
+body_valid : (number : ℕ) (b : Body) → IsBodyWith IsGroup number b → IsBodyWith IsGroup number (settle_body b)
+body_valid of_number (Spelled number) p = p
+body_valid of_number (Eight bytes) p = p
+body_valid of_number (Four bytes) p = p
+body_valid of_number (Delimited width bytes) p = written_is_width width bytes p
+body_valid of_number (Group bytes) p = p
 
-body_stored : (b : Body) → IsBody b → IsShortBody b → StoresBody (settle_body b)
-body_stored (Spelled number) p q = tt
-body_stored (Eight bytes) p q = tt
-body_stored (Four bytes) p q = tt
-body_stored (Delimited width bytes) p q = written_spells width bytes p q
+body_stored : (number : ℕ) (b : Body) → IsBodyWith IsGroup number b → IsShortBody b → StoresBody (settle_body b)
+body_stored of_number (Spelled number) p q = tt
+body_stored of_number (Eight bytes) p q = tt
+body_stored of_number (Four bytes) p q = tt
+body_stored of_number (Delimited width bytes) p q = written_spells width bytes p q
+body_stored of_number (Group bytes) p q = tt
 
 field_valid : (f : Field) → IsField f → IsField (settle_field f)
 field_valid f p =
     record {
       number = p.number;
       tag = subst (λ (k : ℕ). IsTag f.tag.value k) (sym (wire_type-settled f.body)) p.tag;
-      body = body_valid f.body p.body;
+      body = body_valid (f.tag.value / 8) f.body p.body;
     }
 
 field_stored : (f : Field) → IsField f → IsShortField f → StoresField (settle_field f)
-field_stored f p q = body_stored f.body p.body q
+field_stored f p q = body_stored (f.tag.value / 8) f.body p.body q
 
 own_stored : (width : ℕ) (old new : List ℕ) → new ≡ old → IsWidth width → IsShort old → IsSpelling (length new) (written_width width old)
 own_stored width old new e w short =
@@ -152,6 +157,7 @@ body_is_short (Spelled number) s = tt
 body_is_short (Eight bytes) s = tt
 body_is_short (Four bytes) s = tt
 body_is_short (Delimited width bytes) s = s.fits
+body_is_short (Group bytes) s = tt
 
 layer_item_is_short : (i : LayerItem) → StoresLayerItem i → IsShortLayerItem i
 layer_item_is_short (OfFeature f) s =
@@ -183,6 +189,7 @@ short_body front (Spelled number) s = tt
 short_body front (Eight bytes) s = tt
 short_body front (Four bytes) s = tt
 short_body front (Delimited width bytes) s = short_content front width bytes s
+short_body front (Group bytes) s = tt
 
 short_field : (f : Field) → IsShort (field_bytes f) → IsShortField f
 short_field f s = short_body (spelling f.tag) f.body s

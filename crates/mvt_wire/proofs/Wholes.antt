@@ -4,7 +4,8 @@ use Rattle.std.specs.List.{flat_map, AllByRecursion}
 use Rattle.std.proofs.lemmas.List.Folds.{flat_map-map}
 use Rattle.mvt_wire.specs.Plain.{Number, Body, Delimited, Field, Feature, LayerItem, OfFeature, PlainInLayer, Layer, TileItem, OfLayer, PlainInTile}
 use Rattle.mvt_wire.specs.Wire.{field_bytes, layer_item_bytes, tile_item_bytes}
-use Rattle.mvt_wire.specs.Opens.{IsField, IsLayerItem, IsTileItem, StoresField, StoresLayerItem, StoresTileItem}
+use Rattle.mvt_wire.specs.Groups.{StoresField}
+use Rattle.mvt_wire.specs.Opens.{IsField, IsLayerItem, IsTileItem, StoresLayerItem, StoresTileItem}
 use Rattle.mvt_wire.specs.Parts.{feature_field, layer_item_field, layer_field, tile_item_field, IsWholeField, IsWholeLayerItem, IsWholeTileItem, MakesLayerItem, MakesTileItem}
 use Rattle.mvt_wire.proofs.Prefixes.{field_with}
 

@@ -2,12 +2,13 @@
 -- Protocol Buffers encoding guide: "Message Structure".
 use Rattle.std.specs.Prelude.{ℕ}
 use Rattle.mvt_wire.specs.declared.body.Body.{Body}
-use Rattle.mvt_wire.specs.declared.body.Body.TheVariants.{Number, Eight, Four, Bytes}
+use Rattle.mvt_wire.specs.declared.body.Body.TheVariants.{Number, Eight, Four, Bytes, Group}
 
 abbrev pub wire_type_of : Body → ℕ
 wire_type_of (Number number) = 0
 wire_type_of (Eight bytes) = 1
 wire_type_of (Bytes width bytes) = 2
+wire_type_of (Group bytes) = 3
 wire_type_of (Four bytes) = 5
 
 -- the width stored with the length; 1 where there is no length
@@ -15,4 +16,5 @@ abbrev pub stored_width_of : Body → ℕ
 stored_width_of (Number number) = 1
 stored_width_of (Eight bytes) = 1
 stored_width_of (Bytes width bytes) = width
+stored_width_of (Group bytes) = 1
 stored_width_of (Four bytes) = 1

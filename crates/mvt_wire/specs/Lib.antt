@@ -3,6 +3,8 @@ pub mod Plain
 pub mod Wire
 pub mod Fills
 pub mod Shape
+pub mod Groups
+pub mod Open
 pub mod Opens
 pub mod BodyShape
 pub mod Lending

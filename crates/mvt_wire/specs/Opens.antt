@@ -2,32 +2,15 @@
 use Rattle.std.specs.Prelude.{◌≡◌, ◌≢◌, ℕ, ◌<◌, ◌≤◌, List, length, take}
 use Rattle.std.specs.List.{flat_map, AllByRecursion}
 use Rattle.mvt_wire.specs.declared.TheConstants.{MAX_FILE}
-use Rattle.mvt_wire.specs.Plain.{Number, Body, Spelled, Eight, Four, Delimited, Field, Feature, LayerItem, OfFeature, PlainInLayer, Layer, TileItem, OfLayer, PlainInTile, Document}
-use Rattle.mvt_wire.specs.Shape.{IsSpelling, IsTag, IsWidth}
+use Rattle.mvt_wire.specs.Plain.{Field, Feature, LayerItem, OfFeature, PlainInLayer, Layer, TileItem, OfLayer, PlainInTile, Document}
+use Rattle.mvt_wire.specs.Shape.{IsSpelling, IsWidth}
 use Rattle.mvt_wire.specs.Wire.{field_bytes, layer_item_bytes, bytes_of}
+use Rattle.mvt_wire.specs.Groups.{IsNumber, IsFieldWith, IsGroup, StoresField}
 
 -- ---- what holds of each value of the types
 
-abbrev pub IsNumber : Number → Type 0
-IsNumber n = IsSpelling n.value n.width
-
--- Protocol Buffers encoding guide, "Message Structure"
-abbrev pub wire_type : Body → ℕ
-wire_type (Spelled number) = 0
-wire_type (Eight bytes) = 1
-wire_type (Delimited width bytes) = 2
-wire_type (Four bytes) = 5
-
-abbrev pub IsBody : Body → Type 0
-IsBody (Spelled number) = IsNumber number
-IsBody (Eight bytes) = length bytes ≡ 8
-IsBody (Four bytes) = length bytes ≡ 4
-IsBody (Delimited width bytes) = IsWidth width
-
-pub record IsField (f : Field) : Type 0 where
-  pub number : IsNumber f.tag
-  pub tag : IsTag f.tag.value (wire_type f.body)
-  pub body : IsBody f.body
+abbrev pub IsField : Field → Type 0
+IsField = IsFieldWith IsGroup
 
 -- Vector Tile Specification 2.1, section 4: a tile's layers are field 3 and a layer's features field 2, both LEN
 pub record IsFeature (f : Feature) : Type 0 where
@@ -56,15 +39,6 @@ abbrev pub IsDocument : Document → Type 0
 IsDocument document = AllByRecursion IsTileItem document
 
 -- ---- each length is spelled in its stored width
-
-abbrev pub StoresBody : Body → Type 0
-StoresBody (Spelled number) = Unit {0}
-StoresBody (Eight bytes) = Unit {0}
-StoresBody (Four bytes) = Unit {0}
-StoresBody (Delimited width bytes) = IsSpelling (length bytes) width
-
-abbrev pub StoresField : Field → Type 0
-StoresField f = StoresBody f.body
 
 pub record StoresFeature (f : Feature) : Type 0 where
   pub own : IsSpelling (length (flat_map field_bytes f.fields)) f.width

@@ -1,9 +1,10 @@
 -- Each item of a message as the field that stands in its place.
-use Rattle.std.specs.Prelude.{◌≡◌, ℕ, ◌<◌, ◌≤◌, List, length, take}
+use Rattle.std.specs.Prelude.{◌≡◌, ℕ, ◌/◌, ◌%◌, ◌<◌, ◌≤◌, List, length, take}
 use Rattle.std.specs.List.{flat_map, AllByRecursion}
 use Rattle.mvt_wire.specs.Plain.{Body, Delimited, Field, Feature, LayerItem, OfFeature, PlainInLayer, Layer, TileItem, OfLayer, PlainInTile}
 use Rattle.mvt_wire.specs.Wire.{field_bytes, layer_item_bytes}
-use Rattle.mvt_wire.specs.Opens.{wire_type, IsBody, IsField, IsLayerItem, IsTileItem, StoresBody, StoresField, StoresLayerItem, StoresTileItem}
+use Rattle.mvt_wire.specs.Groups.{IsWholeBodyWith, IsWholeFieldWith, IsGroup}
+use Rattle.mvt_wire.specs.Opens.{IsLayerItem, IsTileItem, StoresLayerItem, StoresTileItem}
 use Rattle.mvt_wire.specs.declared.faults.ReadError.{ReadError}
 use Rattle.mvt_wire.specs.declared.faults.ReadError.TheVariants.{BadWire, FileTooLarge, NoMemory}
 
@@ -23,15 +24,12 @@ tile_item_field (PlainInTile field) = field
 
 -- ---- valid, with each length spelled in its stored width
 
--- a body of this wire type
-pub record IsWholeBody (kind : ℕ) (body : Body) : Type 0 where
-  pub typed : wire_type body ≡ kind
-  pub valid : IsBody body
-  pub stored : StoresBody body
+-- a body behind a tag of this value
+abbrev pub IsWholeBody : ℕ → Body → Type 0
+IsWholeBody tag body = IsWholeBodyWith IsGroup (tag % 8) (tag / 8) body
 
-pub record IsWholeField (f : Field) : Type 0 where
-  pub valid : IsField f
-  pub stored : StoresField f
+abbrev pub IsWholeField : Field → Type 0
+IsWholeField = IsWholeFieldWith IsGroup
 
 pub record IsWholeLayerItem (i : LayerItem) : Type 0 where
   pub valid : IsLayerItem i

@@ -6,12 +6,14 @@ pub record Number : Type 0 where
   pub value : ℕ
   pub width : ℕ
 
--- what stands behind a tag, by its wire type: VARINT, I64, I32 and LEN
+-- what stands behind a tag, by its wire type: VARINT, I64, I32, LEN and SGROUP;
+-- a group's bytes are all up to its end, its end tag among them
 pub data Body : Type 0 where
   Spelled : (number : Number) → Body
   Eight : (bytes : List ℕ) → Body
   Four : (bytes : List ℕ) → Body
   Delimited : (width : ℕ) (bytes : List ℕ) → Body
+  Group : (bytes : List ℕ) → Body
 
 pub record Field : Type 0 where
   pub tag : Number

@@ -1,7 +1,7 @@
 -- A document with each stored width raised to the width that its length is written in.
 use Rattle.std.specs.Prelude.{ℕ, ◌^◌, ◌<◌, max, List, length, map}
 use Rattle.std.specs.List.{flat_map, AllByRecursion}
-use Rattle.mvt_wire.specs.Plain.{Body, Spelled, Eight, Four, Delimited, Field, Feature, LayerItem, OfFeature, PlainInLayer, Layer, TileItem, OfLayer, PlainInTile, Document}
+use Rattle.mvt_wire.specs.Plain.{Body, Spelled, Eight, Four, Delimited, Group, Field, Feature, LayerItem, OfFeature, PlainInLayer, Layer, TileItem, OfLayer, PlainInTile, Document}
 use Rattle.mvt_wire.specs.Wire.{minimal_width, field_bytes, layer_item_bytes}
 
 -- the width in which the length of these bytes is written
@@ -13,6 +13,7 @@ settle_body (Spelled number) = Spelled number
 settle_body (Eight bytes) = Eight bytes
 settle_body (Four bytes) = Four bytes
 settle_body (Delimited width bytes) = Delimited (written_width width bytes) bytes
+settle_body (Group bytes) = Group bytes
 
 abbrev pub settle_field : Field → Field
 settle_field f = record { tag = f.tag; body = settle_body f.body }
@@ -44,6 +45,7 @@ IsShortBody (Spelled number) = Unit {0}
 IsShortBody (Eight bytes) = Unit {0}
 IsShortBody (Four bytes) = Unit {0}
 IsShortBody (Delimited width bytes) = IsShort bytes
+IsShortBody (Group bytes) = Unit {0}
 
 abbrev pub IsShortField : Field → Type 0
 IsShortField f = IsShortBody f.body

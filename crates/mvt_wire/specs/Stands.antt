@@ -3,7 +3,7 @@ use Rattle.std.specs.Prelude.{map}
 use Rattle.mvt_wire.specs.Plain as plain
 use Rattle.mvt_wire.specs.declared.varint.Varint.{Varint}
 use Rattle.mvt_wire.specs.declared.body.Body.{Body}
-use Rattle.mvt_wire.specs.declared.body.Body.TheVariants.{Number, Eight, Four, Bytes}
+use Rattle.mvt_wire.specs.declared.body.Body.TheVariants.{Number, Eight, Four, Bytes, Group}
 use Rattle.mvt_wire.specs.declared.document.Field.{Field}
 use Rattle.mvt_wire.specs.declared.document.Feature.{Feature}
 use Rattle.mvt_wire.specs.declared.document.LayerItem.{LayerItem}
@@ -21,6 +21,7 @@ body_of (Number number) = plain.Spelled (number_of number)
 body_of (Eight bytes) = plain.Eight bytes
 body_of (Four bytes) = plain.Four bytes
 body_of (Bytes width bytes) = plain.Delimited width bytes.items
+body_of (Group bytes) = plain.Group bytes.items
 
 abbrev pub field_of : Field → plain.Field
 field_of f = record { tag = number_of f.tag; body = body_of f.body }

@@ -2,7 +2,7 @@
 -- Protocol Buffers encoding guide: "Base 128 Varints", "Message Structure", "Length-Delimited Records".
 use Rattle.std.specs.Prelude.{ℕ, zero, suc, ◌+◌, ◌/◌, ◌%◌, max, List, [], ◌∷◌, ◌++◌, length, nat_lt, if◌then◌else◌}
 use Rattle.std.specs.List.{flat_map}
-use Rattle.mvt_wire.specs.Plain.{Number, Body, Spelled, Eight, Four, Delimited, Field, Feature, LayerItem, OfFeature, PlainInLayer, Layer, TileItem, OfLayer, PlainInTile, Document}
+use Rattle.mvt_wire.specs.Plain.{Number, Body, Spelled, Eight, Four, Delimited, Group, Field, Feature, LayerItem, OfFeature, PlainInLayer, Layer, TileItem, OfLayer, PlainInTile, Document}
 
 -- A number in so many bytes of 7 bits each, the lowest first. The top bit is set on all but the last.
 unfoldable pub spell : ℕ → ℕ → List ℕ
@@ -32,6 +32,7 @@ body_bytes (Spelled number) = spelling number
 body_bytes (Eight bytes) = bytes
 body_bytes (Four bytes) = bytes
 body_bytes (Delimited width bytes) = delimited width bytes
+body_bytes (Group bytes) = bytes
 
 abbrev pub field_bytes : Field → List ℕ
 field_bytes f = spelling f.tag ++ body_bytes f.body

@@ -14,4 +14,6 @@ pub enum Body {
     Four([u8; 4]),
     /// LEN: the bytes, and the least width in which their length is spelled.
     Bytes { width: u8, bytes: Items<u8> },
+    /// SGROUP: all bytes up to the end of the group, its end tag among them.
+    Group(Items<u8>),
 }

@@ -7,6 +7,7 @@ mod document;
 mod encode;
 mod faults;
 mod front;
+mod groups;
 mod items;
 pub mod laws;
 mod messages;
@@ -26,3 +27,6 @@ pub use write::{size, write_document};
 
 /// The longest tile in bytes.
 pub const MAX_FILE: usize = 16_777_216;
+
+/// How many groups may be open at one place.
+pub const MAX_GROUPS: usize = 100;

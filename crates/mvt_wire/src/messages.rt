@@ -18,6 +18,7 @@ impl Encode for Body {
             Body::Eight(bytes) => Some(bytes[..].len()),
             Body::Four(bytes) => Some(bytes[..].len()),
             Body::Bytes { width, bytes } => delimited_size(*width, bytes.len()),
+            Body::Group(bytes) => sum_within(bytes.len(), 0),
         }
     }
 
@@ -30,6 +31,7 @@ impl Encode for Body {
                 let left = put_bytes(bytes.as_slice(), room);
                 put_length(*width, bytes.len(), &mut room[..left])
             }
+            Body::Group(bytes) => put_bytes(bytes.as_slice(), room),
         }
     }
 }

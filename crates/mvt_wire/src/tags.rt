@@ -9,6 +9,12 @@ pub const I64: u64 = 1;
 /// The wire type of a length and that many bytes.
 pub const LEN: u64 = 2;
 
+/// The wire type of a group's start.
+pub const SGROUP: u64 = 3;
+
+/// The wire type of a group's end.
+pub const EGROUP: u64 = 4;
+
 /// The wire type of four bytes.
 pub const I32: u64 = 5;
 

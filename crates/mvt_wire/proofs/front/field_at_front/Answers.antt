@@ -1,19 +1,6 @@
-use Rattle.std.proofs.Common.{arith}
-use Rattle.mvt_wire.proofs.Begins.{IsNumberAt, tag_front, body_front, field_taken}
+use Rattle.mvt_wire.proofs.Begins.{IsNumberAt, body_front, field_taken}
 use Rattle.mvt_wire.specs.Fronts.{body_front_of}
 use Rattle.mvt_wire.proofs.front.field_at_front.Goals as goal
-use Rattle.mvt_wire.proofs.front.field_at_front.Goals.{then-tag-lt8-via-then-tag-lt8, then-tag-lt8-via-else-tag-lt8+then-tag-gt4294967295}
-
-pub returns-then-tag-lt8-clause-none : goal.returns-then-tag-lt8-clause-none
-returns-then-tag-lt8-clause-none c = λ f rest p q e.
-    let n = c.in_ok-tag.tag in
-    let s : IsNumberAt n.value n.width c.args.bytes.now = record { within = c.in_ok-tag.ensures.within; spelled = c.in_ok-tag.ensures.found; valid = n.spelled } in
-    let r = tag_front n.value n.width c.args.bytes.now f rest s p e in
-    let t = p.tag in
-    elim c.then-tag-lt8.branch [
-      | then-tag-lt8-via-then-tag-lt8 w ↦ omega (arith, r.0)
-      | then-tag-lt8-via-else-tag-lt8+then-tag-gt4294967295 w ↦ omega (arith, r.0)
-    ]
 
 pub returns-in_err-body-clause-none : goal.returns-in_err-body-clause-none
 returns-in_err-body-clause-none c =
