@@ -1,8 +1,8 @@
 //! The messages of a tile, with all that is needed to write each byte again.
 
-ghost use Rattle.std.specs.Prelude.{◌≡◌};
+ghost use Rattle.std.specs.Prelude.{◌≡◌, ◌/◌};
 ghost use Rattle.mvt_wire.specs.Shape.{IsTag, IsWidth};
-ghost use Rattle.mvt_wire.specs.BodyShape.{wire_type_of, stored_width_of};
+ghost use Rattle.mvt_wire.specs.BodyShape.{wire_type_of, stored_width_of, EndsGroup};
 
 use crate::body::Body;
 use crate::items::Items;
@@ -15,6 +15,7 @@ pub struct Field {
     pub body: Body,
     pub ghost is_tag: { IsTag tag.value (wire_type_of body) },
     pub ghost is_width: { IsWidth (stored_width_of body) },
+    pub ghost is_group: { ∥ EndsGroup (tag.value / 8) body ∥₁ },
 }
 
 /// A feature of a layer. The width is the least in which its length is spelled.
