@@ -3,7 +3,7 @@ use Rattle.std.proofs.Common.{◌≡◌, ℕ, ◌/◌, Bool, true, false, ◌&&�
 use Rattle.std.proofs.lemmas.Bool.{cases_Bool, or_parts, and_left}
 use Rattle.std.proofs.lemmas.List.Elements.{filter-append, filter_map-append}
 use Rattle.std.specs.List.{filter_map, cons_option, list_any, last_or}
-use Rattle.mvt_wire.specs.Plain.{Number, Body, Spelled, Eight, Four, Delimited, LayerItem, OfFeature, PlainInLayer, Layer}
+use Rattle.mvt_wire.specs.Plain.{Number, Body, Spelled, Eight, Four, Delimited, Group, LayerItem, OfFeature, PlainInLayer, Layer}
 use Rattle.mvt_edit.specs.Selection.{text_in, name_of}
 use Rattle.mvt_edit.specs.Meaning.{change_last, is_name, named_items, renamed, with_text}
 use Rattle.mvt_edit.specs.Laws.{without_names}
@@ -13,6 +13,7 @@ text_in_field : (name : List ℕ) (tag : Number) (body : Body) → is_name (Plai
 text_in_field name tag (Spelled number) e = absurd (elim (cases_Bool (tag.value / 8 == 1)) [ inl one ↦ let at = rw one at e in cc | inr other ↦ let at = rw other at e in cc ])
 text_in_field name tag (Eight bytes) e = absurd (elim (cases_Bool (tag.value / 8 == 1)) [ inl one ↦ let at = rw one at e in cc | inr other ↦ let at = rw other at e in cc ])
 text_in_field name tag (Four bytes) e = absurd (elim (cases_Bool (tag.value / 8 == 1)) [ inl one ↦ let at = rw one at e in cc | inr other ↦ let at = rw other at e in cc ])
+text_in_field name tag (Group bytes) e = absurd (elim (cases_Bool (tag.value / 8 == 1)) [ inl one ↦ let at = rw one at e in cc | inr other ↦ let at = rw other at e in cc ])
 text_in_field name tag (Delimited width bytes) e = elim (cases_Bool (tag.value / 8 == 1)) [ inl one ↦ rw one refl | inr other ↦ absurd (let at = rw other at e in cc) ]
 
 text_given : (name : List ℕ) (item : LayerItem) → is_name item ≡ true → text_in 1 (with_text name item) ≡ Some name

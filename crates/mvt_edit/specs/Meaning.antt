@@ -2,7 +2,7 @@
 use Rattle.std.specs.Prelude.{ℕ, zero, suc, Bool, ◌&&◌, not, List, [], ◌∷◌, ◌++◌, length, Result, Ok, Err, is_some, ◌==◌, nat_lt, if◌then◌else◌}
 use Rattle.std.specs.List.{list_any}
 use Rattle.mvt_wire.specs.declared.TheConstants.{MAX_FILE}
-use Rattle.mvt_wire.specs.Plain.{Body, Spelled, Eight, Four, Delimited, LayerItem, OfFeature, PlainInLayer, Layer, TileItem, OfLayer, PlainInTile, Document}
+use Rattle.mvt_wire.specs.Plain.{Body, Spelled, Eight, Four, Delimited, Group, LayerItem, OfFeature, PlainInLayer, Layer, TileItem, OfLayer, PlainInTile, Document}
 use Rattle.mvt_wire.specs.Wire.{bytes_of}
 use Rattle.mvt_command.specs.Command.{Command, RenameLayer}
 use Rattle.mvt_edit.specs.Selection.{text_in, selected, ordinals_of, positions_of}
@@ -34,6 +34,7 @@ with_content bytes (Spelled number) = Spelled number
 with_content bytes (Eight eight) = Eight eight
 with_content bytes (Four four) = Four four
 with_content bytes (Delimited width old) = Delimited width bytes
+with_content bytes (Group group) = Group group
 
 abbrev pub with_text : List ℕ → LayerItem → LayerItem
 with_text bytes (OfFeature feature) = OfFeature feature

@@ -3,7 +3,7 @@ use Rattle.std.specs.Prelude.{ℕ, ◌/◌, Bool, false, List, [], ◌∷◌, le
 use Rattle.std.specs.List.{filter_map, last_or, enumerate_from}
 use Rattle.std.specs.Option.{option_map_or}
 use Rattle.std.specs.Str.{bytes_eq}
-use Rattle.mvt_wire.specs.Plain.{Body, Spelled, Eight, Four, Delimited, LayerItem, OfFeature, PlainInLayer, Layer, TileItem, OfLayer, PlainInTile, Document}
+use Rattle.mvt_wire.specs.Plain.{Body, Spelled, Eight, Four, Delimited, Group, LayerItem, OfFeature, PlainInLayer, Layer, TileItem, OfLayer, PlainInTile, Document}
 use Rattle.mvt_command.specs.Command.{LayerChoice, AtOrdinal, Named}
 use Rattle.mvt_edit.specs.declared.edit.Refusal.{Refusal}
 use Rattle.mvt_edit.specs.declared.edit.Refusal.TheVariants.{NoLayer, AmbiguousLayer}
@@ -22,6 +22,7 @@ content_of (Spelled number) = None
 content_of (Eight bytes) = None
 content_of (Four bytes) = None
 content_of (Delimited width bytes) = Some bytes
+content_of (Group bytes) = None
 
 -- the content of an item of a layer that is a LEN field of this number
 abbrev pub text_in : ℕ → LayerItem → Option (List ℕ)

@@ -3,11 +3,10 @@ use Rattle.std.proofs.Common.{◌≡◌, ◌≢◌, ℕ, ◌+◌, ◌-◌, ◌/�
 use Rattle.std.proofs.lemmas.List.{length-take, length-drop, take-append-drop, take_rest}
 use Rattle.std.proofs.Math.Seq.{take-add}
 use Rattle.mvt_wire.specs.declared.TheConstants.{MAX_GROUPS}
-use Rattle.mvt_wire.specs.Plain.{Number, Body, Field}
-use Rattle.mvt_wire.specs.Shape.{IsSpelling}
+use Rattle.mvt_wire.specs.Plain.{Number, Body}
 use Rattle.mvt_wire.specs.Wire.{spell, spelling, body_bytes}
 use Rattle.mvt_wire.specs.Groups.{IsNumber, IsEnd, IsFlatBody, IsGroup}
-use Rattle.mvt_wire.specs.Open.{Closes, LeadsTo}
+use Rattle.mvt_wire.specs.Open.{LeadsTo}
 use Rattle.mvt_wire.proofs.Begins.{from, IsNumberAt, number_then, field_taken}
 use Rattle.mvt_wire.proofs.Prefixes.{number_with, field_with}
 use Rattle.mvt_wire.proofs.OpenBytes.{NothingLeft, IsTagAt, field_of_parts, flat_is_whole, field_leads, start_leads, end_leads, no_tag, no_body, too_deep, other_end, leads_nowhere, leads_on, group_ends, no_group}

@@ -6,9 +6,9 @@ use Rattle.mvt_wire.specs.declared.TheConstants.{MAX_GROUPS}
 use Rattle.mvt_wire.specs.Plain.{Number, Body, Spelled, Eight, Four, Delimited, Group, Field}
 use Rattle.mvt_wire.specs.Shape.{IsTag}
 use Rattle.mvt_wire.specs.Wire.{spelling, body_bytes, field_bytes}
-use Rattle.mvt_wire.specs.Groups.{IsNumber, wire_type, IsFieldWith, IsWholeBodyWith, IsWholeFieldWith, IsEnd, IsGroupWithin, IsGroup, NoGroup, IsFlatBody}
+use Rattle.mvt_wire.specs.Groups.{IsNumber, IsWholeBodyWith, IsWholeFieldWith, IsEnd, IsGroupWithin, IsGroup, IsFlatBody}
 use Rattle.mvt_wire.specs.Open.{Closes, LeadsTo}
-use Rattle.mvt_wire.proofs.Prefixes.{Separates, field_with, one_number, one_field_with, field-bytes, field_no_end, no_end, separates_within, whole_body}
+use Rattle.mvt_wire.proofs.Prefixes.{field_with, one_number, one_field_with, field-bytes, field_no_end, separates_within, whole_body}
 
 -- ---- bodies that are no groups
 
@@ -215,13 +215,16 @@ begins_tag : (number : ℕ) (numbers left : List ℕ) → Closes (number ∷ num
 begins_tag number numbers left c =
     elim (begins number numbers left c) [
       | inl h ↦ (h.last, h.more, record { number = h.ends.spelled; low = h.ends.tag.numbered; high = h.ends.tag.short; spelled = h.spelled })
-      | inr h ↦
-          (h.field.tag, body_bytes h.field.body ++ h.more, record {
-            number = h.whole.valid.number;
-            low = h.whole.valid.tag.numbered;
-            high = h.whole.valid.tag.short;
-            spelled = h.spelled ∙ field-bytes h.field h.more;
-          })
+      | inr h ↦ (
+        h.field.tag,
+        body_bytes h.field.body ++ h.more,
+        record {
+          number = h.whole.valid.number;
+          low = h.whole.valid.tag.numbered;
+          high = h.whole.valid.tag.short;
+          spelled = h.spelled ∙ field-bytes h.field h.more;
+        },
+      )
     ]
 
 pub no_tag : (number : ℕ) (numbers bytes : List ℕ) → ((tag : Number) (after : List ℕ) → IsNumber tag → 8 ≤ tag.value → tag.value < 2 ^ 32 → bytes ≡ spelling tag ++ after → ⊥) → NothingLeft (number ∷ numbers) bytes

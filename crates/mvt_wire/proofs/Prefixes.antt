@@ -7,7 +7,7 @@ use Rattle.mvt_wire.specs.Shape.{IsSpelling}
 use Rattle.mvt_wire.specs.Wire.{spell, minimal_width, spelling, body_bytes, field_bytes}
 use Rattle.mvt_wire.specs.declared.TheConstants.{MAX_GROUPS}
 use Rattle.mvt_wire.specs.Groups.{IsNumber, wire_type, IsWholeBodyWith, IsWholeFieldWith, IsEnd, IsGroupWithin, IsGroup}
-use Rattle.mvt_wire.specs.Parts.{IsWholeBody, IsWholeField}
+use Rattle.mvt_wire.specs.Parts.{IsWholeField}
 use Rattle.mvt_wire.proofs.Spelling.{length-spell, one_spelling, spelling_some}
 
 -- two fronts of one length are equal, and so is what follows them

@@ -1,6 +1,6 @@
 -- What the bytes of a field are, and those of a group: fields, groups among them, and then its end tag.
 -- Protocol Buffers encoding guide: "Message Structure" and "Groups".
-use Rattle.std.specs.Prelude.{◌≡◌, ℕ, zero, suc, ◌/◌, ◌%◌, List, ◌++◌, length}
+use Rattle.std.specs.Prelude.{◌≡◌, ℕ, zero, suc, ◌/◌, List, ◌++◌, length}
 use Rattle.std.specs.List.{flat_map, AllByRecursion}
 use Rattle.mvt_wire.specs.declared.TheConstants.{MAX_GROUPS}
 use Rattle.mvt_wire.specs.Plain.{Number, Body, Spelled, Eight, Four, Delimited, Group, Field}

@@ -26,7 +26,7 @@ pub use varint::{Varint, read_varint};
 pub use write::{size, write_document};
 
 /// The longest tile in bytes.
-pub const MAX_FILE: usize = 16_777_216;
+pub const MAX_FILE: usize = 67_108_864;
 
 /// How many groups may be open at one place.
 pub const MAX_GROUPS: usize = 100;

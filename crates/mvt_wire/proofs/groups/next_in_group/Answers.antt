@@ -1,4 +1,4 @@
-use Rattle.std.proofs.Common.{◌≤◌, refl, arith}
+use Rattle.std.proofs.Common.{arith}
 use Rattle.mvt_wire.specs.Fronts.{body_front_of}
 use Rattle.mvt_wire.proofs.Spelling.{spelling_some}
 use Rattle.mvt_wire.proofs.GroupSteps.{IsTagFound, start_taken, end_taken, flat_taken, tag_missing, body_missing, level_missing, end_missing}
