@@ -3,11 +3,11 @@ use Rattle.std.proofs.Common.{◌≡◌, ℕ, ◌<◌, ◌≤◌, true, false, S
 use Rattle.std.proofs.lemmas.Bool.Decides.{nat_tests}
 use Rattle.std.proofs.lemmas.List.{map-set}
 use Rattle.std.proofs.lemmas.Option.{slice_get-map}
-use Rattle.mvt_wire.specs.declared.TheConstants.{MAX_FILE}
+use Rattle.mvt_wire.specs.TheConstants.{MAX_FILE}
 use Rattle.mvt_wire.specs.Plain as plain
 use Rattle.mvt_wire.specs.Wire.{bytes_of}
 use Rattle.mvt_wire.specs.Stands.{tile_item_of}
-use Rattle.mvt_wire.specs.declared.document.TileItem.{TileItem}
+use Rattle.mvt_wire.specs.declared.TileItem.{TileItem}
 use Rattle.mvt_command.specs.Command.{LayerChoice, RenameLayer}
 use Rattle.mvt_edit.specs.Selection.{layer_positions, selected}
 use Rattle.mvt_edit.specs.Meaning.{applied, change_layer, in_layer, is_taken, renamed, within_limit}

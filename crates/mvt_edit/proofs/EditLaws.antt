@@ -5,7 +5,7 @@ use Rattle.std.proofs.lemmas.Bool.{cases_Bool, or_parts}
 use Rattle.std.proofs.lemmas.Bool.Decides.{nat_tests}
 use Rattle.std.proofs.lemmas.Slice.Eq.{bytes_eq-Decides}
 use Rattle.std.specs.List.{filter_map, list_any}
-use Rattle.mvt_wire.specs.declared.TheConstants.{MAX_FILE}
+use Rattle.mvt_wire.specs.TheConstants.{MAX_FILE}
 use Rattle.mvt_wire.specs.Plain.{Layer, OfLayer, PlainInTile, Document}
 use Rattle.mvt_wire.specs.Wire.{bytes_of}
 use Rattle.mvt_edit.specs.Selection.{is_layer, is_named, layers, name_of, selected, the_one}

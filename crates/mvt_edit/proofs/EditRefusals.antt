@@ -7,7 +7,7 @@ use Rattle.mvt_edit.specs.Selection.{ordinals_of, the_one, selected, layers}
 use Rattle.mvt_edit.specs.Meaning.{◌>>=◌, applied, change_layer, is_taken, renamed, within_limit, unless_taken}
 use Rattle.mvt_edit.specs.declared.edit.Refusal.{Refusal}
 use Rattle.mvt_edit.specs.declared.edit.Refusal.TheVariants as edit
-use Rattle.mvt_wire.specs.declared.TheConstants.{MAX_FILE}
+use Rattle.mvt_wire.specs.TheConstants.{MAX_FILE}
 use Rattle.mvt_wire.specs.Wire.{bytes_of}
 use Rattle.mvt_command.proofs.Others.{Other, either}
 

@@ -2,7 +2,7 @@
 use Rattle.std.proofs.Common.{◌≡◌, ◌<◌, ℕ, zero, suc, true, Option, Some, None, List, [], ◌∷◌, ◌++◌, length, map, option_map, slice_get, slice_set, take, ok_or, refl, sym, ap, ◌∙◌, arith}
 use Rattle.std.proofs.lemmas.List.{length-map}
 use Rattle.mvt_wire.specs.Stands.{tile_item_of}
-use Rattle.mvt_wire.specs.declared.document.TileItem.{TileItem}
+use Rattle.mvt_wire.specs.declared.TileItem.{TileItem}
 use Rattle.mvt_command.specs.Command.{LayerChoice, RenameLayer}
 use Rattle.mvt_edit.specs.Selection.{is_layer}
 use Rattle.mvt_edit.specs.Meaning.{applied, in_layer, renamed, within_limit}

@@ -3,8 +3,8 @@ use Rattle.std.proofs.Common.{◌≡◌, ◌+◌, List, ◌∷◌, length, map, 
 use Rattle.std.proofs.lemmas.List.Recursion.{is_count_by}
 use Rattle.std.specs.Prelude.{count_by}
 use Rattle.mvt_wire.specs.Stands.{tile_item_of}
-use Rattle.mvt_wire.specs.declared.document.TileItem.{TileItem}
-use Rattle.mvt_wire.specs.declared.document.TileItem.TheVariants as in_tile
+use Rattle.mvt_wire.specs.declared.TileItem.{TileItem}
+use Rattle.mvt_wire.specs.declared.TileItem.TheVariants as in_tile
 use Rattle.mvt_edit.specs.Selection.{is_layer, layers}
 
 layer_counted : (item : TileItem) (items : List TileItem) → length (layers (map tile_item_of (item ∷ items))) ≡ cond (is_layer (tile_item_of item)) (1 + length (layers (map tile_item_of items))) (length (layers (map tile_item_of items)))

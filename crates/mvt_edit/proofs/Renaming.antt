@@ -5,7 +5,7 @@ use Rattle.std.proofs.lemmas.Option.{slice_get-map}
 use Rattle.std.specs.List.{last_or}
 use Rattle.mvt_wire.specs.Plain as plain
 use Rattle.mvt_wire.specs.Stands.{layer_item_of}
-use Rattle.mvt_wire.specs.declared.document.LayerItem.{LayerItem}
+use Rattle.mvt_wire.specs.declared.LayerItem.{LayerItem}
 use Rattle.mvt_edit.specs.Meaning.{is_name, name_positions, named_items, with_text, name_field}
 use Rattle.mvt_edit.proofs.Positions.{last_within, no_last, some_last, change_last_set}
 

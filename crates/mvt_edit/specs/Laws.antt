@@ -1,7 +1,7 @@
 -- Laws of selection and of commands, in the words of a tile.
 use Rattle.std.specs.Prelude.{◌≡◌, ◌≢◌, ◌↔◌, ℕ, ◌≤◌, not, List, length, filter, Option, Some, None, option_map, slice_get, Ok, Err}
 use Rattle.std.specs.List.{filter_map}
-use Rattle.mvt_wire.specs.declared.TheConstants.{MAX_FILE}
+use Rattle.mvt_wire.specs.TheConstants.{MAX_FILE}
 use Rattle.mvt_wire.specs.Plain.{Field, Layer, TileItem, OfLayer, PlainInTile, Document}
 use Rattle.mvt_wire.specs.Wire.{bytes_of}
 use Rattle.mvt_command.specs.Command.{LayerChoice, Named, Command, RenameLayer}

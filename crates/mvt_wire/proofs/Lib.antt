@@ -1,12 +1,1 @@
-pub mod Begins
-pub mod Documents
-pub mod GroupSteps
-pub mod OpenBytes
-pub mod Prefixes
-pub mod Reaches
-pub mod SameBytes
-pub mod Settling
-pub mod Sizes
-pub mod Spelling
-pub mod Steps
-pub mod Wholes
+pub use Rattle.mvt_document.proofs.SameBytes

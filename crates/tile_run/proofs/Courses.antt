@@ -1,8 +1,8 @@
 -- How a run ends, from what its steps answer.
 use Rattle.std.proofs.Common.{◌≡◌, ℕ, ◌+◌, ◌≤◌, true, false, [], length, refl, arith, sym, ap, subst, ◌∙◌, inl, inr}
 use Rattle.std.specs.Prelude.{Result, Ok, Err}
-use Rattle.mvt_wire.specs.declared.TheConstants.{MAX_FILE}
-use Rattle.mvt_wire.specs.declared.document.Document as program
+use Rattle.mvt_wire.specs.TheConstants.{MAX_FILE}
+use Rattle.mvt_wire.specs.declared.Document as program
 use Rattle.mvt_wire.specs.Stands.{document_of}
 use Rattle.mvt_wire.specs.Wire.{bytes_of}
 use Rattle.tile_device.specs.Seen.{Seen, Intake, Output, nothing_read, written}

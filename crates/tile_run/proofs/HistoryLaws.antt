@@ -3,7 +3,7 @@ use Rattle.std.proofs.Common.{◌≡◌, ℕ, ◌+◌, ◌-◌, ◌<◌, ◌≤�
 use Rattle.std.proofs.lemmas.Bool.{cases_Bool}
 use Rattle.std.proofs.lemmas.Bool.Decides.{nat_tests}
 use Rattle.std.specs.Result.{result_unwrap_or}
-use Rattle.mvt_wire.specs.declared.TheConstants.{MAX_FILE}
+use Rattle.mvt_wire.specs.TheConstants.{MAX_FILE}
 use Rattle.mvt_wire.specs.Plain.{Document}
 use Rattle.mvt_wire.specs.Wire.{bytes_of}
 use Rattle.mvt_command.specs.Command.{Command}

@@ -4,7 +4,7 @@ use Rattle.std.proofs.lemmas.Bool.{cases_Bool}
 use Rattle.std.proofs.lemmas.Bool.Decides.{nat_tests}
 use Rattle.mvt_wire.specs.Plain as plain
 use Rattle.mvt_wire.specs.Stands.{document_of}
-use Rattle.mvt_wire.specs.declared.document.Document.{Document}
+use Rattle.mvt_wire.specs.declared.Document.{Document}
 use Rattle.mvt_command.specs.Command.{Command}
 use Rattle.tile_script.specs.Request.{Request, Edit, Undo}
 use Rattle.mvt_edit.specs.Meaning.{applied}

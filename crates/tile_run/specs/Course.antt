@@ -1,6 +1,6 @@
 -- What a run reads and writes, by how it ends.
 use Rattle.std.specs.Prelude.{◌≡◌, ℕ, ◌+◌, ◌<◌, ◌≤◌, Bool, true, false, List, [], ◌∷◌, ◌++◌, length, take, Some, None, IsSome, if◌then◌else◌, ◌⊎◌}
-use Rattle.mvt_wire.specs.declared.TheConstants.{MAX_FILE}
+use Rattle.mvt_wire.specs.TheConstants.{MAX_FILE}
 use Rattle.mvt_wire.specs.Plain.{Document}
 use Rattle.mvt_wire.specs.Opens.{OpensAs, IsPlace}
 use Rattle.tile_device.specs.Seen.{Intake, Output, nothing_read, IsFront}

@@ -1,6 +1,6 @@
 -- Laws of commands and undo, in the words of a tile and its history.
 use Rattle.std.specs.Prelude.{◌≡◌, ℕ, ◌≤◌, length, Ok}
-use Rattle.mvt_wire.specs.declared.TheConstants.{MAX_FILE}
+use Rattle.mvt_wire.specs.TheConstants.{MAX_FILE}
 use Rattle.mvt_wire.specs.Plain.{Document}
 use Rattle.mvt_wire.specs.Wire.{bytes_of}
 use Rattle.mvt_command.specs.Command.{Command}

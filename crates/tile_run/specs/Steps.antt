@@ -1,6 +1,6 @@
 -- What the steps of a run answer.
 use Rattle.std.specs.Prelude.{◌≡◌, ℕ, ◌+◌, ◌≤◌, Bool, true, false, List, [], ◌∷◌, ◌++◌, length, Option, Some, None, IsSome, Result, Ok, Err}
-use Rattle.mvt_wire.specs.declared.document.Document.{Document}
+use Rattle.mvt_wire.specs.declared.Document.{Document}
 use Rattle.mvt_wire.specs.Stands.{document_of}
 use Rattle.tile_device.specs.Seen.{Seen, Intake, Output, IsFront, Receives, Supplies, nothing_read, written}
 use Rattle.tile_device.specs.declared.device.Trouble.TheVariants.{Interrupted}

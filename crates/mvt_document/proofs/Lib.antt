@@ -1,0 +1,6 @@
+pub mod Prefixes
+pub mod SameBytes
+pub mod Settling
+pub mod Spelling
+pub mod Steps
+pub mod Wholes

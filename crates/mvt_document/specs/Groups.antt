@@ -1,0 +1,91 @@
+-- What the bytes of a field are, and those of a group: fields, groups among them, and then its end tag.
+-- Protocol Buffers encoding guide: "Message Structure" and "Groups".
+use Rattle.std.specs.Prelude.{◌≡◌, ℕ, zero, suc, ◌/◌, List, ◌++◌, length}
+use Rattle.std.specs.List.{flat_map, AllByRecursion}
+use Rattle.mvt_document.specs.declared.TheConstants.{MAX_GROUPS}
+use Rattle.mvt_document.specs.Plain.{Number, Body, Spelled, Eight, Four, Delimited, Group, Field}
+use Rattle.mvt_document.specs.Shape.{IsSpelling, IsTag, IsWidth}
+use Rattle.mvt_document.specs.Wire.{spelling, field_bytes}
+
+abbrev pub IsNumber : Number → Type 0
+IsNumber n = IsSpelling n.value n.width
+
+-- a tag's wire type, for each body
+abbrev pub wire_type : Body → ℕ
+wire_type (Spelled number) = 0
+wire_type (Eight bytes) = 1
+wire_type (Delimited width bytes) = 2
+wire_type (Group bytes) = 3
+wire_type (Four bytes) = 5
+
+-- ---- each length is spelled in its stored width
+
+abbrev pub StoresBody : Body → Type 0
+StoresBody (Spelled number) = Unit {0}
+StoresBody (Eight bytes) = Unit {0}
+StoresBody (Four bytes) = Unit {0}
+StoresBody (Delimited width bytes) = IsSpelling (length bytes) width
+StoresBody (Group bytes) = Unit {0}
+
+abbrev pub StoresField : Field → Type 0
+StoresField f = StoresBody f.body
+
+-- ---- fields, where it is said which bytes are those of a group of a number
+
+module _ (is_group : ℕ → List ℕ → Type 0) where
+  -- a body of a field of this number
+  abbrev pub IsBodyWith : ℕ → Body → Type 0
+  IsBodyWith number (Spelled value) = IsNumber value
+  IsBodyWith number (Eight bytes) = length bytes ≡ 8
+  IsBodyWith number (Four bytes) = length bytes ≡ 4
+  IsBodyWith number (Delimited width bytes) = IsWidth width
+  IsBodyWith number (Group bytes) = is_group number bytes
+
+  pub record IsFieldWith (f : Field) : Type 0 where
+    pub number : IsNumber f.tag
+    pub tag : IsTag f.tag.value (wire_type f.body)
+    pub body : IsBodyWith (f.tag.value / 8) f.body
+
+  -- ---- the same with each length spelled in its stored width
+
+  -- a body of this wire type, of a field of this number
+  pub record IsWholeBodyWith (kind number : ℕ) (body : Body) : Type 0 where
+    pub typed : wire_type body ≡ kind
+    pub valid : IsBodyWith number body
+    pub stored : StoresBody body
+
+  pub record IsWholeFieldWith (f : Field) : Type 0 where
+    pub valid : IsFieldWith f
+    pub stored : StoresField f
+
+-- an end tag of this number
+pub record IsEnd (number : ℕ) (last : Number) : Type 0 where
+  pub spelled : IsNumber last
+  pub tag : IsTag last.value 4
+  pub same : last.value / 8 ≡ number
+
+-- fields whose groups are such groups, and then the end tag of this number
+pub record IsGroupWith (is_group : ℕ → List ℕ → Type 0) (number : ℕ) (bytes : List ℕ) : Type 0 where
+  pub fields : List Field
+  pub whole : AllByRecursion (IsWholeFieldWith is_group) fields
+  pub last : Number
+  pub ends : IsEnd number last
+  pub spelled : bytes ≡ flat_map field_bytes fields ++ spelling last
+
+-- a group in which at most so many are open at one place, itself counted
+unfoldable pub IsGroupWithin : ℕ → ℕ → List ℕ → Type 0
+IsGroupWithin zero number bytes = ⊥
+IsGroupWithin (suc levels) number bytes = IsGroupWith (IsGroupWithin levels) number bytes
+
+-- a group of this number
+abbrev pub IsGroup : ℕ → List ℕ → Type 0
+IsGroup number bytes = IsGroupWithin MAX_GROUPS number bytes
+
+-- ---- fields that are no groups
+
+abbrev pub NoGroup : ℕ → List ℕ → Type 0
+NoGroup number bytes = ⊥
+
+-- a body of this wire type that is no group, with its length spelled in its stored width
+abbrev pub IsFlatBody : ℕ → Body → Type 0
+IsFlatBody kind body = IsWholeBodyWith NoGroup kind 0 body

@@ -1,0 +1,12 @@
+pub mod Held
+pub mod Plain
+pub mod Wire
+pub mod Fills
+pub mod Shape
+pub mod Groups
+pub mod Opens
+pub mod BodyShape
+pub mod Lending
+pub mod Stands
+pub mod Parts
+pub mod Settle

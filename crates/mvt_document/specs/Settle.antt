@@ -1,0 +1,70 @@
+-- A document with each stored width raised to the width that its length is written in.
+use Rattle.std.specs.Prelude.{ℕ, ◌^◌, ◌<◌, max, List, length, map}
+use Rattle.std.specs.List.{flat_map, AllByRecursion}
+use Rattle.mvt_document.specs.Plain.{Body, Spelled, Eight, Four, Delimited, Group, Field, Feature, LayerItem, OfFeature, PlainInLayer, Layer, TileItem, OfLayer, PlainInTile, Document}
+use Rattle.mvt_document.specs.Wire.{minimal_width, field_bytes, layer_item_bytes}
+
+-- the width in which the length of these bytes is written
+abbrev pub written_width : ℕ → List ℕ → ℕ
+written_width width bytes = max width (minimal_width (length bytes))
+
+abbrev pub settle_body : Body → Body
+settle_body (Spelled number) = Spelled number
+settle_body (Eight bytes) = Eight bytes
+settle_body (Four bytes) = Four bytes
+settle_body (Delimited width bytes) = Delimited (written_width width bytes) bytes
+settle_body (Group bytes) = Group bytes
+
+abbrev pub settle_field : Field → Field
+settle_field f = record { tag = f.tag; body = settle_body f.body }
+
+abbrev pub settle_feature : Feature → Feature
+settle_feature f = record { tag = f.tag; width = written_width f.width (flat_map field_bytes f.fields); fields = map settle_field f.fields }
+
+abbrev pub settle_layer_item : LayerItem → LayerItem
+settle_layer_item (OfFeature feature) = OfFeature (settle_feature feature)
+settle_layer_item (PlainInLayer field) = PlainInLayer (settle_field field)
+
+abbrev pub settle_layer : Layer → Layer
+settle_layer l = record { tag = l.tag; width = written_width l.width (flat_map layer_item_bytes l.items); items = map settle_layer_item l.items }
+
+abbrev pub settle_tile_item : TileItem → TileItem
+settle_tile_item (OfLayer layer) = OfLayer (settle_layer layer)
+settle_tile_item (PlainInTile field) = PlainInTile (settle_field field)
+
+abbrev pub settle : Document → Document
+settle document = map settle_tile_item document
+
+-- ---- each length is a number of 64 bits
+
+abbrev pub IsShort : List ℕ → Type 0
+IsShort bytes = length bytes < 2 ^ 64
+
+abbrev pub IsShortBody : Body → Type 0
+IsShortBody (Spelled number) = Unit {0}
+IsShortBody (Eight bytes) = Unit {0}
+IsShortBody (Four bytes) = Unit {0}
+IsShortBody (Delimited width bytes) = IsShort bytes
+IsShortBody (Group bytes) = Unit {0}
+
+abbrev pub IsShortField : Field → Type 0
+IsShortField f = IsShortBody f.body
+
+pub record IsShortFeature (f : Feature) : Type 0 where
+  pub own : IsShort (flat_map field_bytes f.fields)
+  pub fields : AllByRecursion IsShortField f.fields
+
+abbrev pub IsShortLayerItem : LayerItem → Type 0
+IsShortLayerItem (OfFeature feature) = IsShortFeature feature
+IsShortLayerItem (PlainInLayer field) = IsShortField field
+
+pub record IsShortLayer (l : Layer) : Type 0 where
+  pub own : IsShort (flat_map layer_item_bytes l.items)
+  pub items : AllByRecursion IsShortLayerItem l.items
+
+abbrev pub IsShortTileItem : TileItem → Type 0
+IsShortTileItem (OfLayer layer) = IsShortLayer layer
+IsShortTileItem (PlainInTile field) = IsShortField field
+
+abbrev pub HasShortLengths : Document → Type 0
+HasShortLengths document = AllByRecursion IsShortTileItem document

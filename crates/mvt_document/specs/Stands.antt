@@ -1,0 +1,44 @@
+-- Which plain value a value of the program stands for.
+use Rattle.std.specs.Prelude.{map}
+use Rattle.mvt_document.specs.Plain as plain
+use Rattle.mvt_document.specs.declared.varint.Varint.{Varint}
+use Rattle.mvt_document.specs.declared.body.Body.{Body}
+use Rattle.mvt_document.specs.declared.body.Body.TheVariants.{Number, Eight, Four, Bytes, Group}
+use Rattle.mvt_document.specs.declared.document.Field.{Field}
+use Rattle.mvt_document.specs.declared.document.Feature.{Feature}
+use Rattle.mvt_document.specs.declared.document.LayerItem.{LayerItem}
+use Rattle.mvt_document.specs.declared.document.LayerItem.TheVariants as in_layer
+use Rattle.mvt_document.specs.declared.document.Layer.{Layer}
+use Rattle.mvt_document.specs.declared.document.TileItem.{TileItem}
+use Rattle.mvt_document.specs.declared.document.TileItem.TheVariants as in_tile
+use Rattle.mvt_document.specs.declared.document.Document.{Document}
+
+abbrev pub number_of : Varint → plain.Number
+number_of n = record { value = n.value; width = n.width }
+
+abbrev pub body_of : Body → plain.Body
+body_of (Number number) = plain.Spelled (number_of number)
+body_of (Eight bytes) = plain.Eight bytes
+body_of (Four bytes) = plain.Four bytes
+body_of (Bytes width bytes) = plain.Delimited width bytes.items
+body_of (Group bytes) = plain.Group bytes.items
+
+abbrev pub field_of : Field → plain.Field
+field_of f = record { tag = number_of f.tag; body = body_of f.body }
+
+abbrev pub feature_of : Feature → plain.Feature
+feature_of f = record { tag = number_of f.tag; width = f.width; fields = map field_of f.fields.items }
+
+abbrev pub layer_item_of : LayerItem → plain.LayerItem
+layer_item_of (in_layer.Feature feature) = plain.OfFeature (feature_of feature)
+layer_item_of (in_layer.Plain field) = plain.PlainInLayer (field_of field)
+
+abbrev pub layer_of : Layer → plain.Layer
+layer_of l = record { tag = number_of l.tag; width = l.width; items = map layer_item_of l.items.items }
+
+abbrev pub tile_item_of : TileItem → plain.TileItem
+tile_item_of (in_tile.Layer layer) = plain.OfLayer (layer_of layer)
+tile_item_of (in_tile.Plain field) = plain.PlainInTile (field_of field)
+
+abbrev pub document_of : Document → plain.Document
+document_of d = map tile_item_of d.items.items

@@ -1,0 +1,57 @@
+//! The messages of a tile, with all that is needed to write each byte again.
+
+ghost use Rattle.std.specs.Prelude.{◌≡◌, ◌/◌};
+ghost use Rattle.mvt_document.specs.Shape.{IsTag, IsWidth};
+ghost use Rattle.mvt_document.specs.BodyShape.{wire_type_of, stored_width_of, EndsGroup};
+
+use crate::body::Body;
+use crate::items::Items;
+use crate::varint::Varint;
+
+/// A tag and its body.
+#[derive(Debug, Drop)]
+pub struct Field {
+    pub tag: Varint,
+    pub body: Body,
+    pub ghost is_tag: { IsTag tag.value (wire_type_of body) },
+    pub ghost is_width: { IsWidth (stored_width_of body) },
+    pub ghost is_group: { ∥ EndsGroup (tag.value / 8) body ∥₁ },
+}
+
+/// A feature of a layer. The width is the least in which its length is spelled.
+#[derive(Debug, Drop)]
+pub struct Feature {
+    pub tag: Varint,
+    pub width: u8,
+    pub fields: Items<Field>,
+    pub ghost is_feature: { tag.value ≡ 18 },
+    pub ghost is_width: { IsWidth width },
+}
+
+#[derive(Debug, Drop)]
+pub enum LayerItem {
+    Feature(Feature),
+    Plain(Field),
+}
+
+/// A layer of the tile. The width is the least in which its length is spelled.
+#[derive(Debug, Drop)]
+pub struct Layer {
+    pub tag: Varint,
+    pub width: u8,
+    pub items: Items<LayerItem>,
+    pub ghost is_layer: { tag.value ≡ 26 },
+    pub ghost is_width: { IsWidth width },
+}
+
+#[derive(Debug, Drop)]
+pub enum TileItem {
+    Layer(Layer),
+    Plain(Field),
+}
+
+/// A whole tile.
+#[derive(Debug, Drop)]
+pub struct Document {
+    pub items: Items<TileItem>,
+}

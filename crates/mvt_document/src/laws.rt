@@ -1,0 +1,25 @@
+//! Laws of documents and their bytes. Each is the contract of a function that does nothing.
+
+ghost use Rattle.std.specs.Prelude.{◌≡◌, ◌≤◌, length};
+ghost use Rattle.mvt_document.specs.declared.TheConstants.{MAX_FILE};
+ghost use Rattle.mvt_document.specs.Plain.{Document as PlainDocument};
+ghost use Rattle.mvt_document.specs.Wire.{bytes_of};
+ghost use Rattle.mvt_document.specs.Opens.{IsDocument, IsSettled, OpensAs};
+ghost use Rattle.mvt_document.specs.Settle.{settle, HasShortLengths};
+
+/// Settled documents with the same bytes are equal, so a file opens as one document at most.
+pub fn one_document()
+    ensures { (d e : PlainDocument) → IsSettled d → IsSettled e → bytes_of d ≡ bytes_of e → d ≡ e }
+{}
+
+/// A document whose stored widths are raised to the written ones is settled, and its bytes stay.
+pub fn settles()
+    ensures settled { (d : PlainDocument) → IsDocument d → HasShortLengths d → IsSettled (settle d) }
+    ensures bytes { (d : PlainDocument) → bytes_of (settle d) ≡ bytes_of d }
+{}
+
+/// A settled document stays as it is. What is written of a document opens as the settled one.
+pub fn opens_again()
+    ensures kept { (d : PlainDocument) → IsSettled d → settle d ≡ d }
+    ensures opens { (d : PlainDocument) → IsDocument d → length (bytes_of d) ≤ MAX_FILE → OpensAs (bytes_of d) (settle d) }
+{}

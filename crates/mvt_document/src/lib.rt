@@ -1,0 +1,20 @@
+//! A vector tile as a document: the types, their numbers, and the laws of a document's bytes.
+#![tactic(auto)]
+
+mod body;
+mod document;
+mod items;
+pub mod laws;
+pub mod tags;
+mod varint;
+
+pub use body::Body;
+pub use document::{Document, Feature, Field, Layer, LayerItem, TileItem};
+pub use items::Items;
+pub use varint::{Varint, least_width, put_number, read_varint};
+
+/// The longest tile in bytes.
+pub const MAX_FILE: usize = 67_108_864;
+
+/// How many groups may be open at one place.
+pub const MAX_GROUPS: usize = 100;

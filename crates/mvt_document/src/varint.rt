@@ -1,0 +1,106 @@
+//! Numbers in base 128.
+
+ghost use Rattle.std.specs.Prelude.{◌≡◌, ℕ, ◌*◌, ◌^◌, ◌<◌, ◌≤◌, ◌++◌, List, length, take, IfSome, IfNone, nat_lt, position};
+ghost use Rattle.mvt_document.specs.Shape.{IsSpelling};
+ghost use Rattle.mvt_document.specs.Wire.{spell, minimal_width};
+ghost use Rattle.mvt_document.specs.Fills.{Fills};
+
+// Nine bytes hold 63 of a number's 64 bits.
+const TENTH_BYTE_MAX: u8 = 1;
+
+/// A number and the width of its spelling, in bytes.
+#[derive(Clone, Copy, Debug, PartialEq, Eq)]
+pub struct Varint {
+    pub value: u64,
+    pub width: u8,
+    pub ghost spelled: { IsSpelling value width },
+}
+
+impl Varint {
+    /// The number in its shortest spelling.
+    pub fn minimal(value: u64) -> Varint
+        ensures value { result.value ≡ value }
+        ensures width { result.width ≡ minimal_width value }
+        ensures enough { value < 2 ^ (7 * result.width) }
+        ensures least { (width : ℕ) → 1 ≤ width → value < 2 ^ (7 * width) → result.width ≤ width }
+    {
+        Varint {
+            value,
+            width: least_width(value),
+        }
+    }
+}
+
+/// The width of the number's shortest spelling.
+pub fn least_width(value: u64) -> u8
+    ensures width { result ≡ minimal_width value }
+    ensures some { 1 ≤ result }
+    ensures short { result ≤ 10 }
+{
+    let mut width = 1;
+    let mut rest = value;
+    while rest >= 128 {
+        rest /= 128;
+        width += 1;
+    }
+    width
+}
+
+/// The number at the front, whose spelling is as many bytes as its width. There is none where
+/// each of the first ten bytes has its top bit set, or where the number takes more than 64 bits.
+#[inline(always)]
+pub fn read_varint(bytes: &[u8]) -> Option<Varint>
+    ensures within { IfSome result (λ n. n.width ≤ length bytes.now) }
+    ensures found { IfSome result (λ n. take n.width bytes.now ≡ spell n.value n.width) }
+    ensures none { IfNone result ((value width : ℕ) (rest : List ℕ) → IsSpelling value width → bytes.now ≡ spell value width ++ rest → ⊥) }
+{
+    let (value, width) = match bytes.first() {
+        Some(&byte) if byte < 128 => (u64::from(byte), 1),
+        _ => number_at_front(bytes)?,
+    };
+    Some(Varint { value, width })
+}
+
+/// The value of that number, and its width. Most numbers are one byte wide, so this stays out of
+/// the loops that read them.
+#[inline(never)]
+fn number_at_front(bytes: &[u8]) -> Option<(u64, u8)>
+    ensures within { IfSome result (λ found. found.1 ≤ length bytes.now) }
+    ensures found { IfSome result (λ found. take found.1 bytes.now ≡ spell found.0 found.1) }
+    ensures valid { IfSome result (λ found. IsSpelling found.0 found.1) }
+    ensures none { IfNone result ((value width : ℕ) (rest : List ℕ) → IsSpelling value width → bytes.now ≡ spell value width ++ rest → ⊥) }
+{
+    let last = last_byte(bytes)?;
+    if last == 9 && bytes[9] > TENTH_BYTE_MAX {
+        return None;
+    }
+    let mut value = u64::from(bytes[last]);
+    for index in (0..last).rev() {
+        value = value * 128 + u64::from(bytes[index] - 128);
+    }
+    Some((value, last as u8 + 1))
+}
+
+/// The place of the first byte without the top bit, among the ten that a number may take.
+fn last_byte(bytes: &[u8]) -> Option<usize>
+    ensures { result ≡ position (λ byte. nat_lt byte 128) (take 10 bytes.now) }
+{
+    bytes.iter().take(10).position(|byte| *byte < 128)
+}
+
+/// Writes the number at the end of the room, in so many bytes.
+pub fn put_number(value: u64, width: u8, room: &mut [u8]) -> usize
+    requires some { 1 ≤ width }
+    requires fits { width ≤ length room.old }
+    ensures { Fills room.old room.new (spell value width) result }
+{
+    let start = room.len() - usize::from(width);
+    let last = room.len() - 1;
+    let mut rest = value;
+    for index in start..last {
+        room[index] = (rest % 128) as u8 + 128;
+        rest /= 128;
+    }
+    room[last] = (rest % 128) as u8;
+    start
+}

@@ -1,0 +1,85 @@
+-- What stands at the front of bytes: a number, a body, a field.
+use Rattle.std.proofs.Common.{◌≡◌, ℕ, ◌+◌, ◌-◌, ◌<◌, ◌≤◌, List, ◌++◌, length, take, drop, refl, sym, ap, ◌∙◌, subst, arith}
+use Rattle.std.proofs.lemmas.List.{length-append, length-take-le, take-append-drop, take_rest}
+use Rattle.std.proofs.Math.Seq.{take-add}
+use Rattle.mvt_document.specs.Plain.{Body, Spelled, Eight, Four, Delimited, Group, Field}
+use Rattle.mvt_document.specs.Shape.{IsSpelling}
+use Rattle.mvt_document.specs.Wire.{spell, body_bytes, field_bytes}
+use Rattle.mvt_document.specs.Groups.{StoresField, IsFlatBody, IsGroup}
+use Rattle.mvt_document.specs.Opens.{IsField}
+use Rattle.mvt_document.specs.Parts.{IsWholeBody}
+use Rattle.mvt_document.proofs.Spelling.{one_spelling, spelling_some}
+use Rattle.mvt_document.proofs.Prefixes.{delimited-bytes, field-bytes, stored_width, whole_body}
+
+-- the bytes from a place on, as the program cuts them
+abbrev pub from : ℕ → List ℕ → List ℕ
+from place bytes = take (length bytes - place) (drop place bytes)
+
+-- a number is spelled at the front
+pub record IsNumberAt (value width : ℕ) (bytes : List ℕ) : Type 0 where
+  pub within : width ≤ length bytes
+  pub spelled : take width bytes ≡ spell value width
+  pub valid : IsSpelling value width
+
+pub number_then : (v w : ℕ) (bytes : List ℕ) → IsNumberAt v w bytes → bytes ≡ spell v w ++ from w bytes
+number_then v w bytes s =
+    sym (take-append-drop w bytes) ∙ ap (λ (x : List ℕ). x ++ drop w bytes) s.spelled ∙ ap (λ (x : List ℕ). spell v w ++ x) (sym (take_rest bytes w))
+
+-- the one number at the front, and what follows it
+pub one_front : (v w v' w' : ℕ) (bytes rest : List ℕ) → IsNumberAt v w bytes → IsSpelling v' w' → bytes ≡ spell v' w' ++ rest → (v' ≡ v) × (rest ≡ from w bytes)
+one_front v w v' w' bytes rest s t e =
+    let r = one_spelling v' w' v w rest (from w bytes) t s.valid (sym e ∙ number_then v w bytes s) in
+    (r.0, r.2)
+
+-- ---- a body of bytes
+
+pub content_taken : (n w : ℕ) (bytes : List ℕ) → IsNumberAt n w bytes → n ≤ length (from w bytes) → take (w + length (take n (from w bytes))) bytes ≡ body_bytes (Delimited w (take n (from w bytes)))
+content_taken n w bytes s enough =
+    let l : length (take n (from w bytes)) ≡ n = length-take-le n (from w bytes) enough in
+    let t : IsSpelling (length (take n (from w bytes))) w = subst (λ (k : ℕ). IsSpelling k w) (sym l) s.valid in
+    let fronts : take w bytes ≡ spell (length (take n (from w bytes))) w = s.spelled ∙ ap (λ (k : ℕ). spell k w) (sym l) in
+    let contents : take (length (take n (from w bytes))) (drop w bytes) ≡ take n (from w bytes) =
+    ap (λ (k : ℕ). take k (drop w bytes)) l ∙ ap (take n) (sym (take_rest bytes w)) in
+    take-add w (length (take n (from w bytes))) bytes
+    ∙ ap (λ (x : List ℕ). x ++ take (length (take n (from w bytes))) (drop w bytes)) fronts
+    ∙ ap (λ (x : List ℕ). spell (length (take n (from w bytes))) w ++ x) contents
+    ∙ ap (λ (k : ℕ). spell (length (take n (from w bytes))) k ++ take n (from w bytes)) (sym (stored_width (length (take n (from w bytes))) w t))
+
+pub content_whole : (n w : ℕ) (bytes : List ℕ) → IsNumberAt n w bytes → n ≤ length (from w bytes) → IsFlatBody 2 (Delimited w (take n (from w bytes)))
+content_whole n w bytes s enough =
+    let l : length (take n (from w bytes)) ≡ n = length-take-le n (from w bytes) enough in
+    let some : 1 ≤ w = spelling_some n w s.valid in
+    record {
+      typed = refl;
+      valid = record { some = some; short = s.valid.short };
+      stored = subst (λ (k : ℕ). IsSpelling k w) (sym l) s.valid;
+    }
+
+-- no body of bytes stands at the front where its length is more than what is left
+pub content_cut : (n w : ℕ) (bytes : List ℕ) → IsNumberAt n w bytes → length (from w bytes) < n → (body : Body) (rest : List ℕ) → IsFlatBody 2 body → bytes ≡ body_bytes body ++ rest → ⊥
+content_cut n w bytes s short (Delimited v content) rest p e =
+    let r = one_front n w (length content) v bytes (content ++ rest) s p.stored (e ∙ delimited-bytes v content rest p.stored) in
+    omega (arith, r.0, ap length r.1, length-append content rest)
+content_cut n w bytes s short (Spelled number) rest p e = omega (arith, p.typed)
+content_cut n w bytes s short (Eight eight) rest p e = omega (arith, p.typed)
+content_cut n w bytes s short (Four four) rest p e = omega (arith, p.typed)
+content_cut n w bytes s short (Group group) rest p e = omega (arith, p.typed)
+
+-- ---- a field
+
+pub field_taken : (v w size : ℕ) (body : Body) (bytes : List ℕ) → IsNumberAt v w bytes → take size (from w bytes) ≡ body_bytes body → take (w + size) bytes ≡ spell v w ++ body_bytes body
+field_taken v w size body bytes s e =
+    take-add w size bytes
+    ∙ ap (λ (x : List ℕ). x ++ take size (drop w bytes)) s.spelled
+    ∙ ap (λ (x : List ℕ). spell v w ++ x) (ap (take size) (sym (take_rest bytes w)) ∙ e)
+
+-- the tag of a field at the front is the number there
+pub tag_front : (v w : ℕ) (bytes : List ℕ) (f : Field) (rest : List ℕ) → IsNumberAt v w bytes → IsField f → bytes ≡ field_bytes f ++ rest → (f.tag.value ≡ v) × (body_bytes f.body ++ rest ≡ from w bytes)
+tag_front v w bytes f rest s p e =
+    one_front v w f.tag.value f.tag.width bytes (body_bytes f.body ++ rest) s p.number (e ∙ field-bytes f rest)
+
+pub body_front : (v w : ℕ) (bytes : List ℕ) (f : Field) (rest : List ℕ) → IsNumberAt v w bytes → IsField f → StoresField f → bytes ≡ field_bytes f ++ rest → IsWholeBody v f.body × (from w bytes ≡ body_bytes f.body ++ rest)
+body_front v w bytes f rest s p q e =
+    let r = tag_front v w bytes f rest s p e in
+    let whole : IsWholeBody f.tag.value f.body = whole_body IsGroup f (record { valid = p; stored = q }) in
+    (subst (λ (k : ℕ). IsWholeBody k f.body) r.0 whole, sym r.1)

@@ -1,0 +1,18 @@
+use Rattle.std.proofs.Common.{ap, sym, ◌∙◌, subst}
+use Rattle.mvt_document.specs.Parts.{IsWholeField}
+use Rattle.mvt_read.specs.Fronts.{body_front_of}
+use Rattle.mvt_document.specs.Stands.{number_of, field_of}
+use Rattle.mvt_document.proofs.Wholes.{fields-bytes, same_content, all_of_map, feature_whole}
+use Rattle.mvt_read.proofs.decode.LayerItemDecode.decode.Goals as goal
+
+pub returns-in_ok-decode_inside-in-Bytes-clause-made : goal.returns-in_ok-decode_inside-in-Bytes-clause-made
+returns-in_ok-decode_inside-in-Bytes-clause-made c =
+    let fields = c.in_ok-decode_inside-in-Bytes.field-0.items in
+    same_content (number_of c.args.front.tag) c.in-Bytes.width _ (body_front_of c.args.front.body) c.in-Bytes.bytes.now
+    (ap body_front_of c.in-Bytes.is) (c.in_ok-decode_inside-in-Bytes.ensures.spelled ∙ sym (fields-bytes field_of fields))
+
+pub returns-in_ok-decode_inside-in-Bytes-clause-whole : goal.returns-in_ok-decode_inside-in-Bytes-clause-whole
+returns-in_ok-decode_inside-in-Bytes-clause-whole c =
+    let fields = c.in_ok-decode_inside-in-Bytes.field-0.items in
+    feature_whole _ (subst IsWholeField (sym (returns-in_ok-decode_inside-in-Bytes-clause-made c)) c.requires) c.if-front-eq-FEATURE_TAG.true
+    (all_of_map field_of IsWholeField fields c.in_ok-decode_inside-in-Bytes.ensures.whole)

@@ -1,0 +1,17 @@
+use Rattle.mvt_read.proofs.Begins.{IsNumberAt, body_front, field_taken}
+use Rattle.mvt_read.specs.Fronts.{body_front_of}
+use Rattle.mvt_read.proofs.front.field_at_front.Goals as goal
+
+pub returns-in_err-body-clause-none : goal.returns-in_err-body-clause-none
+returns-in_err-body-clause-none c =
+    let n = c.in_ok-tag.tag in
+    let s : IsNumberAt n.value n.width c.args.bytes.now = record { within = c.in_ok-tag.ensures.within; spelled = c.in_ok-tag.ensures.found; valid = n.spelled } in
+    rw c.from_residual-in_err-body.ensures (λ f rest p q e.
+    let r = body_front n.value n.width c.args.bytes.now f rest s p q e in
+    c.in_err-body.ensures.none f.body rest r.0 (rw c.from-start.ensures r.1))
+
+pub returns-clause-spelled : goal.returns-clause-spelled
+returns-clause-spelled c =
+    let n = c.in_ok-tag.tag in
+    let s : IsNumberAt n.value n.width c.args.bytes.now = record { within = c.in_ok-tag.ensures.within; spelled = c.in_ok-tag.ensures.found; valid = n.spelled } in
+    rw c.from-start.ensures (field_taken n.value n.width c.in_ok-body.length (body_front_of c.in_ok-body.body) c.args.bytes.now s (rw c.from-start.ensures at c.in_ok-body.ensures.spelled))

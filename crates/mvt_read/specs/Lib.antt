@@ -1,0 +1,3 @@
+pub mod Open
+pub mod Fronts
+pub mod Stops

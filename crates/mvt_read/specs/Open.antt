@@ -1,0 +1,15 @@
+-- What is left of the groups that are open at a place.
+use Rattle.std.specs.Prelude.{◌≡◌, ℕ, ◌-◌, List, [], ◌∷◌, ◌++◌, length}
+use Rattle.mvt_document.specs.declared.TheConstants.{MAX_GROUPS}
+use Rattle.mvt_document.specs.Groups.{IsGroupWithin}
+
+-- the bytes are what is left of each open group of these numbers, that of the innermost first
+abbrev pub Closes : List ℕ → List ℕ → Type 0
+Closes [] bytes = bytes ≡ []
+Closes (number ∷ numbers) bytes = (left rest : List ℕ) × IsGroupWithin (MAX_GROUPS - length numbers) number left × Closes numbers rest × (bytes ≡ left ++ rest)
+
+-- Where these groups are open, they are those after the piece: what closes the latter closes, behind the
+-- piece, the former, and what closes the former and begins with the piece goes on with what closes the latter.
+pub record LeadsTo (piece old new : List ℕ) : Type 0 where
+  pub closes : (left : List ℕ) → Closes new left → Closes old (piece ++ left)
+  pub goes_on : (bytes after rest : List ℕ) → Closes old bytes → piece ++ after ≡ bytes ++ rest → (left : List ℕ) × Closes new left × (after ≡ left ++ rest)

@@ -1,0 +1,157 @@
+//! The field at the front of a message, with its bytes where they lie.
+
+ghost use Rattle.std.specs.Prelude.{◌≡◌, ℕ, ◌^◌, ◌<◌, ◌≤◌, ◌++◌, List, length, take, IfSome, IfNone, OnOk, IfOk};
+ghost use Rattle.mvt_document.specs.Plain.{Number as PlainNumber, Field as PlainField, Body as PlainBody};
+ghost use Rattle.mvt_document.specs.Wire.{spell, spelling, body_bytes, field_bytes};
+ghost use Rattle.mvt_document.specs.Groups.{IsNumber, IsFlatBody, StoresField};
+ghost use Rattle.mvt_document.specs.Opens.{IsField};
+ghost use Rattle.mvt_document.specs.Parts.{IsWholeBody};
+ghost use Rattle.mvt_document.specs.Stands.{field_of};
+ghost use Rattle.mvt_read.specs.Fronts.{front_of, body_front_of};
+
+use crate::groups::group_at_front;
+use mvt_document::tags::{I32, I64, LEN, SGROUP, VARINT};
+use mvt_document::{Body, Field, Items, Varint, read_varint};
+use std::alloc::{AllocError, Global};
+
+/// A field whose bytes lie in the message that it was read from.
+#[derive(Clone, Copy, Debug)]
+pub struct FieldRef<'a> {
+    pub tag: Varint,
+    pub body: BodyRef<'a>,
+}
+
+/// The body of such a field, by its wire type.
+#[derive(Clone, Copy, Debug)]
+pub enum BodyRef<'a> {
+    /// VARINT
+    Number(Varint),
+    /// I64
+    Eight([u8; 8]),
+    /// I32
+    Four([u8; 4]),
+    /// LEN: the bytes, and the width in which their length is spelled.
+    Bytes { width: u8, bytes: &'a [u8] },
+    /// SGROUP: all bytes up to the end of the group, its end tag among them.
+    Group(&'a [u8]),
+}
+
+/// The field at the front, and how many bytes it takes.
+#[inline(always)]
+pub fn field_at_front(bytes: &[u8]) -> Option<(FieldRef<'_>, usize)>
+    ensures within { IfSome result (λ found. found.1 ≤ length bytes.now) }
+    ensures spelled { IfSome result (λ found. take found.1 bytes.now ≡ field_bytes (front_of found.0)) }
+    ensures valid { IfSome result (λ found. IsField (front_of found.0)) }
+    ensures stored { IfSome result (λ found. StoresField (front_of found.0)) }
+    ensures none { IfNone result ((field : PlainField) (rest : List ℕ) → IsField field → StoresField field → bytes.now ≡ field_bytes field ++ rest → ⊥) }
+{
+    let tag = read_tag(bytes)?;
+    let start = usize::from(tag.width);
+    let (body, length) = body_at_front(tag.value, &bytes[start..])?;
+    Some((FieldRef { tag, body }, start + length))
+}
+
+/// The tag at the front: a number of at most 32 bits, with a field number of at least 1.
+#[inline(always)]
+pub(crate) fn read_tag(bytes: &[u8]) -> Option<Varint>
+    ensures within { IfSome result (λ tag. tag.width ≤ length bytes.now) }
+    ensures found { IfSome result (λ tag. take tag.width bytes.now ≡ spell tag.value tag.width) }
+    ensures low { IfSome result (λ tag. 8 ≤ tag.value) }
+    ensures high { IfSome result (λ tag. tag.value < 2 ^ 32) }
+    ensures none { IfNone result ((tag : PlainNumber) (rest : List ℕ) → IsNumber tag → 8 ≤ tag.value → tag.value < 2 ^ 32 → bytes.now ≡ spelling tag ++ rest → ⊥) }
+{
+    let tag = read_varint(bytes)?;
+    if tag.value < 8 || tag.value > 0xffff_ffff {
+        return None;
+    }
+    Some(tag)
+}
+
+/// The body behind a tag of this value, and how many bytes it takes.
+#[inline(always)]
+fn body_at_front(tag: u64, bytes: &[u8]) -> Option<(BodyRef<'_>, usize)>
+    requires { tag < 2 ^ 32 }
+    ensures within { IfSome result (λ found. found.1 ≤ length bytes.now) }
+    ensures spelled { IfSome result (λ found. take found.1 bytes.now ≡ body_bytes (body_front_of found.0)) }
+    ensures whole { IfSome result (λ found. IsWholeBody tag (body_front_of found.0)) }
+    ensures none { IfNone result ((body : PlainBody) (rest : List ℕ) → IsWholeBody tag body → bytes.now ≡ body_bytes body ++ rest → ⊥) }
+{
+    match tag % 8 {
+        SGROUP => {
+            let length = group_at_front((tag / 8) as u32, bytes)?;
+            Some((BodyRef::Group(&bytes[..length]), length))
+        }
+        wire_type => flat_body_at_front(wire_type, bytes),
+    }
+}
+
+/// The body of this wire type at the front, where it is no group, and how many bytes it takes.
+#[inline(always)]
+pub(crate) fn flat_body_at_front(wire_type: u64, bytes: &[u8]) -> Option<(BodyRef<'_>, usize)>
+    ensures within { IfSome result (λ found. found.1 ≤ length bytes.now) }
+    ensures spelled { IfSome result (λ found. take found.1 bytes.now ≡ body_bytes (body_front_of found.0)) }
+    ensures whole { IfSome result (λ found. IsFlatBody wire_type (body_front_of found.0)) }
+    ensures none { IfNone result ((body : PlainBody) (rest : List ℕ) → IsFlatBody wire_type body → bytes.now ≡ body_bytes body ++ rest → ⊥) }
+{
+    match wire_type {
+        VARINT => {
+            let number = read_varint(bytes)?;
+            Some((BodyRef::Number(number), usize::from(number.width)))
+        }
+        I64 => {
+            let eight = bytes.first_chunk::<8>()?;
+            Some((BodyRef::Eight(*eight), 8))
+        }
+        LEN => delimited_at_front(bytes),
+        I32 => {
+            let four = bytes.first_chunk::<4>()?;
+            Some((BodyRef::Four(*four), 4))
+        }
+        _ => None,
+    }
+}
+
+/// A length and that many bytes at the front, and how many bytes both take.
+#[inline(always)]
+fn delimited_at_front(bytes: &[u8]) -> Option<(BodyRef<'_>, usize)>
+    ensures within { IfSome result (λ found. found.1 ≤ length bytes.now) }
+    ensures spelled { IfSome result (λ found. take found.1 bytes.now ≡ body_bytes (body_front_of found.0)) }
+    ensures whole { IfSome result (λ found. IsFlatBody 2 (body_front_of found.0)) }
+    ensures none { IfNone result ((body : PlainBody) (rest : List ℕ) → IsFlatBody 2 body → bytes.now ≡ body_bytes body ++ rest → ⊥) }
+{
+    let length = read_varint(bytes)?;
+    let start = usize::from(length.width);
+    let rest = &bytes[start..];
+    if length.value > rest.len() as u64 {
+        return None;
+    }
+    let content = &rest[..length.value as usize];
+    let body = BodyRef::Bytes {
+        width: length.width,
+        bytes: content,
+    };
+    Some((body, start + content.len()))
+}
+
+impl FieldRef<'_> {
+    /// The same field with bytes of its own.
+    pub(crate) fn to_field(self, alloc: Global) -> Result<Field, AllocError>
+        requires { IsField (front_of self) }
+        ensures { IfOk result (λ field. field_of field ≡ front_of self.entry) }
+    {
+        let body = match self.body {
+            BodyRef::Number(number) => Body::Number(number),
+            BodyRef::Eight(bytes) => Body::Eight(bytes),
+            BodyRef::Four(bytes) => Body::Four(bytes),
+            BodyRef::Bytes { width, bytes } => Body::Bytes {
+                width,
+                bytes: Items::from_vec(Vec::from_slice(alloc, bytes)?),
+            },
+            BodyRef::Group(bytes) => Body::Group(Items::from_vec(Vec::from_slice(alloc, bytes)?)),
+        };
+        Ok(Field {
+            tag: self.tag,
+            body,
+        })
+    }
+}

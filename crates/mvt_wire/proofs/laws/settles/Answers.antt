@@ -1,8 +1,0 @@
-use Rattle.mvt_wire.proofs.Settling.{settle_settles, bytes_of-settle}
-use Rattle.mvt_wire.proofs.laws.settles.Goals as goal
-
-pub returns-clause-settled : goal.returns-clause-settled
-returns-clause-settled c = settle_settles
-
-pub returns-clause-bytes : goal.returns-clause-bytes
-returns-clause-bytes c = bytes_of-settle

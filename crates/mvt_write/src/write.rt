@@ -1,0 +1,34 @@
+//! The size of a document and its bytes.
+
+ghost use Rattle.std.specs.Prelude.{◌≡◌, ◌≤◌, ◌<◌, ◌↔◌, length, IfOk, IsErrOf};
+ghost use Rattle.std.specs.Option.{SomeIff};
+ghost use Rattle.mvt_document.specs.declared.TheConstants.{MAX_FILE};
+ghost use Rattle.mvt_document.specs.Wire.{bytes_of};
+ghost use Rattle.mvt_document.specs.Stands.{document_of};
+
+use crate::encode::{put_all, size_of_all};
+use crate::faults::WriteError;
+use mvt_document::Document;
+use std::alloc::Global;
+
+/// How many bytes the document takes, where a tile may have so many.
+pub fn size(document: &Document) -> Option<u64>
+    ensures { SomeIff result (length (bytes_of (document_of document.now)) ≤ MAX_FILE) (length (bytes_of (document_of document.now))) }
+{
+    let size = size_of_all(document.items.as_slice())?;
+    Some(size as u64)
+}
+
+/// The bytes of the document.
+pub fn write_document(alloc: Global, document: &Document) -> Result<Vec<u8>, WriteError>
+    ensures bytes { IfOk result (λ file. file.items ≡ bytes_of (document_of document.now)) }
+    ensures too_large { IsErrOf result WriteError.TooLarge ↔ (MAX_FILE < length (bytes_of (document_of document.now))) }
+{
+    let items = document.items.as_slice();
+    let Some(size) = size_of_all(items) else {
+        return Err(WriteError::TooLarge);
+    };
+    let mut file = vec![in alloc; 0; size]?;
+    put_all(items, &mut file);
+    Ok(file)
+}
