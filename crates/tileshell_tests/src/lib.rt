@@ -8,6 +8,8 @@ mod devices;
 #[cfg(test)]
 mod drip;
 #[cfg(test)]
+mod groups;
+#[cfg(test)]
 mod limits;
 #[cfg(test)]
 mod memory;

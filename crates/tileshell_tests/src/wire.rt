@@ -3,8 +3,8 @@
 use crate::memory::{Wanted, assert_runs, edited, joined};
 use crate::tiles::{BEHIND_NAME, T0};
 use mvt_wire::{
-    Body, BodyRef, Document, Field, Items, MAX_FILE, ReadError, TileItem, Varint, WriteError,
-    field_at_front, read_document, read_varint, size, write_document,
+    Body, BodyRef, Field, Items, ReadError, TileItem, Varint, WriteError, field_at_front,
+    read_document, read_varint, size, write_document,
 };
 use std::alloc::{AllocError, Global};
 use std::test::Fail;
@@ -125,16 +125,35 @@ fn a_cut_tile_is_refused_at_its_last_whole_item(rt: HostRuntime) -> Result<(), F
     Ok(())
 }
 
-/// `T0`, and a field of zeros that fills a file up to the limit.
-fn full_file(alloc: Global) -> Result<Vec<u8>, AllocError> {
-    let mut file = joined(alloc, &[&T0, b"\x82\x01\xda\xff\xff\x07".as_slice()])?;
-    file.resize(MAX_FILE, 0)?;
+/// `T0`, and a field of zeros that fills a file up to so many bytes.
+fn filled(alloc: Global, length: &[u8], end: usize) -> Result<Vec<u8>, AllocError> {
+    let mut file = joined(alloc, &[&T0, b"\x82\x01", length])?;
+    file.resize(end, 0)?;
     Ok(file)
 }
 
 #[test]
+fn a_file_of_sixteen_mebibytes_takes_a_longer_name(rt: HostRuntime) -> Result<(), Fail> {
+    let mut file = filled(rt.alloc(), b"\xda\xff\xff\x07", 16_777_216)?;
+    let renames = b"rename-layer #0 \"bb\"\nrename-layer #0 \"b\"\n";
+    let ran = edited(rt.alloc(), &file, renames, false);
+    assert_eq!(rt; ran.outcome, Outcome::Done);
+    assert_eq!(rt; ran.replies.as_slice(), b"ok\nok\n".as_slice());
+    assert_eq!(rt; ran.tile.len(), 16_777_216);
+    assert!(rt; ran.tile.as_slice().starts_with(b"\x1a\x1e\x0a\x01b"));
+    assert!(rt; ran.tile[5..] == file[5..]);
+    file.push(0)?;
+    let refused = edited(rt.alloc(), &file, b"", false);
+    assert_eq!(rt;
+        refused.outcome,
+        Outcome::TileRefused(TileFault::BadWire { place: 16_777_216 })
+    );
+    Ok(())
+}
+
+#[test]
 fn a_full_file_takes_no_longer_name(rt: HostRuntime) -> Result<(), Fail> {
-    let mut file = full_file(rt.alloc())?;
+    let file = filled(rt.alloc(), b"\xda\xff\xff\x1f", 67_108_864)?;
     let ran = edited(
         rt.alloc(),
         &file,
@@ -146,13 +165,20 @@ fn a_full_file_takes_no_longer_name(rt: HostRuntime) -> Result<(), Fail> {
         ran.replies.as_slice(),
         b"line 1 refused 43 TooLarge\nok\n".as_slice()
     );
-    assert_eq!(rt; ran.tile.len(), MAX_FILE);
+    assert_eq!(rt; ran.tile.len(), 67_108_864);
     assert!(rt; ran.tile.as_slice().starts_with(b"\x1a\x1e\x0a\x01b"));
     assert_eq!(rt; &ran.tile[5..32], BEHIND_NAME.as_slice());
-    file.push(0)?;
-    let refused = edited(rt.alloc(), &file, b"", false);
+    Ok(())
+}
+
+#[test]
+fn a_file_past_the_limit_is_too_large(rt: HostRuntime) -> Result<(), Fail> {
+    let file = vec![in rt.alloc(); 0u8; 67_108_865]?;
+    let refused = read_document(rt.alloc(), &file).err();
+    assert_eq!(rt; refused, Some(ReadError::FileTooLarge));
+    let ran = edited(rt.alloc(), &file, b"", false);
     assert_eq!(rt;
-        refused.outcome,
+        ran.outcome,
         Outcome::TileRefused(TileFault::FileTooLarge)
     );
     Ok(())
@@ -160,19 +186,16 @@ fn a_full_file_takes_no_longer_name(rt: HostRuntime) -> Result<(), Fail> {
 
 #[test]
 fn a_document_past_the_limit_is_not_written(rt: HostRuntime) -> Result<(), Fail> {
-    let bytes = vec![in rt.alloc(); 0u8; MAX_FILE + 1]?;
+    let bytes = vec![in rt.alloc(); 0u8; 67_108_827]?;
     let field = Field {
         tag: Varint::minimal(130),
         body: Body::Bytes {
-            width: 1,
+            width: 4,
             bytes: Items::from_vec(bytes),
         },
     };
-    let mut items = Vec::new(rt.alloc());
-    items.push(TileItem::Plain(field))?;
-    let document = Document {
-        items: Items::from_vec(items),
-    };
+    let mut document = read_document(rt.alloc(), &T0)?;
+    document.items.push(TileItem::Plain(field))?;
     assert_eq!(rt; size(&document), None);
     assert_eq!(rt;
         write_document(rt.alloc(), &document).err(),
