@@ -8,7 +8,7 @@ use Rattle.mvt_wire.specs.Plain.{Document}
 use Rattle.mvt_command.specs.Command.{Command}
 use Rattle.tile_script.specs.Request.{Request, Edit, Undo}
 use Rattle.tile_script.specs.Line.{answer_to}
-use Rattle.tile_script.specs.Lines.{is_line_feed, lines_of, HasNoLineFeed}
+use Rattle.tile_lines.specs.Lines.{is_line_feed, lines_of, HasNoLineFeed}
 use Rattle.mvt_edit.specs.Meaning.{applied}
 use Rattle.tile_run.specs.History.{History, present_document, edited, carried_out}
 use Rattle.tile_run.specs.Replies.{accepted_reply, refused_reply, refusal_number, refusal_name, want_of_memory, HasNoWant}

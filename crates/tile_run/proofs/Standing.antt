@@ -6,7 +6,7 @@ use Rattle.mvt_command.specs.Command.{Command}
 use Rattle.tile_script.specs.Request.{Request, Edit, Undo}
 use Rattle.mvt_edit.specs.Meaning.{applied}
 use Rattle.tile_script.specs.Line.{answer_to}
-use Rattle.tile_script.specs.Lines.{lines_of}
+use Rattle.tile_lines.specs.Lines.{lines_of}
 use Rattle.tile_run.specs.History.{History, IsSound, begun, after_all, present_document, with_command, undone, edited, carried_out}
 use Rattle.tile_run.specs.Run.{Progress, at_first, ran, settled_by, answered_by, after_line, is_over, after_lines}
 use Rattle.tile_run.specs.RunLaws.{Makes, IsHistoryOf, StandingCommands}

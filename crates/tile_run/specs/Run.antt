@@ -4,7 +4,7 @@ use Rattle.mvt_wire.specs.Plain.{Document}
 use Rattle.mvt_wire.specs.Wire.{bytes_of}
 use Rattle.tile_script.specs.Request.{Request}
 use Rattle.tile_script.specs.Line.{answer_to, TakesMemory}
-use Rattle.tile_script.specs.Lines.{lines_of}
+use Rattle.tile_lines.specs.Lines.{lines_of}
 use Rattle.tile_run.specs.History.{History, begun, present_document, carried_out}
 use Rattle.tile_run.specs.Replies.{accepted_reply, refused_reply}
 use Rattle.tile_run.specs.declared.outcome.Options.{Options}

@@ -4,8 +4,8 @@ use Rattle.mvt_wire.specs.declared.document.Document.{Document}
 use Rattle.mvt_wire.specs.Stands.{document_of}
 use Rattle.tile_device.specs.Seen.{Seen, Intake, Output, IsFront, Receives, Supplies, nothing_read, written}
 use Rattle.tile_device.specs.declared.device.Trouble.TheVariants.{Interrupted}
-use Rattle.tile_script.specs.Cutting.{Holding, after_pushes, nothing_held}
-use Rattle.tile_script.specs.Lines.{whole_lines}
+use Rattle.tile_lines.specs.Cutting.{Holding, after_pushes, nothing_held}
+use Rattle.tile_lines.specs.Lines.{whole_lines}
 use Rattle.tile_run.specs.declared.editor.Editor.{Editor}
 use Rattle.tile_run.specs.declared.outcome.LineStop.{LineStop}
 use Rattle.tile_run.specs.declared.outcome.LineStop.TheVariants as line_stops

@@ -5,7 +5,7 @@ use Rattle.std.specs.declared.vec.Vec.{Vec}
 use Rattle.std.specs.declared.alloc.Global.{Global}
 use Rattle.mvt_wire.specs.Opens.{OpensAs}
 use Rattle.mvt_wire.specs.Plain.{Document}
-use Rattle.tile_script.specs.Lines.{whole_lines}
+use Rattle.tile_lines.specs.Lines.{whole_lines}
 use Rattle.tile_run.specs.Course.{OpensAsNothing, IsFaultOf}
 use Rattle.tile_run.specs.Headline.{outcome_of}
 use Rattle.tile_run.specs.Replies.{HasNoWant}

@@ -10,6 +10,7 @@ pub use mvt_edit::{Command, LayerChoice, Refusal, laws as edit_laws};
 pub use mvt_wire::laws as wire_laws;
 pub use program::shell;
 pub use tile_device::{FromRead, FromWrite, Retries, Sink, Source, Trouble};
+pub use tile_lines::laws as line_laws;
 pub use tile_run::{
     DeviceName, MAX_RETRIES, MAX_SCRIPT, Options, Outcome, Refused, TileFault, laws, run,
 };

@@ -1,8 +1,8 @@
 -- Cutting a script into its lines, byte by byte.
 use Rattle.std.specs.Prelude.{ℕ, Bool, true, false, List, [], ◌∷◌, ◌++◌, length, Option, Some, None, nat_lt, if◌then◌else◌}
 use Rattle.std.specs.List.{fold, cons_option}
-use Rattle.tile_script.specs.Lines.{is_line_feed}
-use Rattle.tile_script.specs.declared.TheConstants.{LINE_LIMIT}
+use Rattle.tile_lines.specs.Lines.{is_line_feed}
+use Rattle.tile_lines.specs.declared.TheConstants.{LINE_LIMIT}
 
 -- a line that was cut from a script, or one that has more bytes than a line may have
 pub data Cut : Type 0 where

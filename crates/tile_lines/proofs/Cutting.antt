@@ -5,11 +5,11 @@ use Rattle.std.specs.Option.{option_to_list}
 use Rattle.std.proofs.lemmas.Bool.{cases_Bool, ltb-true, lt-ltb}
 use Rattle.std.proofs.lemmas.List.{append-nil, map-append, map_push}
 use Rattle.std.proofs.lemmas.List.Sums.{fold_push}
-use Rattle.tile_script.specs.Lines.{is_line_feed, last_line, whole_lines, lines_of}
-use Rattle.tile_script.specs.Cutting.{Cut, Whole, TooLong, cut_of, Holding, nothing_held, line_to_join, joined, pushed, complete_line, some_bytes, rest_of, after_pushes, cuts}
-use Rattle.tile_script.specs.declared.TheConstants.{LINE_LIMIT}
-use Rattle.tile_script.proofs.WholeLines.{open_line, whole_lines-line_feed, whole_lines-other, open_line-line_feed, open_line-other, lines_of-open}
-pub use Rattle.tile_script.proofs.WholeLines.{whole_lines-front, lines-front}
+use Rattle.tile_lines.specs.Lines.{is_line_feed, last_line, whole_lines, lines_of}
+use Rattle.tile_lines.specs.Cutting.{Cut, Whole, TooLong, cut_of, Holding, nothing_held, line_to_join, joined, pushed, complete_line, some_bytes, rest_of, after_pushes, cuts}
+use Rattle.tile_lines.specs.declared.TheConstants.{LINE_LIMIT}
+use Rattle.tile_lines.proofs.WholeLines.{open_line, whole_lines-line_feed, whole_lines-other, open_line-line_feed, open_line-other, lines_of-open}
+pub use Rattle.tile_lines.proofs.WholeLines.{whole_lines-front, lines-front}
 
 pub after_pushes-snoc : (held : Holding) (bytes : List ℕ) (byte : ℕ) → after_pushes held (bytes ++ byte ∷ []) ≡ pushed (after_pushes held bytes) byte
 after_pushes-snoc held bytes byte = fold_push pushed held bytes byte

@@ -1,5 +1,5 @@
-use Rattle.tile_script.proofs.LineLaws.{lines_found, lines_only}
-use Rattle.tile_script.proofs.laws.lines_make_up_the_script.Goals as goal
+use Rattle.tile_lines.proofs.LineLaws.{lines_found, lines_only}
+use Rattle.tile_lines.proofs.laws.lines_make_up_the_script.Goals as goal
 
 pub returns-clause-found : goal.returns-clause-found
 returns-clause-found c = lines_found

@@ -4,8 +4,8 @@ use Rattle.std.specs.List.{slice_split, onto_first, All}
 use Rattle.std.proofs.lemmas.Bool.{eqb-true}
 use Rattle.std.proofs.lemmas.List.Elements.{All-from_recursion}
 use Rattle.std.proofs.lemmas.List.Splits.{slice_split_at, slice_split_none}
-use Rattle.tile_script.specs.Lines.{is_line_feed, without_empty_end, lines_of, HasNoLineFeed, SpellsLines}
-use Rattle.tile_script.proofs.LineCuts.{first_stays, one_line}
+use Rattle.tile_lines.specs.Lines.{is_line_feed, without_empty_end, lines_of, HasNoLineFeed, SpellsLines}
+use Rattle.tile_lines.proofs.LineCuts.{first_stays, one_line}
 
 -- a byte in front of the first line
 longer : (b : ℕ) (script line : List ℕ) (lines : List (List ℕ)) → is_line_feed b ≡ false → SpellsLines script (line ∷ lines) → SpellsLines (b ∷ script) ((b ∷ line) ∷ lines)

@@ -1,7 +1,7 @@
 -- A script's first line and the others.
 use Rattle.std.proofs.Common.{◌≡◌, ℕ, ◌<◌, Bool, true, false, cond, List, [], ◌∷◌, length, refl, arith}
 use Rattle.std.specs.List.{slice_split, onto_first}
-use Rattle.tile_script.specs.Lines.{is_line_feed, without_empty_end, lines_of}
+use Rattle.tile_lines.specs.Lines.{is_line_feed, without_empty_end, lines_of}
 
 -- the first part stays where another follows
 stays : (b : Bool) (line : List ℕ) (c : ℕ) (parts : List (List ℕ)) → without_empty_end (line ∷ cond b ([] ∷ parts) (onto_first c parts)) ≡ line ∷ without_empty_end (cond b ([] ∷ parts) (onto_first c parts))

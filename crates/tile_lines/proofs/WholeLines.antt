@@ -3,8 +3,8 @@ use Rattle.std.proofs.Common.{◌≡◌, ℕ, ◌+◌, ◌<◌, Bool, true, fals
 use Rattle.std.specs.List.{slice_split, onto_first}
 use Rattle.std.proofs.lemmas.Bool.Decides.{nat_tests}
 use Rattle.std.proofs.lemmas.List.{append-nil, take_more}
-use Rattle.tile_script.specs.Lines.{is_line_feed, last_line, without_empty_end, without_last, whole_lines, lines_of}
-use Rattle.tile_script.proofs.LineCuts.{first_stays}
+use Rattle.tile_lines.specs.Lines.{is_line_feed, last_line, without_empty_end, without_last, whole_lines, lines_of}
+use Rattle.tile_lines.proofs.LineCuts.{first_stays}
 
 -- the last of some parts
 abbrev last_part : List (List ℕ) → List ℕ

@@ -1,7 +1,7 @@
 -- Which plain cut a cut of the program stands for.
-use Rattle.tile_script.specs.Cutting as plain
-use Rattle.tile_script.specs.declared.cutter.Cut.{Cut}
-use Rattle.tile_script.specs.declared.cutter.Cut.TheVariants.{Line, TooLong}
+use Rattle.tile_lines.specs.Cutting as plain
+use Rattle.tile_lines.specs.declared.cutter.Cut.{Cut}
+use Rattle.tile_lines.specs.declared.cutter.Cut.TheVariants.{Line, TooLong}
 
 -- the line with its bytes
 abbrev pub cut_seen : Cut → plain.Cut

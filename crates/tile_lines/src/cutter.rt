@@ -1,8 +1,8 @@
 //! Cutting a script into its lines, byte by byte.
 
 ghost use Rattle.std.specs.Prelude.{◌≡◌, option_map, IfOk};
-ghost use Rattle.tile_script.specs.Cutting.{nothing_held, pushed, complete_line, rest_of};
-ghost use Rattle.tile_script.specs.CutStands.{cut_seen};
+ghost use Rattle.tile_lines.specs.Cutting.{nothing_held, pushed, complete_line, rest_of};
+ghost use Rattle.tile_lines.specs.CutStands.{cut_seen};
 
 use crate::LINE_LIMIT;
 use std::alloc::{AllocError, Global};
@@ -26,8 +26,8 @@ pub struct LineCutter {
 
 impl Model for LineCutter {
     ghost use Rattle.std.specs.Prelude.{◌≤◌, length, vec_capacity, if◌then◌else◌};
-    ghost use Rattle.tile_script.specs.declared.TheConstants.{LINE_LIMIT};
-    ghost use Rattle.tile_script.specs.Cutting.{Holding, Whole, TooLong};
+    ghost use Rattle.tile_lines.specs.declared.TheConstants.{LINE_LIMIT};
+    ghost use Rattle.tile_lines.specs.Cutting.{Holding, Whole, TooLong};
 
     ghost Value = { Holding };
 
