@@ -15,7 +15,7 @@ use Rattle.tile_lines.specs.Lines.{lines_of, whole_lines}
 use Rattle.tile_run.specs.Course.{Course, retries_in, start_of, IsOpened, IsEdited, IsWritten, CarriesThrough, StopsBetween, StopsStrictly, OpensAsNothing, IsFaultOf, IsFaulty, lines_in}
 use Rattle.tile_run.specs.DeviceLaws.{HaveLowCounts}
 use Rattle.tile_run.specs.Headline.{Devices, HasLowCounts, Serves, AllServe, interruptions_between, all_interruptions, TellsNoWant, outcome_of, tile_written, IsRunOf, Headline, RefusesTile, Runs}
-use Rattle.tile_run.specs.Replies.{HasNoWant}
+use Rattle.tile_reply.specs.Replies.{HasNoWant}
 use Rattle.tile_run.specs.Run.{Progress, after_lines, is_over, ran, tile_of, Walk}
 use Rattle.tile_run.specs.declared.runs.TheConstants.{MAX_RETRIES, MAX_SCRIPT}
 use Rattle.tile_run.specs.declared.outcome.Options.{Options}
