@@ -1,10 +1,10 @@
 -- What a sink took, and the retries that were left.
-use Rattle.std.proofs.Common.{◌≡◌, ◌≢◌, ℕ, ◌+◌, ◌-◌, ◌≤◌, true, false, List, [], ◌++◌, Some, refl, sym, ap, ◌∙◌, arith}
+use Rattle.std.proofs.Common.{◌≡◌, ℕ, ◌+◌, ◌-◌, true, false, List, [], ◌++◌, Some, refl, arith}
 use Rattle.std.specs.Prelude.{Result, Ok, Err, IsSome, is_err}
 use Rattle.tile_device.specs.Device.{trouble_of}
 use Rattle.tile_device.specs.Seen.{Seen, Output, IsFront, Sends, Spends, written}
 use Rattle.tile_device.specs.declared.device.Trouble.{Trouble}
-use Rattle.tile_device.specs.declared.device.Trouble.TheVariants.{Interrupted, Failed}
+use Rattle.tile_device.specs.declared.device.Trouble.TheVariants.{Interrupted}
 use Rattle.tile_device.proofs.Sending.{receives_nothing, receives_more}
 use Rattle.tile_run.specs.Steps.{Writes}
 
@@ -39,16 +39,3 @@ sent_front a b n m bytes (Err trouble) e sends spends = (
   refl,
   record { receives = sends.2; spent = omega (arith, spends.within); last = spends.last },
 )
-
--- the trouble that ended the last of some calls is passed on
-pub spends_stopped : (n m k : ℕ) (r q : Result (Unit {0}) Trouble) (trouble : Trouble) → r ≡ Err trouble → q ≡ Err trouble → m ≤ n → Spends m k (trouble_of r) → Spends n k (trouble_of q)
-spends_stopped n m k r q trouble was is less spends = record {
-  within = omega (arith, spends.within);
-  last = λ e. spends.last (ap trouble_of was ∙ sym (ap trouble_of is) ∙ e);
-}
-
--- a flush, which is never interrupted, spends nothing
-pub spends_flush : (n m : ℕ) (r : Result (Unit {0}) Trouble) → m ≤ n → r ≢ Err Interrupted → Spends n m (trouble_of r)
-spends_flush n m (Ok done) less h = record { within = less; last = λ e. absurd cc }
-spends_flush n m (Err Interrupted) less h = absurd (h refl)
-spends_flush n m (Err Failed) less h = record { within = less; last = λ e. absurd cc }

@@ -10,10 +10,10 @@ use Rattle.tile_device.proofs.Sending.{receives_nothing}
 use Rattle.tile_device.proofs.Supplying.{supplies_nothing}
 use Rattle.tile_run.specs.Course.{Course, Ends, IsWritten, StopsAtTile, start_of}
 use Rattle.tile_run.specs.Headline.{Devices, Runs}
-use Rattle.tile_run.specs.History.{History, present_document}
+use Rattle.tile_session.specs.History.{History, present_document}
 use Rattle.tile_run.specs.Outcomes.{opening_outcome, script_outcome, writing_outcome}
 use Rattle.tile_run.specs.Run.{at_first}
-use Rattle.tile_run.specs.Session.{StandsFor}
+use Rattle.tile_session.specs.Session.{StandsFor}
 use Rattle.tile_run.specs.Steps.{Reads, Writes, OpensTile, CarriesOutScript, WritesTile}
 use Rattle.tile_run.specs.declared.editor.Editor.{Editor}
 use Rattle.tile_run.specs.declared.outcome.Options.{Options}

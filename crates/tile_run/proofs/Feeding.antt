@@ -3,9 +3,9 @@ use Rattle.std.proofs.Common.{◌≡◌, ℕ, ◌+◌, ◌<◌, Bool, true, List
 use Rattle.std.specs.Prelude.{Result, Err}
 use Rattle.std.proofs.lemmas.List.{take_more}
 use Rattle.tile_device.specs.Seen.{Seen}
-use Rattle.tile_script.specs.Cutting.{Cut, Holding, after_pushes, complete_line, cut_of, nothing_held, pushed}
-use Rattle.tile_script.specs.Lines.{whole_lines}
-use Rattle.tile_script.proofs.Cutting.{after_pushes-snoc, line_completed, none_completed, whole_lines-front}
+use Rattle.tile_lines.specs.Cutting.{Cut, Holding, after_pushes, complete_line, cut_of, nothing_held, pushed}
+use Rattle.tile_lines.specs.Lines.{whole_lines}
+use Rattle.tile_lines.proofs.Cutting.{after_pushes-snoc, line_completed, none_completed, whole_lines-front}
 use Rattle.tile_run.specs.Run.{Progress}
 use Rattle.tile_run.specs.Steps.{AnswersLine, CarriesOutLines, ComesTo, WasGiven}
 use Rattle.tile_run.specs.declared.editor.Editor.{Editor}

@@ -4,9 +4,9 @@ use Rattle.std.specs.Prelude.{Result, Ok, Err}
 use Rattle.tile_device.specs.Seen.{Seen, nothing_read, written}
 use Rattle.tile_device.proofs.Sending.{receives_nothing}
 use Rattle.tile_device.proofs.Supplying.{supplies_nothing}
-use Rattle.tile_script.specs.Cutting.{Cut, Holding, cut_of, rest_of}
-use Rattle.tile_script.specs.Lines.{lines_of, whole_lines}
-use Rattle.tile_script.proofs.Cutting.{rest_is_last, no_rest}
+use Rattle.tile_lines.specs.Cutting.{Cut, Holding, cut_of, rest_of}
+use Rattle.tile_lines.specs.Lines.{lines_of, whole_lines}
+use Rattle.tile_lines.proofs.Cutting.{rest_is_last, no_rest}
 use Rattle.tile_run.specs.Run.{Progress}
 use Rattle.tile_run.specs.Steps.{AnswersLine, Advances, ComesTo, CarriesOutScript, ReadsWhole}
 use Rattle.tile_run.specs.declared.editor.Editor.{Editor}

@@ -11,11 +11,11 @@ use Rattle.tile_device.specs.Device.{interruptions_in, failures_in}
 use Rattle.tile_device.specs.Seen.{Seen, Intake, Output, Meets, Supplies, Receives, IsFront}
 use Rattle.tile_device.specs.declared.device.Trouble.{Trouble}
 use Rattle.tile_device.specs.declared.device.Trouble.TheVariants.{Interrupted, Failed}
-use Rattle.tile_script.specs.Lines.{lines_of, whole_lines}
+use Rattle.tile_lines.specs.Lines.{lines_of, whole_lines}
 use Rattle.tile_run.specs.Course.{Course, retries_in, start_of, IsOpened, IsEdited, IsWritten, CarriesThrough, StopsBetween, StopsStrictly, OpensAsNothing, IsFaultOf, IsFaulty, lines_in}
 use Rattle.tile_run.specs.DeviceLaws.{HaveLowCounts}
 use Rattle.tile_run.specs.Headline.{Devices, HasLowCounts, Serves, AllServe, interruptions_between, all_interruptions, TellsNoWant, outcome_of, tile_written, IsRunOf, Headline, RefusesTile, Runs}
-use Rattle.tile_run.specs.Replies.{HasNoWant}
+use Rattle.tile_reply.specs.Replies.{HasNoWant}
 use Rattle.tile_run.specs.Run.{Progress, after_lines, is_over, ran, tile_of, Walk}
 use Rattle.tile_run.specs.declared.runs.TheConstants.{MAX_RETRIES, MAX_SCRIPT}
 use Rattle.tile_run.specs.declared.outcome.Options.{Options}
@@ -24,7 +24,7 @@ use Rattle.tile_run.specs.declared.outcome.Outcome.TheVariants as outcomes
 use Rattle.tile_run.specs.declared.outcome.DeviceName.TheVariants as devices
 use Rattle.tile_run.specs.declared.outcome.TileFault.{TileFault}
 use Rattle.tile_run.specs.declared.outcome.TileFault.TheVariants as faults
-use Rattle.tile_script.proofs.Cutting.{lines-front}
+use Rattle.tile_lines.proofs.Cutting.{lines-front}
 use Rattle.tile_run.proofs.Fronts.{after_lines-append, fronts_stand}
 use Rattle.tile_run.proofs.Overs.{over_stays}
 use Rattle.tile_run.proofs.Replying.{walks_are_runs}

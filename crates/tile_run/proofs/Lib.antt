@@ -1,6 +1,3 @@
-pub mod Histories
-pub mod HistoryLaws
-pub mod Sessions
 pub mod Overs
 pub mod Fronts
 pub mod Replying

@@ -8,18 +8,18 @@ use Rattle.mvt_wire.specs.Plain.{Document}
 use Rattle.mvt_command.specs.Command.{Command}
 use Rattle.tile_script.specs.Request.{Request, Edit, Undo}
 use Rattle.tile_script.specs.Line.{answer_to}
-use Rattle.tile_script.specs.Lines.{is_line_feed, lines_of, HasNoLineFeed}
+use Rattle.tile_lines.specs.Lines.{is_line_feed, lines_of, HasNoLineFeed}
 use Rattle.mvt_edit.specs.Meaning.{applied}
-use Rattle.tile_run.specs.History.{History, present_document, edited, carried_out}
-use Rattle.tile_run.specs.Replies.{accepted_reply, refused_reply, refusal_number, refusal_name, want_of_memory, HasNoWant}
+use Rattle.tile_session.specs.History.{History, present_document, edited, carried_out}
+use Rattle.tile_reply.specs.Replies.{accepted_reply, refused_reply, refusal_number, refusal_name, want_of_memory, HasNoWant}
 use Rattle.tile_run.specs.Run.{Progress, at_first, ran, settled_by, answered_by, after_line, is_over, after_lines}
 use Rattle.tile_run.specs.RunLaws.{RunsHaveNoWant}
 use Rattle.mvt_edit.specs.declared.edit.Refusal.{Refusal}
 use Rattle.mvt_edit.specs.declared.edit.Refusal.TheVariants as edit
 use Rattle.tile_script.specs.declared.parse_error.ParseError.{ParseError}
 use Rattle.tile_script.specs.declared.parse_error.ParseError.TheVariants as parse
-use Rattle.tile_run.specs.declared.refused.Refused.{Refused}
-use Rattle.tile_run.specs.declared.refused.Refused.TheVariants as refused
+use Rattle.tile_reply.specs.declared.refused.Refused.{Refused}
+use Rattle.tile_reply.specs.declared.refused.Refused.TheVariants as refused
 use Rattle.mvt_command.proofs.Others.{Other}
 use Rattle.tile_script.proofs.ParseRefusals.{answer_other}
 use Rattle.mvt_edit.proofs.EditRefusals.{applied_other}

@@ -10,8 +10,8 @@ use Rattle.tile_device.specs.Seen.{Seen, Intake, Spends, Supplies, written}
 use Rattle.tile_device.specs.Transfer.{piece_of}
 use Rattle.tile_device.specs.declared.device.Trouble.{Trouble}
 use Rattle.tile_device.proofs.Supplying.{part, supplies_nothing, supplies_more}
-use Rattle.tile_script.specs.Cutting.{Holding, nothing_held}
-use Rattle.tile_script.specs.Lines.{whole_lines}
+use Rattle.tile_lines.specs.Cutting.{Holding, nothing_held}
+use Rattle.tile_lines.specs.Lines.{whole_lines}
 use Rattle.tile_run.specs.Course.{IsWritten}
 use Rattle.tile_run.specs.Run.{Progress, at_first, Walk}
 use Rattle.tile_run.specs.Steps.{IsAt, ComesTo, CarriesOutLines, CarriesOutPieces, CarriesOutScript, ReadsWhole, WasGiven}

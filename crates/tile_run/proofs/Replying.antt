@@ -4,14 +4,14 @@ use Rattle.std.proofs.lemmas.Bool.{cases_Bool}
 use Rattle.std.proofs.lemmas.List.{append_cancel_left}
 use Rattle.tile_script.specs.Request.{Request}
 use Rattle.tile_script.specs.Line.{answer_to}
-use Rattle.tile_script.specs.Lines.{lines_of}
-use Rattle.tile_run.specs.History.{History, carried_out}
-use Rattle.tile_run.specs.Replies.{accepted_reply, refused_reply, want_of_memory, HasNoWant}
+use Rattle.tile_lines.specs.Lines.{lines_of}
+use Rattle.tile_session.specs.History.{History, carried_out}
+use Rattle.tile_reply.specs.Replies.{accepted_reply, refused_reply, want_of_memory, HasNoWant}
 use Rattle.tile_run.specs.Run.{Progress, ran, tile_of, settled_by, answered_by, after_line, is_over, after_lines, MayFollow, Walk}
 use Rattle.tile_run.specs.RunLaws.{RepliesStand, RefusedLinesChangeNothing, SilentLinesChangeNothing, StrictRunsStop, AcceptedRunsAreAlike, WalksWithoutWantAreRuns, RunsAreWalks}
 use Rattle.tile_script.specs.declared.parse_error.ParseError.{ParseError}
-use Rattle.tile_run.specs.declared.refused.Refused.{Refused}
-use Rattle.tile_run.specs.declared.refused.Refused.TheVariants as refused
+use Rattle.tile_reply.specs.declared.refused.Refused.{Refused}
+use Rattle.tile_reply.specs.declared.refused.Refused.TheVariants as refused
 use Rattle.tile_run.proofs.Overs.{over_stays, goes_on, walk_over, walk_on}
 use Rattle.tile_run.proofs.Fronts.{after_lines-append, fronts_stand}
 

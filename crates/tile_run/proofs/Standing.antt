@@ -6,16 +6,16 @@ use Rattle.mvt_command.specs.Command.{Command}
 use Rattle.tile_script.specs.Request.{Request, Edit, Undo}
 use Rattle.mvt_edit.specs.Meaning.{applied}
 use Rattle.tile_script.specs.Line.{answer_to}
-use Rattle.tile_script.specs.Lines.{lines_of}
-use Rattle.tile_run.specs.History.{History, IsSound, begun, after_all, present_document, with_command, undone, edited, carried_out}
+use Rattle.tile_lines.specs.Lines.{lines_of}
+use Rattle.tile_session.specs.History.{History, IsSound, begun, after_all, present_document, with_command, undone, edited, carried_out}
 use Rattle.tile_run.specs.Run.{Progress, at_first, ran, settled_by, answered_by, after_line, is_over, after_lines}
 use Rattle.tile_run.specs.RunLaws.{Makes, IsHistoryOf, StandingCommands}
 use Rattle.tile_run.specs.declared.outcome.Options.{Options}
 use Rattle.mvt_edit.specs.declared.edit.Refusal.{Refusal}
 use Rattle.tile_script.specs.declared.parse_error.ParseError.{ParseError}
-use Rattle.tile_run.specs.declared.refused.Refused.{Refused}
-use Rattle.tile_run.proofs.Histories.{after_accepted}
-use Rattle.tile_run.proofs.HistoryLaws.{stays_sound}
+use Rattle.tile_reply.specs.declared.refused.Refused.{Refused}
+use Rattle.tile_session.proofs.Histories.{after_accepted}
+use Rattle.tile_session.proofs.HistoryLaws.{stays_sound}
 
 -- a first part of the commands
 makes_first : (n : ℕ) (document : Document) (commands : List Command) (made : Document) → Makes document commands made → Makes document (take n commands) (after_all (take n commands) document)

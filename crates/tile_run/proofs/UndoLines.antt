@@ -4,14 +4,14 @@ use Rattle.mvt_wire.specs.Plain.{Document}
 use Rattle.mvt_wire.specs.Wire.{bytes_of}
 use Rattle.tile_script.specs.Request.{Request, Edit, Undo}
 use Rattle.tile_script.specs.Line.{answer_to}
-use Rattle.tile_script.specs.Lines.{lines_of, HasNoLineFeed}
-use Rattle.tile_run.specs.History.{History, with_command, edited, carried_out}
+use Rattle.tile_lines.specs.Lines.{lines_of, HasNoLineFeed}
+use Rattle.tile_session.specs.History.{History, with_command, edited, carried_out}
 use Rattle.tile_run.specs.Run.{Progress, accepted, answered_by, settled_by, after_line, is_over, after_lines, ran, tile_of}
 use Rattle.tile_run.specs.RunLaws.{with_feed, EndsWithALine, UndoInARun, UndoInAScript}
 use Rattle.tile_run.specs.declared.outcome.Options.{Options}
 use Rattle.tile_run.proofs.Fronts.{fronts_stand}
-use Rattle.tile_run.proofs.HistoryLaws.{undo_at_once}
-use Rattle.tile_script.proofs.LineLaws.{lines_only}
+use Rattle.tile_session.proofs.HistoryLaws.{undo_at_once}
+use Rattle.tile_lines.proofs.LineLaws.{lines_only}
 use Rattle.tile_run.proofs.Standing.{sound_ran}
 
 -- a line whose request is accepted

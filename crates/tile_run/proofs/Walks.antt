@@ -5,14 +5,14 @@ use Rattle.tile_script.specs.Answers.{Refuses}
 use Rattle.tile_script.specs.Request as plain
 use Rattle.tile_script.specs.Line.{answer_to, TakesMemory}
 use Rattle.tile_run.specs.Run.{Progress, refused_for, settled_by, answered_by}
-use Rattle.tile_run.specs.Session.{StandsFor, Answers}
+use Rattle.tile_session.specs.Session.{StandsFor, Answers}
 use Rattle.tile_run.specs.Steps.{CarriesOut, answered}
 use Rattle.tile_script.specs.declared.parse_error.ParseError.{ParseError}
 use Rattle.tile_script.specs.declared.parse_error.ParseError.TheVariants as parse
-use Rattle.tile_run.specs.declared.refused.Refused.{Refused}
-use Rattle.tile_run.specs.declared.refused.Refused.TheVariants as refused
-use Rattle.tile_run.specs.declared.session.Session.{Session}
-use Rattle.tile_run.proofs.Sessions.{want_is}
+use Rattle.tile_reply.specs.declared.refused.Refused.{Refused}
+use Rattle.tile_reply.specs.declared.refused.Refused.TheVariants as refused
+use Rattle.tile_session.specs.declared.session.Session.{Session}
+use Rattle.tile_session.proofs.Sessions.{want_is}
 use Rattle.tile_run.proofs.Taking.{requests_take_memory}
 
 -- a line that asks for nothing

@@ -5,7 +5,7 @@ use Rattle.mvt_wire.specs.Plain.{Document}
 use Rattle.mvt_wire.specs.Opens.{OpensAs, IsPlace}
 use Rattle.tile_device.specs.Seen.{Intake, Output, nothing_read, IsFront}
 use Rattle.tile_device.specs.declared.device.Trouble.TheVariants.{Interrupted}
-use Rattle.tile_script.specs.Lines.{lines_of, whole_lines}
+use Rattle.tile_lines.specs.Lines.{lines_of, whole_lines}
 use Rattle.tile_run.specs.declared.runs.TheConstants.{MAX_RETRIES, MAX_SCRIPT}
 use Rattle.tile_run.specs.declared.outcome.Options.{Options}
 use Rattle.tile_run.specs.declared.outcome.Outcome.{Outcome}

@@ -15,8 +15,8 @@ use Rattle.tile_run.specs.declared.outcome.Outcome.TheVariants as outcomes
 use Rattle.tile_run.specs.declared.outcome.DeviceName.TheVariants as devices
 use Rattle.tile_run.specs.declared.outcome.TileFault.{TileFault}
 use Rattle.tile_run.specs.Course.{Course, Ends, IsPatient, OpensAsNothing, IsFaultOf}
-use Rattle.tile_run.specs.Replies.{HasNoWant}
-use Rattle.tile_script.specs.Lines.{lines_of}
+use Rattle.tile_reply.specs.Replies.{HasNoWant}
+use Rattle.tile_lines.specs.Lines.{lines_of}
 use Rattle.tile_run.specs.Run.{Progress, after_lines, is_over, ran, tile_of}
 use Rattle.tile_device.specs.Seen.{Seen, source_at, sink_at, Supplies, Receives}
 

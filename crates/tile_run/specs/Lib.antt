@@ -1,8 +1,4 @@
-pub mod History
-pub mod Replies
 pub mod Run
-pub mod Session
-pub mod Laws
 pub mod RunLaws
 pub mod Course
 pub mod Headline

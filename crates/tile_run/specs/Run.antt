@@ -4,14 +4,14 @@ use Rattle.mvt_wire.specs.Plain.{Document}
 use Rattle.mvt_wire.specs.Wire.{bytes_of}
 use Rattle.tile_script.specs.Request.{Request}
 use Rattle.tile_script.specs.Line.{answer_to, TakesMemory}
-use Rattle.tile_script.specs.Lines.{lines_of}
-use Rattle.tile_run.specs.History.{History, begun, present_document, carried_out}
-use Rattle.tile_run.specs.Replies.{accepted_reply, refused_reply}
+use Rattle.tile_lines.specs.Lines.{lines_of}
+use Rattle.tile_session.specs.History.{History, begun, present_document, carried_out}
+use Rattle.tile_reply.specs.Replies.{accepted_reply, refused_reply}
 use Rattle.tile_run.specs.declared.outcome.Options.{Options}
 use Rattle.tile_script.specs.declared.parse_error.ParseError.{ParseError}
 use Rattle.tile_script.specs.declared.parse_error.ParseError.TheVariants as parse
-use Rattle.tile_run.specs.declared.refused.Refused.{Refused}
-use Rattle.tile_run.specs.declared.refused.Refused.TheVariants as refused
+use Rattle.tile_reply.specs.declared.refused.Refused.{Refused}
+use Rattle.tile_reply.specs.declared.refused.Refused.TheVariants as refused
 
 -- how many lines were carried out, what stands, what was replied, and whether a line was refused
 pub record Progress : Type 0 where

@@ -5,12 +5,12 @@ use Rattle.mvt_command.specs.Command.{Command}
 use Rattle.tile_script.specs.Request.{Edit, Undo}
 use Rattle.mvt_edit.specs.Meaning.{applied}
 use Rattle.tile_script.specs.Line.{answer_to}
-use Rattle.tile_script.specs.Lines.{lines_of, HasNoLineFeed}
-use Rattle.tile_run.specs.History.{History, IsSound, present_document}
-use Rattle.tile_run.specs.Replies.{accepted_reply, refused_reply, HasNoWant}
+use Rattle.tile_lines.specs.Lines.{lines_of, HasNoLineFeed}
+use Rattle.tile_session.specs.History.{History, IsSound, present_document}
+use Rattle.tile_reply.specs.Replies.{accepted_reply, refused_reply, HasNoWant}
 use Rattle.tile_run.specs.Run.{Progress, after_line, after_lines, is_over, ran, tile_of, Walk}
 use Rattle.tile_run.specs.declared.outcome.Options.{Options}
-use Rattle.tile_run.specs.declared.refused.Refused.{Refused}
+use Rattle.tile_reply.specs.declared.refused.Refused.{Refused}
 
 -- ---- fronts
 

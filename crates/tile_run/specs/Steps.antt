@@ -4,8 +4,8 @@ use Rattle.mvt_wire.specs.declared.Document.{Document}
 use Rattle.mvt_wire.specs.Stands.{document_of}
 use Rattle.tile_device.specs.Seen.{Seen, Intake, Output, IsFront, Receives, Supplies, nothing_read, written}
 use Rattle.tile_device.specs.declared.device.Trouble.TheVariants.{Interrupted}
-use Rattle.tile_script.specs.Cutting.{Holding, after_pushes, nothing_held}
-use Rattle.tile_script.specs.Lines.{whole_lines}
+use Rattle.tile_lines.specs.Cutting.{Holding, after_pushes, nothing_held}
+use Rattle.tile_lines.specs.Lines.{whole_lines}
 use Rattle.tile_run.specs.declared.editor.Editor.{Editor}
 use Rattle.tile_run.specs.declared.outcome.LineStop.{LineStop}
 use Rattle.tile_run.specs.declared.outcome.LineStop.TheVariants as line_stops
@@ -15,14 +15,14 @@ use Rattle.tile_run.specs.declared.outcome.Unopened.{Unopened}
 use Rattle.tile_run.specs.declared.outcome.Unopened.TheVariants as unopened
 use Rattle.tile_run.specs.declared.outcome.Unwritten.{Unwritten}
 use Rattle.tile_run.specs.declared.outcome.Unwritten.TheVariants as unwritten
-use Rattle.tile_run.specs.declared.refused.Refused.{Refused}
+use Rattle.tile_reply.specs.declared.refused.Refused.{Refused}
 use Rattle.tile_run.specs.declared.runs.TheConstants.{MAX_SCRIPT}
-use Rattle.tile_run.specs.declared.session.Session.{Session}
+use Rattle.tile_session.specs.declared.session.Session.{Session}
 use Rattle.tile_run.specs.Course.{IsOpened, IsFaulty, IsWritten, CarriesThrough, StopsStrictly, StopsAtScript, StopsAtReplies}
-use Rattle.tile_run.specs.History.{History}
-use Rattle.tile_run.specs.Replies.{accepted_reply, refused_reply}
+use Rattle.tile_session.specs.History.{History}
+use Rattle.tile_reply.specs.Replies.{accepted_reply, refused_reply}
 use Rattle.tile_run.specs.Run.{Progress, is_over, MayFollow, Walk}
-use Rattle.tile_run.specs.Session.{StandsFor}
+use Rattle.tile_session.specs.Session.{StandsFor}
 
 -- ---- devices, with the retries that are left before a step and after it
 
@@ -47,11 +47,6 @@ OpensTile (Err (unopened.Refused fault)) tile = (tile.trouble ≡ None) × IsFau
 OpensTile (Err unopened.NoMemory) tile = tile.trouble ≡ None
 
 -- ---- a line
-
--- what is replied to the line of this number, by what was answered to it
-abbrev pub reply_to : {A : Type 0} → ℕ → Result A Refused → List ℕ
-reply_to line (Ok done) = accepted_reply
-reply_to line (Err reason) = refused_reply line reason
 
 -- the progress after a line to which this was answered
 abbrev pub answered : {A : Type 0} → Progress → History → Option (Result A Refused) → Progress

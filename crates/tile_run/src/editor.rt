@@ -5,23 +5,23 @@ ghost use Rattle.mvt_wire.specs.Plain.{Document as PlainDocument};
 ghost use Rattle.mvt_wire.specs.Stands.{document_of};
 ghost use Rattle.tile_device.specs.Seen.{Seen, Sends, Spends, source_at, sink_at};
 ghost use Rattle.tile_device.specs.Device.{trouble_of};
-ghost use Rattle.tile_script.specs.CutStands.{cut_seen};
-ghost use Rattle.tile_script.specs.Cutting.{cut_of, nothing_held};
-ghost use Rattle.tile_script.specs.Lines.{whole_lines};
-ghost use Rattle.tile_run.specs.History.{History, present_document};
+ghost use Rattle.tile_lines.specs.CutStands.{cut_seen};
+ghost use Rattle.tile_lines.specs.Cutting.{cut_of, nothing_held};
+ghost use Rattle.tile_lines.specs.Lines.{whole_lines};
+ghost use Rattle.tile_session.specs.History.{History, present_document};
 ghost use Rattle.tile_run.specs.Run.{Progress, at_first, is_over};
-ghost use Rattle.tile_run.specs.Session.{StandsFor};
+ghost use Rattle.tile_session.specs.Session.{StandsFor};
 ghost use Rattle.tile_run.specs.Steps.{AnswersLine, CarriesOut, CarriesOutLines, CarriesOutPieces, CarriesOutScript, ComesTo, IsAt, WasGiven};
 
 use crate::outcome::{LineStop, ScriptStop};
-use crate::refused::Refused;
-use crate::reply::reply;
 use crate::runs::MAX_SCRIPT;
-use crate::session::Session;
 use mvt_wire::Document;
 use std::alloc::Global;
 use tile_device::{Retries, Sink, Source, read_some};
-use tile_script::{Cut, LineCutter, parse_cut};
+use tile_lines::{Cut, LineCutter};
+use tile_reply::{Refused, reply};
+use tile_script::parse_cut;
+use tile_session::Session;
 
 /// How many bytes of a script one read asks for at most.
 const PIECE: usize = 4096;

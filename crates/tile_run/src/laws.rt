@@ -1,23 +1,10 @@
-//! Laws of histories and of whole runs. Each function does nothing: its contract is the law.
+//! Laws of whole runs. Each function does nothing: its contract is the law. The laws of histories
+//! are passed on.
 
 ghost use Rattle.tile_run.specs.DeviceLaws.{FailedDevicesAreNamed, WornOutRunsNameADevice, DevicesAreNamedForCause};
-ghost use Rattle.tile_run.specs.Laws.{UndoAtOnce, StaysSound, HistoryFits};
 ghost use Rattle.tile_run.specs.RunLaws.{FrontsHaveFirstLines, FrontsStand, RepliesStand, RefusedLinesChangeNothing, SilentLinesChangeNothing, StrictRunsStop, AcceptedRunsAreAlike, StandingCommands, UndoInARun, UndoInAScript, WalksWithoutWantAreRuns, RunsAreWalks, RunsHaveNoWant};
 
-/// An undo right after a command brings back the tile that stood before it.
-pub fn undo_at_once()
-    ensures { UndoAtOnce }
-{}
-
-/// In each history that requests make, the undo of the last command is at hand.
-pub fn stays_sound()
-    ensures { StaysSound }
-{}
-
-/// Neither a command nor an undo leads from a tile that can be written to one that can not.
-pub fn history_fits()
-    ensures { HistoryFits }
-{}
+pub use tile_session::laws::{history_fits, stays_sound, undo_at_once};
 
 /// After each front of whole lines the run has come to where it comes on that front alone. So the
 /// document, the history and the replies there are those of the front.

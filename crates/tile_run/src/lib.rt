@@ -4,11 +4,7 @@
 mod editor;
 pub mod laws;
 mod outcome;
-mod refused;
-mod reply;
 mod runs;
-mod session;
 
 pub use outcome::{DeviceName, Options, Outcome, TileFault};
-pub use refused::Refused;
 pub use runs::{MAX_RETRIES, MAX_SCRIPT, run};

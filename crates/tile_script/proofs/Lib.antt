@@ -1,7 +1,5 @@
 pub mod Again
 pub mod Found
-pub mod LineCuts
-pub mod LineLaws
 pub mod Numbers
 pub mod Places
 pub mod Repeats
@@ -9,6 +7,4 @@ pub mod Short
 pub mod Asking
 pub mod ParseRefusals
 pub mod Silent
-pub mod WholeLines
 pub mod LongLines
-pub mod Cutting

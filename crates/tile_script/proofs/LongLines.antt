@@ -1,8 +1,8 @@
 -- Lines that are too long.
 use Rattle.std.proofs.Common.{◌≡◌, ℕ, Bool, true, false, cond, ltb, List, length, Err, refl}
-use Rattle.tile_script.specs.Cutting.{Whole, TooLong, cut_of}
+use Rattle.tile_lines.specs.Cutting.{Whole, TooLong, cut_of}
 use Rattle.tile_script.specs.Line.{answer_to}
-use Rattle.tile_script.specs.declared.TheConstants.{LINE_LIMIT}
+use Rattle.tile_lines.specs.declared.TheConstants.{LINE_LIMIT}
 use Rattle.tile_script.specs.declared.parse_error.ParseError.TheVariants.{LineTooLong}
 
 is_long : (b : Bool) (line : List ℕ) → cond b TooLong (Whole line) ≡ TooLong → b ≡ true

@@ -5,6 +5,3 @@ pub mod WordStands
 pub mod Spelling
 pub mod Line
 pub mod Answers
-pub mod Lines
-pub mod Cutting
-pub mod CutStands

@@ -5,7 +5,7 @@ use Rattle.std.specs.Str.Parse.{digits_value}
 use Rattle.mvt_command.specs.Command.{LayerChoice, AtOrdinal, Named, RenameLayer}
 use Rattle.tile_script.specs.Request.{Request, Edit, Undo}
 use Rattle.tile_script.specs.Words.{Word, Bare, Quoted, after_blanks, words_of}
-use Rattle.tile_script.specs.declared.TheConstants.{LINE_LIMIT}
+use Rattle.tile_lines.specs.declared.TheConstants.{LINE_LIMIT}
 use Rattle.tile_script.specs.declared.keyword.Keyword.{Keyword}
 use Rattle.tile_script.specs.declared.keyword.Keyword.TheVariants as keywords
 use Rattle.tile_script.specs.declared.parse_error.ParseError.{ParseError}

@@ -1,12 +1,9 @@
-//! Laws on how a script is read.
+//! Laws on how a line is read.
 
-ghost use Rattle.std.specs.Prelude.{◌≡◌, ℕ, List, [], ◌∷◌, ◌++◌, Some, Ok, codes, map, IsTrue};
-ghost use Rattle.std.specs.Option.{option_to_list};
+ghost use Rattle.std.specs.Prelude.{◌≡◌, ℕ, List, [], ◌∷◌, ◌++◌, Some, Ok, codes, IsTrue};
 ghost use Rattle.std.specs.Str.Parse.{digits_value};
 ghost use Rattle.mvt_command.specs.Command.{AtOrdinal, Named, RenameLayer};
-ghost use Rattle.tile_script.specs.Cutting.{cut_of, nothing_held, after_pushes, rest_of, cuts};
 ghost use Rattle.tile_script.specs.Line.{IsReadable, is_number, answer_to};
-ghost use Rattle.tile_script.specs.Lines.{lines_of, SpellsLines};
 ghost use Rattle.tile_script.specs.Request.{Edit, Undo};
 ghost use Rattle.tile_script.specs.Spelling.{SpellsWords};
 ghost use Rattle.tile_script.specs.Words.{Word, Bare, Quoted, words_of};
@@ -16,18 +13,6 @@ ghost use Rattle.tile_script.specs.Words.{Word, Bare, Quoted, words_of};
 pub fn words_are_spelled()
     ensures found { (line : List ℕ) (words : List Word) → words_of line ≡ Some words → SpellsWords line words }
     ensures only { (line : List ℕ) (words : List Word) → SpellsWords line words → words_of line ≡ Some words }
-{}
-
-/// A script is made up of its lines, and of no others.
-pub fn lines_make_up_the_script()
-    ensures found { (script : List ℕ) → SpellsLines script (lines_of script) }
-    ensures only { (script : List ℕ) (lines : List (List ℕ)) → SpellsLines script lines → lines_of script ≡ lines }
-{}
-
-/// A cutter that takes a script from its first byte on gives its lines, and no others: those that a line feed completes,
-/// and at the end the rest.
-pub fn cuts_are_lines()
-    ensures { (script : List ℕ) → map cut_of (lines_of script) ≡ cuts nothing_held script ++ option_to_list (rest_of (after_pushes nothing_held script)) }
 {}
 
 /// What three shapes of line ask for: `undo`, and `rename-layer` with a layer's name or its ordinal, and with the new

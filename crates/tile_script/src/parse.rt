@@ -5,15 +5,13 @@ ghost use Rattle.std.specs.Option.{SomeIff};
 ghost use Rattle.std.specs.Result.{IsErrOf};
 ghost use Rattle.std.specs.Str.{is_utf8};
 ghost use Rattle.tile_script.specs.Answers.{Gives};
-ghost use Rattle.tile_script.specs.Cutting.{cut_of};
-ghost use Rattle.tile_script.specs.CutStands.{cut_seen};
+ghost use Rattle.tile_lines.specs.Cutting.{cut_of};
+ghost use Rattle.tile_lines.specs.CutStands.{cut_seen};
 ghost use Rattle.mvt_command.specs.CommandStands.{layer_choice_of};
 ghost use Rattle.tile_script.specs.Line.{number_of, text_of, layer_of, rename_layer_of, undo_of, asked_by, request_in, is_remark, answer_to, TakesMemory};
 ghost use Rattle.tile_script.specs.RequestStands.{request_of};
 ghost use Rattle.tile_script.specs.WordStands.{word_of};
 
-use crate::LINE_LIMIT;
-use crate::cutter::Cut;
 use crate::keyword::{Keyword, keyword_of};
 use crate::parse_error::ParseError;
 use crate::request::Request;
@@ -22,6 +20,7 @@ use mvt_command::{Command, LayerChoice};
 use mvt_wire::Items;
 use simdutf8::basic::from_utf8;
 use std::alloc::Global;
+use tile_lines::{Cut, LINE_LIMIT};
 
 /// The request that a line asks for, or nothing where it is blank or a comment.
 #[tactic(auto, unfolding(crate::specs::Line::answer_to), using(crate::proofs::Silent::asks_something))]

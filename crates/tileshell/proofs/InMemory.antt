@@ -11,7 +11,7 @@ use Rattle.tile_run.specs.Course.{OpensAsNothing, IsFaultOf}
 use Rattle.tile_run.specs.DeviceLaws.{GivesUp, HasCause, HaveLowCounts}
 use Rattle.tile_run.specs.Headline.{Devices, AllServe, IsRunOf, Runs, outcome_of, tile_written}
 use Rattle.tileshell.specs.InMemory.{handed_out, bytes_in, tile_given, IsEditOf, EditsTile, RefusesFile, NamesLongScript}
-use Rattle.tile_run.specs.Replies.{HasNoWant}
+use Rattle.tile_reply.specs.Replies.{HasNoWant}
 use Rattle.tile_run.specs.Run.{Progress, is_over, ran, tile_of}
 use Rattle.tile_run.specs.declared.outcome.DeviceName.{DeviceName}
 use Rattle.tile_run.specs.declared.outcome.DeviceName.TheVariants as devices

@@ -12,10 +12,10 @@ use Rattle.tile_device.specs.Device.{interruptions_in, failures_in}
 use Rattle.tile_device.specs.Seen.{Intake, Supplies}
 use Rattle.tile_device.specs.declared.device.Trouble.{Trouble}
 use Rattle.tile_device.specs.declared.device.Trouble.TheVariants.{Interrupted, Failed}
-use Rattle.tile_script.specs.Lines.{whole_lines}
+use Rattle.tile_lines.specs.Lines.{whole_lines}
 use Rattle.tile_run.specs.Course.{start_of, lines_in, IsFaulty, IsOpened, CarriesThrough}
 use Rattle.tileshell.specs.InMemory.{handed_out, ran_cut, IsCutOff, CutsLongScript}
-use Rattle.tile_run.specs.Replies.{HasNoWant}
+use Rattle.tile_reply.specs.Replies.{HasNoWant}
 use Rattle.tile_run.specs.Run.{Progress, after_lines}
 use Rattle.tile_run.specs.declared.outcome.DeviceName.TheVariants as devices
 use Rattle.tile_run.specs.declared.outcome.Options.{Options}

@@ -5,10 +5,10 @@ use Rattle.std.specs.declared.vec.Vec.{Vec}
 use Rattle.std.specs.declared.alloc.Global.{Global}
 use Rattle.mvt_wire.specs.Opens.{OpensAs}
 use Rattle.mvt_wire.specs.Plain.{Document}
-use Rattle.tile_script.specs.Lines.{whole_lines}
+use Rattle.tile_lines.specs.Lines.{whole_lines}
 use Rattle.tile_run.specs.Course.{OpensAsNothing, IsFaultOf}
 use Rattle.tile_run.specs.Headline.{outcome_of}
-use Rattle.tile_run.specs.Replies.{HasNoWant}
+use Rattle.tile_reply.specs.Replies.{HasNoWant}
 use Rattle.tile_run.specs.Run.{Progress, after_lines, at_first, is_over, ran, tile_of}
 use Rattle.tileshell.specs.declared.in_memory.Edited.{Edited}
 use Rattle.tile_run.specs.declared.outcome.DeviceName.{DeviceName}

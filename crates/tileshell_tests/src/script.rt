@@ -1,7 +1,8 @@
 //! The lines of a script, and what they ask for.
 
 use std::test::Fail;
-use tile_script::{Cut, LineCutter, ParseError, Request, parse_line};
+use tile_lines::{Cut, LineCutter};
+use tile_script::{ParseError, Request, parse_line};
 use tileshell::{Command, LayerChoice};
 
 const REFUSED: [(&[u8], ParseError); 13] = [

@@ -2,7 +2,7 @@ use Rattle.std.proofs.Common.{◌≡◌, ◌≤◌, true, false, length, arith}
 use Rattle.std.specs.Str.{is_utf8}
 use Rattle.std.proofs.lemmas.Str.{IsUtf8-from_is_utf8}
 use Rattle.tile_script.specs.Line.{is_remark}
-use Rattle.tile_script.specs.declared.TheConstants.{LINE_LIMIT}
+use Rattle.tile_lines.specs.declared.TheConstants.{LINE_LIMIT}
 use Rattle.tile_script.proofs.parse.parse_line.Goals as goal
 
 pub returns-in_err-request_in-clause-no_memory : goal.returns-in_err-request_in-clause-no_memory

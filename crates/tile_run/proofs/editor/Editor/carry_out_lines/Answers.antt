@@ -2,7 +2,7 @@ use Rattle.std.proofs.Common.{◌∙◌, ◌++◌, ap, subst, Err, ℕ, List, ar
 use Rattle.std.proofs.lemmas.List.{take_all}
 use Rattle.std.proofs.lemmas.Result.{err_from_is_err_and}
 use Rattle.tile_device.specs.Seen.{sink_at}
-use Rattle.tile_script.specs.Lines.{whole_lines}
+use Rattle.tile_lines.specs.Lines.{whole_lines}
 use Rattle.tile_run.specs.Steps.{ComesTo, WasGiven}
 use Rattle.tile_run.proofs.Running.{comes_to_same, comes_to_more}
 use Rattle.tile_run.proofs.Feeding.{given_more, none_more, some_more, stops_there, stops_so}

@@ -1,6 +1,6 @@
 use Rattle.std.proofs.Common.{◌+◌, ◌≤◌, ◌++◌, ℕ, Bool, List, take}
 use Rattle.tile_device.specs.Seen.{Seen, sink_at}
-use Rattle.tile_script.specs.Lines.{whole_lines}
+use Rattle.tile_lines.specs.Lines.{whole_lines}
 use Rattle.tile_run.specs.Run.{Progress}
 use Rattle.tile_run.specs.Steps.{ComesTo, WasGiven}
 use Rattle.tile_run.proofs.editor.Editor.carry_out_lines.Given as goal

@@ -1,0 +1,4 @@
+pub mod LineCuts
+pub mod LineLaws
+pub mod WholeLines
+pub mod Cutting

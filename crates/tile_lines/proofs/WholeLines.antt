@@ -1,0 +1,150 @@
+-- The whole lines of a front of a script, and the line that goes on behind them.
+use Rattle.std.proofs.Common.{◌≡◌, ℕ, ◌+◌, ◌<◌, Bool, true, false, eqb, eq-eqb, List, [], ◌∷◌, ◌++◌, length, take, get_or, refl, sym, ap, ◌∙◌, append_assoc, arith}
+use Rattle.std.specs.List.{slice_split, onto_first}
+use Rattle.std.proofs.lemmas.Bool.Decides.{nat_tests}
+use Rattle.std.proofs.lemmas.List.{append-nil, take_more}
+use Rattle.tile_lines.specs.Lines.{is_line_feed, last_line, without_empty_end, without_last, whole_lines, lines_of}
+use Rattle.tile_lines.proofs.LineCuts.{first_stays}
+
+-- the last of some parts
+abbrev last_part : List (List ℕ) → List ℕ
+last_part [] = []
+last_part (part ∷ []) = part
+last_part (part ∷ next ∷ parts) = last_part (next ∷ parts)
+
+-- the bytes behind the last line feed
+abbrev pub open_line : List ℕ → List ℕ
+open_line text = last_part (slice_split is_line_feed text)
+
+-- parts, where a line stands before the first
+abbrev behind : List ℕ → List (List ℕ) → List (List ℕ)
+behind line [] = line ∷ []
+behind line (part ∷ parts) = (line ++ part) ∷ parts
+
+-- there is a part at least
+some_part : (text : List ℕ) → (first : List ℕ) × (others : List (List ℕ)) × (slice_split is_line_feed text ≡ first ∷ others)
+some_part [] = ([], [], refl)
+some_part (b ∷ text) = by_feed (is_line_feed b) refl (some_part text)
+  where
+    by_feed : (q : Bool) → is_line_feed b ≡ q → (first : List ℕ) × (others : List (List ℕ)) × (slice_split is_line_feed text ≡ first ∷ others) → (first : List ℕ) × (others : List (List ℕ)) × (slice_split is_line_feed (b ∷ text) ≡ first ∷ others)
+    by_feed true e rest = ([], slice_split is_line_feed text, rw e refl)
+    by_feed false e rest = (b ∷ rest.0, rest.1, rw e (ap (onto_first b) rest.2))
+
+from_nothing : (parts : List (List ℕ)) (first : List ℕ) (others : List (List ℕ)) → parts ≡ first ∷ others → parts ≡ behind [] parts
+from_nothing parts first others e = rw e refl
+
+onto_joined : (b : ℕ) (parts more : List (List ℕ)) → onto_first b (without_last parts ++ behind (last_part parts) more) ≡ without_last (onto_first b parts) ++ behind (last_part (onto_first b parts)) more
+onto_joined b [] [] = refl
+onto_joined b [] (next ∷ more) = refl
+onto_joined b (part ∷ []) [] = refl
+onto_joined b (part ∷ []) (next ∷ more) = refl
+onto_joined b (part ∷ other ∷ parts) more = refl
+
+feed_joined : (parts more : List (List ℕ)) (first : List ℕ) (others : List (List ℕ)) → parts ≡ first ∷ others → [] ∷ (without_last parts ++ behind (last_part parts) more) ≡ without_last ([] ∷ parts) ++ behind (last_part ([] ∷ parts)) more
+feed_joined parts more first others e = rw e refl
+
+-- the whole lines of a front stay, and what stands behind them goes on
+split-append : (front more : List ℕ) → slice_split is_line_feed (front ++ more) ≡ whole_lines front ++ behind (open_line front) (slice_split is_line_feed more)
+split-append [] more = let some = some_part more in from_nothing (slice_split is_line_feed more) some.0 some.1 some.2
+split-append (b ∷ front) more = by_feed (is_line_feed b) refl (split-append front more)
+  where
+    by_feed : (q : Bool) → is_line_feed b ≡ q → slice_split is_line_feed (front ++ more) ≡ whole_lines front ++ behind (open_line front) (slice_split is_line_feed more)
+        → slice_split is_line_feed (b ∷ (front ++ more)) ≡ whole_lines (b ∷ front) ++ behind (open_line (b ∷ front)) (slice_split is_line_feed more)
+    by_feed true e same = let some = some_part front in
+        rw e (ap (λ (parts : List (List ℕ)). [] ∷ parts) same ∙ feed_joined (slice_split is_line_feed front) (slice_split is_line_feed more) some.0 some.1 some.2)
+    by_feed false e same = rw e (ap (onto_first b) same ∙ onto_joined b (slice_split is_line_feed front) (slice_split is_line_feed more))
+
+without_last-append : (parts : List (List ℕ)) (part : List ℕ) (more : List (List ℕ)) → without_last (parts ++ part ∷ more) ≡ parts ++ without_last (part ∷ more)
+without_last-append [] part more = refl
+without_last-append (first ∷ []) part more = refl
+without_last-append (first ∷ next ∷ parts) part more = ap (λ (lines : List (List ℕ)). first ∷ lines) (without_last-append (next ∷ parts) part more)
+
+without_empty_end-append : (parts : List (List ℕ)) (part : List ℕ) (more : List (List ℕ)) → without_empty_end (parts ++ part ∷ more) ≡ parts ++ without_empty_end (part ∷ more)
+without_empty_end-append [] part more = refl
+without_empty_end-append (first ∷ []) part more = refl
+without_empty_end-append (first ∷ next ∷ parts) part more = ap (λ (lines : List (List ℕ)). first ∷ lines) (without_empty_end-append (next ∷ parts) part more)
+
+last_part-append : (parts : List (List ℕ)) (part : List ℕ) (more : List (List ℕ)) → last_part (parts ++ part ∷ more) ≡ last_part (part ∷ more)
+last_part-append [] part more = refl
+last_part-append (first ∷ []) part more = refl
+last_part-append (first ∷ next ∷ parts) part more = last_part-append (next ∷ parts) part more
+
+-- the parts of a front and of what follows it, with a part at least behind the whole lines
+front_parts : (front more : List ℕ) → (part : List ℕ) × (parts : List (List ℕ)) × (slice_split is_line_feed (front ++ more) ≡ whole_lines front ++ part ∷ parts)
+front_parts front more =
+    let some = some_part more in
+    (open_line front ++ some.0, some.1, split-append front more ∙ ap (λ (parts : List (List ℕ)). whole_lines front ++ behind (open_line front) parts) some.2)
+
+pub whole_lines-front : (front more : List ℕ) → (others : List (List ℕ)) × (whole_lines (front ++ more) ≡ whole_lines front ++ others)
+whole_lines-front front more =
+    let found = front_parts front more in
+    (without_last (found.0 ∷ found.1), ap without_last found.2 ∙ without_last-append (whole_lines front) found.0 found.1)
+
+pub lines-front : (front more : List ℕ) → (others : List (List ℕ)) × (lines_of (front ++ more) ≡ whole_lines front ++ others)
+unfolding lines_of
+lines-front front more =
+    let found = front_parts front more in
+    (without_empty_end (found.0 ∷ found.1), ap without_empty_end found.2 ∙ without_empty_end-append (whole_lines front) found.0 found.1)
+
+-- a line feed ends the line that goes on
+feed_parts : (front : List ℕ) (byte : ℕ) → is_line_feed byte ≡ true → slice_split is_line_feed (front ++ byte ∷ []) ≡ whole_lines front ++ open_line front ∷ [] ∷ []
+feed_parts front byte feed =
+    let alone : slice_split is_line_feed (byte ∷ []) ≡ [] ∷ [] ∷ [] = rw feed refl in
+    split-append front (byte ∷ []) ∙ ap (λ (parts : List (List ℕ)). whole_lines front ++ behind (open_line front) parts) alone ∙ ap (λ (line : List ℕ). whole_lines front ++ line ∷ [] ∷ []) (append-nil (open_line front))
+
+-- another byte joins it
+other_parts : (front : List ℕ) (byte : ℕ) → is_line_feed byte ≡ false → slice_split is_line_feed (front ++ byte ∷ []) ≡ whole_lines front ++ (open_line front ++ byte ∷ []) ∷ []
+other_parts front byte other =
+    let alone : slice_split is_line_feed (byte ∷ []) ≡ (byte ∷ []) ∷ [] = rw other refl in
+    split-append front (byte ∷ []) ∙ ap (λ (parts : List (List ℕ)). whole_lines front ++ behind (open_line front) parts) alone
+
+pub whole_lines-line_feed : (front : List ℕ) (byte : ℕ) → is_line_feed byte ≡ true → whole_lines (front ++ byte ∷ []) ≡ whole_lines front ++ open_line front ∷ []
+whole_lines-line_feed front byte feed = ap without_last (feed_parts front byte feed) ∙ without_last-append (whole_lines front) (open_line front) ([] ∷ [])
+
+pub open_line-line_feed : (front : List ℕ) (byte : ℕ) → is_line_feed byte ≡ true → open_line (front ++ byte ∷ []) ≡ []
+open_line-line_feed front byte feed = ap last_part (feed_parts front byte feed) ∙ last_part-append (whole_lines front) (open_line front) ([] ∷ [])
+
+pub open_line-other : (front : List ℕ) (byte : ℕ) → is_line_feed byte ≡ false → open_line (front ++ byte ∷ []) ≡ open_line front ++ byte ∷ []
+open_line-other front byte other = ap last_part (other_parts front byte other) ∙ last_part-append (whole_lines front) (open_line front ++ byte ∷ []) []
+
+-- the lines are the whole ones, and the one that goes on where it has a byte
+pub lines_of-open : (script : List ℕ) → lines_of script ≡ whole_lines script ++ last_line (open_line script)
+unfolding lines_of
+lines_of-open script =
+    ap (λ (text : List ℕ). without_empty_end (slice_split is_line_feed text)) (sym (append-nil script)) ∙ ap without_empty_end (split-append script [])
+    ∙ without_empty_end-append (whole_lines script) (open_line script ++ []) [] ∙ ap (λ (line : List ℕ). whole_lines script ++ last_line line) (append-nil (open_line script))
+
+pub whole_lines-other : (front : List ℕ) (byte : ℕ) → is_line_feed byte ≡ false → whole_lines (front ++ byte ∷ []) ≡ whole_lines front
+whole_lines-other front byte other = ap without_last (other_parts front byte other) ∙ without_last-append (whole_lines front) (open_line front ++ byte ∷ []) [] ∙ append-nil (whole_lines front)
+
+pub whole_lines-feed : (front : List ℕ) (byte : ℕ) → is_line_feed byte ≡ true → lines_of (front ++ byte ∷ []) ≡ whole_lines (front ++ byte ∷ [])
+whole_lines-feed front byte feed =
+    lines_of-open (front ++ byte ∷ []) ∙ ap (λ (line : List ℕ). whole_lines (front ++ byte ∷ []) ++ last_line line) (open_line-line_feed front byte feed) ∙ append-nil (whole_lines (front ++ byte ∷ []))
+
+-- the lines of a script that is cut behind a line feed
+pub lines_of-append : (front more : List ℕ) → lines_of (front ++ 10 ∷ more) ≡ lines_of (front ++ 10 ∷ []) ++ lines_of more
+unfolding lines_of
+lines_of-append front more =
+    let parts = split-append front (10 ∷ more) ∙ ap (λ (line : List ℕ). whole_lines front ++ line ∷ slice_split is_line_feed more) (append-nil (open_line front)) in
+    let ended = whole_lines-feed front 10 refl ∙ whole_lines-line_feed front 10 refl in
+    ap without_empty_end parts ∙ without_empty_end-append (whole_lines front) (open_line front) (slice_split is_line_feed more)
+    ∙ ap (λ (lines : List (List ℕ)). whole_lines front ++ lines) (first_stays (open_line front) more)
+    ∙ sym (append_assoc (whole_lines front) (open_line front ∷ []) (lines_of more)) ∙ ap (λ (lines : List (List ℕ)). lines ++ lines_of more) (sym ended)
+
+pub lines_of-nothing : lines_of [] ≡ whole_lines []
+unfolding lines_of
+lines_of-nothing = refl
+
+pub lines_to-feed : (text : List ℕ) (place end : ℕ) → place < length text → get_or text place 0 ≡ 10 → end ≡ place + 1
+    → lines_of (take end text) ≡ whole_lines (take (place + 1) text)
+lines_to-feed text place end lt feed is =
+    let more : take (place + 1) text ≡ take place text ++ get_or text place 0 ∷ [] = take_more text place 0 lt in
+    ap (λ (n : ℕ). lines_of (take n text)) is ∙ ap lines_of more
+    ∙ whole_lines-feed (take place text) (get_or text place 0) (eq-eqb (get_or text place 0) 10 feed) ∙ ap whole_lines (sym more)
+
+pub lines_to-other : (text : List ℕ) (place end so_far : ℕ) → place < length text → (get_or text place 0 ≡ 10 → ⊥) → end ≡ so_far
+    → lines_of (take so_far text) ≡ whole_lines (take place text) → lines_of (take end text) ≡ whole_lines (take (place + 1) text)
+lines_to-other text place end so_far lt other is before =
+    let more : take (place + 1) text ≡ take place text ++ get_or text place 0 ∷ [] = take_more text place 0 lt in
+    let no : eqb (get_or text place 0) 10 ≡ false = grind (arith, nat_tests) in
+    ap (λ (n : ℕ). lines_of (take n text)) is ∙ before ∙ sym (whole_lines-other (take place text) (get_or text place 0) no) ∙ ap whole_lines (sym more)

@@ -1,0 +1,104 @@
+//! Why a line was refused, in the words of a reply.
+
+ghost use Rattle.std.specs.Prelude.{◌≡◌};
+ghost use Rattle.tile_reply.specs.Replies.{refusal_number, refusal_name, parse_number, parse_name, edit_number, edit_name};
+ghost use Rattle.tile_reply.specs.declared.refused.Refused.TheVariants.{Edit};
+
+use mvt_edit::Refusal;
+use thiserror::Error;
+use tile_script::ParseError;
+
+/// Why a line was refused.
+#[derive(Clone, Copy, Debug, PartialEq, Eq, Error)]
+pub enum Refused {
+    #[error("{0}")]
+    Parse(ParseError),
+    #[error("{0}")]
+    Edit(Refusal),
+    #[error("there is nothing to undo")]
+    NothingToUndo,
+}
+
+impl From<Refusal> for Refused {
+    ghost from_gives = { λ refusal refused. refused ≡ Edit refusal };
+
+    fn from(refusal: Refusal) -> Refused {
+        Refused::Edit(refusal)
+    }
+}
+
+impl Refused {
+    /// The number that a reply tells.
+    pub fn number(self) -> u8
+        ensures { result ≡ refusal_number self }
+    {
+        match self {
+            Refused::Parse(error) => parse_number(error),
+            Refused::Edit(refusal) => edit_number(refusal),
+            Refused::NothingToUndo => 50,
+        }
+    }
+
+    /// The name that a reply tells.
+    pub fn name(self) -> &'static str
+        ensures { result.now ≡ refusal_name self }
+    {
+        match self {
+            Refused::Parse(error) => parse_name(error),
+            Refused::Edit(refusal) => edit_name(refusal),
+            Refused::NothingToUndo => "NothingToUndo",
+        }
+    }
+}
+
+fn parse_number(error: ParseError) -> u8
+    ensures { result ≡ parse_number error }
+{
+    match error {
+        ParseError::BadUtf8 => 10,
+        ParseError::BadWord => 11,
+        ParseError::UnknownCommand => 12,
+        ParseError::BadArguments => 13,
+        ParseError::BadNumber => 14,
+        ParseError::LineTooLong => 17,
+        ParseError::NoMemory => 60,
+    }
+}
+
+fn parse_name(error: ParseError) -> &'static str
+    ensures { result.now ≡ parse_name error }
+{
+    match error {
+        ParseError::BadUtf8 => "BadUtf8",
+        ParseError::BadWord => "BadWord",
+        ParseError::UnknownCommand => "UnknownCommand",
+        ParseError::BadArguments => "BadArguments",
+        ParseError::BadNumber => "BadNumber",
+        ParseError::LineTooLong => "LineTooLong",
+        ParseError::NoMemory => "NoMemory",
+    }
+}
+
+fn edit_number(refusal: Refusal) -> u8
+    ensures { result ≡ edit_number refusal }
+{
+    match refusal {
+        Refusal::NoLayer => 20,
+        Refusal::AmbiguousLayer => 21,
+        Refusal::NameTaken => 40,
+        Refusal::TooLarge => 43,
+        Refusal::NoMemory => 60,
+    }
+}
+
+fn edit_name(refusal: Refusal) -> &'static str
+    ensures { result.now ≡ edit_name refusal }
+{
+    match refusal {
+        Refusal::NoLayer => "NoLayer",
+        Refusal::AmbiguousLayer => "AmbiguousLayer",
+        Refusal::NameTaken => "NameTaken",
+        Refusal::TooLarge => "TooLarge",
+        Refusal::NoMemory => "NoMemory",
+    }
+}

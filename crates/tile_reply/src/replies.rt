@@ -1,0 +1,88 @@
+//! The replies to the lines of a script.
+
+ghost use Rattle.std.specs.Prelude.{◌≡◌, ◌-◌};
+ghost use Rattle.std.specs.List.{flat_map};
+ghost use Rattle.tile_device.specs.Device.{trouble_of};
+ghost use Rattle.tile_device.specs.Seen.{Sends, Spends, sink_at};
+ghost use Rattle.tile_reply.specs.Replies.{refused_reply, reply_to};
+
+use crate::refused::Refused;
+use itoa::Buffer;
+use tile_device::{Retries, Sink, Trouble, write_all};
+
+/// Replies to the line of this number, and passes the reply on.
+pub fn reply<W: Sink>(
+    replies: &mut W,
+    line: u64,
+    answer: Result<(), Refused>,
+    retries: &mut Retries,
+) -> Result<(), Trouble>
+    ensures sends { Sends (sink_at W.Sink replies.old) (sink_at W.Sink replies.new)
+        (reply_to line answer) (retries.old - retries.new) result }
+    ensures spends { Spends retries.old retries.new (trouble_of result) }
+{
+    write_reply(replies, line, answer, retries)?;
+    replies.flush()
+}
+
+fn write_reply<W: Sink>(
+    replies: &mut W,
+    line: u64,
+    answer: Result<(), Refused>,
+    retries: &mut Retries,
+) -> Result<(), Trouble>
+    ensures sends { Sends (sink_at W.Sink replies.old) (sink_at W.Sink replies.new)
+        (reply_to line answer) (retries.old - retries.new) result }
+    ensures spends { Spends retries.old retries.new (trouble_of result) }
+{
+    match answer {
+        Ok(()) => write_pieces(replies, &[b"ok\n"], retries),
+        Err(reason) => write_refusal(replies, line, reason, retries),
+    }
+}
+
+/// Replies to the refused line of this number. It takes no memory.
+fn write_refusal<W: Sink>(
+    replies: &mut W,
+    line: u64,
+    reason: Refused,
+    retries: &mut Retries,
+) -> Result<(), Trouble>
+    ensures sends { Sends (sink_at W.Sink replies.old) (sink_at W.Sink replies.new)
+        (refused_reply line reason) (retries.old - retries.new) result }
+    ensures spends { Spends retries.old retries.new (trouble_of result) }
+{
+    let mut line_digits = Buffer::new();
+    let mut number_digits = Buffer::new();
+    let line = line_digits.format(line);
+    let number = number_digits.format(reason.number());
+    write_pieces(
+        replies,
+        &[
+            b"line ",
+            line.as_bytes(),
+            b" refused ",
+            number.as_bytes(),
+            b" ",
+            reason.name().as_bytes(),
+            b"\n",
+        ],
+        retries,
+    )
+}
+
+/// Writes the pieces one after the other.
+fn write_pieces<W: Sink>(
+    sink: &mut W,
+    pieces: &[&[u8]],
+    retries: &mut Retries,
+) -> Result<(), Trouble>
+    ensures sends { Sends (sink_at W.Sink sink.old) (sink_at W.Sink sink.new)
+        (flat_map (λ piece. piece.now) pieces.now) (retries.old - retries.new) result }
+    ensures spends { Spends retries.old retries.new (trouble_of result) }
+{
+    for piece in pieces {
+        write_all(sink, piece, retries)?;
+    }
+    Ok(())
+}

@@ -1,9 +1,0 @@
--- Which plain cut a cut of the program stands for.
-use Rattle.tile_script.specs.Cutting as plain
-use Rattle.tile_script.specs.declared.cutter.Cut.{Cut}
-use Rattle.tile_script.specs.declared.cutter.Cut.TheVariants.{Line, TooLong}
-
--- the line with its bytes
-abbrev pub cut_seen : Cut → plain.Cut
-cut_seen (Line line) = plain.Whole line.now
-cut_seen TooLong = plain.TooLong

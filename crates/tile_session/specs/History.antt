@@ -1,0 +1,73 @@
+-- Which commands stand, and the document that they make of the tile read at the start.
+use Rattle.std.specs.Prelude.{ℕ, ◌+◌, ◌-◌, ◌≤◌, max, List, [], ◌∷◌, ◌++◌, length, take, Result, Ok, Err, ◌==◌, if◌then◌else◌}
+use Rattle.std.specs.Result.{result_unwrap_or}
+use Rattle.mvt_wire.specs.Plain.{Document}
+use Rattle.mvt_command.specs.Command.{Command}
+use Rattle.tile_script.specs.Request.{Request, Edit, Undo}
+use Rattle.mvt_edit.specs.Meaning.{applied}
+use Rattle.mvt_edit.specs.declared.edit.Refusal.{Refusal}
+use Rattle.tile_reply.specs.declared.refused.Refused.{Refused}
+use Rattle.tile_reply.specs.declared.refused.Refused.TheVariants as refused
+
+-- The tile at the start, the commands so far, how many of them stand now, the least
+-- number to which undo goes back, and how many steps it goes back at most.
+pub record History : Type 0 where
+  pub start : Document
+  pub commands : List Command
+  pub present : ℕ
+  pub floor : ℕ
+  pub depth : ℕ
+
+-- how its numbers lie to one another
+pub record IsSound (history : History) : Type 0 where
+  pub some_depth : 1 ≤ history.depth
+  pub above_floor : history.floor ≤ history.present
+  pub within_depth : history.present ≤ history.floor + history.depth
+  pub within_commands : history.present ≤ length history.commands
+
+abbrev pub begun : Document → ℕ → History
+begun start depth = record { start = start; commands = []; present = 0; floor = 0; depth = depth }
+
+-- the document after an accepted command
+abbrev pub after : Command → Document → Document
+after command document = result_unwrap_or (applied command document) document
+
+-- the commands one after the other
+abbrev pub after_all : List Command → Document → Document
+after_all [] document = document
+after_all (command ∷ commands) document = after_all commands (after command document)
+
+-- the document in which the first so many commands stand
+abbrev pub document_at : ℕ → History → Document
+document_at point history = after_all (take point history.commands) history.start
+
+abbrev pub present_document : History → Document
+present_document history = document_at history.present history
+
+-- The commands that were undone are forgotten, the new one stands, and undo goes back no further than depth.
+abbrev pub with_command : Command → History → History
+with_command command history = record {
+  start = history.start;
+  commands = take history.present history.commands ++ command ∷ [];
+  present = history.present + 1;
+  floor = max history.floor (history.present + 1 - history.depth);
+  depth = history.depth;
+}
+
+abbrev pub undone : History → History
+undone history = record {
+  start = history.start;
+  commands = history.commands;
+  present = history.present - 1;
+  floor = history.floor;
+  depth = history.depth;
+}
+
+abbrev pub edited : Command → History → Result Document Refusal → Result History Refused
+edited command history (Ok document) = Ok (with_command command history)
+edited command history (Err refusal) = Err (refused.Edit refusal)
+
+-- the history after a request, or why it is refused
+abbrev pub carried_out : Request → History → Result History Refused
+carried_out (Edit command) history = edited command history (applied command (present_document history))
+carried_out Undo history = if history.present == history.floor then Err refused.NothingToUndo else Ok (undone history)

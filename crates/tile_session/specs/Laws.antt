@@ -1,0 +1,20 @@
+-- Laws of commands and undo, in the words of a tile and its history.
+use Rattle.std.specs.Prelude.{◌≡◌, ℕ, ◌≤◌, length, Ok}
+use Rattle.mvt_wire.specs.TheConstants.{MAX_FILE}
+use Rattle.mvt_wire.specs.Plain.{Document}
+use Rattle.mvt_wire.specs.Wire.{bytes_of}
+use Rattle.mvt_command.specs.Command.{Command}
+use Rattle.tile_script.specs.Request.{Request, Edit, Undo}
+use Rattle.tile_session.specs.History.{History, IsSound, begun, document_at, present_document, carried_out}
+
+-- An undo right after an accepted command is accepted, and the document is the one before the command.
+abbrev pub UndoAtOnce : Type 0
+UndoAtOnce = (command : Command) (history edited : History) → IsSound history → carried_out (Edit command) history ≡ Ok edited → (back : History) × (carried_out Undo edited ≡ Ok back) × (present_document back ≡ present_document history)
+
+-- A history begins sound, and each accepted request keeps it so.
+abbrev pub StaysSound : Type 0
+StaysSound = ((document : Document) (depth : ℕ) → 1 ≤ depth → IsSound (begun document depth)) × ((request : Request) (history after : History) → IsSound history → carried_out request history ≡ Ok after → IsSound after)
+
+-- Where a file can hold the tile at the start, it can hold each tile of the history.
+abbrev pub HistoryFits : Type 0
+HistoryFits = (history : History) → length (bytes_of history.start) ≤ MAX_FILE → (point : ℕ) → length (bytes_of (document_at point history)) ≤ MAX_FILE
