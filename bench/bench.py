@@ -32,7 +32,7 @@ LONG_SECONDS = 300
 RUNS_MEASURED = f"medians of {RUNS} runs in turns, and of {RUNS_OF_LARGE} on tiles of more than {LARGE // MEBIBYTE} MiB"
 
 DASHES = """\
-A dash: not done, or not measured. A run was stopped where it took too much processor time.
+A dash: not done, or not measured.
 `protozero, layers alone` reads a layer as far as its name and copies all else unread, so it checks nothing of that.
 protozero reads no groups."""
 

@@ -17,7 +17,8 @@ PROFILE = BUILD / "callgrind"
 RUNS = 9
 RUNS_OF_LARGE = 5
 
-# A run that takes more processor time than this is stopped, and its job is left out. On a large tile it is more, in proportion.
+# A run that takes more processor time than this is stopped, and its job is left out.
+# A large tile gets more, in proportion.
 SECONDS = 5
 
 # So many replies tell enough of a run.
@@ -65,8 +66,8 @@ class Run:
 
     @property
     def ending(self):
-        if self.status in {-signal.SIGXCPU, -signal.SIGKILL}:
-            return "stopped"
+        if self.status == -signal.SIGXCPU:
+            return "stopped: too much processor time"
         return f"status {self.status}: {self.said}" if self.status > 0 else f"signal {-self.status}"
 
 

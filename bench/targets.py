@@ -20,7 +20,8 @@ def targets(results):
         (f"{large.tile.name}, in any job: peak memory to the tile", highest_peak(results, large.tile), 3.7),
         *((f"{result.tile.name}, {MANY}: time to protozero's", time_to(result, "protozero"), 2.5)
           for result in results if result.job == MANY and result.tile in [small.tile, *real(results)]),
-        (f"{small.tile.name} to {large.tile.name}, {JOB}: exponent of time", exponent(small, large, OURS, time), 1 + NOISE),
+        (f"{small.tile.name} to {large.tile.name}, {JOB}: exponent of time",
+         exponent(small, large, OURS, time), 1 + NOISE),
         (f"{crumbs.name}, in any job: peak memory to the tile", highest_peak(results, crumbs), 31),
     ]
 
