@@ -2,7 +2,7 @@
 
 PREFIX ?= /usr/local
 
-.PHONY: all check bench install clean toolchain
+.PHONY: all check bench bench-hostile install clean toolchain
 
 all: toolchain
 	cd crates/tileshell_program && rt run -- --help > /dev/null
@@ -17,6 +17,10 @@ check: toolchain
 # Speed and memory beside other programs. TILESHELL=PATH measures a program that was built before.
 bench: $(if $(TILESHELL),,all)
 	python3 bench/bench.py $(or $(TILESHELL),build/tileshell)
+
+# Time and memory on hostile tiles. It fails where they are not bounded as they should be.
+bench-hostile: $(if $(TILESHELL),,all)
+	python3 bench/hostile.py $(or $(TILESHELL),build/tileshell)
 
 install: all
 	install -d $(DESTDIR)$(PREFIX)/bin

@@ -7,10 +7,11 @@ import os
 from pathlib import Path
 
 import peers
-from measure import COUNTED_MILLISECONDS, RUNS, SECONDS, Program, costliest, count_instructions, measure, run_once
-from report import Result, comparison, divided, growth, instructions, memory, put_section, shown, table, time
-from targets import JOB, verdicts
-from tiles import generated_tiles, real_tiles, smallest_map
+from measure import (COUNTED_MILLISECONDS, RUNS, RUNS_OF_LARGE, Program, costliest, count_instructions, measure,
+                     run_once)
+from report import Result, comparison, endings, growth, instructions, memory, put_section, shown, table, time
+from targets import JOB, MANY, OURS, verdicts
+from tiles import LARGE, MEBIBYTE, generated_tiles, real_tiles, smallest_map
 
 RESULTS = peers.HERE / "RESULTS.md"
 
@@ -20,7 +21,7 @@ RENAME = 'rename-layer "{layer}" "renamed"\n'
 JOBS = {
     "empty script": "",
     JOB: RENAME,
-    "1,000 renames and undos": (RENAME + "undo\n") * 1000,
+    MANY: (RENAME + "undo\n") * 1000,
 }
 
 # The job `long script`: one script of few of these lines and one of many, of tileshell alone, for its memory.
@@ -28,11 +29,19 @@ LONG_PAIR = 'rename-layer "{layer}" "renamed for the length of a line"\nundo\n'
 LONG_LINES = [1_000, 100_000]
 LONG_SECONDS = 300
 
+RUNS_MEASURED = f"medians of {RUNS} runs in turns, and of {RUNS_OF_LARGE} on tiles of more than {LARGE // MEBIBYTE} MiB"
+
+DASHES = """\
+A dash: not done, or not measured.
+`protozero, layers alone` reads a layer as far as its name and copies all else unread, so it checks nothing of that.
+protozero reads no groups."""
+
 
 def programs(tileshell):
     return [
-        Program("tileshell", (tileshell,)),
+        Program(OURS, (tileshell,)),
         Program("protozero", (peers.BUILD / "protozero_peer",)),
+        Program("protozero, layers alone", (peers.BUILD / "protozero_layers_peer",)),
         Program("protobuf", (peers.BUILD / "protobuf_peer",), keeps_order=False),
         Program("cat", ("cat",), only_copies=True),
     ]
@@ -51,17 +60,22 @@ def script_of(lines, tile):
     return path
 
 
+def jobs_of(tile):
+    """On a large tile the long job is left out."""
+    return [job for job in JOBS if job != MANY or not tile.is_large]
+
+
 def results_of(programs, tiles, with_valgrind):
     """Measures every job on every tile, and says how far it is."""
     results = []
     for tile in tiles:
-        for job in JOBS:
+        for job in jobs_of(tile):
             print(f"bench: {tile.name}, {job}", flush=True)
             script = script_of(JOBS[job], tile)
-            figures = measure(programs, tile, script)
-            if with_valgrind:
+            figures, ended = measure(programs, tile, script)
+            if with_valgrind and not tile.is_large:
                 count_all(programs, tile, script, figures)
-            results.append(Result(tile, job, figures))
+            results.append(Result(tile, job, figures, ended))
     return results
 
 
@@ -87,9 +101,9 @@ def conditions(load_before, missing):
     return "\n".join(lines)
 
 
-def maps(tiles):
-    """From the smallest to the largest."""
-    return sorted((tile for tile in tiles if tile.kind == "map"), key=lambda tile: tile.size)
+def counted_maps(tiles):
+    """The maps that are not large, from the smallest to the largest."""
+    return sorted((tile for tile in tiles if tile.kind == "map" and not tile.is_large), key=lambda tile: tile.size)
 
 
 def costs(tileshell, tile):
@@ -105,11 +119,12 @@ def long_script(tileshell, tile):
     for lines in LONG_LINES:
         print(f"bench: {tile.name}, long script of {lines:,} lines", flush=True)
         script = script_of(LONG_PAIR * (lines // 2), tile)
-        measured = run_once(tileshell, tile, script, LONG_SECONDS)
-        milliseconds, peak = measured or (None, None)
-        rows.append([f"{lines:,}", f"{script.stat().st_size:,}", shown(divided(peak, 1024), 0), shown(milliseconds, 0)])
+        run = run_once(tileshell, tile, script, LONG_SECONDS)
+        rows.append([f"{lines:,}", f"{script.stat().st_size:,}", shown(run.peak / 1024, 0), shown(run.milliseconds, 0),
+                     "done" if run.is_done else run.ending])
     heading = f"### A long script: {tile.name}, {tileshell.name} alone, one run each"
-    return heading + "\n\n" + table(["Lines", "Bytes of the script", "Peak memory in KiB", "Milliseconds"], rows)
+    heads = ["Lines", "Bytes of the script", "Peak memory in KiB", "Milliseconds", "How it ended"]
+    return heading + "\n\n" + table(heads, rows)
 
 
 def section(results, names):
@@ -117,13 +132,13 @@ def section(results, names):
     without_floor = [name for name in names if name != "cat"]
     parts = [
         ("Targets", verdicts(results)),
-        (f"Wall time in milliseconds, medians of {RUNS} runs in turns", comparison(results, names, time, 1)),
+        (f"Wall time in milliseconds, {RUNS_MEASURED}", comparison(results, names, time, 1)),
         ("Peak memory, as a multiple of the tile", memory(results, names)),
         ("Millions of instructions", comparison(results, without_floor, instructions, 1e6)),
         ("Growth of time from the smallest to the largest tile, as an exponent", growth(results, names)),
+        ("Not done", endings(results)),
     ]
-    dash = f"A dash: over {SECONDS} seconds of processor time, or not measured."
-    return "\n\n".join([*(f"### {heading}\n\n{text}" for heading, text in parts), dash])
+    return "\n\n".join([*(f"### {heading}\n\n{text}" for heading, text in parts), DASHES])
 
 
 def all_jobs(run):
@@ -140,9 +155,9 @@ def all_jobs(run):
     load_before = load()
     results = results_of(run, tiles, "valgrind" not in missing)
     parts = [conditions(load_before, missing), section(results, [program.name for program in run])]
-    parts.append(long_script(run[0], maps(tiles)[0]))
+    parts.append(long_script(run[0], counted_maps(tiles)[0]))
     if "valgrind" not in missing:
-        parts.append(costs(run[0], maps(tiles)[-1]))
+        parts.append(costs(run[0], counted_maps(tiles)[-1]))
     return "\n\n".join(parts)
 
 

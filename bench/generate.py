@@ -1,5 +1,5 @@
 #!/usr/bin/env python3
-"""Makes tiles from a seed: 'map', as a basemap has, and 'crumbs', of the smallest fields."""
+"""Makes tiles from a seed: 'map', as a basemap has; 'crumbs', of the smallest fields; two kinds of groups."""
 import argparse
 import random
 from pathlib import Path
@@ -11,6 +11,12 @@ LAYERS = ["water", "landcover", "landuse", "roads", "buildings",
 SPARE = 64
 
 LINE, POLYGON = 2, 3
+
+# The tags around a group of number 1.
+GROUP, GROUP_END = b"\x0b", b"\x0c"
+
+# How many groups may be open at one place.
+MOST_OPEN = 100
 
 
 def varint(number):
@@ -101,7 +107,19 @@ def crumbs_tile(draw, size):
     return layer("crumbs", b"".join(draw.choices(crumbs, k=room // 2)), b"")
 
 
-MAKERS = {"map": map_tile, "crumbs": crumbs_tile}
+def groups_tile(deep, size):
+    """Groups that stand in one another, so deep, again and again; behind them a small layer."""
+    groups = deep * GROUP + deep * GROUP_END
+    small = layer("groups", b"", b"")
+    return (size - len(small)) // len(groups) * groups + small
+
+
+MAKERS = {
+    "map": map_tile,
+    "crumbs": crumbs_tile,
+    "nested groups": lambda draw, size: groups_tile(MOST_OPEN, size),
+    "flat groups": lambda draw, size: groups_tile(1, size),
+}
 
 
 def generate(kind, size, seed):

@@ -22,13 +22,19 @@ inline std::string read_file(const std::string& path) {
     return bytes;
 }
 
-inline void write_file(const std::string& path, const std::string& bytes) {
+// Writes what `put` puts into the stream.
+template <typename Put>
+void write_file_of(const std::string& path, Put put) {
     std::ofstream file(path, std::ios::binary);
-    file.write(bytes.data(), static_cast<std::streamsize>(bytes.size()));
+    put(file);
     file.flush();
     if (!file) {
         throw std::runtime_error("cannot write " + path);
     }
+}
+
+inline void write_file(const std::string& path, const std::string& bytes) {
+    write_file_of(path, [&bytes](std::ostream& file) { file << bytes; });
 }
 
 // The texts between quotes of a line; the benchmark's scripts have no escapes.
@@ -89,7 +95,7 @@ int run(int count, char** words, Job job) {
         job(words[1], words[2]);
         return 0;
     } catch (const std::exception& error) {
-        std::cerr << words[0] << ": " << error.what() << '\n';
+        std::cerr << error.what() << '\n';
         return 1;
     }
 }

@@ -1,5 +1,7 @@
 """Runs of a program on a tile: wall time, peak memory, instructions."""
 import hashlib
+import itertools
+import math
 import re
 import signal
 import statistics
@@ -7,14 +9,20 @@ import subprocess
 from dataclasses import dataclass
 
 from peers import BUILD
+from tiles import LARGE
 
 PROFILE = BUILD / "callgrind"
 
-# The median is taken of so many runs.
+# The median is taken of so many runs, and of so many of a large tile.
 RUNS = 9
+RUNS_OF_LARGE = 5
 
 # A run that takes more processor time than this is stopped, and its job is left out.
+# A large tile gets more, in proportion.
 SECONDS = 5
+
+# So many replies tell enough of a run.
+REPLIES = 3
 
 # Instructions are counted of runs that take less, since a run takes about fifty times as long then.
 COUNTED_MILLISECONDS = 700
@@ -43,6 +51,27 @@ class Program:
 
 
 @dataclass(frozen=True)
+class Run:
+    milliseconds: float
+    # In bytes.
+    peak: int
+    # Below 0 where a signal ended the run.
+    status: int
+    # Its error, or else its first replies.
+    said: str
+
+    @property
+    def is_done(self):
+        return self.status == 0
+
+    @property
+    def ending(self):
+        if self.status == -signal.SIGXCPU:
+            return "stopped: too much processor time"
+        return f"status {self.status}: {self.said}" if self.status > 0 else f"signal {-self.status}"
+
+
+@dataclass(frozen=True)
 class Figures:
     milliseconds: float
     # In bytes.
@@ -51,16 +80,22 @@ class Figures:
     instructions: int = None
 
 
-def run_once(program, tile, script, seconds=SECONDS):
-    """Milliseconds and peak memory in bytes, or nothing where it took too long."""
+def run_once(program, tile, script, seconds):
     words = [BUILD / "measure", seconds, script, program.replies, *program.command(tile.path)]
     result = subprocess.run([str(word) for word in words], capture_output=True, text=True, check=True)
     nanoseconds, kibibytes, status = map(int, result.stdout.split())
-    if status == -signal.SIGXCPU:
-        return None
-    if status != 0:
-        raise SystemExit(f"bench: {program.name} ended with status {status} on {tile.name}\n{result.stderr}")
-    return nanoseconds / 1e6, 1024 * kibibytes
+    return Run(nanoseconds / 1e6, 1024 * kibibytes, status, result.stderr.strip() or first_replies(program))
+
+
+def first_replies(program):
+    if program.only_copies:
+        return ""
+    with open(program.replies) as replies:
+        return ", ".join(line.strip() for line in itertools.islice(replies, REPLIES))
+
+
+def seconds_for(tile):
+    return math.ceil(SECONDS * max(1, tile.size / LARGE))
 
 
 def check_same(programs, tile):
@@ -76,18 +111,29 @@ def digest(path):
 
 
 def measure(programs, tile, script):
-    """The figures of each program whose runs all end in time, from runs in turns."""
-    quick = [program for program in programs if run_once(program, tile, script)]
-    check_same([program for program in quick if not program.only_copies], tile)
-    runs = {program.name: [] for program in quick}
-    for _ in range(RUNS):
-        for program in quick:
-            runs[program.name].append(run_once(program, tile, script))
-    return {name: medians(measured) for name, measured in runs.items() if all(measured)}
+    """The figures of each program that did the job each time, from runs in turns, and how the others ended."""
+    def run(program):
+        return run_once(program, tile, script, seconds_for(tile))
+
+    first = {program: run(program) for program in programs}
+    able = [program for program in programs if first[program].is_done]
+    check_same([program for program in able if not program.only_copies], tile)
+    runs = {program: [] for program in able}
+    for _ in range(RUNS_OF_LARGE if tile.is_large else RUNS):
+        for program in able:
+            runs[program].append(run(program))
+    figures = {program.name: medians(done) for program, done in runs.items() if all(each.is_done for each in done)}
+    endings = {program.name: last_ending([first[program], *runs.get(program, [])])
+               for program in programs if program.name not in figures}
+    return figures, endings
 
 
-def medians(measured):
-    return Figures(*map(statistics.median, zip(*measured)))
+def last_ending(runs):
+    return [run.ending for run in runs if not run.is_done][-1]
+
+
+def medians(runs):
+    return Figures(statistics.median(run.milliseconds for run in runs), statistics.median(run.peak for run in runs))
 
 
 def profile(program, tile, script):

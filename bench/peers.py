@@ -68,6 +68,7 @@ def build():
     messages = BUILD / "vector_tile.pb.cc"
     subprocess.run(["protoc", f"--proto_path={HERE}", f"--cpp_out={BUILD}", HERE / "vector_tile.proto"], check=True)
     compile_program("protozero_peer")
+    compile_program("protozero_layers_peer")
     compile_program("protobuf_peer", f"-I{BUILD}", messages, "-lprotobuf-lite", "-pthread")
 
 

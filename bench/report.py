@@ -10,10 +10,11 @@ DASH = "–"
 
 @dataclass(frozen=True)
 class Result:
-    """A job on a tile: the figures of each program that was quick enough."""
+    """A job on a tile: the figures of each program that did it, and how the others ended."""
     tile: Tile
     job: str
     figures: dict
+    endings: dict
 
     def figure(self, program, value):
         """None where there is none."""
@@ -73,13 +74,12 @@ def exponent(small, large, program, value):
 
 
 def grown(results):
-    """Of each kind of tile and each job, the results of the smallest and of the largest tile."""
+    """Of each kind of tile that has several sizes and each job, the results from the smallest to the largest tile."""
     groups = {}
     for result in results:
         if result.tile.kind is not None:
             groups.setdefault((result.tile.kind, result.job), []).append(result)
-    ends = [(min(group, key=tile_size), max(group, key=tile_size)) for group in groups.values()]
-    return [(small, large) for small, large in ends if small is not large]
+    return [sorted(group, key=tile_size) for group in groups.values() if len(group) > 1]
 
 
 def tile_size(result):
@@ -87,14 +87,26 @@ def tile_size(result):
 
 
 def growth(results, programs):
-    """How time grows, and beside it the instructions of ours."""
+    """How time grows, and beside it the instructions of ours, as far as they were counted."""
     ours = programs[0]
     rows = []
-    for small, large in grown(results):
+    for group in grown(results):
+        small, large = group[0], group[-1]
         exponents = [exponent(small, large, program, time) for program in programs]
-        exponents.append(exponent(small, large, ours, instructions))
-        rows.append([large.tile.kind, large.job, *(shown(number, 2) for number in exponents)])
+        counted = [result for result in group if result.figure(ours, instructions) is not None]
+        exponents.append(exponent(counted[0], counted[-1], ours, instructions) if len(counted) > 1 else None)
+        rows.append([f"{small.tile.name} to {large.tile.name}", large.job, *(shown(number, 2) for number in exponents)])
     return table(["Tiles", "Job", *programs, f"instructions of {ours}"], rows)
+
+
+def endings(results):
+    """What was not done, and how it ended: the jobs of a program on a tile that ended alike in one row."""
+    jobs = {}
+    for result in results:
+        for program, ending in result.endings.items():
+            jobs.setdefault((result.tile.name, program, ending), []).append(result.job)
+    rows = [[tile, program, "; ".join(alike), ending] for (tile, program, ending), alike in jobs.items()]
+    return table(["Tile", "Program", "Jobs", "How they ended"], rows) if rows else "Nothing."
 
 
 def put_section(path, title, text):

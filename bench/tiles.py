@@ -8,7 +8,13 @@ from peers import BUILD, world_map
 
 SEED = 1
 MEBIBYTE = 1 << 20
-SIZES = [1, 4, 16]
+SIZES = [1, 4, 16, 64]
+
+# A tile of more bytes is large: it has fewer runs and jobs.
+LARGE = 16 * MEBIBYTE
+
+# The kinds of tiles of groups, each at one size.
+GROUPS = {"nested groups": 16, "flat groups": 64}
 
 # The world's states at two places: zoom, column and row.
 REAL_TILES = ["1/0/0", "2/2/1"]
@@ -27,6 +33,10 @@ class Tile:
     def size(self):
         return self.path.stat().st_size
 
+    @property
+    def is_large(self):
+        return self.size > LARGE
+
 
 def generated(kind, mebibytes, layer):
     path = BUILD / f"{kind}-{mebibytes}.pbf"
@@ -40,7 +50,8 @@ def smallest_map():
 
 def generated_tiles():
     tiles = [generated("map", size, "roads") for size in SIZES]
-    return tiles + [generated("crumbs", size, "crumbs") for size in SIZES]
+    tiles += [generated("crumbs", size, "crumbs") for size in SIZES]
+    return tiles + [generated(kind, size, "groups") for kind, size in GROUPS.items()]
 
 
 def real_tiles():

@@ -1,0 +1,130 @@
+// Does the benchmark's jobs with protozero on layers alone: each layer is read as far as its name,
+// and all else is copied unread, the layers that keep their names too. So nothing that is copied is
+// checked. It is the least work that a rename takes.
+
+#define PROTOZERO_USE_VIEW std::string_view
+
+#include "job.hpp"
+
+#include <protozero/pbf_reader.hpp>
+#include <protozero/pbf_writer.hpp>
+
+#include <string_view>
+
+using protozero::pbf_reader;
+using protozero::pbf_tag_type;
+using protozero::pbf_wire_type;
+using protozero::pbf_writer;
+
+constexpr pbf_tag_type tile_layer = 3;
+constexpr pbf_tag_type layer_name = 1;
+
+// The bytes from the start of one view to the start of the other, or to its end.
+static std::string_view up_to_start(std::string_view from, std::string_view to) {
+    return {from.data(), static_cast<std::size_t>(to.data() - from.data())};
+}
+
+static std::string_view up_to_end(std::string_view from, std::string_view to) {
+    return {from.data(), static_cast<std::size_t>(to.data() + to.size() - from.data())};
+}
+
+static bool is_bytes(const pbf_reader& reader, pbf_tag_type tag) {
+    return reader.tag_and_type() == protozero::tag_and_type(tag, pbf_wire_type::length_delimited);
+}
+
+class Layer {
+public:
+    // A layer of these bytes, of which those of the content are read up to the name.
+    Layer(std::string_view bytes, std::string_view content) : bytes_(bytes) {
+        pbf_reader reader(content);
+        before_ = up_to_start(content, reader.data());
+        while (reader.next()) {
+            if (is_bytes(reader, layer_name)) {
+                read_name_ = reader.get_view();
+                name_ = read_name_;
+                behind_ = reader.data();
+                return;
+            }
+            reader.skip();
+            before_ = up_to_start(content, reader.data());
+        }
+        throw std::runtime_error("a layer has no name");
+    }
+
+    std::string_view bytes() const {
+        return bytes_;
+    }
+
+    const std::string& name() const {
+        return name_;
+    }
+
+    void set_name(const std::string& name) {
+        name_ = name;
+    }
+
+    bool is_changed() const {
+        return name_ != read_name_;
+    }
+
+    // Writes the layer with its name as it is now.
+    void write(std::ostream& file) const {
+        std::string name;
+        pbf_writer(name).add_string(layer_name, name_);
+        std::string head;
+        protozero::add_varint_to_buffer(&head, protozero::tag_and_type(tile_layer, pbf_wire_type::length_delimited));
+        protozero::add_varint_to_buffer(&head, before_.size() + name.size() + behind_.size());
+        file << head << before_ << name << behind_;
+    }
+
+private:
+    std::string_view bytes_;
+    // The content before the name's field, and behind it.
+    std::string_view before_;
+    std::string_view behind_;
+    std::string_view read_name_;
+    std::string name_;
+};
+
+static std::vector<Layer> read_layers(const std::string& tile) {
+    std::vector<Layer> layers;
+    pbf_reader reader(tile);
+    std::string_view rest = reader.data();
+    while (reader.next()) {
+        if (is_bytes(reader, tile_layer)) {
+            const std::string_view content = reader.get_view();
+            layers.emplace_back(up_to_end(rest, content), content);
+        } else {
+            reader.skip();
+        }
+        rest = reader.data();
+    }
+    return layers;
+}
+
+static void write_tile(std::ostream& file, std::string_view tile, const std::vector<Layer>& layers) {
+    std::string_view rest = tile;
+    for (const Layer& layer : layers) {
+        if (layer.is_changed()) {
+            file << up_to_start(rest, layer.bytes());
+            layer.write(file);
+            rest.remove_prefix(up_to_end(rest, layer.bytes()).size());
+        }
+    }
+    file << rest;
+}
+
+static void edit(const std::string& in, const std::string& out) {
+    const std::string tile = read_file(in);
+    std::vector<Layer> layers = read_layers(tile);
+    std::vector<Layer*> places;
+    for (Layer& layer : layers) {
+        places.push_back(&layer);
+    }
+    carry_out(std::cin, std::cout, places);
+    write_file_of(out, [&](std::ostream& file) { write_tile(file, tile, layers); });
+}
+
+int main(int count, char** words) {
+    return run(count, words, edit);
+}
