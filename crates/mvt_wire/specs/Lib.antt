@@ -1,15 +1,12 @@
 pub use Rattle.mvt_document.specs.Held
 pub use Rattle.mvt_document.specs.Plain
 pub use Rattle.mvt_document.specs.Wire
-pub use Rattle.mvt_document.specs.Fills
 pub use Rattle.mvt_document.specs.Shape
 pub use Rattle.mvt_document.specs.Groups
 pub use Rattle.mvt_document.specs.Opens
 pub use Rattle.mvt_document.specs.BodyShape
 pub use Rattle.mvt_document.specs.Lending
 pub use Rattle.mvt_document.specs.Stands
-pub use Rattle.mvt_document.specs.Parts
 pub use Rattle.mvt_document.specs.Settle
 pub use Rattle.mvt_read.specs.Fronts
-pub use Rattle.mvt_read.specs.Stops
 pub use Rattle.mvt_document.specs.declared.TheConstants
