@@ -138,17 +138,18 @@ fn a_status_tells_how_the_run_ended(rt: HostRuntime) -> Result<(), Fail> {
 
 #[test]
 fn what_is_too_long_is_told(rt: HostRuntime) -> Result<(), Fail> {
-    let long = vec![in rt.alloc(); b'#'; 16_777_217]?;
+    let large = vec![in rt.alloc(); b'#'; 67_108_865]?;
+    let long = &large[..16_777_217];
     for (tile, script, status, errors) in [
         (
-            long.as_slice(),
+            large.as_slice(),
             RENAME,
             3,
             b"tileshell: tile refused: 2 FileTooLarge\n".as_slice(),
         ),
         (
             T0.as_slice(),
-            long.as_slice(),
+            long,
             4,
             b"tileshell: device fault: script\n".as_slice(),
         ),
