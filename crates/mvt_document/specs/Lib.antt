@@ -7,6 +7,8 @@ pub mod Groups
 pub mod Opens
 pub mod BodyShape
 pub mod Lending
+pub mod Kept
+pub mod LendingKept
 pub mod Stands
 pub mod Parts
 pub mod Settle

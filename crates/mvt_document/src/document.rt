@@ -5,7 +5,7 @@ ghost use Rattle.mvt_document.specs.Shape.{IsTag, IsWidth};
 ghost use Rattle.mvt_document.specs.BodyShape.{wire_type_of, stored_width_of, EndsGroup};
 
 use crate::body::Body;
-use crate::items::Items;
+use crate::message::Message;
 use crate::varint::Varint;
 
 /// A tag and its body.
@@ -23,7 +23,7 @@ pub struct Field {
 pub struct Feature {
     pub tag: Varint,
     pub width: u8,
-    pub fields: Items<Field>,
+    pub fields: Message<Field>,
     pub ghost is_feature: { tag.value ≡ 18 },
     pub ghost is_width: { IsWidth width },
 }
@@ -39,7 +39,7 @@ pub enum LayerItem {
 pub struct Layer {
     pub tag: Varint,
     pub width: u8,
-    pub items: Items<LayerItem>,
+    pub items: Message<LayerItem>,
     pub ghost is_layer: { tag.value ≡ 26 },
     pub ghost is_width: { IsWidth width },
 }
@@ -53,5 +53,5 @@ pub enum TileItem {
 /// A whole tile.
 #[derive(Debug, Drop)]
 pub struct Document {
-    pub items: Items<TileItem>,
+    pub items: Message<TileItem>,
 }

@@ -5,12 +5,17 @@ mod body;
 mod document;
 mod items;
 pub mod laws;
+mod lengths;
+mod measure;
+mod message;
 pub mod tags;
 mod varint;
 
 pub use body::Body;
 pub use document::{Document, Feature, Field, Layer, LayerItem, TileItem};
 pub use items::Items;
+pub use measure::Measured;
+pub use message::Message;
 pub use varint::{Varint, least_width, put_number, read_varint};
 
 /// The longest tile in bytes.

@@ -8,3 +8,4 @@ pub mod NameLemmas
 pub mod EditRefusals
 pub mod SelectionLemmas
 pub mod EditLaws
+pub mod Named

@@ -42,7 +42,7 @@ passes_position passes n (x ∷ xs) (suc j) k place e =
       | inr skip ↦ (later.0, rw (positions_skip passes n x xs skip) later.1)
     ]
 
-two_apart : {A : Type 0} (passes : A → Bool) (n a b : ℕ) (xs : List A) (more : List ℕ) → positions_from passes n xs ≡ a ∷ b ∷ more → a < b
+pub two_apart : {A : Type 0} (passes : A → Bool) (n a b : ℕ) (xs : List A) (more : List ℕ) → positions_from passes n xs ≡ a ∷ b ∷ more → a < b
 two_apart passes n a b [] more e = absurd cc
 two_apart passes n a b (x ∷ xs) more e =
     elim (cases_Bool (passes x)) [

@@ -9,10 +9,10 @@ ghost use Rattle.mvt_edit.specs.Meaning.{applied, in_layer, name_field, named_it
 ghost use Rattle.mvt_edit.specs.Selection.{is_layer};
 ghost use Rattle.mvt_edit.specs.declared.edit.Refusal.TheVariants.{NoMemory};
 
-use crate::select::{last_name, layer_position, name_is_taken, selected_layer};
+use crate::select::{is_other, last_name, layer_position, selected_and_named};
 use mvt_command::{Command, LayerChoice};
 use mvt_wire::tags::NAME_TAG;
-use mvt_wire::{Body, Document, Field, Items, LayerItem, TileItem, Varint, size};
+use mvt_wire::{Body, Document, Field, Items, LayerItem, Message, TileItem, Varint, size};
 use std::alloc::{AllocError, AllocFailed, Global};
 use std::mem;
 use thiserror::Error;
@@ -87,8 +87,13 @@ fn rename_layer(
         (document_of document.old) (document_of document.new) result }
 {
     let layer = layer_to_rename(document.items.as_slice(), choice, name)?;
-    let name = put_name(alloc, document.items.item_mut(layer), name)?;
-    let former = Former { layer, name };
+    let beside = document.items.size_beside(layer);
+    let renamed = put_name(alloc, document.items.item_mut(layer), name);
+    document.items.remember(layer, beside);
+    let former = Former {
+        layer,
+        name: renamed?,
+    };
     match size(document) {
         Some(_) => Ok(former),
         None => {
@@ -104,8 +109,9 @@ fn layer_to_rename(items: &[TileItem], choice: &LayerChoice, name: &[u8]) -> Res
     ensures refused { IfErr result (λ refusal.
         applied (RenameLayer (layer_choice_of choice.now) name.now) (map tile_item_of items.now) ≡ Err refusal) }
 {
-    let ordinal = selected_layer(items, choice)?;
-    if name_is_taken(items, name, ordinal) {
+    let (chosen, named) = selected_and_named(items, choice, name);
+    let ordinal = chosen?;
+    if is_other(named, ordinal) {
         return Err(Refusal::NameTaken);
     }
     layer_position(items, ordinal).ok_or(Refusal::NoLayer)
@@ -116,8 +122,10 @@ pub fn put_back(document: &mut Document, former: Former)
     ensures { document_of document.new ≡ restored (former_of former) (document_of document.old) }
 {
     let Former { layer, name } = former;
+    let beside = document.items.size_beside(layer);
     if let Some(item) = document.items.get_mut(layer) {
         put_name_back(item, name);
+        document.items.remember(layer, beside);
     }
 }
 
@@ -130,15 +138,17 @@ fn put_name_back(item: &mut TileItem, name: FormerName)
     }
 }
 
-fn put_last_name_back(items: &mut Items<LayerItem>, name: FormerName)
+fn put_last_name_back(items: &mut Message<LayerItem>, name: FormerName)
     ensures { map layer_item_of items.new.items
         ≡ with_former_items (former_name_of name) (map layer_item_of items.old.items) }
 {
     let FormerName { index, text } = name;
     match text {
         Some(text) => {
+            let beside = items.size_beside(index);
             if let Some(item) = items.get_mut(index) {
                 let _ = exchange_text(item, text);
+                items.remember(index, beside);
             }
         }
         None => items.truncate(index),
@@ -160,7 +170,7 @@ fn put_name(alloc: Global, item: &mut TileItem, name: &[u8]) -> Result<FormerNam
 /// The last name field gets the name, or a name field comes at the end where there is none.
 fn put_last_name(
     alloc: Global,
-    items: &mut Items<LayerItem>,
+    items: &mut Message<LayerItem>,
     name: &[u8],
 ) -> Result<FormerName, AllocError>
     ensures { Changes (named_items name.now) with_former_items
@@ -169,7 +179,9 @@ fn put_last_name(
     let text = Items::from_vec(Vec::from_slice(alloc, name)?);
     match last_name(items.as_slice()) {
         Some(index) => {
+            let beside = items.size_beside(index);
             let former = exchange_text(items.item_mut(index), text);
+            items.remember(index, beside);
             Ok(FormerName {
                 index,
                 text: Some(former),

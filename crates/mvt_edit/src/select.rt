@@ -1,12 +1,14 @@
 //! Which layer a command means.
 
-ghost use Rattle.std.specs.Prelude.{◌≡◌, length, map, slice_get};
+ghost use Rattle.std.specs.Prelude.{◌≡◌, ℕ, List, [], ◌∷◌, ◌++◌, if◌then◌else◌, false, length, map, slice_get};
 ghost use Rattle.std.specs.List.{last_or};
-ghost use Rattle.std.specs.Option.{option_copied};
+ghost use Rattle.std.specs.Option.{option_copied, option_map_or};
+ghost use Rattle.std.specs.Str.{bytes_eq};
+ghost use Rattle.mvt_wire.specs.Plain.{Document};
 ghost use Rattle.mvt_wire.specs.Stands.{layer_item_of, layer_of, tile_item_of};
 ghost use Rattle.mvt_command.specs.CommandStands.{layer_choice_of};
 ghost use Rattle.mvt_command.specs.Command.{AtOrdinal, Named};
-ghost use Rattle.mvt_edit.specs.Selection.{is_layer, layers, layer_positions, text_in, name_of, is_named, selected};
+ghost use Rattle.mvt_edit.specs.Selection.{is_layer, layers, layer_positions, text_in, name_of, selected, the_one};
 ghost use Rattle.mvt_edit.specs.Meaning.{name_positions, is_taken};
 
 use crate::edit::Refusal;
@@ -49,36 +51,66 @@ fn is_layer(item: &TileItem) -> bool
 fn layer_named(items: &[TileItem], name: &[u8]) -> Result<usize, Refusal>
     ensures { result ≡ selected (Named name.now) (map tile_item_of items.now) }
 {
-    let mut found = None;
+    layers_named(items, name, name).0
+}
+
+/// The layer that is meant, and the one that has the name. Each layer's name is looked for once.
+pub(crate) fn selected_and_named(
+    items: &[TileItem],
+    choice: &LayerChoice,
+    name: &[u8],
+) -> (Result<usize, Refusal>, Result<usize, Refusal>)
+    ensures chosen { result.0 ≡ selected (layer_choice_of choice.now) (map tile_item_of items.now) }
+    ensures named { result.1 ≡ selected (Named name.now) (map tile_item_of items.now) }
+{
+    match choice {
+        LayerChoice::Ordinal(ordinal) => (layer_at(items, *ordinal), layer_named(items, name)),
+        LayerChoice::Name(chosen) => layers_named(items, chosen.as_slice(), name),
+    }
+}
+
+/// The layer of each of two names.
+fn layers_named(
+    items: &[TileItem],
+    one: &[u8],
+    other: &[u8],
+) -> (Result<usize, Refusal>, Result<usize, Refusal>)
+    ensures one { result.0 ≡ selected (Named one.now) (map tile_item_of items.now) }
+    ensures other { result.1 ≡ selected (Named other.now) (map tile_item_of items.now) }
+{
+    let mut of_one = Err(Refusal::NoLayer);
+    let mut of_other = Err(Refusal::NoLayer);
     let mut ordinal = 0;
     for item in items {
         if let TileItem::Layer(layer) = item {
-            if is_named(layer, name) {
-                if found.is_some() {
-                    return Err(Refusal::AmbiguousLayer);
-                }
-                found = Some(ordinal);
-            }
+            let text = name_of(layer);
+            of_one = and_layer(of_one, ordinal, is_text(text, one));
+            of_other = and_layer(of_other, ordinal, is_text(text, other));
             ordinal += 1;
         }
     }
-    found.ok_or(Refusal::NoLayer)
+    (of_one, of_other)
 }
 
-/// A layer of another ordinal has this name.
-pub(crate) fn name_is_taken(items: &[TileItem], name: &[u8], ordinal: usize) -> bool
-    ensures { result ≡ is_taken name.now ordinal (map tile_item_of items.now) }
+/// The one layer of those before and this one, where this one counts.
+fn and_layer(found: Result<usize, Refusal>, ordinal: usize, counts: bool) -> Result<usize, Refusal>
+    ensures { (ordinals : List ℕ) → found ≡ the_one ordinals → result ≡ the_one (ordinals ++ (if counts then ordinal ∷ [] else [])) }
 {
-    let mut current = 0;
-    for item in items {
-        if let TileItem::Layer(layer) = item {
-            if current != ordinal && is_named(layer, name) {
-                return true;
-            }
-            current += 1;
-        }
+    match found {
+        found if !counts => found,
+        Err(Refusal::NoLayer) => Ok(ordinal),
+        _ => Err(Refusal::AmbiguousLayer),
     }
-    false
+}
+
+/// A layer of another ordinal is among those that have the name.
+pub(crate) fn is_other(found: Result<usize, Refusal>, ordinal: usize) -> bool
+    ensures { (name : List ℕ) (document : Document) → found ≡ selected (Named name) document → result ≡ is_taken name ordinal document }
+{
+    match found {
+        Ok(other) => other != ordinal,
+        Err(refusal) => matches!(refusal, Refusal::AmbiguousLayer),
+    }
 }
 
 /// The position of the layer of this ordinal.
@@ -97,10 +129,10 @@ pub(crate) fn layer_position(items: &[TileItem], ordinal: usize) -> Option<usize
     None
 }
 
-fn is_named(layer: &Layer, name: &[u8]) -> bool
-    ensures { result ≡ is_named name.now (layer_of layer.now) }
+fn is_text(text: Option<&[u8]>, name: &[u8]) -> bool
+    ensures { result ≡ option_map_or (bytes_eq name.now) (option_copied text.entry) false }
 {
-    match name_of(layer) {
+    match text {
         Some(text) => text == name,
         None => false,
     }

@@ -1,6 +1,6 @@
 //! How the items of a message are read from its bytes.
 
-ghost use Rattle.std.specs.Prelude.{◌≡◌, ℕ, ◌++◌, List, length, IfOk, IfErr, IsErrOf};
+ghost use Rattle.std.specs.Prelude.{◌≡◌, ℕ, ◌++◌, List, length, refl, IfOk, IfErr, IsErrOf};
 ghost use Rattle.std.specs.List.{flat_map, AllByRecursion};
 ghost use Rattle.mvt_document.specs.Plain.{Field as PlainField};
 ghost use Rattle.mvt_document.specs.Wire.{field_bytes};
@@ -8,12 +8,14 @@ ghost use Rattle.mvt_document.specs.Parts.{IsWholeField, IsWholeLayerItem, IsWho
 ghost use Rattle.mvt_read.specs.Stops.{StopsAt, IsStop};
 ghost use Rattle.mvt_read.specs.Fronts.{front_of};
 ghost use Rattle.mvt_read.specs.declared.decode.Fault.TheVariants as faults;
+ghost use Rattle.mvt_document.specs.declared.document.LayerItem.TheVariants as in_layer;
+ghost use Rattle.mvt_document.specs.declared.document.TileItem.TheVariants as in_tile;
 ghost use Rattle.mvt_document.specs.Stands.{field_of, layer_item_of, tile_item_of};
 
 use crate::faults::ReadError;
 use crate::front::{BodyRef, FieldRef, field_at_front};
 use mvt_document::tags::{FEATURE_TAG, LAYER_TAG};
-use mvt_document::{Feature, Field, Items, Layer, LayerItem, TileItem};
+use mvt_document::{Feature, Field, Layer, LayerItem, Measured, Message, TileItem};
 use std::alloc::{AllocError, Global};
 
 /// How many bytes the shortest field takes: one for its tag, and one for its body.
@@ -39,7 +41,7 @@ impl From<AllocError> for Fault {
 }
 
 /// An item of a message, made of the field that stands in its place.
-pub(crate) trait Decode: Drop + Sized {
+pub(crate) trait Decode: Measured + Drop + Sized {
     /// The field that the item is.
     ghost as_field: { Self → PlainField };
 
@@ -54,6 +56,9 @@ pub(crate) trait Decode: Drop + Sized {
         ensures made { IfOk result (λ item. as_field item ≡ front_of front.entry) }
         ensures whole { IfOk result is_whole }
         ensures broken { IsErrOf result Fault.Broken → makes (front_of front.entry) → ⊥ };
+
+    /// Its bytes are those of the field.
+    ghost same_bytes: { (item : Self) → field_bytes (as_field item) ≡ Self.bytes item };
 }
 
 /// The items whose bytes are the content of a message.
@@ -83,13 +88,13 @@ pub(crate) fn decode_all<T: Decode>(alloc: Global, content: &[u8]) -> Result<Vec
 }
 
 /// The items of a message inside an item.
-fn decode_inside<T: Decode>(alloc: Global, content: &[u8]) -> Result<Items<T>, Fault>
+fn decode_inside<T: Decode>(alloc: Global, content: &[u8]) -> Result<Message<T>, Fault>
     ensures spelled { IfOk result (λ items. content.now ≡ flat_map (λ i. field_bytes (T.as_field i)) items.items) }
     ensures whole { IfOk result (λ items. AllByRecursion T.is_whole items.items) }
     ensures broken { IsErrOf result Fault.Broken → (fields : List PlainField) → AllByRecursion IsWholeField fields → AllByRecursion T.makes fields → content.now ≡ flat_map field_bytes fields → ⊥ }
 {
     match decode_all(alloc, content) {
-        Ok(items) => Ok(Items::from_vec(items)),
+        Ok(items) => Ok(Message::of_size(items, content.len())),
         Err(ReadError::NoMemory) => Err(Fault::NoMemory),
         Err(_) => Err(Fault::Broken),
     }
@@ -105,6 +110,8 @@ impl Decode for Field {
     fn decode(alloc: Global, front: FieldRef<'_>) -> Result<Self, Fault> {
         Ok(front.to_field(alloc)?)
     }
+
+    ghost same_bytes = { λ _. refl };
 }
 
 impl Decode for LayerItem {
@@ -126,6 +133,8 @@ impl Decode for LayerItem {
             _ => Ok(LayerItem::Plain(front.to_field(alloc)?)),
         }
     }
+
+    ghost same_bytes = { elim [ in_layer.Feature _ ↦ refl | in_layer.Plain _ ↦ refl ] };
 }
 
 impl Decode for TileItem {
@@ -147,4 +156,6 @@ impl Decode for TileItem {
             _ => Ok(TileItem::Plain(front.to_field(alloc)?)),
         }
     }
+
+    ghost same_bytes = { elim [ in_tile.Layer _ ↦ refl | in_tile.Plain _ ↦ refl ] };
 }

@@ -8,7 +8,7 @@ ghost use Rattle.mvt_document.specs.Stands.{document_of};
 
 use crate::decode::decode_all;
 use crate::faults::ReadError;
-use mvt_document::{Document, Items, MAX_FILE};
+use mvt_document::{Document, MAX_FILE, Message};
 use std::alloc::Global;
 
 /// The document that the file opens as. The place of a fault is the length of the longest
@@ -25,6 +25,6 @@ pub fn read_document(alloc: Global, file: &[u8]) -> Result<Document, ReadError>
     }
     let items = decode_all(alloc, file)?;
     Ok(Document {
-        items: Items::from_vec(items),
+        items: Message::of_size(items, file.len()),
     })
 }

@@ -6,6 +6,8 @@ pub use Rattle.mvt_document.specs.Groups
 pub use Rattle.mvt_document.specs.Opens
 pub use Rattle.mvt_document.specs.BodyShape
 pub use Rattle.mvt_document.specs.Lending
+pub use Rattle.mvt_document.specs.Kept
+pub use Rattle.mvt_document.specs.LendingKept
 pub use Rattle.mvt_document.specs.Stands
 pub use Rattle.mvt_document.specs.Settle
 pub use Rattle.mvt_read.specs.Fronts

@@ -2,8 +2,8 @@
 #![tactic(auto)]
 
 pub use mvt_document::{
-    Body, Document, Feature, Field, Items, Layer, LayerItem, MAX_FILE, MAX_GROUPS, TileItem,
-    Varint, laws, read_varint, tags,
+    Body, Document, Feature, Field, Items, Layer, LayerItem, MAX_FILE, MAX_GROUPS, Measured,
+    Message, TileItem, Varint, laws, read_varint, tags,
 };
 pub use mvt_read::{BodyRef, FieldRef, ReadError, field_at_front, read_document};
 pub use mvt_write::{WriteError, size, write_document};

@@ -6,7 +6,7 @@ ghost use Rattle.mvt_document.specs.declared.TheConstants.{MAX_FILE};
 ghost use Rattle.mvt_document.specs.Wire.{bytes_of};
 ghost use Rattle.mvt_document.specs.Stands.{document_of};
 
-use crate::encode::{put_all, size_of_all};
+use crate::encode::put_all;
 use crate::faults::WriteError;
 use mvt_document::Document;
 use std::alloc::Global;
@@ -15,7 +15,7 @@ use std::alloc::Global;
 pub fn size(document: &Document) -> Option<u64>
     ensures { SomeIff result (length (bytes_of (document_of document.now)) ≤ MAX_FILE) (length (bytes_of (document_of document.now))) }
 {
-    let size = size_of_all(document.items.as_slice())?;
+    let size = document.items.size()?;
     Some(size as u64)
 }
 
@@ -24,11 +24,10 @@ pub fn write_document(alloc: Global, document: &Document) -> Result<Vec<u8>, Wri
     ensures bytes { IfOk result (λ file. file.items ≡ bytes_of (document_of document.now)) }
     ensures too_large { IsErrOf result WriteError.TooLarge ↔ (MAX_FILE < length (bytes_of (document_of document.now))) }
 {
-    let items = document.items.as_slice();
-    let Some(size) = size_of_all(items) else {
+    let Some(size) = document.items.size() else {
         return Err(WriteError::TooLarge);
     };
     let mut file = vec![in alloc; 0; size]?;
-    put_all(items, &mut file);
+    put_all(document.items.as_slice(), &mut file);
     Ok(file)
 }

@@ -177,10 +177,7 @@ fn a_file_past_the_limit_is_too_large(rt: HostRuntime) -> Result<(), Fail> {
     let refused = read_document(rt.alloc(), &file).err();
     assert_eq!(rt; refused, Some(ReadError::FileTooLarge));
     let ran = edited(rt.alloc(), &file, b"", false);
-    assert_eq!(rt;
-        ran.outcome,
-        Outcome::TileRefused(TileFault::FileTooLarge)
-    );
+    assert_eq!(rt; ran.outcome, Outcome::TileRefused(TileFault::FileTooLarge));
     Ok(())
 }
 

@@ -7,4 +7,4 @@ use Rattle.mvt_edit.proofs.edit.layer_to_rename.Goals as goal
 
 pub returns-clause-refused : goal.returns-clause-refused
 returns-clause-refused c =
-    rw c.ok_or.ensures.value (position_found _ c.layer_position.result (λ none. selected_found (layer_choice_of c.args.choice.now) (map tile_item_of c.args.items.now) c.in_ok-ordinal.ordinal (sym c.in_ok-ordinal.ensures) (sym c.layer_position.ensures ∙ none)))
+    rw c.ok_or.ensures.value (position_found _ c.layer_position.result (λ none. selected_found (layer_choice_of c.args.choice.now) (map tile_item_of c.args.items.now) c.in_ok-ordinal.ordinal (sym c.selected_and_named-chosen.ensures.chosen ∙ c.in_ok-ordinal.was) (sym c.layer_position.ensures ∙ none)))

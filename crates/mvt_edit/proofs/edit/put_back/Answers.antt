@@ -7,7 +7,7 @@ use Rattle.mvt_edit.proofs.edit.put_back.Goals as goal
 
 pub returns-in-Some : goal.returns-in-Some
 returns-in-Some c =
-    changed_at tile_item_of (in_layer (with_former_name (former_name_of c.args.former.name))) c.args.document.now.items.items c.args.former.layer c.in-Some.item.now c.put_name_back.new.item (sym c.in-Some.ensures.value) c.put_name_back.ensures
+    rw c.remember.ensures (changed_at tile_item_of (in_layer (with_former_name (former_name_of c.args.former.name))) c.args.document.now.items.items c.args.former.layer c.in-Some.item.now c.put_name_back.new.item (sym c.in-Some.ensures.value) c.put_name_back.ensures)
 
 pub returns-in_default : goal.returns-in_default
 returns-in_default c =

@@ -10,7 +10,8 @@ item_mut-requires c = last_name_within c.args.items.now.items c.in-Some.index (r
 
 pub returns-in-Some : goal.returns-in-Some
 returns-in-Some c =
-    let text = c.from_vec-text.ensures ∙ c.in_ok-from_slice.ensures.items in (
+    let text = c.from_vec-text.ensures ∙ c.in_ok-from_slice.ensures.items in
+    rw c.remember.ensures (
       name_set c.args.name.now c.args.items.now.items c.in-Some.index c.item_mut.result.now c.exchange_text-former.new.item (rw c.as_slice.ensures at (sym c.in-Some.ensures)) c.item_mut.ensures.value (rw (← text) c.exchange_text-former.ensures.put),
       changed_back layer_item_of (with_text c.exchange_text-former.result.items) c.args.items.now.items c.in-Some.index c.item_mut.result.now c.exchange_text-former.new.item c.item_mut.ensures.value (sym c.exchange_text-former.ensures.taken),
     )

@@ -7,7 +7,7 @@ use Rattle.mvt_edit.proofs.edit.put_last_name_back.Goals as goal
 
 pub returns-in-Some-get_mut : goal.returns-in-Some-get_mut
 returns-in-Some-get_mut c =
-    rw c.in-Some.is (changed_at layer_item_of (with_text c.in-Some.text.items) c.args.items.now.items c.args.name.index c.in-Some-get_mut.item.now c.exchange_text.new.item (sym c.in-Some-get_mut.ensures.value) c.exchange_text.ensures.put)
+    rw (c.remember.ensures, c.in-Some.is) (changed_at layer_item_of (with_text c.in-Some.text.items) c.args.items.now.items c.args.name.index c.in-Some-get_mut.item.now c.exchange_text.new.item (sym c.in-Some-get_mut.ensures.value) c.exchange_text.ensures.put)
 
 pub returns-in_default : goal.returns-in_default
 returns-in_default c =

@@ -11,26 +11,26 @@ use Rattle.mvt_edit.proofs.edit.rename_layer.Goals as goal
 pub item_mut-requires : goal.item_mut-requires
 item_mut-requires c = renamed_within (layer_choice_of c.args.choice.now) c.args.name.now c.args.document.now.items.items c.in_ok-layer.layer (rw c.as_slice.ensures at c.in_ok-layer.ensures.found)
 
-pub put_name-requires : goal.put_name-requires
-put_name-requires c =
+pub put_name-renamed-requires : goal.put_name-renamed-requires
+put_name-renamed-requires c =
     renamed_layer (layer_choice_of c.args.choice.now) c.args.name.now c.args.document.now.items.items c.in_ok-layer.layer c.item_mut.result.now (rw c.as_slice.ensures at c.in_ok-layer.ensures.found) c.item_mut.ensures.value
 
-pub returns-in_err-name : goal.returns-in_err-name
-returns-in_err-name c =
-    let want = err_from_is_err_and c.from_residual-in_err-name.result c.from_residual-in_err-name.ensures.1 in
-    rw want.1 (inl want.2, same_at tile_item_of c.args.document.now.items.items c.in_ok-layer.layer c.item_mut.result.now c.put_name.new.item c.item_mut.ensures.value c.in_err-name.ensures)
+pub returns-in_err-renamed : goal.returns-in_err-renamed
+returns-in_err-renamed c =
+    let want = err_from_is_err_and c.from_residual-in_err-renamed.result c.from_residual-in_err-renamed.ensures.1 in
+    rw (want.1, c.remember.ensures) (inl want.2, same_at tile_item_of c.args.document.now.items.items c.in_ok-layer.layer c.item_mut.result.now c.put_name-renamed.new.item c.item_mut.ensures.value c.in_err-renamed.ensures)
 
 pub returns-in-Some : goal.returns-in-Some
-returns-in-Some c = (
-  rename_made (layer_choice_of c.args.choice.now) c.args.name.now c.args.document.now.items.items c.in_ok-layer.layer c.item_mut.result.now c.put_name.new.item (rw c.as_slice.ensures at c.in_ok-layer.ensures.found) c.item_mut.ensures.value c.in_ok-name.ensures.0
-      ∙ within_limit_ok _ c.in-Some.ensures.0,
-  changed_back tile_item_of (in_layer (with_former_name (former_name_of c.in_ok-name.name))) c.args.document.now.items.items c.in_ok-layer.layer c.item_mut.result.now c.put_name.new.item c.item_mut.ensures.value c.in_ok-name.ensures.1,
+returns-in-Some c = rw c.remember.ensures (
+  rename_made (layer_choice_of c.args.choice.now) c.args.name.now c.args.document.now.items.items c.in_ok-layer.layer c.item_mut.result.now c.put_name-renamed.new.item (rw c.as_slice.ensures at c.in_ok-layer.ensures.found) c.item_mut.ensures.value c.in_ok-renamed.ensures.0
+      ∙ within_limit_ok _ (rw c.remember.ensures at c.in-Some.ensures.0),
+  changed_back tile_item_of (in_layer (with_former_name (former_name_of c.in_ok-renamed.field-0))) c.args.document.now.items.items c.in_ok-layer.layer c.item_mut.result.now c.put_name-renamed.new.item c.item_mut.ensures.value c.in_ok-renamed.ensures.1,
 )
 
 pub returns-in-None : goal.returns-in-None
 returns-in-None c = (
-  inr (rename_made (layer_choice_of c.args.choice.now) c.args.name.now c.args.document.now.items.items c.in_ok-layer.layer c.item_mut.result.now c.put_name.new.item (rw c.as_slice.ensures at c.in_ok-layer.ensures.found) c.item_mut.ensures.value c.in_ok-name.ensures.0
-      ∙ within_limit_err _ (omega (arith, c.in-None.ensures))),
+  inr (rename_made (layer_choice_of c.args.choice.now) c.args.name.now c.args.document.now.items.items c.in_ok-layer.layer c.item_mut.result.now c.put_name-renamed.new.item (rw c.as_slice.ensures at c.in_ok-layer.ensures.found) c.item_mut.ensures.value c.in_ok-renamed.ensures.0
+      ∙ within_limit_err _ (omega (arith, rw c.remember.ensures at c.in-None.ensures))),
   c.put_back.ensures
-      ∙ changed_back tile_item_of (in_layer (with_former_name (former_name_of c.in_ok-name.name))) c.args.document.now.items.items c.in_ok-layer.layer c.item_mut.result.now c.put_name.new.item c.item_mut.ensures.value c.in_ok-name.ensures.1,
+      ∙ rw c.remember.ensures (changed_back tile_item_of (in_layer (with_former_name (former_name_of c.in_ok-renamed.field-0))) c.args.document.now.items.items c.in_ok-layer.layer c.item_mut.result.now c.put_name-renamed.new.item c.item_mut.ensures.value c.in_ok-renamed.ensures.1),
 )

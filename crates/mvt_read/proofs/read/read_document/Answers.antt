@@ -19,7 +19,7 @@ returns-in_err-items-clause-place c = λ place e.
     stop_is_place tile_item_of c.args.file.now place (omega arith) (stop_named (StopsInFile tile_item_of c.args.file.now) c.in_err-items.field-0.0 place c.in_err-items.ensures.stops is)
 
 pub returns-clause-opens : goal.returns-clause-opens
-returns-clause-opens c = rw c.from_vec.ensures (opens_from tile_item_of c.in_ok-items.items.items c.args.file.now (omega arith) c.in_ok-items.ensures.spelled c.in_ok-items.ensures.whole)
+returns-clause-opens c = rw c.of_size.ensures (opens_from tile_item_of c.in_ok-items.items.items c.args.file.now (omega arith) c.in_ok-items.ensures.spelled c.in_ok-items.ensures.whole)
 
 pub returns-in_err-items-clause-only : goal.returns-in_err-items-clause-only
 returns-in_err-items-clause-only c = λ document o.

@@ -4,4 +4,4 @@ use Rattle.mvt_document.specs.Fills.{Fills}
 use Rattle.mvt_write.proofs.encode.put_all.Given as goal
 
 abbrev pub invariant-loop-index : goal.invariant-loop-index
-invariant-loop-index g l = Fills l.fn.room l.room (flat_map g.T.Encode.bytes (drop l.index l.items)) l.left
+invariant-loop-index g l = Fills l.fn.room l.room (flat_map g.T.Measured.bytes (drop l.index l.items)) l.left

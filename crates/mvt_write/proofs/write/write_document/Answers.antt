@@ -12,12 +12,12 @@ no_memory-too_large : {T : Type 0} (r : Result T WriteError) → IsErrAnd r (λ 
 no_memory-too_large r none same = let found = err_from_is_err_and r none in cc (found.1, found.2)
 
 pub returns-in_default-clause-too_large : goal.returns-in_default-clause-too_large
-returns-in_default-clause-too_large c = (λ e. rw (flat_map-map, ← c.as_slice-items.ensures) (omega (arith, c.in_default.ensures)), λ h. refl)
+returns-in_default-clause-too_large c = (λ e. rw flat_map-map (omega (arith, c.in_default.ensures)), λ h. refl)
 
 pub returns-in_err-file-clause-too_large : goal.returns-in_err-file-clause-too_large
 returns-in_err-file-clause-too_large c = (
   λ e. absurd (no_memory-too_large c.from_residual.result c.from_residual.ensures.1 e),
-  λ h. absurd (let over = rw (flat_map-map, ← c.as_slice-items.ensures) at h in omega (arith, c.in-Some.ensures.0)),
+  λ h. absurd (let over = rw flat_map-map at h in omega (arith, c.in-Some.ensures.0)),
 )
 
 -- a room as long as the bytes holds nothing else
@@ -28,12 +28,12 @@ whole old new bytes left f same =
 
 pub returns-clause-bytes : goal.returns-clause-bytes
 returns-clause-bytes c =
-    let bytes = whole c.deref_mut.result.now c.put_all.new.room _ c.put_all.result c.put_all.ensures (omega (arith, c.deref_mut.ensures.len, c.in_ok-file.ensures.len, c.in-Some.ensures.1)) in
+    let bytes = whole c.deref_mut.result.now c.put_all.new.room _ c.put_all.result c.put_all.ensures (rw c.as_slice.ensures (omega (arith, c.deref_mut.ensures.len, c.in_ok-file.ensures.len, c.in-Some.ensures.1))) in
     with_items_is c.in_ok-file.file c.put_all.new.room (omega (arith, c.put_all.auto.room, c.deref_mut.ensures.len))
-    ∙ rw (flat_map-map, ← c.as_slice-items.ensures) bytes
+    ∙ rw (flat_map-map, ← c.as_slice.ensures) bytes
 
 pub returns-clause-too_large : goal.returns-clause-too_large
 returns-clause-too_large c = (
   λ e. absurd (cc),
-  λ h. absurd (let over = rw (flat_map-map, ← c.as_slice-items.ensures) at h in omega (arith, c.in-Some.ensures.0)),
+  λ h. absurd (let over = rw flat_map-map at h in omega (arith, c.in-Some.ensures.0)),
 )

@@ -1,5 +1,5 @@
 use Rattle.std.proofs.Common.{length-take, arith}
-use Rattle.mvt_write.proofs.Sizes.{length-delimited}
+use Rattle.mvt_document.proofs.Sizes.{length-delimited}
 use Rattle.mvt_write.proofs.messages.BodyEncode.put.Goals as goal
 
 pub put_length-requires : goal.put_length-requires

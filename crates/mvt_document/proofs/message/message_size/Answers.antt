@@ -1,7 +1,7 @@
 use Rattle.std.proofs.Common.{arith}
 use Rattle.mvt_document.proofs.Spelling.{length-spell}
-use Rattle.mvt_write.proofs.Sizes.{length-message}
-use Rattle.mvt_write.proofs.encode.message_size.Goals as goal
+use Rattle.mvt_document.proofs.Sizes.{length-message}
+use Rattle.mvt_document.proofs.message.message_size.Goals as goal
 
 pub returns-in_err-delimited_size : goal.returns-in_err-delimited_size
 returns-in_err-delimited_size g c =

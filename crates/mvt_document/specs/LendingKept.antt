@@ -1,0 +1,16 @@
+-- What a message ends as, where a `&mut` to one of its items is returned.
+use Rattle.std.specs.Prelude.{ℕ, Option}
+use Rattle.std.specs.Borrow.{Lends, LendsIf, Fml, RattleType, MutBor}
+use Rattle.mvt_document.specs.Held.{Held}
+use Rattle.mvt_document.specs.Lending.{with_item}
+use Rattle.mvt_document.specs.contracts.message.Message.{the_row}
+use Rattle.mvt_document.specs.declared.measure.Measured.{Ghosts}
+
+module _ (T : RattleType) (measured : Ghosts T.Denot) (list : MutBor (Held T.Denot)) (at : ℕ) where
+  -- once the borrow r ends, the place has the last value written through r
+  abbrev pub LendsKept : MutBor T.Denot → Fml
+  LendsKept r = Lends (the_row T measured) T list r (with_item list.now at)
+
+  -- the same where r is a reference, and at `None` the list stays as it is
+  abbrev pub LendsKeptIf : Option (MutBor T.Denot) → Fml
+  LendsKeptIf r = LendsIf (the_row T measured) T list r (with_item list.now at) list.now

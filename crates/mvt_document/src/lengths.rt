@@ -1,0 +1,69 @@
+//! The sizes of the messages of a tile.
+
+ghost use Rattle.mvt_document.specs.Wire.{body_bytes, field_bytes, feature_bytes, layer_item_bytes, layer_bytes, tile_item_bytes};
+ghost use Rattle.mvt_document.specs.Stands.{body_of, field_of, feature_of, layer_item_of, layer_of, tile_item_of};
+
+use crate::body::Body;
+use crate::document::{Feature, Field, Layer, LayerItem, TileItem};
+use crate::measure::{Measured, delimited_size, sum_within};
+use crate::message::message_size;
+
+impl Measured for Body {
+    ghost bytes = { λ b. body_bytes (body_of b) };
+
+    fn size(&self) -> Option<usize> {
+        match self {
+            Body::Number(number) => number.size(),
+            Body::Eight(bytes) => Some(bytes[..].len()),
+            Body::Four(bytes) => Some(bytes[..].len()),
+            Body::Bytes { width, bytes } => delimited_size(*width, bytes.len()),
+            Body::Group(bytes) => sum_within(bytes.len(), 0),
+        }
+    }
+}
+
+impl Measured for Field {
+    ghost bytes = { λ f. field_bytes (field_of f) };
+
+    fn size(&self) -> Option<usize> {
+        sum_within(self.tag.size()?, self.body.size()?)
+    }
+}
+
+impl Measured for Feature {
+    ghost bytes = { λ f. feature_bytes (feature_of f) };
+
+    fn size(&self) -> Option<usize> {
+        message_size(self.tag, self.width, &self.fields)
+    }
+}
+
+impl Measured for LayerItem {
+    ghost bytes = { λ i. layer_item_bytes (layer_item_of i) };
+
+    fn size(&self) -> Option<usize> {
+        match self {
+            LayerItem::Feature(feature) => feature.size(),
+            LayerItem::Plain(field) => field.size(),
+        }
+    }
+}
+
+impl Measured for Layer {
+    ghost bytes = { λ l. layer_bytes (layer_of l) };
+
+    fn size(&self) -> Option<usize> {
+        message_size(self.tag, self.width, &self.items)
+    }
+}
+
+impl Measured for TileItem {
+    ghost bytes = { λ i. tile_item_bytes (tile_item_of i) };
+
+    fn size(&self) -> Option<usize> {
+        match self {
+            TileItem::Layer(layer) => layer.size(),
+            TileItem::Plain(field) => field.size(),
+        }
+    }
+}

@@ -1,0 +1,57 @@
+//! How values of a document are measured.
+
+ghost use Rattle.std.specs.Prelude.{ℕ, ◌+◌, ◌≤◌, ◌++◌, List, length, max};
+ghost use Rattle.std.specs.Option.{SomeIff};
+ghost use Rattle.std.specs.List.{flat_map};
+ghost use Rattle.mvt_document.specs.declared.TheConstants.{MAX_FILE};
+ghost use Rattle.mvt_document.specs.Wire.{spell, minimal_width};
+
+use crate::MAX_FILE;
+use crate::varint::{Varint, least_width};
+
+/// A value that is written as bytes, of which it is known how many they are.
+pub trait Measured {
+    ghost bytes: { Self → List ℕ };
+
+    /// How many bytes it takes, where a file may have so many.
+    fn size(&self) -> Option<usize>
+        ensures { SomeIff result (length (bytes self.now) ≤ MAX_FILE) (length (bytes self.now)) };
+}
+
+/// The sum, where a file may have so many bytes.
+pub(crate) fn sum_within(size: usize, more: usize) -> Option<usize>
+    ensures { SomeIff result (size + more ≤ MAX_FILE) (size + more) }
+{
+    let sum = size.checked_add(more)?;
+    if sum > MAX_FILE {
+        return None;
+    }
+    Some(sum)
+}
+
+/// The size of the items one after the other, where a file may have so many bytes.
+pub(crate) fn size_of_all<T: Measured>(items: &[T]) -> Option<usize>
+    ensures { SomeIff result (length (flat_map T.bytes items.now) ≤ MAX_FILE) (length (flat_map T.bytes items.now)) }
+{
+    let mut size = 0;
+    for item in items {
+        size = sum_within(size, item.size()?)?;
+    }
+    Some(size)
+}
+
+/// The size of so many bytes behind their length, where a file may have so many.
+pub(crate) fn delimited_size(width: u8, length: usize) -> Option<usize>
+    ensures { SomeIff result (max width (minimal_width length) + length ≤ MAX_FILE) (max width (minimal_width length) + length) }
+{
+    let width = width.max(least_width(length as u64));
+    sum_within(usize::from(width), length)
+}
+
+impl Measured for Varint {
+    ghost bytes = { λ n. spell n.value n.width };
+
+    fn size(&self) -> Option<usize> {
+        Some(usize::from(self.width))
+    }
+}
