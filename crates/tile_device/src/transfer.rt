@@ -41,7 +41,7 @@ impl From<AllocError> for ReadFault {
     }
 }
 
-// How many bytes one read asks for at most.
+/// How many bytes one read asks for at most.
 const PIECE: usize = 16384;
 
 /// Reads into the front of the buffer, as `Source::read` does. An interrupted read is made again.

@@ -4,7 +4,6 @@ use Rattle.std.specs.Prelude.{Result, Ok, Err, IsSome, is_err}
 use Rattle.tile_device.specs.Device.{trouble_of}
 use Rattle.tile_device.specs.Seen.{Seen, Output, IsFront, Sends, Spends, written}
 use Rattle.tile_device.specs.declared.device.Trouble.{Trouble}
-use Rattle.tile_device.specs.declared.device.Trouble.TheVariants.{Interrupted}
 use Rattle.tile_device.proofs.Sending.{receives_nothing, receives_more}
 use Rattle.tile_run.specs.Steps.{Writes}
 

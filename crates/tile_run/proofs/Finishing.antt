@@ -85,7 +85,7 @@ stops_at_last_line strict start s0 s1 r0 r1 r2 before left less editor after cut
       spent = omega (arith, whole.share, c.writes.spent);
       last_read = λ e. absurd cc;
       last_write = λ e. absurd cc;
-      ends = record { untroubled = refl; progress = c.progress; walk = c.walk; over = c.over; replies = all_replies c.retries c.progress.replies };
+      ends = record { within = λ e. whole.within; untroubled = refl; progress = c.progress; walk = c.walk; over = c.over; replies = all_replies c.retries c.progress.replies };
     }
 stops_at_last_line strict start s0 s1 r0 r1 r2 before left less editor after cutter line line_stops.Replies whole last step =
     let k = cut_short strict start (whole_lines whole.bytes) (lines_of whole.bytes) [] line r0 r1 r2 whole.allowed left less editor last whole.comes step in

@@ -221,6 +221,7 @@ stops_at_line strict start s0 s1 r0 r1 r2 before left less room n buffer editor 
   last_read = λ e. absurd cc;
   last_write = λ e. absurd cc;
   ends = record {
+    within = λ e. absurd cc;
     untroubled = refl;
     progress = c.progress;
     walk = subst (λ (bytes : List ℕ). Walk strict start (whole_lines bytes) c.progress) (counts got.bytes buffer passed room n got.counted within is) c.walk;

@@ -78,8 +78,10 @@ pub record CarriesThrough (strict : Bool) (start : Progress) (script : Intake) (
   pub goes_on : is_over strict progress ≡ false
   pub replies : IsWritten output progress.replies
 
--- a line was refused, and the run is strict: it and those before it were replied to
+-- A line was refused, and the run is strict: it and those before it were replied to. A script that is read to its end
+-- is not too long.
 pub record StopsStrictly (strict : Bool) (start : Progress) (script : Intake) (output : Output) : Type 0 where
+  pub within : script.is_whole ≡ true → length script.bytes ≤ MAX_SCRIPT
   pub untroubled : script.trouble ≡ None
   pub progress : Progress
   pub walk : Walk strict start (lines_in script) progress

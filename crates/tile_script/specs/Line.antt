@@ -96,6 +96,6 @@ answer_to line =
 abbrev pub IsReadable : List ℕ → Type 0
 IsReadable line = (length line ≤ LINE_LIMIT) × IsUtf8 line
 
--- A line that is read into words. For no other line memory is asked for.
+-- A line that is read into words. For no other line memory is ever wanted.
 abbrev pub TakesMemory : List ℕ → Type 0
 TakesMemory line = IsReadable line × (is_remark line ≡ false)

@@ -27,7 +27,7 @@ use tile_lines::{Cut, LINE_LIMIT};
 pub fn parse_line(alloc: Global, line: &[u8]) -> Result<Option<Request>, ParseError>
     ensures answer { Gives (option_map request_of) result (answer_to line.now) }
 
-    // A line that is too long or no UTF-8, a blank line and a comment take no memory.
+    // For a line that is too long or no UTF-8, a blank line and a comment memory is never wanted.
     ensures no_memory { IsErrOf result ParseError.NoMemory → TakesMemory line.now }
 {
     if line.len() > LINE_LIMIT {
@@ -48,7 +48,7 @@ pub fn parse_cut(alloc: Global, cut: Cut<'_>) -> Result<Option<Request>, ParseEr
     ensures answer { (line : List ℕ) → cut_of line ≡ cut_seen cut.entry
         → Gives (option_map request_of) result (answer_to line) }
 
-    // What takes no memory as a line takes none as a cut.
+    // Where memory is never wanted for a line, it is never wanted for its cut.
     ensures no_memory { (line : List ℕ) → cut_of line ≡ cut_seen cut.entry
         → IsErrOf result ParseError.NoMemory → TakesMemory line }
 {

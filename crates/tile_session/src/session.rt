@@ -23,6 +23,7 @@ pub struct Session {
 }
 
 impl Session {
+    /// A session of a document that no request has edited.
     pub fn start(alloc: Global, document: Document) -> Session
         ensures { StandsFor result (begun (document_of document) 1) }
     {
@@ -33,6 +34,7 @@ impl Session {
         }
     }
 
+    /// The document as it stands now.
     pub fn document(&self) -> &Document
         ensures { (history : History) → StandsFor self.now history →
             document_of result.now ≡ present_document history }

@@ -1,5 +1,5 @@
 -- What an edit of a tile in memory gives for a script that is too long.
-use Rattle.std.proofs.Common.{◌≡◌, ◌≢◌, ℕ, ◌<◌, ◌≤◌, ◌⊎◌, true, false, List, [], ◌++◌, length, take, Some, None, refl, sym, ap, subst, ◌∙◌, inl, inr, arith, append-nil, length-append}
+use Rattle.std.proofs.Common.{◌≡◌, ◌≢◌, ℕ, zero, suc, ◌<◌, ◌≤◌, ◌⊎◌, Bool, true, false, List, [], ◌∷◌, ◌++◌, length, take, Some, None, refl, sym, ap, subst, ◌∙◌, inl, inr, arith, append-nil, length-append}
 use Rattle.std.specs.Prelude.{IsSome, is_some}
 use Rattle.std.specs.declared.option.Option.{Option}
 use Rattle.std.specs.declared.vec.Vec.{Vec}
@@ -13,10 +13,11 @@ use Rattle.tile_device.specs.Seen.{Intake, Supplies}
 use Rattle.tile_device.specs.declared.device.Trouble.{Trouble}
 use Rattle.tile_device.specs.declared.device.Trouble.TheVariants.{Interrupted, Failed}
 use Rattle.tile_lines.specs.Lines.{whole_lines}
-use Rattle.tile_run.specs.Course.{start_of, lines_in, IsFaulty, IsOpened, CarriesThrough}
+use Rattle.tile_lines.proofs.WholeLines.{whole_lines-front}
+use Rattle.tile_run.specs.Course.{start_of, lines_in, IsFaulty, IsOpened, IsWritten, CarriesThrough}
 use Rattle.tileshell.specs.InMemory.{handed_out, ran_cut, IsCutOff, CutsLongScript}
 use Rattle.tile_reply.specs.Replies.{HasNoWant}
-use Rattle.tile_run.specs.Run.{Progress, after_lines}
+use Rattle.tile_run.specs.Run.{Progress, after_lines, is_over, Walk}
 use Rattle.tile_run.specs.declared.outcome.DeviceName.TheVariants as devices
 use Rattle.tile_run.specs.declared.outcome.Options.{Options}
 use Rattle.tile_run.specs.declared.outcome.Outcome.{Outcome}
@@ -25,6 +26,8 @@ use Rattle.tile_run.specs.declared.outcome.TileFault.{TileFault}
 use Rattle.tile_run.specs.declared.outcome.TileFault.TheVariants as faults
 use Rattle.tile_run.specs.declared.runs.TheConstants.{MAX_SCRIPT}
 use Rattle.tileshell.proofs.InMemory.{held, RunsInMemory}
+use Rattle.tile_run.proofs.Fronts.{after_lines-append}
+use Rattle.tile_run.proofs.Overs.{over_stays}
 use Rattle.tile_run.proofs.Replying.{walks_are_runs}
 
 -- ---- what a source in memory gives
@@ -50,6 +53,17 @@ no_trouble all left intake supplies = none_met intake.trouble (omega (arith, sup
     none_met None interruptions failures = refl
     none_met (Some Interrupted) interruptions failures = absurd (omega (arith, interruptions))
     none_met (Some Failed) interruptions failures = absurd (omega (arith, failures))
+
+-- ---- the lines of a front
+
+-- what is taken of a front is a front of what is taken of the whole
+front_taken : (n : ℕ) (front more : List ℕ) → (rest : List ℕ) × (take n (front ++ more) ≡ take n front ++ rest)
+front_taken zero front more = ([], refl)
+front_taken (suc n) [] more = (take (suc n) more, refl)
+front_taken (suc n) (b ∷ front) more = let taken = front_taken n front more in (taken.0, ap (λ (t : List ℕ). b ∷ t) taken.1)
+
+cut_lines : (intake : Intake) → intake.is_whole ≡ false → lines_in intake ≡ whole_lines (take MAX_SCRIPT intake.bytes)
+cut_lines intake cut = rw cut refl
 
 -- ---- how the run ends
 
@@ -79,32 +93,76 @@ module _ (options : Options) (tile script : List ℕ) (replies out : Vec ℕ Glo
       let read : MAX_SCRIPT ≤ length intake.bytes = omega arith in
       rw cut (ap whole_lines (sym (take-append-le MAX_SCRIPT intake.bytes left read) ∙ ap (take MAX_SCRIPT) (sym (given script left intake supplies))))
 
-  replies_are : (r : RunsInMemory options tile script replies.items out.items (outcomes.Device devices.Script)) → HasNoWant replies.items
-      → replies.items ≡ (ran_cut document options script).replies
-  replies_are r no_want =
-      let stops = r.runs.ends.between in
-      let written : replies.items ≡ stops.progress.replies = r.runs.replies.bytes refl ∙ stops.replies.all in
-      let made = walks_are_runs options.strict (start_of options r.runs.ends.document) stops.progress (lines_in r.runs.course.script) stops.progress.replies stops.walk refl (subst HasNoWant written no_want) in
-      let lines = first_lines r.script_left r.runs.course.script r.runs.script stops.cut stops.cause in
-      let all = made ∙ ap (after_lines options.strict (start_of options r.runs.ends.document)) lines
-      ∙ ap (λ (d : Document). ran_cut d options script) (opened_as (outcomes.Device devices.Script) r r.runs.ends.document r.runs.ends.opened) in
-      written ∙ ap (λ (p : Progress). p.replies) all
+  -- the lines of what was read are the first of those that may be read
+  front_lines : (left : List ℕ) (intake : Intake) → Supplies (held script 0) (held left 0) intake → (intake.is_whole ≡ true → length intake.bytes ≤ MAX_SCRIPT)
+      → (others : List (List ℕ)) × (whole_lines (take MAX_SCRIPT script) ≡ lines_in intake ++ others)
+  front_lines left intake supplies within = by_whole intake.is_whole refl
+    where
+      by_whole : (q : Bool) → intake.is_whole ≡ q → (others : List (List ℕ)) × (whole_lines (take MAX_SCRIPT script) ≡ lines_in intake ++ others)
+      by_whole true whole = let no : ⊥ = omega (arith, long, within whole, given_whole script left intake supplies whole) in absurd no
+      by_whole false cut =
+          let taken = front_taken MAX_SCRIPT intake.bytes left in
+          let more = whole_lines-front (take MAX_SCRIPT intake.bytes) taken.0 in
+          (more.0, ap whole_lines (ap (take MAX_SCRIPT) (given script left intake supplies) ∙ taken.1) ∙ more.1 ∙ ap (λ (t : List (List ℕ)). t ++ more.0) (sym (cut_lines intake cut)))
 
-  cut_off : options.strict ≡ false → (outcome : Outcome) → RunsInMemory options tile script replies.items out.items outcome
+  replied : (outcome : Outcome) (r : RunsInMemory options tile script replies.items out.items outcome) (progress : Progress) → IsWritten r.runs.course.replies progress.replies
+      → replies.items ≡ progress.replies
+  replied outcome r progress written = r.runs.replies.bytes refl ∙ written.all
+
+  -- with all memory a run comes to where its lines lead
+  comes_to : (outcome : Outcome) (r : RunsInMemory options tile script replies.items out.items outcome) → HasNoWant replies.items → (opened : Document) → IsOpened r.runs.course.tile opened
+      → (progress : Progress) → Walk options.strict (start_of options opened) (lines_in r.runs.course.script) progress → IsWritten r.runs.course.replies progress.replies
+      → progress ≡ after_lines options.strict (start_of options document) (lines_in r.runs.course.script)
+  comes_to outcome r no_want opened is progress walk written =
+      walks_are_runs options.strict (start_of options opened) progress (lines_in r.runs.course.script) progress.replies walk refl (subst HasNoWant (replied outcome r progress written) no_want)
+      ∙ ap (λ (d : Document). after_lines options.strict (start_of options d) (lines_in r.runs.course.script)) (opened_as outcome r opened is)
+
+  names_script : (r : RunsInMemory options tile script replies.items out.items (outcomes.Device devices.Script)) → HasNoWant replies.items
+      → IsCutOff options document script (handed_out (outcomes.Device devices.Script) replies out)
+  names_script r no_want =
+      let stops = r.runs.ends.between in
+      let lines = first_lines r.script_left r.runs.course.script r.runs.script stops.cut stops.cause in
+      let made : stops.progress ≡ ran_cut document options script =
+      comes_to (outcomes.Device devices.Script) r no_want r.runs.ends.document r.runs.ends.opened stops.progress stops.walk stops.replies
+      ∙ ap (after_lines options.strict (start_of options document)) lines in
+      let goes_on : is_over options.strict (ran_cut document options script) ≡ false = ap (is_over options.strict) (sym made) ∙ stops.goes_on in
+      record {
+        outcome = rw goes_on refl;
+        replies = replied (outcomes.Device devices.Script) r stops.progress stops.replies ∙ ap (λ (p : Progress). p.replies) made;
+        no_tile = refl;
+      }
+
+  stops_strictly : (r : RunsInMemory options tile script replies.items out.items outcomes.StrictStop) → HasNoWant replies.items
+      → IsCutOff options document script (handed_out outcomes.StrictStop replies out)
+  stops_strictly r no_want =
+      let stops = r.runs.ends.between in
+      let more = front_lines r.script_left r.runs.course.script r.runs.script stops.within in
+      let made : stops.progress ≡ ran_cut document options script =
+      sym (over_stays options.strict stops.progress more.0 stops.over)
+      ∙ ap (λ (p : Progress). after_lines options.strict p more.0) (comes_to outcomes.StrictStop r no_want r.runs.ends.document r.runs.ends.opened stops.progress stops.walk stops.replies)
+      ∙ sym (after_lines-append options.strict (start_of options document) (lines_in r.runs.course.script) more.0)
+      ∙ ap (after_lines options.strict (start_of options document)) (sym more.1) in
+      let over : is_over options.strict (ran_cut document options script) ≡ true = ap (is_over options.strict) (sym made) ∙ stops.over in
+      record {
+        outcome = rw over refl;
+        replies = replied outcomes.StrictStop r stops.progress stops.replies ∙ ap (λ (p : Progress). p.replies) made;
+        no_tile = refl;
+      }
+
+  cut_off : (outcome : Outcome) → RunsInMemory options tile script replies.items out.items outcome
       → (handed_out outcome replies out).outcome ≢ outcomes.NoMemory → HasNoWant (handed_out outcome replies out).replies.items → IsCutOff options document script (handed_out outcome replies out)
-  cut_off lenient outcomes.Done r memory no_want = not_through _ (start_of options r.runs.ends.document) r.runs.ends.progress outcomes.Done r r.runs.ends.carried
-  cut_off lenient outcomes.SomeRefused r memory no_want = not_through _ (start_of options r.runs.ends.document) r.runs.ends.progress outcomes.SomeRefused r r.runs.ends.carried
-  cut_off lenient outcomes.StrictStop r memory no_want =
-      let over = rw lenient at r.runs.ends.between.over in absurd cc
-  cut_off lenient (outcomes.TileRefused fault) r memory no_want = not_faulty _ fault r.tile_left r.runs.course.tile r.runs.tile r.runs.ends.1
-  cut_off lenient (outcomes.Device devices.Tile) r memory no_want =
+  cut_off outcomes.Done r memory no_want = not_through _ (start_of options r.runs.ends.document) r.runs.ends.progress outcomes.Done r r.runs.ends.carried
+  cut_off outcomes.SomeRefused r memory no_want = not_through _ (start_of options r.runs.ends.document) r.runs.ends.progress outcomes.SomeRefused r r.runs.ends.carried
+  cut_off outcomes.StrictStop r memory no_want = stops_strictly r no_want
+  cut_off (outcomes.TileRefused fault) r memory no_want = not_faulty _ fault r.tile_left r.runs.course.tile r.runs.tile r.runs.ends.1
+  cut_off (outcomes.Device devices.Tile) r memory no_want =
       let no : is_some r.runs.course.tile.trouble ≡ false = ap is_some (no_trouble tile r.tile_left r.runs.course.tile r.runs.tile) in
       let some : is_some r.runs.course.tile.trouble ≡ true = r.runs.ends.0 in absurd cc
-  cut_off lenient (outcomes.Device devices.Script) r memory no_want = record { outcome = refl; replies = replies_are r no_want; no_tile = refl }
-  cut_off lenient (outcomes.Device devices.Replies) r memory no_want = absurd (memory refl)
-  cut_off lenient (outcomes.Device devices.Out) r memory no_want = absurd (memory refl)
-  cut_off lenient outcomes.NoMemory r memory no_want = absurd (memory refl)
+  cut_off (outcomes.Device devices.Script) r memory no_want = names_script r no_want
+  cut_off (outcomes.Device devices.Replies) r memory no_want = absurd (memory refl)
+  cut_off (outcomes.Device devices.Out) r memory no_want = absurd (memory refl)
+  cut_off outcomes.NoMemory r memory no_want = absurd (memory refl)
 
 pub cuts_long_script : (options : Options) (tile script : List ℕ) (replies out : Vec ℕ Global) (outcome : Outcome) → RunsInMemory options tile script replies.items out.items outcome
     → CutsLongScript options tile script (handed_out outcome replies out)
-cuts_long_script options tile script replies out outcome r document opens long lenient memory no_want = cut_off options tile script replies out document opens long lenient outcome r memory no_want
+cuts_long_script options tile script replies out outcome r document opens long memory no_want = cut_off options tile script replies out document opens long outcome r memory no_want

@@ -1,5 +1,5 @@
 -- What an edit of a tile in memory gives.
-use Rattle.std.specs.Prelude.{◌≡◌, ◌≢◌, ◌⊎◌, ◌↔◌, ℕ, ◌<◌, ◌≤◌, Bool, false, List, [], length, take, Some, None, IsSome, if◌then◌else◌}
+use Rattle.std.specs.Prelude.{◌≡◌, ◌≢◌, ◌⊎◌, ◌↔◌, ℕ, ◌<◌, ◌≤◌, Bool, List, [], length, take, Some, None, IsSome, if◌then◌else◌}
 use Rattle.std.specs.declared.option.Option.{Option}
 use Rattle.std.specs.declared.vec.Vec.{Vec}
 use Rattle.std.specs.declared.alloc.Global.{Global}
@@ -64,16 +64,17 @@ RefusesFile tile edited = OpensAsNothing tile → edited.outcome ≢ outcomes.No
 abbrev pub ran_cut : Document → Options → List ℕ → Progress
 ran_cut document options script = after_lines options.strict (at_first document options.depth) (whole_lines (take MAX_SCRIPT script))
 
--- its whole lines were carried out and replied to, and there is no tile
+-- Its whole lines were carried out and replied to, and there is no tile. The script is named, unless the run is strict
+-- and over with one of them.
 pub record IsCutOff (options : Options) (document : Document) (script : List ℕ) (edited : Edited) : Type 0 where
-  pub outcome : edited.outcome ≡ outcomes.Device devices.Script
+  pub outcome : edited.outcome ≡ (if is_over options.strict (ran_cut document options script) then outcomes.StrictStop else outcomes.Device devices.Script)
   pub replies : edited.replies.items ≡ (ran_cut document options script).replies
   pub no_tile : edited.tile ≡ None
 
--- for every tile that opens and every script that is too long, where the run is not strict and memory was refused to nothing
+-- for every tile that opens and every script that is too long, where memory was refused to nothing
 abbrev pub CutsLongScript : Options → List ℕ → List ℕ → Edited → Type 0
 CutsLongScript options tile script edited =
-    (document : Document) → OpensAs tile document → MAX_SCRIPT < length script → options.strict ≡ false → edited.outcome ≢ outcomes.NoMemory → HasNoWant edited.replies.items
+    (document : Document) → OpensAs tile document → MAX_SCRIPT < length script → edited.outcome ≢ outcomes.NoMemory → HasNoWant edited.replies.items
     → IsCutOff options document script edited
 
 -- a device is named only where the script is too long, and then the script
