@@ -9,3 +9,4 @@ pub mod EditRefusals
 pub mod SelectionLemmas
 pub mod EditLaws
 pub mod Named
+pub mod LastNames

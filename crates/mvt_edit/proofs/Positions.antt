@@ -67,7 +67,7 @@ some_last passes n xs k e =
       | inr none ↦ absurd (let at_none = rw (no_positions passes n xs none) at e in cc)
     ]
 
-later_any : {A : Type 0} (passes : A → Bool) (x : A) (xs : List A) → list_any passes (x ∷ xs) ≡ true → passes x ≡ false → list_any passes xs ≡ true
+pub later_any : {A : Type 0} (passes : A → Bool) (x : A) (xs : List A) → list_any passes (x ∷ xs) ≡ true → passes x ≡ false → list_any passes xs ≡ true
 later_any passes x xs e skip = rw skip at e
 
 last_in : {A : Type 0} (passes : A → Bool) (n : ℕ) (xs : List A) (o : Option ℕ) → list_any passes xs ≡ true → last_or o (positions_from passes n xs) ≡ last_or None (positions_from passes n xs)
@@ -78,14 +78,14 @@ last_in passes n (x ∷ xs) o e =
       | inr skip ↦ rw (positions_skip passes n x xs skip) (last_in passes (n + 1) xs o (later_any passes x xs e skip))
     ]
 
-last_later : {A : Type 0} (passes : A → Bool) (n : ℕ) (x : A) (xs : List A) → list_any passes xs ≡ true → last_or None (positions_from passes n (x ∷ xs)) ≡ last_or None (positions_from passes (n + 1) xs)
+pub last_later : {A : Type 0} (passes : A → Bool) (n : ℕ) (x : A) (xs : List A) → list_any passes xs ≡ true → last_or None (positions_from passes n (x ∷ xs)) ≡ last_or None (positions_from passes (n + 1) xs)
 last_later passes n x xs later =
     elim (cases_Bool (passes x)) [
       | inl pass ↦ rw (positions_pass passes n x xs pass) (last_in passes (n + 1) xs (Some n) later)
       | inr skip ↦ rw (positions_skip passes n x xs skip) refl
     ]
 
-last_here : {A : Type 0} (passes : A → Bool) (n k : ℕ) (x : A) (xs : List A) → list_any passes xs ≡ false → last_or None (positions_from passes n (x ∷ xs)) ≡ Some k → (passes x ≡ true) × (n ≡ k)
+pub last_here : {A : Type 0} (passes : A → Bool) (n k : ℕ) (x : A) (xs : List A) → list_any passes xs ≡ false → last_or None (positions_from passes n (x ∷ xs)) ≡ Some k → (passes x ≡ true) × (n ≡ k)
 last_here passes n k x xs none e =
     let rest = no_positions passes (n + 1) xs none in
     elim (cases_Bool (passes x)) [

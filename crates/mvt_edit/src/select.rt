@@ -142,13 +142,8 @@ fn is_text(text: Option<&[u8]>, name: &[u8]) -> bool
 fn name_of(layer: &Layer) -> Option<&[u8]>
     ensures { option_copied result ≡ name_of (layer_of layer.now) }
 {
-    let mut name = None;
-    for item in layer.items.as_slice() {
-        if let Some(text) = name_in(item) {
-            name = Some(text);
-        }
-    }
-    name
+    let items = layer.items.as_slice();
+    name_in(items.get(last_name(items)?)?)
 }
 
 /// The position of the last name field.
