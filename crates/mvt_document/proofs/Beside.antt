@@ -1,5 +1,5 @@
 -- The size of a list beside one of its items, before it and behind it.
-use Rattle.std.proofs.Common.{◌≡◌, ℕ, zero, suc, ◌+◌, ◌<◌, Option, Some, None, List, [], ◌∷◌, length, length-append, take, drop, get_or, slice_set, take-append-drop, refl, sym, ap, ◌∙◌, arith}
+use Rattle.std.proofs.Common.{◌≡◌, ℕ, zero, suc, ◌+◌, ◌<◌, Option, Some, None, List, [], ◌∷◌, length, length-append, take, drop, get_or, take-append-drop, sym, ap, ◌∙◌, arith}
 use Rattle.std.specs.List.{flat_map}
 use Rattle.std.specs.Option.{SomeIff, IfSome}
 use Rattle.std.proofs.lemmas.List.Concat.{flat_map-append}
@@ -14,15 +14,6 @@ item_and_beside f [] i x inside is = absurd (omega arith)
 item_and_beside f (y ∷ xs) zero x inside is = omega (arith, length-append (f y) (flat_map f xs), ap (λ z. length (f z)) is)
 item_and_beside f (y ∷ xs) (suc i) x inside is = omega (arith, item_and_beside f xs i x (omega arith) is, length-append (f y) (flat_map f (take i xs)), length-append (f y) (flat_map f xs))
 
--- another item in the place leaves what is beside it
-pub beside_stays : {T : Type 0} (f : T → List ℕ) (xs : List T) (i : ℕ) (x : T) → bytes_beside f i (slice_set xs i x) ≡ bytes_beside f i xs
-beside_stays f [] i x = refl
-beside_stays f (y ∷ xs) zero x = refl
-beside_stays f (y ∷ xs) (suc i) x = omega (arith, beside_stays f xs i x, length-append (f y) (flat_map f (take i (slice_set xs i x))), length-append (f y) (flat_map f (take i xs)))
-
 pub known_so : (P : Type 0) (r : Option ℕ) (n m : ℕ) → SomeIff r P n → n ≡ m → IfSome r (λ x. x ≡ m)
 known_so P None n m some is = tt
 known_so P (Some x) n m some is = some.1 ∙ is
-
-pub beside_known : {T : Type 0} (f : T → List ℕ) (xs : List T) (i : ℕ) (x : T) (r : Option ℕ) → IfSome r (λ n. n ≡ bytes_beside f i xs) → IfSome r (λ n. n ≡ bytes_beside f i (slice_set xs i x))
-beside_known f xs i x r known = rw (beside_stays f xs i x) known

@@ -1,5 +1,5 @@
-//! How values of a document are written, each written from the last byte to the
-//! first, so that a message's length is known where it has to be written.
+//! How values of a document are written: from the last byte to the first, so that a message's
+//! length is known where it has to be written.
 
 ghost use Rattle.std.specs.Prelude.{◌≤◌, ◌++◌, length, max};
 ghost use Rattle.std.specs.List.{flat_map};

@@ -1,4 +1,4 @@
-use Rattle.std.proofs.Common.{◌≡◌, ap, arith}
+use Rattle.std.proofs.Common.{arith}
 use Rattle.mvt_document.proofs.Beside.{item_and_beside}
 use Rattle.mvt_document.proofs.message.Message.size_beside.Goals as goal
 

@@ -1,4 +1,4 @@
-use Rattle.std.proofs.Common.{◌≡◌, length, drop, arith, refl}
+use Rattle.std.proofs.Common.{◌≡◌, length, drop, arith}
 use Rattle.std.proofs.lemmas.Slice.{between_to_end}
 use Rattle.mvt_document.proofs.Beside.{front_and_back}
 use Rattle.mvt_document.proofs.message.Message.size_of_front.Goals as goal
