@@ -5,6 +5,7 @@ ghost use Rattle.mvt_document.specs.Shape.{IsTag, IsWidth};
 ghost use Rattle.mvt_document.specs.BodyShape.{wire_type_of, stored_width_of, EndsGroup};
 
 use crate::body::Body;
+use crate::items::Items;
 use crate::message::Message;
 use crate::varint::Varint;
 
@@ -23,7 +24,7 @@ pub struct Field {
 pub struct Feature {
     pub tag: Varint,
     pub width: u8,
-    pub fields: Message<Field>,
+    pub fields: Items<Field>,
     pub ghost is_feature: { tag.value ≡ 18 },
     pub ghost is_width: { IsWidth width },
 }

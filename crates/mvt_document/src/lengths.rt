@@ -5,8 +5,7 @@ ghost use Rattle.mvt_document.specs.Stands.{body_of, field_of, feature_of, layer
 
 use crate::body::Body;
 use crate::document::{Feature, Field, Layer, LayerItem, TileItem};
-use crate::measure::{Measured, delimited_size, sum_within};
-use crate::message::message_size;
+use crate::measure::{Measured, delimited_size, message_size, size_of_all, sum_within};
 
 impl Measured for Body {
     ghost bytes = { λ b. body_bytes (body_of b) };
@@ -34,7 +33,7 @@ impl Measured for Feature {
     ghost bytes = { λ f. feature_bytes (feature_of f) };
 
     fn size(&self) -> Option<usize> {
-        message_size(self.tag, self.width, &self.fields)
+        message_size(self.tag, self.width, size_of_all(self.fields.as_slice())?)
     }
 }
 
@@ -53,7 +52,7 @@ impl Measured for Layer {
     ghost bytes = { λ l. layer_bytes (layer_of l) };
 
     fn size(&self) -> Option<usize> {
-        message_size(self.tag, self.width, &self.items)
+        message_size(self.tag, self.width, self.items.size()?)
     }
 }
 

@@ -48,6 +48,13 @@ pub(crate) fn delimited_size(width: u8, length: usize) -> Option<usize>
     sum_within(usize::from(width), length)
 }
 
+/// The size of a tag and so many bytes behind it under one length, where a file may have so many.
+pub(crate) fn message_size(tag: Varint, width: u8, length: usize) -> Option<usize>
+    ensures { let size = tag.width + (max width (minimal_width length) + length) in SomeIff result (size ≤ MAX_FILE) size }
+{
+    sum_within(usize::from(tag.width), delimited_size(width, length)?)
+}
+
 impl Measured for Varint {
     ghost bytes = { λ n. spell n.value n.width };
 

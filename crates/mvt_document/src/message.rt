@@ -1,13 +1,12 @@
-//! The lists of a document whose sizes are kept.
+//! The lists of a document whose sizes are kept: those of a tile and of its layers. A feature is
+//! small, and is measured where it has to be.
 
 ghost use Rattle.std.specs.Prelude.{◌≡◌, ◌≤◌, ◌+◌, ◌++◌, ℕ, length, Some, IfSome};
 ghost use Rattle.std.specs.List.{flat_map};
 ghost use Rattle.std.specs.Option.{SomeIff};
 ghost use Rattle.mvt_document.specs.declared.TheConstants.{MAX_FILE};
-ghost use Rattle.mvt_document.specs.Wire.{spell, delimited};
 
-use crate::measure::{Measured, delimited_size, size_of_all, sum_within};
-use crate::varint::Varint;
+use crate::measure::{Measured, size_of_all, sum_within};
 use std::alloc::AllocFailed;
 use std::marker::Model;
 
@@ -156,12 +155,4 @@ fn sum_known(size: Option<usize>, more: Option<usize>) -> Option<usize>
     ensures { IfSome result (λ n. (a : ℕ) × (b : ℕ) × (size ≡ Some a) × (more ≡ Some b) × (n ≡ a + b)) }
 {
     sum_within(size?, more?)
-}
-
-/// The size of a tag and the items behind it under one length, where a file may have so many bytes.
-pub(crate) fn message_size<T: Measured>(tag: Varint, width: u8, items: &Message<T>) -> Option<usize>
-    ensures { let message = spell tag.value tag.width ++ delimited width (flat_map T.bytes items.now.items) in SomeIff result (length message ≤ MAX_FILE) (length message) }
-{
-    let length = items.size()?;
-    sum_within(tag.size()?, delimited_size(width, length)?)
 }

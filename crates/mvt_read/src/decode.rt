@@ -15,7 +15,7 @@ ghost use Rattle.mvt_document.specs.Stands.{field_of, layer_item_of, tile_item_o
 use crate::faults::ReadError;
 use crate::front::{BodyRef, FieldRef, field_at_front};
 use mvt_document::tags::{FEATURE_TAG, LAYER_TAG};
-use mvt_document::{Feature, Field, Layer, LayerItem, Measured, Message, TileItem};
+use mvt_document::{Feature, Field, Items, Layer, LayerItem, Measured, Message, TileItem};
 use std::alloc::{AllocError, Global};
 
 /// How many bytes the shortest field takes: one for its tag, and one for its body.
@@ -88,13 +88,13 @@ pub(crate) fn decode_all<T: Decode>(alloc: Global, content: &[u8]) -> Result<Vec
 }
 
 /// The items of a message inside an item.
-fn decode_inside<T: Decode>(alloc: Global, content: &[u8]) -> Result<Message<T>, Fault>
+fn decode_inside<T: Decode>(alloc: Global, content: &[u8]) -> Result<Vec<T>, Fault>
     ensures spelled { IfOk result (λ items. content.now ≡ flat_map (λ i. field_bytes (T.as_field i)) items.items) }
     ensures whole { IfOk result (λ items. AllByRecursion T.is_whole items.items) }
     ensures broken { IsErrOf result Fault.Broken → (fields : List PlainField) → AllByRecursion IsWholeField fields → AllByRecursion T.makes fields → content.now ≡ flat_map field_bytes fields → ⊥ }
 {
     match decode_all(alloc, content) {
-        Ok(items) => Ok(Message::of_size(items, content.len())),
+        Ok(items) => Ok(items),
         Err(ReadError::NoMemory) => Err(Fault::NoMemory),
         Err(_) => Err(Fault::Broken),
     }
@@ -127,7 +127,7 @@ impl Decode for LayerItem {
                 Ok(LayerItem::Feature(Feature {
                     tag: front.tag,
                     width,
-                    fields: decode_inside(alloc, bytes)?,
+                    fields: Items::from_vec(decode_inside(alloc, bytes)?),
                 }))
             }
             _ => Ok(LayerItem::Plain(front.to_field(alloc)?)),
@@ -150,7 +150,7 @@ impl Decode for TileItem {
                 Ok(TileItem::Layer(Layer {
                     tag: front.tag,
                     width,
-                    items: decode_inside(alloc, bytes)?,
+                    items: Message::of_size(decode_inside(alloc, bytes)?, bytes.len()),
                 }))
             }
             _ => Ok(TileItem::Plain(front.to_field(alloc)?)),
