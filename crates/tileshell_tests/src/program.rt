@@ -262,13 +262,17 @@ fn a_command_line_is_refused(rt: HostRuntime) {
 
 #[test]
 fn help_and_version_go_to_standard_output(rt: HostRuntime) {
-    let words = ["/usr/local/bin/tileshell", "--version"];
-    let done = shelled(Console::new(&rt, b""), &words);
-    assert_shelled(&rt, &done, 0, b"tileshell 0.1.0\n", b"");
-    let done = shelled(Console::new(&rt, b""), &["tileshell", "--help"]);
-    assert_eq!(rt; done.status, 0);
-    assert!(rt; done.output.len() > 0);
-    assert_eq!(rt; done.errors.len(), 0);
+    for version in ["--version", "-V"] {
+        let words = ["/usr/local/bin/tileshell", version];
+        let done = shelled(Console::new(&rt, b""), &words);
+        assert_shelled(&rt, &done, 0, b"tileshell 0.1.0\n", b"");
+    }
+    for help in ["--help", "-h"] {
+        let done = shelled(Console::new(&rt, b""), &["tileshell", help]);
+        assert_eq!(rt; done.status, 0);
+        assert!(rt; done.output.as_slice().starts_with(b"Edits a vector tile"));
+        assert_eq!(rt; done.errors.len(), 0);
+    }
 }
 
 #[test]
