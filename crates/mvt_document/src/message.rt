@@ -93,13 +93,17 @@ impl<T: Measured> Message<T> {
         Some(self.sum? - item.size()?)
     }
 
-    /// How many bytes the items take, where those beside this one take so many.
+    /// How many bytes the items take, where those beside this one take so many. What is not known is
+    /// measured.
     fn size_with(&self, index: usize, beside: Option<usize>) -> Option<usize>
         requires { IfSome beside (λ n. n ≡ bytes_beside T.bytes index self.now.items) }
         ensures { IsKept T.bytes self.now.items result }
     {
+        let Some(beside) = beside else {
+            return size_of_all(self.inner.as_slice());
+        };
         let item = self.inner.get(index)?;
-        sum_within(beside?, item.size()?)
+        sum_within(beside, item.size()?)
     }
 
     /// Knows the size again, where the items beside this one take so many bytes.

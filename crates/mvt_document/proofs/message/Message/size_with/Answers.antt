@@ -4,7 +4,7 @@ use Rattle.mvt_document.proofs.message.Message.size_with.Goals as goal
 
 pub returns : goal.returns
 returns g c =
-    let beside = rw (c.in_ok-beside.was, ← c.self.view_is) at c.requires in
+    let beside = rw (c.in-Some.is, ← c.self.view_is) at c.requires in
     let item = rw c.deref.ensures.value at c.in_ok-item.ensures.lookup in
     let whole = item_and_beside g.T.Measured.bytes c.self.inside.inner.items c.args.index c.in_ok-item.item.now item.3.0 item.1 in
     rw (← c.self.view_is) (known_so _ c.sum_within.result _ _ c.sum_within.ensures (omega (arith, beside, whole, c.in_ok-size.ensures.1)))
