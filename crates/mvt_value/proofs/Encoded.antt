@@ -1,5 +1,5 @@
 -- The bytes of a value in range have that value.
-use Rattle.std.proofs.Common.{◌≡◌, ℕ, ◌<◌, ◌^◌, ◌/◌, ◌%◌, max, ℤ, pos, negsuc, Bool, true, false, List, [], ◌∷◌, ◌++◌, length, refl, ap, ◌∙◌, arith, SFits, w64}
+use Rattle.std.proofs.Common.{◌≡◌, ℕ, ◌<◌, ◌^◌, ◌/◌, ◌%◌, max, ℤ, pos, negsuc, Bool, true, false, List, [], ◌∷◌, ◌++◌, length, refl, sym, subst, ap, ◌∙◌, arith, SFits, w64, of_z, append-nil}
 use Rattle.mvt_wire.specs.Plain.{Number, Body, Spelled, Eight, Four, Delimited, Field}
 use Rattle.mvt_wire.specs.Shape.{IsTag}
 use Rattle.mvt_wire.specs.Wire.{spell, minimal_width, body_bytes}
@@ -80,3 +80,14 @@ encoded_has (OfSint sint) p =
     number_message 48 (zigzag sint) (OfSint sint) (omega arith) (record { numbered = omega arith; short = omega arith; typed = refl }) (zigzag_short sint p) (refl, refl)
 encoded_has (OfBool false) p = truth_message 0 false (omega arith) (shortest-low 0 (omega arith)) (refl, refl)
 encoded_has (OfBool true) p = truth_message 1 true (omega arith) (shortest-low 1 (omega arith)) (refl, refl)
+
+-- bytes that are those of a value in range have it
+pub written : (bytes : List ℕ) (v : Value) → IsInRange v → bytes ≡ encoded v → HasValue bytes v
+written bytes v p e = subst (λ (b : List ℕ). HasValue b v) (sym e) (encoded_has v p)
+
+pub number_written : (bytes : List ℕ) (tag n : ℕ) (v : Value) → IsInRange v → encoded v ≡ tag ∷ shortest n → bytes ≡ tag ∷ (shortest n ++ []) → HasValue bytes v
+number_written bytes tag n v p is e = written bytes v p (e ∙ ap (λ (x : List ℕ). tag ∷ x) (append-nil (shortest n)) ∙ sym is)
+
+pub cast-twos_complement : (z : ℤ) → of_z w64 z ≡ twos_complement z
+cast-twos_complement (pos n) = refl
+cast-twos_complement (negsuc n) = refl

@@ -1,7 +1,7 @@
 //! The bytes of a new value.
 
 ghost use Rattle.std.specs.Prelude.{◌≡◌, ◌++◌, ◌∷◌, [], IfOk};
-ghost use Rattle.mvt_value.specs.Messages.{shortest, encoded};
+ghost use Rattle.mvt_value.specs.Messages.{HasValue, shortest, encoded};
 ghost use Rattle.mvt_value.specs.Stands.{new_value_of};
 
 use crate::tags::{BOOL_TAG, DOUBLE_TAG, FLOAT_TAG, INT_TAG, SINT_TAG, STRING_TAG, UINT_TAG};
@@ -14,11 +14,13 @@ use std::alloc::{AllocError, Global};
 const WIDEST: usize = 10;
 
 /// The bytes of the value, each number in its shortest spelling.
+#[tactic(auto, using(crate::proofs::Encoded::written))]
 pub fn encode_value(alloc: Global, value: &NewValue) -> Result<Items<u8>, AllocError>
-    ensures { IfOk result (λ message. message.items ≡ encoded (new_value_of value.now)) }
+    ensures bytes { IfOk result (λ message. message.items ≡ encoded (new_value_of value.now)) }
+    ensures value { IfOk result (λ message. HasValue message.items (new_value_of value.now)) }
 {
     match value {
-        NewValue::Text(text) => { numbered(alloc, STRING_TAG, text.len() as u64, text.as_slice()) }
+        NewValue::Text(text) => numbered(alloc, STRING_TAG, text.len() as u64, text.as_slice()),
         NewValue::Float4(bytes) => joined(alloc, FLOAT_TAG, &[], bytes),
         NewValue::Double8(bytes) => joined(alloc, DOUBLE_TAG, &[], bytes),
         NewValue::Int(number) => numbered(alloc, INT_TAG, number.cast_unsigned(), &[]),
