@@ -1,4 +1,4 @@
-use Rattle.std.proofs.Common.{append-nil, sym, ◌∙◌}
+use Rattle.std.proofs.Common.{◌≡◌, length, arith, append-nil, sym, ◌∙◌}
 use Rattle.mvt_wire.specs.Fronts.{front_of}
 use Rattle.mvt_value.proofs.Fields.{one_message, value_of_field, shown_value}
 use Rattle.mvt_value.proofs.read.value_of.Goals as goal
@@ -7,7 +7,8 @@ use Rattle.mvt_value.proofs.read.value_of.Goals.{in_default-via-in-Some+else-len
 pub returns-in-Some-clause-only : goal.returns-in-Some-clause-only
 returns-in-Some-clause-only c = λ v h.
     let f = front_of c.in-Some.field in
-    let has = value_of_field c.args.bytes.now f c.in-Some.ensures.valid c.in-Some.ensures.stored (rw c.if-length-bytes.true at c.in-Some.ensures.spelled) v h in
+    let all : c.in-Some.length ≡ length c.args.bytes.now = omega (arith, c.if-length-bytes.true) in
+    let has = value_of_field c.args.bytes.now f c.in-Some.ensures.valid c.in-Some.ensures.stored (rw all at c.in-Some.ensures.spelled) v h in
     rw c.unwrap_or.ensures (shown_value f v c.field_value.result _ c.field_value.ensures.found c.field_value.ensures.none has)
 
 pub returns-in_default-clause-only : goal.returns-in_default-clause-only
