@@ -1,6 +1,7 @@
 pub use Rattle.mvt_document.specs.Held
 pub use Rattle.mvt_document.specs.Plain
 pub use Rattle.mvt_document.specs.Wire
+pub use Rattle.mvt_document.specs.Fills
 pub use Rattle.mvt_document.specs.Shape
 pub use Rattle.mvt_document.specs.Groups
 pub use Rattle.mvt_document.specs.Opens

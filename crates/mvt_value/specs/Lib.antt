@@ -1,0 +1,5 @@
+pub mod Values
+pub mod Signed
+pub mod Messages
+pub mod Stands
+pub mod Laws

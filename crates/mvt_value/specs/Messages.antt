@@ -1,0 +1,61 @@
+-- What bytes a value has.
+-- Vector Tile Specification 2.1, section 4.1 "Layers" and its message Value; Protocol Buffers encoding guide: "Message Structure".
+use Rattle.std.specs.Prelude.{◌≡◌, ℕ, ◌+◌, ◌*◌, ◌/◌, ◌^◌, ◌<◌, true, false, not, ◌==◌, FitsSigned, List, [], ◌∷◌, ◌++◌, length}
+use Rattle.std.specs.Int.{w64}
+use Rattle.mvt_wire.specs.Plain.{Body, Spelled, Eight, Four, Delimited, Field}
+use Rattle.mvt_wire.specs.Wire.{spell, minimal_width, field_bytes}
+use Rattle.mvt_wire.specs.Groups.{StoresField}
+use Rattle.mvt_wire.specs.Opens.{IsField}
+use Rattle.mvt_value.specs.Values.{Value, OfText, OfFloat, OfDouble, OfInt, OfUint, OfSint, OfBool}
+use Rattle.mvt_value.specs.Signed.{twos_complement, zigzag}
+
+-- ---- what is read
+
+-- a field of this number with this body has the value
+abbrev pub BodyHas : ℕ → Body → Value → Type 0
+BodyHas number (Delimited width bytes) (OfText text) = (number ≡ 1) × (bytes ≡ text)
+BodyHas number (Four bytes) (OfFloat float) = (number ≡ 2) × (bytes ≡ float)
+BodyHas number (Eight bytes) (OfDouble double) = (number ≡ 3) × (bytes ≡ double)
+BodyHas number (Spelled n) (OfInt int) = (number ≡ 4) × FitsSigned w64 int × (n.value ≡ twos_complement int)
+BodyHas number (Spelled n) (OfUint uint) = (number ≡ 5) × (n.value ≡ uint)
+BodyHas number (Spelled n) (OfSint sint) = (number ≡ 6) × (n.value ≡ zigzag sint)
+BodyHas number (Spelled n) (OfBool truth) = (number ≡ 7) × (truth ≡ not (n.value == 0))
+BodyHas number body value = ⊥
+
+abbrev pub FieldHas : Field → Value → Type 0
+FieldHas f value = BodyHas (f.tag.value / 8) f.body value
+
+-- the bytes are those of one field, and it has the value
+pub record HasValue (bytes : List ℕ) (value : Value) : Type 0 where
+  pub field : Field
+  pub valid : IsField field
+  pub stored : StoresField field
+  pub spelled : field_bytes field ≡ bytes
+  pub has : FieldHas field value
+
+-- ---- what is written
+
+-- a number in its shortest spelling
+abbrev pub shortest : ℕ → List ℕ
+shortest value = spell value (minimal_width value)
+
+-- a tag is 8 times the field's number, and the wire type: LEN is 2, I32 is 5, I64 is 1, VARINT is 0
+abbrev pub encoded : Value → List ℕ
+encoded (OfText text) = (8 * 1 + 2) ∷ (shortest (length text) ++ text)
+encoded (OfFloat float) = (8 * 2 + 5) ∷ float
+encoded (OfDouble double) = (8 * 3 + 1) ∷ double
+encoded (OfInt int) = (8 * 4 + 0) ∷ shortest (twos_complement int)
+encoded (OfUint uint) = (8 * 5 + 0) ∷ shortest uint
+encoded (OfSint sint) = (8 * 6 + 0) ∷ shortest (zigzag sint)
+encoded (OfBool false) = (8 * 7 + 0) ∷ 0 ∷ []
+encoded (OfBool true) = (8 * 7 + 0) ∷ 1 ∷ []
+
+-- floats of 4 and of 8 bytes, numbers of 64 bits
+abbrev pub IsInRange : Value → Type 0
+IsInRange (OfText text) = length text < 2 ^ 64
+IsInRange (OfFloat float) = length float ≡ 4
+IsInRange (OfDouble double) = length double ≡ 8
+IsInRange (OfInt int) = FitsSigned w64 int
+IsInRange (OfUint uint) = uint < 2 ^ 64
+IsInRange (OfSint sint) = FitsSigned w64 sint
+IsInRange (OfBool truth) = Unit {0}

@@ -1,0 +1,29 @@
+//! The values of a layer.
+
+use mvt_wire::Items;
+
+/// What the bytes of a value are. Floats are bytes in the order of the file.
+#[derive(Clone, Copy, Debug)]
+pub enum Value<'a> {
+    Text(&'a [u8]),
+    Float4([u8; 4]),
+    Double8([u8; 8]),
+    Int(i64),
+    Uint(u64),
+    Sint(i64),
+    Bool(bool),
+    /// All the bytes, where they are not one field with a value.
+    Raw(&'a [u8]),
+}
+
+/// A value to be written. Floats are bytes in the order of the file.
+#[derive(Debug, Drop)]
+pub enum NewValue {
+    Text(Items<u8>),
+    Float4([u8; 4]),
+    Double8([u8; 8]),
+    Int(i64),
+    Uint(u64),
+    Sint(i64),
+    Bool(bool),
+}
