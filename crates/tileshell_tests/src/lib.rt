@@ -28,4 +28,6 @@ mod tiles;
 #[cfg(test)]
 mod troubles;
 #[cfg(test)]
+mod views;
+#[cfg(test)]
 mod wire;
