@@ -27,6 +27,24 @@ pub const FEATURES: u64 = 2;
 /// The number of a layer's name.
 pub const NAME: u64 = 1;
 
+/// The number of a layer's keys.
+pub const KEYS: u64 = 3;
+
+/// The number of a layer's values.
+pub const VALUES: u64 = 4;
+
+/// The number of a layer's extent.
+pub const EXTENT: u64 = 5;
+
+/// The number of a layer's version.
+pub const VERSION: u64 = 15;
+
+/// The number of a feature's id.
+pub const ID: u64 = 1;
+
+/// The number of a feature's kind.
+pub const KIND: u64 = 3;
+
 /// The tag of a layer.
 pub const LAYER_TAG: u64 = 8 * LAYERS + LEN;
 

@@ -30,4 +30,6 @@ mod troubles;
 #[cfg(test)]
 mod values;
 #[cfg(test)]
+mod views;
+#[cfg(test)]
 mod wire;

@@ -1,0 +1,35 @@
+-- What comes of the items of an iterator.
+use Rattle.std.proofs.Common.{◌≡◌, ◌≤◌, ◌<◌, ◌^◌, ℕ, suc, Option, Some, None, List, [], ◌∷◌, length, map, option_map, refl, ap, ◌∙◌, arith}
+use Rattle.std.proofs.lemmas.List.{length-map}
+use Rattle.std.proofs.lemmas.Iterator.{YieldsList, items_from_drains}
+use Rattle.std.specs.Iterator.{AlwaysYields, Drains}
+use Rattle.std.specs.List.{filter_map, cons_option, last_or}
+
+map_last : {A B : Type 0} (v : A → B) (o : Option A) (xs : List A) → option_map v (last_or o xs) ≡ last_or (option_map v o) (map v xs)
+map_last v o [] = refl
+map_last v o (x ∷ xs) = map_last v (Some x) xs
+
+-- the last item that comes
+pub last_from_yields_List : {S A B : Type 0} {steps : S → Option A → S → Type 0} {v : A → B} {s : S} {all : List B} (r : Option A) → (xs : List A) × Drains steps s xs × (r ≡ last_or None xs) → YieldsList steps v s all → option_map v r ≡ last_or None all
+last_from_yields_List {v = v} r ran e =
+    let drained = ran.1 in
+    let items = items_from_drains ran.0 (drained.1.0, drained.1.1, λ _. (drained.0, drained.1.2)) e in
+    ap (option_map v) ran.2 ∙ map_last v None ran.0 ∙ ap (last_or None) items
+
+cons_length : {B : Type 0} (o : Option B) (ys : List B) (n : ℕ) → length ys ≤ n → length (cons_option o ys) ≤ suc n
+cons_length None ys n h = omega arith
+cons_length (Some y) ys n h = omega arith
+
+-- no more is picked than there are items
+pub length-filter_map : {A B : Type 0} (h : A → Option B) (xs : List A) → length (filter_map h xs) ≤ length xs
+length-filter_map h [] = omega arith
+length-filter_map h (x ∷ xs) = cons_length (h x) (filter_map h xs) (length xs) (length-filter_map h xs)
+
+pub picked_fit : {X A B : Type 0} (view : X → A) (h : A → Option B) (xs : List X) → length xs < 2 ^ 64 → length (filter_map h (map view xs)) < 2 ^ 64
+picked_fit view h xs fits = omega (arith, length-filter_map h (map view xs), length-map xs view, fits)
+
+pub twice_picked_fit : {X A B C : Type 0} (view : X → A) (h : A → Option B) (k : B → Option C) (xs : List X) → length xs < 2 ^ 64 → length (filter_map k (filter_map h (map view xs))) < 2 ^ 64
+twice_picked_fit view h k xs fits = omega (arith, length-filter_map k (filter_map h (map view xs)), picked_fit view h xs fits)
+
+pub always_from_yields_List : {S A B : Type 0} {steps : S → Option A → S → Type 0} {v : A → B} {s : S} {all : List B} → YieldsList steps v s all → AlwaysYields steps v s all
+always_from_yields_List e = e.runs

@@ -1,0 +1,144 @@
+//! Views of a layer and of a feature.
+
+ghost use Rattle.std.specs.Prelude.{◌≡◌, ◌<◌, ◌^◌, length, option_map, slice_get};
+ghost use Rattle.std.specs.Option.{option_copied};
+ghost use Rattle.mvt_wire.specs.Stands.{feature_of, layer_of};
+ghost use Rattle.mvt_view.specs.Views.{extent_of, features, id_of, keys, kind_of, name_of, values, version_of};
+ghost use Rattle.mvt_view.specs.Seen.{feature_seen, layer_seen};
+
+use crate::fields::{last_value, last_value_in_layer};
+use crate::lists::{Contents, FeatureViews};
+use mvt_wire::tags::{EXTENT, ID, KEYS, KIND, NAME, VALUES, VERSION};
+use mvt_wire::{Feature, Layer};
+
+const DEFAULT_VERSION: u64 = 1;
+
+const DEFAULT_EXTENT: u64 = 4096;
+
+const DEFAULT_KIND: u64 = 0;
+
+/// A layer of a document.
+#[derive(Clone, Copy, Debug)]
+pub struct LayerView<'a> {
+    layer: &'a Layer,
+}
+
+impl<'a> LayerView<'a> {
+    pub(crate) fn of(layer: &'a Layer) -> LayerView<'a>
+        ensures { layer_seen result ≡ layer_of layer.now }
+    {
+        LayerView { layer }
+    }
+
+    /// The last name is the one that counts.
+    pub fn name(self) -> Option<&'a [u8]>
+        ensures { option_copied result ≡ name_of (layer_seen self.entry) }
+    {
+        Contents::of(self.layer.items.as_slice(), NAME).last()
+    }
+
+    /// The last version is the one that counts.
+    pub fn version(self) -> u64
+        ensures { result ≡ version_of (layer_seen self.entry) }
+    {
+        last_value_in_layer(self.layer.items.as_slice(), VERSION).unwrap_or(DEFAULT_VERSION)
+    }
+
+    /// The last extent is the one that counts.
+    pub fn extent(self) -> u64
+        ensures { result ≡ extent_of (layer_seen self.entry) }
+    {
+        last_value_in_layer(self.layer.items.as_slice(), EXTENT).unwrap_or(DEFAULT_EXTENT)
+    }
+
+    /// The features, in order.
+    pub fn features(self) -> FeatureViews<'a>
+        ensures items { result ≡ features (layer_seen self.entry) }
+        ensures bound { length result < 2 ^ 64 }
+    {
+        FeatureViews::of(self.layer.items.as_slice())
+    }
+
+    /// The keys, in order.
+    pub fn keys(self) -> Contents<'a>
+        ensures items { result ≡ keys (layer_seen self.entry) }
+        ensures bound { length result < 2 ^ 64 }
+    {
+        Contents::of(self.layer.items.as_slice(), KEYS)
+    }
+
+    /// The values, in order. Each is the bytes of a Value message.
+    pub fn values(self) -> Contents<'a>
+        ensures items { result ≡ values (layer_seen self.entry) }
+        ensures bound { length result < 2 ^ 64 }
+    {
+        Contents::of(self.layer.items.as_slice(), VALUES)
+    }
+
+    pub fn feature_count(self) -> usize
+        ensures { result ≡ length (features (layer_seen self.entry)) }
+    {
+        self.features().count()
+    }
+
+    pub fn key_count(self) -> usize
+        ensures { result ≡ length (keys (layer_seen self.entry)) }
+    {
+        self.keys().count()
+    }
+
+    pub fn value_count(self) -> usize
+        ensures { result ≡ length (values (layer_seen self.entry)) }
+    {
+        self.values().count()
+    }
+
+    /// The feature of this ordinal.
+    pub fn feature(self, ordinal: usize) -> Option<FeatureView<'a>>
+        ensures { option_map feature_seen result ≡ slice_get (features (layer_seen self.entry)) ordinal }
+    {
+        self.features().nth(ordinal)
+    }
+
+    /// The key of this ordinal.
+    pub fn key(self, ordinal: usize) -> Option<&'a [u8]>
+        ensures { option_copied result ≡ slice_get (keys (layer_seen self.entry)) ordinal }
+    {
+        self.keys().nth(ordinal)
+    }
+
+    /// The value of this ordinal.
+    pub fn value(self, ordinal: usize) -> Option<&'a [u8]>
+        ensures { option_copied result ≡ slice_get (values (layer_seen self.entry)) ordinal }
+    {
+        self.values().nth(ordinal)
+    }
+}
+
+/// A feature of a layer.
+#[derive(Clone, Copy, Debug)]
+pub struct FeatureView<'a> {
+    feature: &'a Feature,
+}
+
+impl<'a> FeatureView<'a> {
+    pub(crate) fn of(feature: &'a Feature) -> FeatureView<'a>
+        ensures { feature_seen result ≡ feature_of feature.now }
+    {
+        FeatureView { feature }
+    }
+
+    /// The last id is the one that counts.
+    pub fn id(self) -> Option<u64>
+        ensures { result ≡ id_of (feature_seen self.entry) }
+    {
+        last_value(self.feature.fields.as_slice(), ID)
+    }
+
+    /// The last kind is the one that counts.
+    pub fn kind(self) -> u64
+        ensures { result ≡ kind_of (feature_seen self.entry) }
+    {
+        last_value(self.feature.fields.as_slice(), KIND).unwrap_or(DEFAULT_KIND)
+    }
+}
