@@ -25,7 +25,6 @@ fn several(alloc: Global) -> Result<Document, Fail> {
 fn a_layer_is_seen_as_it_stands(rt: HostRuntime) -> Result<(), Fail> {
     let document = read_document(rt.alloc(), &T0)?;
     assert_eq!(rt; layer_count(&document), 1);
-    assert!(rt; layer(&document, 1).is_none());
     let seen = layer(&document, 0).expect(&rt, "a layer");
     assert_eq!(rt; seen.name(), Some(b"a".as_slice()));
     assert_eq!(rt; (seen.version(), seen.extent()), (2, 4096));
@@ -33,10 +32,19 @@ fn a_layer_is_seen_as_it_stands(rt: HostRuntime) -> Result<(), Fail> {
     assert_eq!(rt; (seen.key_count(), seen.value_count()), (1, 1));
     assert_eq!(rt; seen.key(0), Some(b"k".as_slice()));
     assert_eq!(rt; seen.value(0), Some(b"\x20\x05".as_slice()));
-    assert_eq!(rt; (seen.key(1), seen.value(1)), (None, None));
-    assert!(rt; seen.feature(1).is_none());
     let feature = seen.feature(0).expect(&rt, "a feature");
     assert_eq!(rt; (feature.id(), feature.kind()), (Some(1), 1));
+    Ok(())
+}
+
+#[test]
+fn past_the_last_there_is_none(rt: HostRuntime) -> Result<(), Fail> {
+    let document = read_document(rt.alloc(), &T0)?;
+    assert!(rt; layer(&document, 1).is_none());
+    let seen = layer(&document, 0).expect(&rt, "a layer");
+    assert!(rt; seen.feature(1).is_none());
+    assert!(rt; seen.key(1).is_none());
+    assert!(rt; seen.value(1).is_none());
     Ok(())
 }
 
