@@ -139,7 +139,7 @@ fn a_status_tells_how_the_run_ended(rt: HostRuntime) -> Result<(), Fail> {
 #[test]
 fn what_is_too_long_is_told(rt: HostRuntime) -> Result<(), Fail> {
     let large = vec![in rt.alloc(); b'#'; 67_108_865]?;
-    let long = &large[..16_777_217];
+    let long = vec![in rt.alloc(); b'#'; 16_777_217]?;
     for (tile, script, status, errors) in [
         (
             large.as_slice(),
@@ -149,7 +149,7 @@ fn what_is_too_long_is_told(rt: HostRuntime) -> Result<(), Fail> {
         ),
         (
             T0.as_slice(),
-            long,
+            long.as_slice(),
             4,
             b"tileshell: device fault: script\n".as_slice(),
         ),
