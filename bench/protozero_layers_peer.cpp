@@ -5,19 +5,9 @@
 #define PROTOZERO_USE_VIEW std::string_view
 
 #include "job.hpp"
-
-#include <protozero/pbf_reader.hpp>
-#include <protozero/pbf_writer.hpp>
+#include "protozero_peer.hpp"
 
 #include <string_view>
-
-using protozero::pbf_reader;
-using protozero::pbf_tag_type;
-using protozero::pbf_wire_type;
-using protozero::pbf_writer;
-
-constexpr pbf_tag_type tile_layer = 3;
-constexpr pbf_tag_type layer_name = 1;
 
 // The bytes from the start of one view to the start of the other, or to its end.
 static std::string_view up_to_start(std::string_view from, std::string_view to) {

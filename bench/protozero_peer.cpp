@@ -2,21 +2,12 @@
 // features becomes a value of its own, layers are renamed, and the values are written in order.
 
 #include "job.hpp"
-
-#include <protozero/pbf_reader.hpp>
-#include <protozero/pbf_writer.hpp>
+#include "protozero_peer.hpp"
 
 #include <cstdint>
 #include <filesystem>
 #include <variant>
 
-using protozero::pbf_reader;
-using protozero::pbf_tag_type;
-using protozero::pbf_wire_type;
-using protozero::pbf_writer;
-
-constexpr pbf_tag_type tile_layer = 3;
-constexpr pbf_tag_type layer_name = 1;
 constexpr pbf_tag_type layer_feature = 2;
 
 // Room for the lengths of messages that are not ended, and for a longer name.
