@@ -2,7 +2,7 @@
 
 PREFIX ?= /usr/local
 
-.PHONY: all check bench bench-hostile install clean toolchain
+.PHONY: all check bench bench-hostile compare install clean toolchain
 
 all: toolchain
 	cd crates/tileshell_program && rt run -- --help > /dev/null
@@ -21,6 +21,10 @@ bench: $(if $(TILESHELL),,all)
 # Time and memory on hostile tiles. It fails where they are not bounded as they should be.
 bench-hostile: $(if $(TILESHELL),,all)
 	python3 bench/hostile.py $(or $(TILESHELL),build/tileshell)
+
+# What tileshell lists of TILES beside what GDAL says of them.
+compare: all
+	compare/gdal.py build/tileshell $(TILES)
 
 install: all
 	install -d $(DESTDIR)$(PREFIX)/bin

@@ -8,8 +8,8 @@ from pathlib import Path
 
 import peers
 from measure import (COUNTED_MILLISECONDS, RUNS, RUNS_OF_LARGE, Program, costliest, count_instructions, measure,
-                     run_once)
-from report import Result, comparison, endings, growth, instructions, memory, put_section, shown, table, time
+                     measure_alone, run_once)
+from report import Listed, Result, comparison, endings, growth, instructions, memory, put_section, shown, table, time
 from targets import JOB, MANY, OURS, verdicts
 from tiles import LARGE, MEBIBYTE, generated_tiles, real_tiles, smallest_map
 
@@ -28,6 +28,11 @@ JOBS = {
 LONG_PAIR = 'rename-layer "{layer}" "renamed for the length of a line"\nundo\n'
 LONG_LINES = [1_000, 100_000]
 LONG_SECONDS = 300
+
+# The job `list`, of tileshell alone: runs that stop at their last line, which is refused, and so write no tile. The
+# first reads the tile, the second lists a layer too.
+READING = "undo\n"
+LISTING = 'list "{layer}"\n' + READING
 
 RUNS_MEASURED = f"medians of {RUNS} runs in turns, and of {RUNS_OF_LARGE} on tiles of more than {LARGE // MEBIBYTE} MiB"
 
@@ -127,15 +132,33 @@ def long_script(tileshell, tile):
     return heading + "\n\n" + table(heads, rows)
 
 
-def section(results, names):
+def listed(tileshell, tiles):
+    """The times of reading a tile, and of reading it and listing a layer; none where a run did otherwise."""
+    program = dataclasses.replace(tileshell, words=(*tileshell.words, "--strict"), status=1)
+    found = []
+    for tile in tiles:
+        print(f"bench: {tile.name}, list", flush=True)
+        figures = [measure_alone(program, tile, script_of(lines, tile)) for lines in (READING, LISTING)]
+        found.append(Listed(tile, *(each and time(each) for each in figures)))
+    return found
+
+
+def listing(lists):
+    """What listing takes beside reading."""
+    rows = [[each.tile.name, shown(each.reading, 1), shown(each.both, 1), shown(each.ratio, 2)] for each in lists]
+    return table(["Tile", "Reading", "Reading and listing", "Listing / reading"], rows)
+
+
+def section(results, lists, names):
     """The tables of all results."""
     without_floor = [name for name in names if name != "cat"]
     parts = [
-        ("Targets", verdicts(results)),
+        ("Targets", verdicts(results, lists)),
         (f"Wall time in milliseconds, {RUNS_MEASURED}", comparison(results, names, time, 1)),
         ("Peak memory, as a multiple of the tile", memory(results, names)),
         ("Millions of instructions", comparison(results, without_floor, instructions, 1e6)),
         ("Growth of time from the smallest to the largest tile, as an exponent", growth(results, names)),
+        ("One layer listed: wall time in milliseconds, tileshell alone", listing(lists)),
         ("Not done", endings(results)),
     ]
     return "\n\n".join([*(f"### {heading}\n\n{text}" for heading, text in parts), DASHES])
@@ -154,7 +177,8 @@ def all_jobs(run):
 
     load_before = load()
     results = results_of(run, tiles, "valgrind" not in missing)
-    parts = [conditions(load_before, missing), section(results, [program.name for program in run])]
+    lists = listed(run[0], [tile for tile in tiles if tile.kind == "map"])
+    parts = [conditions(load_before, missing), section(results, lists, [program.name for program in run])]
     parts.append(long_script(run[0], counted_maps(tiles)[0]))
     if "valgrind" not in missing:
         parts.append(costs(run[0], counted_maps(tiles)[-1]))

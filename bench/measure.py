@@ -37,6 +37,8 @@ class Program:
     only_copies: bool = False
     # Whether it writes fields in their order, as they were read.
     keeps_order: bool = True
+    # The status of a run that does its job.
+    status: int = 0
 
     @property
     def out(self):
@@ -59,10 +61,7 @@ class Run:
     status: int
     # Its error, or else its first replies.
     said: str
-
-    @property
-    def is_done(self):
-        return self.status == 0
+    is_done: bool
 
     @property
     def ending(self):
@@ -84,7 +83,8 @@ def run_once(program, tile, script, seconds):
     words = [BUILD / "measure", seconds, script, program.replies, *program.command(tile.path)]
     result = subprocess.run([str(word) for word in words], capture_output=True, text=True, check=True)
     nanoseconds, kibibytes, status = map(int, result.stdout.split())
-    return Run(nanoseconds / 1e6, 1024 * kibibytes, status, result.stderr.strip() or first_replies(program))
+    said = result.stderr.strip() or first_replies(program)
+    return Run(nanoseconds / 1e6, 1024 * kibibytes, status, said, status == program.status)
 
 
 def first_replies(program):
@@ -126,6 +126,13 @@ def measure(programs, tile, script):
     endings = {program.name: last_ending([first[program], *runs.get(program, [])])
                for program in programs if program.name not in figures}
     return figures, endings
+
+
+def measure_alone(program, tile, script):
+    """The figures of one program, or none where a run did not do its job."""
+    count = RUNS_OF_LARGE if tile.is_large else RUNS
+    runs = [run_once(program, tile, script, seconds_for(tile)) for _ in range(count)]
+    return medians(runs) if all(run.is_done for run in runs) else None
 
 
 def last_ending(runs):

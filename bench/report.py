@@ -21,6 +21,19 @@ class Result:
         return value(self.figures[program]) if program in self.figures else None
 
 
+@dataclass(frozen=True)
+class Listed:
+    """Milliseconds of reading a tile, and of reading it and listing one of its layers."""
+    tile: Tile
+    reading: float
+    both: float
+
+    @property
+    def ratio(self):
+        """How long listing takes, to reading."""
+        return None if None in (self.reading, self.both) else (self.both - self.reading) / self.reading
+
+
 def time(figures):
     return figures.milliseconds
 

@@ -10,7 +10,7 @@ MANY = "1,000 renames and undos"
 NOISE = 0.05
 
 
-def targets(results):
+def targets(results, lists):
     """Each target, what was measured, and the most that it may be."""
     small, large = ends(results, "map")
     crumbs = ends(results, "crumbs")[1].tile
@@ -22,6 +22,8 @@ def targets(results):
           for result in results if result.job == MANY and result.tile in [small.tile, *real(results)]),
         (f"{small.tile.name} to {large.tile.name}, {JOB}: exponent of time",
          exponent(small, large, OURS, time), 1 + NOISE),
+        *((f"{each.tile.name}, its largest layer listed: time to that of reading", each.ratio, 2)
+          for each in lists if each.tile == large.tile),
         (f"{crumbs.name}, in any job: peak memory to the tile", highest_peak(results, crumbs), 31),
     ]
 
@@ -47,9 +49,9 @@ def highest_peak(results, tile):
     return None if None in multiples else max(multiples)
 
 
-def verdicts(results):
+def verdicts(results, lists):
     rows = []
-    for name, measured, most in targets(results):
+    for name, measured, most in targets(results, lists):
         holds = measured is not None and measured <= most
         rows.append([name, shown(measured, 2), shown(most, 2), "yes" if holds else "no"])
     return table(["Target", "Measured", "At most", "Holds"], rows)

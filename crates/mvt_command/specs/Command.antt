@@ -1,10 +1,15 @@
 -- The commands that change a tile, as plain values.
 use Rattle.std.specs.Prelude.{ℕ, List}
 
--- the layer that a command means: the one of that ordinal among the layers, or the one of that name
+-- the layer that is meant: the one of that ordinal among the layers, or the one of that name
 pub data LayerChoice : Type 0 where
   AtOrdinal : (ordinal : ℕ) → LayerChoice
   Named : (name : List ℕ) → LayerChoice
+
+-- the feature of a layer that is meant: the one of that ordinal among its features, or the one of that id
+pub data FeatureChoice : Type 0 where
+  FeatureAtOrdinal : (ordinal : ℕ) → FeatureChoice
+  WithId : (id : ℕ) → FeatureChoice
 
 -- a command with its arguments
 pub data Command : Type 0 where

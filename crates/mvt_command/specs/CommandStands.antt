@@ -2,6 +2,8 @@
 use Rattle.mvt_command.specs.Command as plain
 use Rattle.mvt_command.specs.declared.command.LayerChoice.{LayerChoice}
 use Rattle.mvt_command.specs.declared.command.LayerChoice.TheVariants.{Ordinal, Name}
+use Rattle.mvt_command.specs.declared.command.FeatureChoice.{FeatureChoice}
+use Rattle.mvt_command.specs.declared.command.FeatureChoice.TheVariants as features
 use Rattle.mvt_command.specs.declared.command.Command.{Command}
 use Rattle.mvt_command.specs.declared.command.Command.TheVariants.{RenameLayer}
 
@@ -9,6 +11,10 @@ use Rattle.mvt_command.specs.declared.command.Command.TheVariants.{RenameLayer}
 abbrev pub layer_choice_of : LayerChoice → plain.LayerChoice
 layer_choice_of (Ordinal ordinal) = plain.AtOrdinal ordinal
 layer_choice_of (Name name) = plain.Named name.items
+
+abbrev pub feature_choice_of : FeatureChoice → plain.FeatureChoice
+feature_choice_of (features.Ordinal ordinal) = plain.FeatureAtOrdinal ordinal
+feature_choice_of (features.Id id) = plain.WithId id
 
 -- the command with its arguments
 abbrev pub command_of : Command → plain.Command

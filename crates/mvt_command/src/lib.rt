@@ -1,6 +1,6 @@
-//! The commands that change a tile, as types.
+//! The commands that change a tile, and what they choose, as types.
 #![tactic(auto)]
 
 mod command;
 
-pub use command::{Command, LayerChoice};
+pub use command::{Command, FeatureChoice, LayerChoice};

@@ -1,9 +1,11 @@
 -- The size of a list beside one of its items, before it and behind it.
-use Rattle.std.proofs.Common.{◌≡◌, ℕ, zero, suc, ◌+◌, ◌<◌, Option, Some, None, List, [], ◌∷◌, length, length-append, take, drop, get_or, take-append-drop, sym, ap, ◌∙◌, arith}
+use Rattle.std.proofs.Common.{◌≡◌, ℕ, zero, suc, ◌+◌, ◌<◌, ◌≤◌, Option, Some, None, List, [], ◌∷◌, ◌++◌, length, length-append, take, drop, get_or, take-append-drop, sym, ap, ◌∙◌, arith}
 use Rattle.std.specs.List.{flat_map}
 use Rattle.std.specs.Option.{SomeIff, IfSome}
 use Rattle.std.proofs.lemmas.List.Concat.{flat_map-append}
-use Rattle.mvt_document.specs.Kept.{bytes_beside}
+use Rattle.std.proofs.lemmas.List.{drop-drop}
+use Rattle.mvt_document.specs.Splicing.{moved, part, splice}
+use Rattle.mvt_document.specs.Kept.{IsKept, bytes_beside}
 
 pub front_and_back : {T : Type 0} (f : T → List ℕ) (n : ℕ) (xs : List T) → length (flat_map f (take n xs)) + length (flat_map f (drop n xs)) ≡ length (flat_map f xs)
 front_and_back f n xs =
@@ -17,3 +19,27 @@ item_and_beside f (y ∷ xs) (suc i) x inside is = omega (arith, item_and_beside
 pub known_so : (P : Type 0) (r : Option ℕ) (n m : ℕ) → SomeIff r P n → n ≡ m → IfSome r (λ x. x ≡ m)
 known_so P None n m some is = tt
 known_so P (Some x) n m some is = some.1 ∙ is
+
+-- what goes and what stays, what comes and what was
+pub spliced_size : {T : Type 0} (f : T → List ℕ) (index taken : ℕ) (put items : List T) → length (flat_map f (splice index taken put items)) + length (flat_map f (part index taken items)) ≡ length (flat_map f items) + length (flat_map f put)
+spliced_size f index taken put items =
+    let joined = ap length (flat_map-append f (take index items ++ put) (drop (index + taken) items)) ∙ length-append (flat_map f (take index items ++ put)) (flat_map f (drop (index + taken) items)) in
+    let front = ap length (flat_map-append f (take index items) put) ∙ length-append (flat_map f (take index items)) (flat_map f put) in
+    let whole = front_and_back f index items in
+    let behind = front_and_back f taken (drop index items) in
+    let rest = ap (λ xs. length (flat_map f xs)) (drop-drop taken index items) in
+    omega (arith, joined, front, whole, behind, rest)
+
+pub part_size : {T : Type 0} (f : T → List ℕ) (index count : ℕ) (items : List T) → length (flat_map f (part index count items)) ≤ length (flat_map f items)
+part_size f index count items = omega (arith, front_and_back f index items, front_and_back f count (drop index items))
+
+-- an item that moves weighs the same
+pub moved_size : {T : Type 0} (f : T → List ℕ) (from to : ℕ) (items : List T) → length (flat_map f (moved from to items)) ≡ length (flat_map f items)
+moved_size f from to items =
+    let out = spliced_size f from 1 [] items in
+    let back = spliced_size f to 0 (part from 1 items) (splice from 1 [] items) in
+    omega (arith, out, back)
+
+pub kept_so : {T : Type 0} (f : T → List ℕ) (items now : List T) (sum : Option ℕ) → length (flat_map f now) ≡ length (flat_map f items) → IsKept f items sum → IsKept f now sum
+kept_so f items now None same kept = tt
+kept_so f items now (Some n) same kept = kept ∙ sym same

@@ -6,3 +6,4 @@ pub mod Sizes
 pub mod Spelling
 pub mod Steps
 pub mod Wholes
+pub mod Exchanged

@@ -12,3 +12,4 @@ pub mod LendingKept
 pub mod Stands
 pub mod Parts
 pub mod Settle
+pub mod Splicing

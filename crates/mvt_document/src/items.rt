@@ -2,7 +2,8 @@
 
 ghost use Rattle.std.specs.Prelude.{◌≡◌, length};
 
-use std::alloc::AllocFailed;
+use crate::exchange::{exchange, move_item};
+use std::alloc::{AllocError, AllocFailed};
 use std::marker::Model;
 
 /// A list over a `Vec`. Contracts see its items, and beside them its room.
@@ -21,7 +22,8 @@ impl<T> Model for Items<T> {
 }
 
 impl<T> Items<T> {
-    ghost use Rattle.std.specs.Prelude.{Some, slice_get, take, ◌<◌, ◌∷◌, [], ◌++◌, if◌then◌else◌, is_ok};
+    ghost use Rattle.std.specs.Prelude.{Some, slice_get, take, ◌+◌, ◌<◌, ◌≤◌, ◌∷◌, [], ◌++◌, if◌then◌else◌, is_ok, IsOk, vec_len, vec_capacity};
+    ghost use Rattle.mvt_document.specs.Splicing.{moved, part, splice};
     ghost use Rattle.std.specs.Borrow.{sem};
     ghost use Rattle.std.specs.Option.{option_copied_mut};
     ghost use Rattle.mvt_document.specs.Lending.{LendsItem, LendsItemIf};
@@ -73,6 +75,53 @@ impl<T> Items<T> {
         ensures items { self.new.items ≡ (if is_ok result then self.old.items ++ item ∷ [] else self.old.items) }
     {
         self.inner.push(item)
+    }
+
+    /// Exchanges so many items from an index on for the ones to put, and puts them there in turn.
+    /// As many items as are taken change places where they stand. Items that are more or fewer
+    /// move the ones behind them, and need room in the one list or the other. An `Err` changes
+    /// nothing.
+    pub fn exchange(
+        &mut self,
+        index: usize,
+        taken: usize,
+        put: &mut Items<T>,
+    ) -> Result<(), AllocError>
+        requires { index + taken ≤ length self.old.items }
+        ensures items { self.new.items ≡ (if is_ok result then splice index taken put.old.items self.old.items else self.old.items) }
+        ensures put { put.new.items ≡ (if is_ok result then part index taken self.old.items else put.old.items) }
+        ensures room { length self.old.items + self.old.room ≤ length self.new.items + self.new.room }
+        ensures put_room { length put.old.items + put.old.room ≤ length put.new.items + put.new.room }
+        ensures succeeds { length put.old.items ≤ self.old.room + taken → taken ≤ length put.old.items + put.old.room → IsOk result }
+    {
+        put.exchange_in(&mut self.inner, index, taken)
+    }
+
+    /// The same in a vector, where these are the items to put.
+    pub(crate) fn exchange_in(
+        &mut self,
+        list: &mut Vec<T>,
+        index: usize,
+        taken: usize,
+    ) -> Result<(), AllocError>
+        requires { index + taken ≤ vec_len list.old }
+        ensures list { list.new.items ≡ (if is_ok result then splice index taken self.old.items list.old.items else list.old.items) }
+        ensures put { self.new.items ≡ (if is_ok result then part index taken list.old.items else self.old.items) }
+        ensures list_room { vec_capacity list.old ≤ vec_capacity list.new }
+        ensures put_room { length self.old.items + self.old.room ≤ length self.new.items + self.new.room }
+        ensures succeeds { vec_len list.old + length self.old.items ≤ vec_capacity list.old + taken → taken ≤ length self.old.items + self.old.room → IsOk result }
+    {
+        exchange(list, index, taken, &mut self.inner)
+    }
+
+    /// Takes the item at one position out and puts it back so that it stands at the other.
+    pub fn move_item(&mut self, from: usize, to: usize)
+        requires there { from < length self.old.items }
+        requires within { to < length self.old.items }
+        ensures items { self.new.items ≡ moved from to self.old.items }
+        ensures room { self.new.room ≡ self.old.room }
+    {
+        move_item(self.inner.as_mut_slice(), from, to);
     }
 
     /// Keeps so many items at the front.

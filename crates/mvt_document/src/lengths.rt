@@ -10,13 +10,13 @@ use crate::measure::{Measured, delimited_size, message_size, size_of_all, sum_wi
 impl Measured for Body {
     ghost bytes = { λ b. body_bytes (body_of b) };
 
-    fn size(&self) -> Option<usize> {
+    fn size_within(&self, limit: usize) -> Option<usize> {
         match self {
-            Body::Number(number) => number.size(),
-            Body::Eight(bytes) => Some(bytes[..].len()),
-            Body::Four(bytes) => Some(bytes[..].len()),
-            Body::Bytes { width, bytes } => delimited_size(*width, bytes.len()),
-            Body::Group(bytes) => sum_within(bytes.len(), 0),
+            Body::Number(number) => number.size_within(limit),
+            Body::Eight(bytes) => sum_within(bytes[..].len(), 0, limit),
+            Body::Four(bytes) => sum_within(bytes[..].len(), 0, limit),
+            Body::Bytes { width, bytes } => delimited_size(*width, bytes.len(), limit),
+            Body::Group(bytes) => sum_within(bytes.len(), 0, limit),
         }
     }
 }
@@ -24,26 +24,35 @@ impl Measured for Body {
 impl Measured for Field {
     ghost bytes = { λ f. field_bytes (field_of f) };
 
-    fn size(&self) -> Option<usize> {
-        sum_within(self.tag.size()?, self.body.size()?)
+    fn size_within(&self, limit: usize) -> Option<usize> {
+        sum_within(
+            self.tag.size_within(limit)?,
+            self.body.size_within(limit)?,
+            limit,
+        )
     }
 }
 
 impl Measured for Feature {
     ghost bytes = { λ f. feature_bytes (feature_of f) };
 
-    fn size(&self) -> Option<usize> {
-        message_size(self.tag, self.width, size_of_all(self.fields.as_slice())?)
+    fn size_within(&self, limit: usize) -> Option<usize> {
+        message_size(
+            self.tag,
+            self.width,
+            size_of_all(self.fields.as_slice(), limit)?,
+            limit,
+        )
     }
 }
 
 impl Measured for LayerItem {
     ghost bytes = { λ i. layer_item_bytes (layer_item_of i) };
 
-    fn size(&self) -> Option<usize> {
+    fn size_within(&self, limit: usize) -> Option<usize> {
         match self {
-            LayerItem::Feature(feature) => feature.size(),
-            LayerItem::Plain(field) => field.size(),
+            LayerItem::Feature(feature) => feature.size_within(limit),
+            LayerItem::Plain(field) => field.size_within(limit),
         }
     }
 }
@@ -51,18 +60,18 @@ impl Measured for LayerItem {
 impl Measured for Layer {
     ghost bytes = { λ l. layer_bytes (layer_of l) };
 
-    fn size(&self) -> Option<usize> {
-        message_size(self.tag, self.width, self.items.size()?)
+    fn size_within(&self, limit: usize) -> Option<usize> {
+        message_size(self.tag, self.width, self.items.size_within(limit)?, limit)
     }
 }
 
 impl Measured for TileItem {
     ghost bytes = { λ i. tile_item_bytes (tile_item_of i) };
 
-    fn size(&self) -> Option<usize> {
+    fn size_within(&self, limit: usize) -> Option<usize> {
         match self {
-            TileItem::Layer(layer) => layer.size(),
-            TileItem::Plain(field) => field.size(),
+            TileItem::Layer(layer) => layer.size_within(limit),
+            TileItem::Plain(field) => field.size_within(limit),
         }
     }
 }

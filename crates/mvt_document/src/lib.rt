@@ -3,6 +3,7 @@
 
 mod body;
 mod document;
+mod exchange;
 mod items;
 pub mod laws;
 mod lengths;
@@ -14,7 +15,7 @@ mod varint;
 pub use body::Body;
 pub use document::{Document, Feature, Field, Layer, LayerItem, TileItem};
 pub use items::Items;
-pub use measure::Measured;
+pub use measure::{Measured, size_of_all};
 pub use message::Message;
 pub use varint::{Varint, least_width, put_number, read_varint};
 

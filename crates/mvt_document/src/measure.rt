@@ -13,52 +13,63 @@ use crate::varint::{Varint, least_width};
 pub trait Measured {
     ghost bytes: { Self → List ℕ };
 
-    /// How many bytes it takes, where a file may have so many.
+    /// How many bytes it takes, where they are within the limit.
+    fn size_within(&self, limit: usize) -> Option<usize>
+        ensures { SomeIff result (length (bytes self.now) ≤ limit) (length (bytes self.now)) };
+
+    /// The same, where a file may have so many.
     fn size(&self) -> Option<usize>
-        ensures { SomeIff result (length (bytes self.now) ≤ MAX_FILE) (length (bytes self.now)) };
+        ensures { SomeIff result (length (bytes self.now) ≤ MAX_FILE) (length (bytes self.now)) }
+    {
+        self.size_within(MAX_FILE)
+    }
 }
 
-/// The sum, where a file may have so many bytes.
-pub(crate) fn sum_within(size: usize, more: usize) -> Option<usize>
-    ensures { SomeIff result (size + more ≤ MAX_FILE) (size + more) }
+/// The sum, where it is within the limit.
+pub(crate) fn sum_within(size: usize, more: usize, limit: usize) -> Option<usize>
+    ensures { SomeIff result (size + more ≤ limit) (size + more) }
 {
     let sum = size.checked_add(more)?;
-    if sum > MAX_FILE {
+    if sum > limit {
         return None;
     }
     Some(sum)
 }
 
-/// The size of the items one after the other, where a file may have so many bytes.
-pub(crate) fn size_of_all<T: Measured>(items: &[T]) -> Option<usize>
-    ensures { SomeIff result (length (flat_map T.bytes items.now) ≤ MAX_FILE) (length (flat_map T.bytes items.now)) }
+/// The size of the items one after the other, where it is within the limit.
+pub fn size_of_all<T: Measured>(items: &[T], limit: usize) -> Option<usize>
+    ensures { SomeIff result (length (flat_map T.bytes items.now) ≤ limit) (length (flat_map T.bytes items.now)) }
 {
     let mut size = 0;
     for item in items {
-        size = sum_within(size, item.size()?)?;
+        size = sum_within(size, item.size_within(limit)?, limit)?;
     }
     Some(size)
 }
 
-/// The size of so many bytes behind their length, where a file may have so many.
-pub(crate) fn delimited_size(width: u8, length: usize) -> Option<usize>
-    ensures { SomeIff result (max width (minimal_width length) + length ≤ MAX_FILE) (max width (minimal_width length) + length) }
+/// The size of so many bytes behind their length, where it is within the limit.
+pub(crate) fn delimited_size(width: u8, length: usize, limit: usize) -> Option<usize>
+    ensures { SomeIff result (max width (minimal_width length) + length ≤ limit) (max width (minimal_width length) + length) }
 {
     let width = width.max(least_width(length as u64));
-    sum_within(usize::from(width), length)
+    sum_within(usize::from(width), length, limit)
 }
 
-/// The size of a tag and so many bytes behind it under one length, where a file may have so many.
-pub(crate) fn message_size(tag: Varint, width: u8, length: usize) -> Option<usize>
-    ensures { let size = tag.width + (max width (minimal_width length) + length) in SomeIff result (size ≤ MAX_FILE) size }
+/// The size of a tag and so many bytes behind it under one length, where it is within the limit.
+pub(crate) fn message_size(tag: Varint, width: u8, length: usize, limit: usize) -> Option<usize>
+    ensures { let size = tag.width + (max width (minimal_width length) + length) in SomeIff result (size ≤ limit) size }
 {
-    sum_within(usize::from(tag.width), delimited_size(width, length)?)
+    sum_within(
+        usize::from(tag.width),
+        delimited_size(width, length, limit)?,
+        limit,
+    )
 }
 
 impl Measured for Varint {
     ghost bytes = { λ n. spell n.value n.width };
 
-    fn size(&self) -> Option<usize> {
-        Some(usize::from(self.width))
+    fn size_within(&self, limit: usize) -> Option<usize> {
+        sum_within(usize::from(self.width), 0, limit)
     }
 }

@@ -6,8 +6,11 @@ ghost use Rattle.std.specs.List.{flat_map};
 ghost use Rattle.std.specs.Option.{SomeIff};
 ghost use Rattle.mvt_document.specs.declared.TheConstants.{MAX_FILE};
 
+use crate::MAX_FILE;
+use crate::exchange::move_item;
+use crate::items::Items;
 use crate::measure::{Measured, size_of_all, sum_within};
-use std::alloc::AllocFailed;
+use std::alloc::{AllocError, AllocFailed};
 use std::marker::Model;
 
 /// The items of a message, and how many bytes they take, where that is known. Contracts see the
@@ -31,7 +34,8 @@ impl<T: Measured> Model for Message<T> {
 }
 
 impl<T: Measured> Message<T> {
-    ghost use Rattle.std.specs.Prelude.{Some, IfSome, slice_get, take, ◌<◌, ◌∷◌, [], ◌++◌, if◌then◌else◌, is_ok};
+    ghost use Rattle.std.specs.Prelude.{Some, IfSome, slice_get, take, ◌<◌, ◌∷◌, [], ◌++◌, if◌then◌else◌, is_ok, IsOk};
+    ghost use Rattle.mvt_document.specs.Splicing.{moved, part, splice};
     ghost use Rattle.std.specs.Borrow.{sem};
     ghost use Rattle.std.specs.Option.{option_copied_mut};
     ghost use Rattle.mvt_document.specs.Kept.{IsKept, bytes_beside};
@@ -67,14 +71,21 @@ impl<T: Measured> Message<T> {
         self.inner.len()
     }
 
-    /// How many bytes the items take, where a file may have so many.
+    /// How many bytes the items take, where they are within the limit.
+    pub fn size_within(&self, limit: usize) -> Option<usize>
+        ensures { SomeIff result (length (flat_map T.bytes self.now.items) ≤ limit) (length (flat_map T.bytes self.now.items)) }
+    {
+        match self.sum {
+            Some(sum) => sum_within(sum, 0, limit),
+            None => size_of_all(self.inner.as_slice(), limit),
+        }
+    }
+
+    /// The same, where a file may have so many.
     pub fn size(&self) -> Option<usize>
         ensures { SomeIff result (length (flat_map T.bytes self.now.items) ≤ MAX_FILE) (length (flat_map T.bytes self.now.items)) }
     {
-        match self.sum {
-            Some(sum) => sum_within(sum, 0),
-            None => size_of_all(self.inner.as_slice()),
-        }
+        self.size_within(MAX_FILE)
     }
 
     /// How many bytes the first so many items take, where that is known.
@@ -82,7 +93,7 @@ impl<T: Measured> Message<T> {
         ensures { IsKept T.bytes (take length self.now.items) result }
     {
         let behind = self.inner.get(length..)?;
-        Some(self.sum? - size_of_all(behind)?)
+        Some(self.sum? - size_of_all(behind, MAX_FILE)?)
     }
 
     /// How many bytes the items beside this one take, where that is known.
@@ -100,10 +111,10 @@ impl<T: Measured> Message<T> {
         ensures { IsKept T.bytes self.now.items result }
     {
         let Some(beside) = beside else {
-            return size_of_all(self.inner.as_slice());
+            return size_of_all(self.inner.as_slice(), MAX_FILE);
         };
         let item = self.inner.get(index)?;
-        sum_within(beside, item.size()?)
+        sum_within(beside, item.size()?, MAX_FILE)
     }
 
     /// Knows the size again, where the items beside this one take so many bytes.
@@ -143,6 +154,49 @@ impl<T: Measured> Message<T> {
         Ok(())
     }
 
+    /// How many bytes the items take once so many from an index on are exchanged for the ones to
+    /// put, where that is known.
+    fn size_exchanged(&self, index: usize, taken: usize, put: &Items<T>) -> Option<usize>
+        requires { index + taken ≤ length self.now.items }
+        ensures { IsKept T.bytes (splice index taken put.now.items self.now.items) result }
+    {
+        let sum = self.sum?;
+        let gone = size_of_all(&self.inner[index..index + taken], usize::MAX)?;
+        let come = size_of_all(put.as_slice(), usize::MAX)?;
+        sum_within(sum - gone, come, usize::MAX)
+    }
+
+    /// Exchanges so many items from an index on for the ones to put, as `Items::exchange` does. The
+    /// size stays known where it was.
+    pub fn exchange(
+        &mut self,
+        index: usize,
+        taken: usize,
+        put: &mut Items<T>,
+    ) -> Result<(), AllocError>
+        requires { index + taken ≤ length self.old.items }
+        ensures items { self.new.items ≡ (if is_ok result then splice index taken put.old.items self.old.items else self.old.items) }
+        ensures put { put.new.items ≡ (if is_ok result then part index taken self.old.items else put.old.items) }
+        ensures room { length self.old.items + self.old.room ≤ length self.new.items + self.new.room }
+        ensures put_room { length put.old.items + put.old.room ≤ length put.new.items + put.new.room }
+        ensures succeeds { length put.old.items ≤ self.old.room + taken → taken ≤ length put.old.items + put.old.room → IsOk result }
+    {
+        let size = self.size_exchanged(index, taken, put);
+        put.exchange_in(&mut self.inner, index, taken)?;
+        self.sum = size;
+        Ok(())
+    }
+
+    /// Takes the item at one position out and puts it back so that it stands at the other.
+    pub fn move_item(&mut self, from: usize, to: usize)
+        requires there { from < length self.old.items }
+        requires within { to < length self.old.items }
+        ensures items { self.new.items ≡ moved from to self.old.items }
+        ensures room { self.new.room ≡ self.old.room }
+    {
+        move_item(self.inner.as_mut_slice(), from, to);
+    }
+
     /// Keeps so many items at the front.
     pub fn truncate(&mut self, length: usize)
     where
@@ -158,5 +212,5 @@ impl<T: Measured> Message<T> {
 fn sum_known(size: Option<usize>, more: Option<usize>) -> Option<usize>
     ensures { IfSome result (λ n. (a : ℕ) × (b : ℕ) × (size ≡ Some a) × (more ≡ Some b) × (n ≡ a + b)) }
 {
-    sum_within(size?, more?)
+    sum_within(size?, more?, MAX_FILE)
 }

@@ -42,8 +42,14 @@ pub const VERSION: u64 = 15;
 /// The number of a feature's id.
 pub const ID: u64 = 1;
 
+/// The number of a feature's tags.
+pub const TAGS: u64 = 2;
+
 /// The number of a feature's kind.
 pub const KIND: u64 = 3;
+
+/// The number of a feature's geometry.
+pub const GEOMETRY: u64 = 4;
 
 /// The tag of a layer.
 pub const LAYER_TAG: u64 = 8 * LAYERS + LEN;

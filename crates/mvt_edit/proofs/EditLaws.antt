@@ -8,9 +8,12 @@ use Rattle.std.specs.List.{filter_map, list_any}
 use Rattle.mvt_wire.specs.TheConstants.{MAX_FILE}
 use Rattle.mvt_wire.specs.Plain.{Layer, OfLayer, PlainInTile, Document}
 use Rattle.mvt_wire.specs.Wire.{bytes_of}
-use Rattle.mvt_edit.specs.Selection.{is_layer, is_named, layers, name_of, selected, the_one}
+use Rattle.mvt_view.specs.Views.{is_named, layers, name_of}
+use Rattle.mvt_edit.specs.Selection.{is_layer, selected}
+use Rattle.mvt_edit.specs.Former.{change_at}
 use Rattle.mvt_edit.specs.Meaning.{◌>>=◌, change_layer, is_taken, renamed, within_limit, unless_taken}
 use Rattle.mvt_edit.specs.declared.edit.Refusal.{Refusal}
+use Rattle.mvt_edit.proofs.SelectionLemmas.{one_layer}
 use Rattle.mvt_edit.proofs.Selecting.{selected_within}
 use Rattle.mvt_edit.proofs.Positions.{positions_from, positions_pass, positions_skip}
 use Rattle.mvt_edit.proofs.NameLemmas.{name_of_renamed, rest_of_renamed}
@@ -24,11 +27,6 @@ pub command_fits : CommandFits
 command_fits command document after e = search rules
 
 -- ---- a list with the item at one place changed
-
-abbrev pub change_at : {A : Type 0} → (A → A) → ℕ → List A → List A
-change_at change at [] = []
-change_at change zero (x ∷ xs) = change x ∷ xs
-change_at change (suc at) (x ∷ xs) = x ∷ change_at change at xs
 
 get-change_other : {A : Type 0} (change : A → A) (at : ℕ) (xs : List A) (other : ℕ) → other ≢ at → slice_get (change_at change at xs) other ≡ slice_get xs other
 get-change_other change at [] other apart = refl
@@ -122,7 +120,7 @@ is_renamed name ordinal old within free =
     let all = layers_changed (renamed name) ordinal old in
     record {
       named = ap (λ ls. option_map name_of (slice_get ls ordinal)) all ∙ get_changed (renamed name) name_of (Some name) ordinal (layers old) (name_of_renamed name) within;
-      alone = ap (λ ls. the_one (positions_from (is_named name) 0 ls)) all ∙ ap the_one (alone_at (is_named name) (renamed name) 0 ordinal ordinal (layers old) (named_so name) (omega arith) within free);
+      alone = ap (λ ls. one_layer (positions_from (is_named name) 0 ls)) all ∙ ap one_layer (alone_at (is_named name) (renamed name) 0 ordinal ordinal (layers old) (named_so name) (omega arith) within free);
       rest = ap (λ ls. option_map without_names (slice_get ls ordinal)) all ∙ get_kept (renamed name) without_names ordinal (layers old) (rest_of_renamed name);
       others = λ other apart. ap (λ ls. slice_get ls other) all ∙ get-change_other (renamed name) ordinal (layers old) other apart;
       fields = fields_kept (renamed name) ordinal old;

@@ -1,6 +1,8 @@
 -- A change at a position, and what leads back from it.
 use Rattle.std.proofs.Common.{◌≡◌, ◌<◌, ℕ, zero, suc, true, Option, Some, None, List, [], ◌∷◌, ◌++◌, length, map, option_map, slice_get, slice_set, take, ok_or, refl, sym, ap, ◌∙◌, arith}
-use Rattle.std.proofs.lemmas.List.{length-map}
+use Rattle.std.proofs.Math.Seq.{map-set_same, take-append_seam}
+use Rattle.std.proofs.lemmas.List.{length-map, map-append}
+use Rattle.std.proofs.lemmas.Option.{get_or_from_slice_get}
 use Rattle.mvt_wire.specs.Stands.{tile_item_of}
 use Rattle.mvt_wire.specs.declared.TileItem.{TileItem}
 use Rattle.mvt_command.specs.Command.{LayerChoice, RenameLayer}
@@ -31,15 +33,13 @@ changed_back view change [] at old new is same = absurd cc
 changed_back view change (x ∷ xs) zero old new is same = let here : x ≡ old = cc in ap (λ y. y ∷ map view xs) (same ∙ ap view (sym here))
 changed_back view change (x ∷ xs) (suc at) old new is same = ap (λ ys. view x ∷ ys) (changed_back view change xs at old new is same)
 
+-- an item that view cannot tell from the old one
 pub same_at : {X Y : Type 0} (view : X → Y) (xs : List X) (at : ℕ) (old new : X) → slice_get xs at ≡ Some old → view new ≡ view old → map view (slice_set xs at new) ≡ map view xs
-same_at view [] at old new is same = absurd cc
-same_at view (x ∷ xs) zero old new is same = let here : x ≡ old = cc in ap (λ y. y ∷ map view xs) (same ∙ ap view (sym here))
-same_at view (x ∷ xs) (suc at) old new is same = ap (λ ys. view x ∷ ys) (same_at view xs at old new is same)
+same_at view xs at old new is same = map-set_same view xs at new old (same ∙ ap view (sym (get_or_from_slice_get xs at old old is)))
 
 -- what was added at the end goes again
 pub taken_back : {X Y : Type 0} (view : X → Y) (xs : List X) (new : X) → take (length xs) (map view (xs ++ new ∷ [])) ≡ map view xs
-taken_back view [] new = refl
-taken_back view (x ∷ xs) new = ap (λ ys. view x ∷ ys) (taken_back view xs new)
+taken_back view xs new = rw (map-append, ← length-map xs view) (take-append_seam (map view xs) (view new ∷ []))
 
 -- ---- the layer that is renamed
 

@@ -1,4 +1,3 @@
-pub mod Layers
 pub mod Positions
 pub mod Commands
 pub mod Renaming
@@ -9,4 +8,3 @@ pub mod EditRefusals
 pub mod SelectionLemmas
 pub mod EditLaws
 pub mod Named
-pub mod LastNames

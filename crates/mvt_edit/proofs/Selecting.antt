@@ -3,18 +3,20 @@ use Rattle.std.proofs.Common.{◌≡◌, ℕ, zero, suc, ◌+◌, ◌<◌, ◌�
 use Rattle.std.proofs.lemmas.Bool.Decides.{nat_tests}
 use Rattle.mvt_wire.specs.Plain.{Layer, TileItem, OfLayer, PlainInTile, Document}
 use Rattle.mvt_command.specs.Command.{LayerChoice, AtOrdinal, Named}
-use Rattle.mvt_edit.specs.Selection.{is_layer, is_named, layers, layer_positions, ordinals_of, the_one, selected}
+use Rattle.mvt_view.specs.Views.{is_named, layers, ordinals_of}
+use Rattle.mvt_edit.specs.Selection.{is_layer, layer_positions, selected}
 use Rattle.mvt_edit.specs.Meaning.{in_layer, change_layer}
+use Rattle.mvt_edit.proofs.SelectionLemmas.{one_layer}
 use Rattle.mvt_edit.proofs.Positions.{positions_from, positions_within}
 
-the_one_first : (ordinals : List ℕ) (ordinal : ℕ) → the_one ordinals ≡ Ok ordinal → slice_get ordinals 0 ≡ Some ordinal
+the_one_first : (ordinals : List ℕ) (ordinal : ℕ) → one_layer ordinals ≡ Ok ordinal → slice_get ordinals 0 ≡ Some ordinal
 the_one_first [] ordinal e = absurd cc
 the_one_first (x ∷ []) ordinal e = let same : x ≡ ordinal = cc in ap (λ y. Some y) same
 the_one_first (x ∷ y ∷ more) ordinal e = absurd cc
 
 pub selected_within : (choice : LayerChoice) (document : Document) (ordinal : ℕ) → selected choice document ≡ Ok ordinal → ordinal < length (layers document)
 selected_within (AtOrdinal n) document ordinal e = grind (arith, nat_tests)
-selected_within (Named name) document ordinal e = let bounds = positions_within (is_named name) 0 (layers document) 0 ordinal (the_one_first (ordinals_of name document) ordinal e) in omega arith
+selected_within (Named name) document ordinal e = let bounds = positions_within (is_named name) 0 (layers document) 0 ordinal (the_one_first (ordinals_of (is_named name) (layers document)) ordinal e) in omega arith
 
 no_layer_past : (n : ℕ) (document : Document) (ordinal : ℕ) → slice_get (positions_from is_layer n document) ordinal ≡ None → length (layers document) ≤ ordinal
 no_layer_past n [] ordinal e = omega arith

@@ -1,14 +1,19 @@
 -- Which layer a name means.
-use Rattle.std.proofs.Common.{◌≡◌, ℕ, zero, suc, ◌+◌, ◌<◌, Bool, true, false, Option, Some, None, option_map, Ok, Err, List, [], ◌∷◌, slice_get, refl, sym, ap, ◌∙◌, inl, inr, subst, arith}
+use Rattle.std.proofs.Common.{◌≡◌, ℕ, zero, suc, ◌+◌, ◌<◌, Bool, true, false, Option, Some, None, option_map, Result, Ok, Err, List, [], ◌∷◌, slice_get, refl, sym, ap, ◌∙◌, inl, inr, subst, arith}
 use Rattle.std.proofs.lemmas.Bool.{cases_Bool}
 use Rattle.std.proofs.lemmas.Slice.Eq.{bytes_eq-Decides}
 use Rattle.std.specs.Option.{option_map_or}
 use Rattle.std.specs.Str.{bytes_eq}
 use Rattle.mvt_wire.specs.Plain.{Layer}
-use Rattle.mvt_edit.specs.Selection.{is_named, layers, name_of, the_one}
+use Rattle.mvt_view.specs.Views.{is_named, layers, name_of, the_one}
 use Rattle.mvt_edit.specs.Laws.{NameMeansTheOne, NameMeansNone}
-use Rattle.mvt_edit.specs.declared.edit.Refusal.TheVariants.{NoLayer}
+use Rattle.mvt_edit.specs.declared.edit.Refusal.{Refusal}
+use Rattle.mvt_edit.specs.declared.edit.Refusal.TheVariants.{AmbiguousLayer, NoLayer}
 use Rattle.mvt_edit.proofs.Positions.{positions_from, positions_pass, positions_skip, positions_within}
+
+-- the one layer of these
+abbrev pub one_layer : List ℕ → Result ℕ Refusal
+one_layer ordinals = the_one NoLayer AmbiguousLayer ordinals
 
 -- an item passes at this position
 abbrev pub PassesAt : {A : Type 0} → (A → Bool) → List A → ℕ → Type 0
@@ -58,7 +63,7 @@ two_apart passes n a b (x ∷ xs) more e =
 
 -- ---- one item alone passes
 
-only_one : (ordinals : List ℕ) (ordinal : ℕ) → the_one ordinals ≡ Ok ordinal → ordinals ≡ ordinal ∷ []
+only_one : (ordinals : List ℕ) (ordinal : ℕ) → one_layer ordinals ≡ Ok ordinal → ordinals ≡ ordinal ∷ []
 only_one [] ordinal e = absurd cc
 only_one (x ∷ []) ordinal e = let same : x ≡ ordinal = cc in ap (λ y. y ∷ []) same
 only_one (x ∷ y ∷ more) ordinal e = absurd cc
@@ -67,7 +72,7 @@ in_one : (ordinal i k : ℕ) → slice_get (ordinal ∷ []) i ≡ Some k → k �
 in_one ordinal zero k e = cc
 in_one ordinal (suc i) k e = absurd cc
 
-alone_passes : {A : Type 0} (passes : A → Bool) (xs : List A) (ordinal : ℕ) → the_one (positions_from passes 0 xs) ≡ Ok ordinal → (other : ℕ) → (PassesAt passes xs other → other ≡ ordinal) × (other ≡ ordinal → PassesAt passes xs other)
+alone_passes : {A : Type 0} (passes : A → Bool) (xs : List A) (ordinal : ℕ) → one_layer (positions_from passes 0 xs) ≡ Ok ordinal → (other : ℕ) → (PassesAt passes xs other → other ≡ ordinal) × (other ≡ ordinal → PassesAt passes xs other)
 alone_passes passes xs ordinal e other =
     let only = only_one (positions_from passes 0 xs) ordinal e in
     let found = position_passes passes 0 xs 0 ordinal (ap (λ ys. slice_get ys 0) only) in
@@ -82,7 +87,7 @@ passes_there passes xs i k e =
     let there : found.0 ≡ k = let place = found.1 in omega arith in
     subst (PassesAt passes xs) there found.2
 
-the_one_of : {A : Type 0} (passes : A → Bool) (xs : List A) (ordinal : ℕ) (ordinals : List ℕ) → positions_from passes 0 xs ≡ ordinals → ((other : ℕ) → PassesAt passes xs other → other ≡ ordinal) → PassesAt passes xs ordinal → the_one ordinals ≡ Ok ordinal
+the_one_of : {A : Type 0} (passes : A → Bool) (xs : List A) (ordinal : ℕ) (ordinals : List ℕ) → positions_from passes 0 xs ≡ ordinals → ((other : ℕ) → PassesAt passes xs other → other ≡ ordinal) → PassesAt passes xs ordinal → one_layer ordinals ≡ Ok ordinal
 the_one_of passes xs ordinal [] e alone pass = absurd (let found = passes_position passes 0 xs ordinal ordinal (omega arith) pass in let nowhere = rw e at found.1 in cc)
 the_one_of passes xs ordinal (a ∷ []) e alone pass = ap (λ y. Ok y) (alone a (passes_there passes xs 0 a (ap (λ ys. slice_get ys 0) e)))
 the_one_of passes xs ordinal (a ∷ b ∷ more) e alone pass =
@@ -118,12 +123,12 @@ name_means_the_one name document ordinal = (
       (named_at name (slice_get (layers document) ordinal) ((alone ordinal).1 refl)),
 )
 
-none_of : (ordinals : List ℕ) → the_one ordinals ≡ Err NoLayer → ordinals ≡ []
+none_of : (ordinals : List ℕ) → one_layer ordinals ≡ Err NoLayer → ordinals ≡ []
 none_of [] e = refl
 none_of (x ∷ []) e = absurd cc
 none_of (x ∷ y ∷ more) e = absurd cc
 
-no_one_of : {A : Type 0} (passes : A → Bool) (xs : List A) (ordinals : List ℕ) → positions_from passes 0 xs ≡ ordinals → ((other : ℕ) → PassesAt passes xs other → ⊥) → the_one ordinals ≡ Err NoLayer
+no_one_of : {A : Type 0} (passes : A → Bool) (xs : List A) (ordinals : List ℕ) → positions_from passes 0 xs ≡ ordinals → ((other : ℕ) → PassesAt passes xs other → ⊥) → one_layer ordinals ≡ Err NoLayer
 no_one_of passes xs [] e none = refl
 no_one_of passes xs (a ∷ more) e none = absurd (none a (passes_there passes xs 0 a (ap (λ ys. slice_get ys 0) e)))
 

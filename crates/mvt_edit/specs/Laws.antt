@@ -5,7 +5,8 @@ use Rattle.mvt_wire.specs.TheConstants.{MAX_FILE}
 use Rattle.mvt_wire.specs.Plain.{Field, Layer, TileItem, OfLayer, PlainInTile, Document}
 use Rattle.mvt_wire.specs.Wire.{bytes_of}
 use Rattle.mvt_command.specs.Command.{LayerChoice, Named, Command, RenameLayer}
-use Rattle.mvt_edit.specs.Selection.{layers, layer_positions, name_of, selected}
+use Rattle.mvt_view.specs.Views.{layers, name_of}
+use Rattle.mvt_edit.specs.Selection.{layer_positions, selected}
 use Rattle.mvt_edit.specs.Meaning.{applied, is_name}
 use Rattle.mvt_edit.specs.declared.edit.Refusal.TheVariants.{NoLayer}
 

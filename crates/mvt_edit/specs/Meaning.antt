@@ -1,11 +1,12 @@
 -- What a command makes of a document, and when it is refused.
-use Rattle.std.specs.Prelude.{ℕ, zero, suc, Bool, ◌&&◌, not, List, [], ◌∷◌, ◌++◌, length, Result, Ok, Err, is_some, ◌==◌, nat_lt, if◌then◌else◌}
+use Rattle.std.specs.Prelude.{ℕ, zero, suc, Bool, ◌&&◌, not, List, [], ◌∷◌, ◌++◌, length, Option, None, Result, Ok, Err, is_some, ◌==◌, nat_lt, if◌then◌else◌}
 use Rattle.std.specs.List.{list_any}
 use Rattle.mvt_wire.specs.TheConstants.{MAX_FILE}
 use Rattle.mvt_wire.specs.Plain.{Body, Spelled, Eight, Four, Delimited, Group, LayerItem, OfFeature, PlainInLayer, Layer, TileItem, OfLayer, PlainInTile, Document}
 use Rattle.mvt_wire.specs.Wire.{bytes_of}
+use Rattle.mvt_view.specs.Views.{content_in, is_named, layers, ordinals_of}
 use Rattle.mvt_command.specs.Command.{Command, RenameLayer}
-use Rattle.mvt_edit.specs.Selection.{text_in, selected, ordinals_of, positions_of}
+use Rattle.mvt_edit.specs.Selection.{selected, positions_of}
 use Rattle.mvt_edit.specs.declared.edit.Refusal.{Refusal}
 use Rattle.mvt_edit.specs.declared.edit.Refusal.TheVariants.{NameTaken, TooLarge}
 
@@ -21,8 +22,13 @@ change_last passes change (x ∷ xs) = if passes x && not (list_any passes xs) t
 
 -- ---- a name
 
+-- the content of an item of a layer that is a name field
+abbrev pub name_in : LayerItem → Option (List ℕ)
+name_in (OfFeature feature) = None
+name_in (PlainInLayer field) = content_in 1 field
+
 abbrev pub is_name : LayerItem → Bool
-is_name item = is_some (text_in 1 item)
+is_name item = is_some (name_in item)
 
 -- where the name fields stand in a layer
 abbrev pub name_positions : List LayerItem → List ℕ
@@ -69,7 +75,7 @@ change_layer change (suc ordinal) (OfLayer layer ∷ items) = OfLayer layer ∷ 
 
 -- the name is that of a layer of another ordinal
 abbrev pub is_taken : List ℕ → ℕ → Document → Bool
-is_taken name ordinal document = list_any (λ other. not (other == ordinal)) (ordinals_of name document)
+is_taken name ordinal document = list_any (λ other. not (other == ordinal)) (ordinals_of (is_named name) (layers document))
 
 abbrev pub unless_taken : Bool → Document → Result Document Refusal
 unless_taken taken document = if taken then Err NameTaken else Ok document

@@ -6,11 +6,12 @@ ghost use Rattle.mvt_command.specs.CommandStands.{command_of, layer_choice_of};
 ghost use Rattle.mvt_command.specs.Command.{RenameLayer};
 ghost use Rattle.mvt_edit.specs.Former.{Changes, Edits, IsRenamedAt, former_name_of, former_of, restored, with_former_items, with_former_name};
 ghost use Rattle.mvt_edit.specs.Meaning.{applied, in_layer, name_field, named_items, renamed, with_text};
-ghost use Rattle.mvt_edit.specs.Selection.{is_layer};
+ghost use Rattle.mvt_edit.specs.Selection.{feature_refusal, is_layer, layer_refusal};
 ghost use Rattle.mvt_edit.specs.declared.edit.Refusal.TheVariants.{NoMemory};
 
 use crate::select::{is_other, last_name, layer_position, selected_and_named};
 use mvt_command::{Command, LayerChoice};
+use mvt_view::{FeatureError, LayerError};
 use mvt_wire::tags::NAME_TAG;
 use mvt_wire::{Body, Document, Field, Items, LayerItem, Message, TileItem, Varint, size};
 use std::alloc::{AllocError, AllocFailed, Global};
@@ -24,6 +25,10 @@ pub enum Refusal {
     NoLayer,
     #[error("several layers have the name")]
     AmbiguousLayer,
+    #[error("there is no such feature")]
+    NoFeature,
+    #[error("several features have the id")]
+    AmbiguousFeature,
     #[error("another layer has the name")]
     NameTaken,
     #[error("the tile would be too large")]
@@ -45,6 +50,28 @@ impl<T: Drop> From<AllocFailed<T>> for Refusal {
 
     fn from(_e: AllocFailed<T>) -> Refusal {
         Refusal::NoMemory
+    }
+}
+
+impl From<LayerError> for Refusal {
+    ghost from_gives = { λ error refusal. refusal ≡ layer_refusal error };
+
+    fn from(error: LayerError) -> Refusal {
+        match error {
+            LayerError::NoLayer => Refusal::NoLayer,
+            LayerError::AmbiguousLayer => Refusal::AmbiguousLayer,
+        }
+    }
+}
+
+impl From<FeatureError> for Refusal {
+    ghost from_gives = { λ error refusal. refusal ≡ feature_refusal error };
+
+    fn from(error: FeatureError) -> Refusal {
+        match error {
+            FeatureError::NoFeature => Refusal::NoFeature,
+            FeatureError::AmbiguousFeature => Refusal::AmbiguousFeature,
+        }
     }
 }
 
@@ -86,7 +113,7 @@ fn rename_layer(
     ensures { Edits (RenameLayer (layer_choice_of choice.now) name.now)
         (document_of document.old) (document_of document.new) result }
 {
-    let layer = layer_to_rename(document.items.as_slice(), choice, name)?;
+    let layer = layer_to_rename(document, choice, name)?;
     let beside = document.items.size_beside(layer);
     let renamed = put_name(alloc, document.items.item_mut(layer), name);
     document.items.remember(layer, beside);
@@ -104,17 +131,17 @@ fn rename_layer(
 }
 
 /// The position of the layer that is meant, where no other layer has the name.
-fn layer_to_rename(items: &[TileItem], choice: &LayerChoice, name: &[u8]) -> Result<usize, Refusal>
-    ensures found { IfOk result (IsRenamedAt (layer_choice_of choice.now) name.now (map tile_item_of items.now)) }
+fn layer_to_rename(document: &Document, choice: &LayerChoice, name: &[u8]) -> Result<usize, Refusal>
+    ensures found { IfOk result (IsRenamedAt (layer_choice_of choice.now) name.now (document_of document.now)) }
     ensures refused { IfErr result (λ refusal.
-        applied (RenameLayer (layer_choice_of choice.now) name.now) (map tile_item_of items.now) ≡ Err refusal) }
+        applied (RenameLayer (layer_choice_of choice.now) name.now) (document_of document.now) ≡ Err refusal) }
 {
-    let (chosen, named) = selected_and_named(items, choice, name);
+    let (chosen, named) = selected_and_named(document, choice, name);
     let ordinal = chosen?;
     if is_other(named, ordinal) {
         return Err(Refusal::NameTaken);
     }
-    layer_position(items, ordinal).ok_or(Refusal::NoLayer)
+    layer_position(document.items.as_slice(), ordinal).ok_or(Refusal::NoLayer)
 }
 
 /// Puts back what a command took out.

@@ -6,5 +6,5 @@ pub mod laws;
 mod select;
 
 pub use edit::{Former, Refusal, apply, put_back};
-pub use mvt_command::{Command, LayerChoice};
-pub use select::selected_layer;
+pub use mvt_command::{Command, FeatureChoice, LayerChoice};
+pub use select::{selected_feature, selected_layer};

@@ -7,8 +7,9 @@ use Rattle.mvt_wire.specs.Groups.{wire_type, IsBodyWith, IsGroup, StoresBody}
 use Rattle.mvt_wire.proofs.Spelling.{minimal_spelling, minimal_width_some, minimal_width_short, spell-one}
 use Rattle.mvt_wire.proofs.Steps.{first_spelling, width_within-low}
 use Rattle.std.specs.Int.{from_bool}
+use Rattle.mvt_zigzag.specs.Signed.{zigzag}
 use Rattle.mvt_value.specs.Values.{Value, OfText, OfFloat, OfDouble, OfInt, OfUint, OfSint, OfBool}
-use Rattle.mvt_value.specs.Signed.{twos_complement, zigzag}
+use Rattle.mvt_value.specs.Signed.{twos_complement}
 use Rattle.mvt_value.specs.Messages.{BodyHas, HasValue, shortest, encoded, IsInRange}
 
 -- a field whose tag is one byte

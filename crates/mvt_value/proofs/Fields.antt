@@ -9,8 +9,10 @@ use Rattle.mvt_wire.specs.Wire.{field_bytes}
 use Rattle.mvt_wire.specs.Groups.{IsBodyWith, IsWholeFieldWith, IsGroup, StoresBody, StoresField}
 use Rattle.mvt_wire.specs.Opens.{IsField}
 use Rattle.mvt_wire.proofs.Prefixes as prefixes
+use Rattle.mvt_zigzag.specs.Signed.{zigzag}
+use Rattle.mvt_zigzag.proofs.Apart.{one_in_zigzag}
 use Rattle.mvt_value.specs.Values.{Value, OfText, OfFloat, OfDouble, OfInt, OfUint, OfSint, OfBool}
-use Rattle.mvt_value.specs.Signed.{twos_complement, zigzag}
+use Rattle.mvt_value.specs.Signed.{twos_complement}
 use Rattle.mvt_value.specs.Stands.{shown_by}
 use Rattle.mvt_value.specs.declared.value.Value as program
 use Rattle.mvt_value.specs.Messages.{BodyHas, FieldHas, HasValue, IsInRange}
@@ -23,12 +25,6 @@ one_in_twos_complement (pos a) (negsuc b) p q e = absurd (omega (arith, p.sfits,
 one_in_twos_complement (negsuc a) (pos b) p q e = absurd (omega (arith, p.sfits, q.sfits))
 one_in_twos_complement (negsuc a) (negsuc b) p q e =
     let same : a ≡ b = omega (arith, p.sfits, q.sfits) in ap negsuc same
-
-one_in_zigzag : (a b : ℤ) → zigzag a ≡ zigzag b → a ≡ b
-one_in_zigzag (pos a) (pos b) e = let same : a ≡ b = omega arith in ap pos same
-one_in_zigzag (pos a) (negsuc b) e = absurd (omega arith)
-one_in_zigzag (negsuc a) (pos b) e = absurd (omega arith)
-one_in_zigzag (negsuc a) (negsuc b) e = let same : a ≡ b = omega arith in ap negsuc same
 
 zigzag_fits : (a : ℤ) → zigzag a < 2 ^ 64 → SFits w64 a
 zigzag_fits (pos a) h = record { sfits = omega arith }

@@ -6,8 +6,9 @@ use Rattle.mvt_wire.specs.Plain.{Body, Spelled, Eight, Four, Delimited, Field}
 use Rattle.mvt_wire.specs.Wire.{spell, minimal_width, field_bytes}
 use Rattle.mvt_wire.specs.Groups.{StoresField}
 use Rattle.mvt_wire.specs.Opens.{IsField}
+use Rattle.mvt_zigzag.specs.Signed.{zigzag}
 use Rattle.mvt_value.specs.Values.{Value, OfText, OfFloat, OfDouble, OfInt, OfUint, OfSint, OfBool}
-use Rattle.mvt_value.specs.Signed.{twos_complement, zigzag}
+use Rattle.mvt_value.specs.Signed.{twos_complement}
 
 -- ---- what is read
 

@@ -6,7 +6,6 @@ pub mod laws;
 mod read;
 pub mod tags;
 mod value;
-mod zigzag;
 
 pub use encode::encode_value;
 pub use read::value_of;

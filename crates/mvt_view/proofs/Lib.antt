@@ -1,1 +1,3 @@
+pub mod TagPairs
 pub mod Yielded
+pub mod Integers

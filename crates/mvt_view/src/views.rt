@@ -3,12 +3,14 @@
 ghost use Rattle.std.specs.Prelude.{◌≡◌, ◌<◌, ◌^◌, length, option_map, slice_get};
 ghost use Rattle.std.specs.Option.{option_copied};
 ghost use Rattle.mvt_wire.specs.Stands.{feature_of, layer_of};
+ghost use Rattle.mvt_numbers.specs.Numbers.{numbers};
 ghost use Rattle.mvt_view.specs.Views.{extent_of, features, id_of, keys, kind_of, name_of, values, version_of};
 ghost use Rattle.mvt_view.specs.Seen.{feature_seen, layer_seen};
 
 use crate::fields::{last_value, last_value_in_layer};
 use crate::lists::{Contents, FeatureViews};
-use mvt_wire::tags::{EXTENT, ID, KEYS, KIND, NAME, VALUES, VERSION};
+use mvt_numbers::Numbers;
+use mvt_wire::tags::{EXTENT, GEOMETRY, ID, KEYS, KIND, NAME, TAGS, VALUES, VERSION};
 use mvt_wire::{Feature, Layer};
 
 const DEFAULT_VERSION: u64 = 1;
@@ -140,5 +142,19 @@ impl<'a> FeatureView<'a> {
         ensures { result ≡ kind_of (feature_seen self.entry) }
     {
         last_value(self.feature.fields.as_slice(), KIND).unwrap_or(DEFAULT_KIND)
+    }
+
+    /// The tags, in order: keys and values in turn, by their ordinals.
+    pub fn tags(self) -> Numbers<'a>
+        ensures { result ≡ numbers 2 (feature_seen self.entry).fields }
+    {
+        Numbers::of(self.feature.fields.as_slice(), TAGS)
+    }
+
+    /// The numbers of the geometry, in order.
+    pub fn geometry_numbers(self) -> Numbers<'a>
+        ensures { result ≡ numbers 4 (feature_seen self.entry).fields }
+    {
+        Numbers::of(self.feature.fields.as_slice(), GEOMETRY)
     }
 }

@@ -13,3 +13,4 @@ pub use Rattle.mvt_document.specs.Stands
 pub use Rattle.mvt_document.specs.Settle
 pub use Rattle.mvt_read.specs.Fronts
 pub use Rattle.mvt_document.specs.declared.TheConstants
+pub use Rattle.mvt_document.specs.Splicing

@@ -3,7 +3,7 @@
 
 pub use mvt_document::{
     Body, Document, Feature, Field, Items, Layer, LayerItem, MAX_FILE, MAX_GROUPS, Measured,
-    Message, TileItem, Varint, laws, least_width, put_number, read_varint, tags,
+    Message, TileItem, Varint, laws, least_width, put_number, read_varint, size_of_all, tags,
 };
 pub use mvt_read::{BodyRef, FieldRef, ReadError, field_at_front, read_document};
 pub use mvt_write::{WriteError, size, write_document};

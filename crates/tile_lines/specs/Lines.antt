@@ -35,6 +35,14 @@ whole_lines text = without_last (slice_split is_line_feed text)
 abbrev pub HasNoLineFeed : List ℕ → Type 0
 HasNoLineFeed line = AllByRecursion (λ b. is_line_feed b ≡ false) line
 
+-- bytes with a line feed behind them
+abbrev pub with_feed : List ℕ → List ℕ
+with_feed text = text ++ 10 ∷ []
+
+-- a front that ends where a line ends: nothing, or bytes up to a line feed
+abbrev pub EndsWithALine : List ℕ → Type 0
+EndsWithALine front = (front ≡ []) ⊎ ((text : List ℕ) × (front ≡ with_feed text))
+
 -- How lines make up a script: behind each stands a line feed, and then the others. Behind the last one nothing may
 -- stand, where it has a byte at least.
 abbrev pub SpellsLines : List ℕ → List (List ℕ) → Type 0

@@ -6,7 +6,7 @@ ghost use Rattle.tile_reply.specs.declared.refused.Refused.TheVariants.{Edit};
 
 use mvt_edit::Refusal;
 use thiserror::Error;
-use tile_script::ParseError;
+use tile_words::ParseError;
 
 /// Why a line was refused.
 #[derive(Clone, Copy, Debug, PartialEq, Eq, Error)]
@@ -60,6 +60,8 @@ fn parse_number(error: ParseError) -> u8
         ParseError::UnknownCommand => 12,
         ParseError::BadArguments => 13,
         ParseError::BadNumber => 14,
+        ParseError::BadValue => 15,
+        ParseError::BadGeometryText => 16,
         ParseError::LineTooLong => 17,
         ParseError::NoMemory => 60,
     }
@@ -74,6 +76,8 @@ fn parse_name(error: ParseError) -> &'static str
         ParseError::UnknownCommand => "UnknownCommand",
         ParseError::BadArguments => "BadArguments",
         ParseError::BadNumber => "BadNumber",
+        ParseError::BadValue => "BadValue",
+        ParseError::BadGeometryText => "BadGeometryText",
         ParseError::LineTooLong => "LineTooLong",
         ParseError::NoMemory => "NoMemory",
     }
@@ -85,6 +89,8 @@ fn edit_number(refusal: Refusal) -> u8
     match refusal {
         Refusal::NoLayer => 20,
         Refusal::AmbiguousLayer => 21,
+        Refusal::NoFeature => 22,
+        Refusal::AmbiguousFeature => 25,
         Refusal::NameTaken => 40,
         Refusal::TooLarge => 43,
         Refusal::NoMemory => 60,
@@ -97,6 +103,8 @@ fn edit_name(refusal: Refusal) -> &'static str
     match refusal {
         Refusal::NoLayer => "NoLayer",
         Refusal::AmbiguousLayer => "AmbiguousLayer",
+        Refusal::NoFeature => "NoFeature",
+        Refusal::AmbiguousFeature => "AmbiguousFeature",
         Refusal::NameTaken => "NameTaken",
         Refusal::TooLarge => "TooLarge",
         Refusal::NoMemory => "NoMemory",

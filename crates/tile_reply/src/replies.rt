@@ -4,21 +4,22 @@ ghost use Rattle.std.specs.Prelude.{◌≡◌, ◌-◌};
 ghost use Rattle.std.specs.List.{flat_map};
 ghost use Rattle.tile_device.specs.Device.{trouble_of};
 ghost use Rattle.tile_device.specs.Seen.{Sends, Spends, sink_at};
-ghost use Rattle.tile_reply.specs.Replies.{refused_reply, reply_to};
+ghost use Rattle.tile_reply.specs.Replies.{refused_reply, reply_to, answer_seen};
 
 use crate::refused::Refused;
 use itoa::Buffer;
 use tile_device::{Retries, Sink, Trouble, write_all};
 
-/// Replies to the line of this number, and passes the reply on.
+/// Replies to the line of this number, with the lines that it told or why it was refused, and passes
+/// the reply on.
 pub fn reply<W: Sink>(
     replies: &mut W,
     line: u64,
-    answer: Result<(), Refused>,
+    answer: Result<&[u8], Refused>,
     retries: &mut Retries,
 ) -> Result<(), Trouble>
     ensures sends { Sends (sink_at W.Sink replies.old) (sink_at W.Sink replies.new)
-        (reply_to line answer) (retries.old - retries.new) result }
+        (reply_to line (answer_seen answer.entry)) (retries.old - retries.new) result }
     ensures spends { Spends retries.old retries.new (trouble_of result) }
 {
     write_reply(replies, line, answer, retries)?;
@@ -28,15 +29,15 @@ pub fn reply<W: Sink>(
 fn write_reply<W: Sink>(
     replies: &mut W,
     line: u64,
-    answer: Result<(), Refused>,
+    answer: Result<&[u8], Refused>,
     retries: &mut Retries,
 ) -> Result<(), Trouble>
     ensures sends { Sends (sink_at W.Sink replies.old) (sink_at W.Sink replies.new)
-        (reply_to line answer) (retries.old - retries.new) result }
+        (reply_to line (answer_seen answer.entry)) (retries.old - retries.new) result }
     ensures spends { Spends retries.old retries.new (trouble_of result) }
 {
     match answer {
-        Ok(()) => write_pieces(replies, &[b"ok\n"], retries),
+        Ok(lines) => write_pieces(replies, &[lines, b"ok\n"], retries),
         Err(reason) => write_refusal(replies, line, reason, retries),
     }
 }

@@ -1,169 +1,162 @@
 -- No reply of a run says that memory was refused.
-use Rattle.std.proofs.Common.{◌≡◌, ◌≢◌, ℕ, zero, suc, ◌+◌, ◌/◌, ◌%◌, Bool, true, false, not, ◌&&◌, ◌==◌, List, [], ◌∷◌, ◌++◌, Option, Some, None, Result, Ok, Err, codes, decimal, refl, sym, ap, subst, ◌∙◌, inl, inr, append_assoc, arith}
-use Rattle.std.specs.Prelude.{nat_lt, if◌then◌else◌}
-use Rattle.std.specs.Fmt.{digits, digits_onto, digit_glyph}
+use Rattle.std.proofs.Common.{◌≡◌, ◌≢◌, ℕ, ◌+◌, Bool, true, false, List, [], ◌∷◌, ◌++◌, Option, Some, None, Result, Ok, Err, codes, decimal, get_or, refl, sym, ap, subst, ◌∙◌, inl, inr, append_assoc, arith}
+use Rattle.std.specs.Prelude.{if◌then◌else◌}
+use Rattle.std.specs.List.{AllByRecursion, flat_map}
 use Rattle.std.proofs.lemmas.Bool.{cases_Bool}
-use Rattle.std.proofs.lemmas.Bool.Decides.{nat_tests}
-use Rattle.mvt_wire.specs.Plain.{Document}
-use Rattle.mvt_command.specs.Command.{Command}
-use Rattle.tile_script.specs.Request.{Request, Edit, Undo}
+use Rattle.std.proofs.lemmas.List.Elements.{recursion_from_All}
+use Rattle.tile_request.specs.Request.{Request}
 use Rattle.tile_script.specs.Line.{answer_to}
-use Rattle.tile_lines.specs.Lines.{is_line_feed, lines_of, HasNoLineFeed}
-use Rattle.mvt_edit.specs.Meaning.{applied}
-use Rattle.tile_session.specs.History.{History, present_document, edited, carried_out}
-use Rattle.tile_reply.specs.Replies.{accepted_reply, refused_reply, refusal_number, refusal_name, want_of_memory, HasNoWant}
+use Rattle.tile_lines.specs.Lines.{is_line_feed, lines_of, HasNoLineFeed, with_feed, EndsWithALine}
+use Rattle.tile_lines.proofs.LineCuts.{none_of_none}
+use Rattle.tile_lines.proofs.LineLaws.{lines_only}
+use Rattle.tile_listing.specs.Told.{MayBeTold, AreLinesToTell}
+use Rattle.tile_listing.proofs.Telling.{uncut-append, decimal_uncut}
+use Rattle.tile_answer.specs.Answering.{Told, carried_out}
+use Rattle.tile_answer.proofs.AnswerLaws.{requests_tell_lines, requests_have_no_want}
+use Rattle.tile_reply.specs.Replies.{accepted_reply, refused_reply, refusal_number, refusal_name, HasNoWant}
 use Rattle.tile_run.specs.Run.{Progress, at_first, ran, settled_by, answered_by, after_line, is_over, after_lines}
 use Rattle.tile_run.specs.RunLaws.{RunsHaveNoWant}
-use Rattle.mvt_edit.specs.declared.edit.Refusal.{Refusal}
 use Rattle.mvt_edit.specs.declared.edit.Refusal.TheVariants as edit
-use Rattle.tile_script.specs.declared.parse_error.ParseError.{ParseError}
-use Rattle.tile_script.specs.declared.parse_error.ParseError.TheVariants as parse
+use Rattle.tile_words.specs.declared.parse_error.ParseError.{ParseError}
+use Rattle.tile_words.specs.declared.parse_error.ParseError.TheVariants as parse
 use Rattle.tile_reply.specs.declared.refused.Refused.{Refused}
 use Rattle.tile_reply.specs.declared.refused.Refused.TheVariants as refused
 use Rattle.mvt_command.proofs.Others.{Other}
 use Rattle.tile_script.proofs.ParseRefusals.{answer_other}
-use Rattle.mvt_edit.proofs.EditRefusals.{applied_other}
+use Rattle.tile_run.proofs.Fronts.{first_lines}
+use Rattle.tile_run.proofs.ReplyEnds.{ends-append, before_name, refused_text, refused_ends, want_text, other_is_no_want}
 
--- ---- texts in which "ry" stands before no line feed
+-- ---- lines that are no want of memory
 
--- these two bytes stand before the text
-abbrev is_clean : ℕ → ℕ → List ℕ → Bool
-is_clean a b [] = true
-is_clean a b (c ∷ text) = if is_line_feed c then not (a == 114 && b == 121) && is_clean b c text else is_clean b c text
+unfoldable IsNoWant : List ℕ → Type 0
+IsNoWant text = (line : ℕ) → text ≢ want_text line
 
-rest_clean : (q x y : Bool) → (if q then x && y else y) ≡ true → y ≡ true
-rest_clean true true y e = e
-rest_clean true false y e = absurd cc
-rest_clean false x y e = e
+-- ---- the reply to a refused line is one line
 
-unclean : (a b : ℕ) (front rest : List ℕ) → is_clean a b (front ++ 114 ∷ 121 ∷ 10 ∷ rest) ≡ true → ⊥
-unclean a b [] rest e = cc
-unclean a b (c ∷ front) rest e =
-    unclean b c front rest (rest_clean (is_line_feed c) (not (a == 114 && b == 121)) (is_clean b c (front ++ 114 ∷ 121 ∷ 10 ∷ rest)) e)
+-- some byte of the text is a line feed
+abbrev has_feed : List ℕ → Bool
+has_feed [] = false
+has_feed (b ∷ text) = if is_line_feed b then true else has_feed text
 
-keeps : (q x y z : Bool) → (if q then x && y else y) ≡ true → (y ≡ true → z ≡ true) → (if q then x && z else z) ≡ true
-keeps true true y z e f = f e
-keeps true false y z e f = absurd cc
-keeps false x y z e f = f e
+uncut_by_test : (text : List ℕ) → has_feed text ≡ false → HasNoLineFeed text
+uncut_by_test [] none = tt
+uncut_by_test (b ∷ text) none =
+    elim (cases_Bool (is_line_feed b)) [
+      | inl feed ↦ absurd (let some = rw feed at none in cc)
+      | inr other ↦ (other, uncut_by_test text (rw other at none))
+    ]
 
-clean-append : (a b : ℕ) (text more : List ℕ) → is_clean a b text ≡ true → ((c d : ℕ) → is_clean c d more ≡ true) → is_clean a b (text ++ more) ≡ true
-clean-append a b [] more e clean = clean a b
-clean-append a b (c ∷ text) more e clean =
-    keeps (is_line_feed c) (not (a == 114 && b == 121)) (is_clean b c text) (is_clean b c (text ++ more)) e (λ h. clean-append b c text more h clean)
+name_uncut : (reason : Refused) → has_feed (refusal_name reason) ≡ false
+name_uncut (refused.Parse parse.BadUtf8) = refl
+name_uncut (refused.Parse parse.BadWord) = refl
+name_uncut (refused.Parse parse.UnknownCommand) = refl
+name_uncut (refused.Parse parse.BadArguments) = refl
+name_uncut (refused.Parse parse.BadNumber) = refl
+name_uncut (refused.Parse parse.BadValue) = refl
+name_uncut (refused.Parse parse.BadGeometryText) = refl
+name_uncut (refused.Parse parse.LineTooLong) = refl
+name_uncut (refused.Parse parse.NoMemory) = refl
+name_uncut (refused.Edit edit.NoLayer) = refl
+name_uncut (refused.Edit edit.AmbiguousLayer) = refl
+name_uncut (refused.Edit edit.NoFeature) = refl
+name_uncut (refused.Edit edit.AmbiguousFeature) = refl
+name_uncut (refused.Edit edit.NameTaken) = refl
+name_uncut (refused.Edit edit.TooLarge) = refl
+name_uncut (refused.Edit edit.NoMemory) = refl
+name_uncut refused.NothingToUndo = refl
 
-clean_behind : (text more : List ℕ) → HasNoLineFeed text → ((c d : ℕ) → is_clean c d more ≡ true) → (a b : ℕ) → is_clean a b (text ++ more) ≡ true
-clean_behind [] more none clean a b = clean a b
-clean_behind (c ∷ text) more (other, none) clean a b = rw other (clean_behind text more none clean b c)
+refused_uncut : (line : ℕ) (reason : Refused) → HasNoLineFeed (refused_text line reason)
+refused_uncut line reason =
+    let number = decimal (refusal_number reason) in
+    let first = uncut-append (codes "line ") (decimal line) (uncut_by_test (codes "line ") refl) (decimal_uncut line) in
+    let second = uncut-append (codes "line " ++ decimal line) (codes " refused ") first (uncut_by_test (codes " refused ") refl) in
+    let third = uncut-append (codes "line " ++ decimal line ++ codes " refused ") number second (decimal_uncut (refusal_number reason)) in
+    let fourth = uncut-append (codes "line " ++ decimal line ++ codes " refused " ++ number) (codes " ") third (uncut_by_test (codes " ") refl) in
+    uncut-append (before_name line reason) (refusal_name reason) fourth (uncut_by_test (refusal_name reason) (name_uncut reason))
+
+-- ---- texts of whole lines that are no want of memory
+
+record IsClean (replies : List ℕ) : Type 0 where
+  ends : EndsWithALine replies
+  each : AllByRecursion IsNoWant (lines_of replies)
+
+clean_nothing : IsClean []
+clean_nothing = record { ends = inl refl; each = subst (AllByRecursion IsNoWant) (sym (none_of_none [] refl)) tt }
+
+all_both : (front more : List (List ℕ)) → AllByRecursion IsNoWant front → AllByRecursion IsNoWant more → AllByRecursion IsNoWant (front ++ more)
+all_both [] more first second = second
+all_both (text ∷ front) more (is, first) second = (is, all_both front more first second)
+
+all_behind : (front more : List (List ℕ)) → AllByRecursion IsNoWant (front ++ more) → AllByRecursion IsNoWant more
+all_behind [] more all = all
+all_behind (text ∷ front) more (is, all) = all_behind front more all
+
+clean_both : (front more : List ℕ) → IsClean front → IsClean more → IsClean (front ++ more)
+clean_both front more first second = record {
+  ends = ends-append front more first.ends second.ends;
+  each = subst (AllByRecursion IsNoWant) (sym (first_lines front more first.ends)) (all_both (lines_of front) (lines_of more) first.each second.each);
+}
+
+one_line : (text : List ℕ) → HasNoLineFeed text → lines_of (with_feed text) ≡ text ∷ []
+one_line text uncut = lines_only (with_feed text) (text ∷ []) (uncut, inl ([], refl, refl))
+
+clean_line : (text : List ℕ) → HasNoLineFeed text → IsNoWant text → IsClean (with_feed text)
+clean_line text uncut is = record { ends = inr (text, refl); each = subst (AllByRecursion IsNoWant) (sym (one_line text uncut)) (is, tt) }
+
+-- ---- what is told
+
+told_is_no_want : (text : List ℕ) → MayBeTold text → IsNoWant text
+unfolding IsNoWant
+told_is_no_want text may line e = may.other (decimal line ++ codes " refused " ++ decimal 60 ++ codes " " ++ codes "NoMemory") e
+
+clean_each : (lines : List (List ℕ)) → AllByRecursion MayBeTold lines → IsClean (flat_map with_feed lines)
+clean_each [] all = clean_nothing
+clean_each (line ∷ lines) (may, all) =
+    clean_both (with_feed line) (flat_map with_feed lines) (clean_line line may.uncut (told_is_no_want line may)) (clean_each lines all)
+
+clean_told : (bytes : List ℕ) → AreLinesToTell bytes → IsClean bytes
+clean_told bytes told = subst IsClean (sym told.spelled) (clean_each told.lines (recursion_from_All MayBeTold told.lines told.each))
 
 -- ---- replies
 
-uncut-append : (xs ys : List ℕ) → HasNoLineFeed xs → HasNoLineFeed ys → HasNoLineFeed (xs ++ ys)
-uncut-append [] ys none others = others
-uncut-append (x ∷ xs) ys (other, none) others = (other, uncut-append xs ys none others)
+ok_is_no_want : IsNoWant (codes "ok")
+unfolding IsNoWant
+ok_is_no_want line e = let apart : ◌≡◌ {A = ℕ} 111 108 = ap (λ (text : List ℕ). get_or text 0 0) e in omega arith
 
-digit_other : (n : ℕ) → is_line_feed (digit_glyph false (n % 10)) ≡ false
-digit_other n = let low : nat_lt (n % 10) 10 ≡ true = grind (arith, nat_tests) in rw low (grind (arith, nat_tests))
+accepted_clean : (lines : List ℕ) → AreLinesToTell lines → IsClean (accepted_reply lines)
+accepted_clean lines told = clean_both lines (codes "ok\n") (clean_told lines told) (clean_line (codes "ok") (uncut_by_test (codes "ok") refl) ok_is_no_want)
 
-one_of : (q : Bool) (xs ys : List ℕ) → HasNoLineFeed xs → HasNoLineFeed ys → HasNoLineFeed (if q then xs else ys)
-one_of true xs ys first second = first
-one_of false xs ys first second = second
-
-digits_uncut : (k n : ℕ) (behind : List ℕ) → HasNoLineFeed behind → HasNoLineFeed (digits_onto k 10 false n behind)
-digits_uncut zero n behind none = none
-digits_uncut (suc k) n behind none = one_of (n / 10 == 0) _ _ (digit_other n, none) (digits_uncut k (n / 10) (digit_glyph false (n % 10) ∷ behind) (digit_other n, none))
-
-decimal_uncut : (n : ℕ) → HasNoLineFeed (decimal n)
-unfolding digits
-decimal_uncut n = digits_uncut 64 n [] tt
-
--- what stands before the name of a refusal
-abbrev before_name : ℕ → Refused → List ℕ
-before_name line reason = codes "line " ++ decimal line ++ codes " refused " ++ decimal (refusal_number reason) ++ codes " "
-
-before_uncut : (line : ℕ) (reason : Refused) → HasNoLineFeed (before_name line reason)
-before_uncut line reason =
-    uncut-append (codes "line " ++ decimal line ++ codes " refused " ++ decimal (refusal_number reason)) (codes " ")
-    (uncut-append (codes "line " ++ decimal line ++ codes " refused ") (decimal (refusal_number reason))
-    (uncut-append (codes "line " ++ decimal line) (codes " refused ")
-    (uncut-append (codes "line ") (decimal line) (refl, (refl, (refl, (refl, (refl, tt))))) (decimal_uncut line))
-    (refl, (refl, (refl, (refl, (refl, (refl, (refl, (refl, (refl, tt))))))))))
-    (decimal_uncut (refusal_number reason)))
-    (refl, tt)
-
-abbrev is_want : Refused → Bool
-is_want (refused.Parse parse.NoMemory) = true
-is_want (refused.Parse error) = false
-is_want (refused.Edit edit.NoMemory) = true
-is_want (refused.Edit refusal) = false
-is_want refused.NothingToUndo = false
-
-name_clean : (reason : Refused) → is_want reason ≡ false → (a b : ℕ) → is_clean a b (refusal_name reason ++ codes "\n") ≡ true
-name_clean (refused.Parse parse.BadUtf8) e a b = refl
-name_clean (refused.Parse parse.BadWord) e a b = refl
-name_clean (refused.Parse parse.UnknownCommand) e a b = refl
-name_clean (refused.Parse parse.BadArguments) e a b = refl
-name_clean (refused.Parse parse.BadNumber) e a b = refl
-name_clean (refused.Parse parse.LineTooLong) e a b = refl
-name_clean (refused.Parse parse.NoMemory) e a b = absurd cc
-name_clean (refused.Edit edit.NoLayer) e a b = refl
-name_clean (refused.Edit edit.AmbiguousLayer) e a b = refl
-name_clean (refused.Edit edit.NameTaken) e a b = refl
-name_clean (refused.Edit edit.TooLarge) e a b = refl
-name_clean (refused.Edit edit.NoMemory) e a b = absurd cc
-name_clean refused.NothingToUndo e a b = refl
-
-refused_clean : (line : ℕ) (reason : Refused) → is_want reason ≡ false → (a b : ℕ) → is_clean a b (refused_reply line reason) ≡ true
-refused_clean line reason e a b =
-    subst (λ (text : List ℕ). is_clean a b text ≡ true) (sym (append_assoc (before_name line reason) (refusal_name reason) (codes "\n")))
-    (clean_behind (before_name line reason) (refusal_name reason ++ codes "\n") (before_uncut line reason) (name_clean reason e) a b)
-
-accepted_clean : (a b : ℕ) → is_clean a b accepted_reply ≡ true
-accepted_clean a b = refl
-
-parse_is_other : (error : ParseError) → error ≢ parse.NoMemory → is_want (refused.Parse error) ≡ false
-parse_is_other parse.BadUtf8 other = refl
-parse_is_other parse.BadWord other = refl
-parse_is_other parse.UnknownCommand other = refl
-parse_is_other parse.BadArguments other = refl
-parse_is_other parse.BadNumber other = refl
-parse_is_other parse.LineTooLong other = refl
-parse_is_other parse.NoMemory other = absurd (other refl)
-
-edit_is_other : (refusal : Refusal) → refusal ≢ edit.NoMemory → is_want (refused.Edit refusal) ≡ false
-edit_is_other edit.NoLayer other = refl
-edit_is_other edit.AmbiguousLayer other = refl
-edit_is_other edit.NameTaken other = refl
-edit_is_other edit.TooLarge other = refl
-edit_is_other edit.NoMemory other = absurd (other refl)
+refused_clean : (line : ℕ) (reason : Refused) → refusal_number reason ≢ 60 → IsClean (refused_reply line reason)
+unfolding IsNoWant
+refused_clean line reason other =
+    clean_line (refused_text line reason) (refused_uncut line reason) (λ other_line. other_is_no_want line other_line reason other)
 
 -- ---- lines
 
-abbrev NoWant : Result History Refused → Type 0
-NoWant (Ok history) = Unit {0}
-NoWant (Err reason) = is_want reason ≡ false
+settled_clean : (p : Progress) (result : Result Told Refused) → ((told : Told) → result ≡ Ok told → AreLinesToTell told.lines) → ((reason : Refused) → result ≡ Err reason → refusal_number reason ≢ 60)
+    → IsClean p.replies → IsClean (settled_by p result).replies
+settled_clean p (Ok told) tells other clean = clean_both p.replies (accepted_reply told.lines) clean (accepted_clean told.lines (tells told refl))
+settled_clean p (Err reason) tells other clean = clean_both p.replies (refused_reply (p.lines + 1) reason) clean (refused_clean (p.lines + 1) reason (other reason refl))
 
-edited_other : (command : Command) (history : History) (made : Result Document Refusal) → Other edit.NoMemory made → NoWant (edited command history made)
-edited_other command history (Ok document) other = tt
-edited_other command history (Err refusal) other = edit_is_other refusal other
+parse_is_other : (error : ParseError) → error ≢ parse.NoMemory → refusal_number (refused.Parse error) ≢ 60
+parse_is_other parse.BadUtf8 other e = omega arith
+parse_is_other parse.BadWord other e = omega arith
+parse_is_other parse.UnknownCommand other e = omega arith
+parse_is_other parse.BadArguments other e = omega arith
+parse_is_other parse.BadNumber other e = omega arith
+parse_is_other parse.BadValue other e = omega arith
+parse_is_other parse.BadGeometryText other e = omega arith
+parse_is_other parse.LineTooLong other e = omega arith
+parse_is_other parse.NoMemory other e = other refl
 
-undo_is_other : (q : Bool) (back : History) → NoWant (if q then Err refused.NothingToUndo else Ok back)
-undo_is_other true back = refl
-undo_is_other false back = tt
-
-carried_other : (request : Request) (history : History) → NoWant (carried_out request history)
-carried_other (Edit command) history = edited_other command history (applied command (present_document history)) (applied_other command (present_document history))
-carried_other Undo history = undo_is_other (history.present == history.floor) _
-
-settled_clean : (p : Progress) (result : Result History Refused) → NoWant result → is_clean 0 0 p.replies ≡ true → is_clean 0 0 (settled_by p result).replies ≡ true
-settled_clean p (Ok history) none clean = clean-append 0 0 p.replies accepted_reply clean accepted_clean
-settled_clean p (Err reason) none clean = clean-append 0 0 p.replies _ clean (refused_clean (p.lines + 1) reason none)
-
-answered_clean : (p : Progress) (answer : Result (Option Request) ParseError) → Other parse.NoMemory answer → is_clean 0 0 p.replies ≡ true → is_clean 0 0 (answered_by p answer).replies ≡ true
+answered_clean : (p : Progress) (answer : Result (Option Request) ParseError) → Other parse.NoMemory answer → IsClean p.replies → IsClean (answered_by p answer).replies
 answered_clean p (Ok None) other clean = clean
-answered_clean p (Ok (Some request)) other clean = settled_clean p (carried_out request p.history) (carried_other request p.history) clean
-answered_clean p (Err error) other clean = clean-append 0 0 p.replies _ clean (refused_clean (p.lines + 1) (refused.Parse error) (parse_is_other error other))
+answered_clean p (Ok (Some request)) other clean =
+    settled_clean p (carried_out request p.history) (requests_tell_lines request p.history) (requests_have_no_want request p.history) clean
+answered_clean p (Err error) other clean =
+    clean_both p.replies (refused_reply (p.lines + 1) (refused.Parse error)) clean (refused_clean (p.lines + 1) (refused.Parse error) (parse_is_other error other))
 
-lines_clean : (strict : Bool) (p : Progress) (lines : List (List ℕ)) → is_clean 0 0 p.replies ≡ true → is_clean 0 0 (after_lines strict p lines).replies ≡ true
+lines_clean : (strict : Bool) (p : Progress) (lines : List (List ℕ)) → IsClean p.replies → IsClean (after_lines strict p lines).replies
 lines_clean strict p [] clean = clean
 lines_clean strict p (first ∷ lines) clean =
     elim (cases_Bool (is_over strict p)) [
@@ -171,21 +164,21 @@ lines_clean strict p (first ∷ lines) clean =
       | inr on ↦ rw on (lines_clean strict (after_line p first) lines (answered_clean p (answer_to first) (answer_other first) clean))
     ]
 
--- ---- the reply that says so
+-- ---- the reply that says so would be one of the lines
 
-want_ends : (line : ℕ) → want_of_memory line ≡ before_name line (refused.Parse parse.NoMemory) ++ codes "NoMemo" ++ 114 ∷ 121 ∷ 10 ∷ []
-want_ends line =
-    append_assoc (before_name line (refused.Parse parse.NoMemory)) (codes "NoMemory") (codes "\n")
-    ∙ sym (append_assoc (before_name line (refused.Parse parse.NoMemory)) (codes "NoMemo") (114 ∷ 121 ∷ 10 ∷ []))
+head_is : (text : List ℕ) (more : List (List ℕ)) → AllByRecursion IsNoWant (text ∷ more) → IsNoWant text
+head_is text more all = all.0
 
-regroup : (front body end rest : List ℕ) → front ++ (body ++ end) ++ rest ≡ (front ++ body) ++ (end ++ rest)
-regroup front body end rest = ap (λ (xs : List ℕ). xs ++ rest) (sym (append_assoc front body end)) ∙ append_assoc (front ++ body) end rest
-
-clean_no_want : (replies : List ℕ) → is_clean 0 0 replies ≡ true → HasNoWant replies
-clean_no_want replies clean line front rest e =
-    let body = before_name line (refused.Parse parse.NoMemory) ++ codes "NoMemo" in
-    let whole : replies ≡ (front ++ body) ++ (114 ∷ 121 ∷ 10 ∷ rest) = e ∙ ap (λ (want : List ℕ). front ++ want ++ rest) (want_ends line) ∙ regroup front body (114 ∷ 121 ∷ 10 ∷ []) rest in
-    unclean 0 0 (front ++ body) rest (subst (λ (text : List ℕ). is_clean 0 0 text ≡ true) whole clean)
+clean_no_want : (replies : List ℕ) → IsClean replies → HasNoWant replies
+unfolding IsNoWant
+clean_no_want replies clean line front rest ends e =
+    let want = refused_reply line (refused.Parse parse.NoMemory) in
+    let behind : lines_of (want ++ rest) ≡ want_text line ∷ lines_of rest =
+    first_lines want rest (refused_ends line (refused.Parse parse.NoMemory)) ∙ ap (λ (ls : List (List ℕ)). ls ++ lines_of rest) (one_line (want_text line) (refused_uncut line (refused.Parse parse.NoMemory))) in
+    let whole : lines_of replies ≡ lines_of front ++ lines_of (want ++ rest) = ap lines_of (e ∙ append_assoc front want rest) ∙ first_lines front (want ++ rest) ends in
+    let all : AllByRecursion IsNoWant (lines_of front ++ lines_of (want ++ rest)) = subst (AllByRecursion IsNoWant) whole clean.each in
+    let there : AllByRecursion IsNoWant (want_text line ∷ lines_of rest) = subst (AllByRecursion IsNoWant) behind (all_behind (lines_of front) (lines_of (want ++ rest)) all) in
+    head_is (want_text line) (lines_of rest) there line refl
 
 pub runs_have_no_want : RunsHaveNoWant
-runs_have_no_want document options script = clean_no_want (ran document options script).replies (lines_clean options.strict (at_first document options.depth) (lines_of script) refl)
+runs_have_no_want document options script = clean_no_want (ran document options script).replies (lines_clean options.strict (at_first document options.depth) (lines_of script) clean_nothing)

@@ -1,43 +1,50 @@
 -- What lines add to the replies.
-use Rattle.std.proofs.Common.{◌≡◌, ℕ, ◌+◌, Bool, true, false, List, [], ◌∷◌, ◌++◌, length, Option, Some, None, Result, Ok, Err, refl, sym, ap, subst, ◌∙◌, inl, inr, append_assoc, append-nil, length-append, arith}
+use Rattle.std.proofs.Common.{◌≡◌, ℕ, ◌+◌, Bool, true, false, List, [], ◌∷◌, ◌++◌, length, Option, Some, None, Result, Ok, Err, codes, refl, sym, ap, subst, ◌∙◌, inl, inr, append_assoc, append-nil, length-append, arith}
 use Rattle.std.proofs.lemmas.Bool.{cases_Bool}
 use Rattle.std.proofs.lemmas.List.{append_cancel_left}
-use Rattle.tile_script.specs.Request.{Request}
+use Rattle.tile_request.specs.Request.{Request}
 use Rattle.tile_script.specs.Line.{answer_to}
-use Rattle.tile_lines.specs.Lines.{lines_of}
-use Rattle.tile_session.specs.History.{History, carried_out}
+use Rattle.tile_lines.specs.Lines.{lines_of, with_feed, EndsWithALine}
+use Rattle.mvt_wire.specs.Wire.{bytes_of}
+use Rattle.tile_session.specs.History.{History, present_document}
+use Rattle.tile_answer.specs.Answering.{Told, carried_out}
+use Rattle.tile_answer.proofs.AnswerLaws.{looks_leave_history}
 use Rattle.tile_reply.specs.Replies.{accepted_reply, refused_reply, want_of_memory, HasNoWant}
 use Rattle.tile_run.specs.Run.{Progress, ran, tile_of, settled_by, answered_by, after_line, is_over, after_lines, MayFollow, Walk}
-use Rattle.tile_run.specs.RunLaws.{RepliesStand, RefusedLinesChangeNothing, SilentLinesChangeNothing, StrictRunsStop, AcceptedRunsAreAlike, WalksWithoutWantAreRuns, RunsAreWalks}
-use Rattle.tile_script.specs.declared.parse_error.ParseError.{ParseError}
+use Rattle.tile_run.specs.RunLaws.{RepliesStand, RefusedLinesChangeNothing, SilentLinesChangeNothing, StrictRunsStop, AcceptedRunsAreAlike, WalksWithoutWantAreRuns, RunsAreWalks, LookingChangesNothing}
+use Rattle.tile_words.specs.declared.parse_error.ParseError.{ParseError}
+use Rattle.tile_words.specs.declared.parse_error.ParseError.TheVariants as parse
 use Rattle.tile_reply.specs.declared.refused.Refused.{Refused}
 use Rattle.tile_reply.specs.declared.refused.Refused.TheVariants as refused
+use Rattle.tile_run.proofs.ReplyEnds.{ends-append, refused_ends, accepted_text, accepted_ends, accepted_is_not_refused}
 use Rattle.tile_run.proofs.Overs.{over_stays, goes_on, walk_over, walk_on}
 use Rattle.tile_run.proofs.Fronts.{after_lines-append, fronts_stand}
 
--- ---- replies are added at the end
+-- ---- replies are added at the end, as whole lines
 
 record Adds (p q : Progress) : Type 0 where
   reply : List ℕ
   is : q.replies ≡ p.replies ++ reply
+  ends : EndsWithALine reply
 
 adds_none : (p q : Progress) → q.replies ≡ p.replies → Adds p q
-adds_none p q e = record { reply = []; is = e ∙ sym (append-nil p.replies) }
+adds_none p q e = record { reply = []; is = e ∙ sym (append-nil p.replies); ends = inl refl }
 
 adds_both : (p q r : Progress) → Adds p q → Adds q r → Adds p r
 adds_both p q r first second = record {
   reply = first.reply ++ second.reply;
   is = second.is ∙ ap (λ (xs : List ℕ). xs ++ second.reply) first.is ∙ append_assoc p.replies first.reply second.reply;
+  ends = ends-append first.reply second.reply first.ends second.ends;
 }
 
-settled_adds : (p : Progress) (result : Result History Refused) → Adds p (settled_by p result)
-settled_adds p (Ok history) = record { reply = accepted_reply; is = refl }
-settled_adds p (Err reason) = record { reply = refused_reply (p.lines + 1) reason; is = refl }
+settled_adds : (p : Progress) (result : Result Told Refused) → Adds p (settled_by p result)
+settled_adds p (Ok told) = record { reply = accepted_reply told.lines; is = refl; ends = accepted_ends told.lines }
+settled_adds p (Err reason) = record { reply = refused_reply (p.lines + 1) reason; is = refl; ends = refused_ends (p.lines + 1) reason }
 
 answer_adds : (p : Progress) (answer : Result (Option Request) ParseError) → Adds p (answered_by p answer)
 answer_adds p (Ok None) = adds_none p (answered_by p (Ok None)) refl
 answer_adds p (Ok (Some request)) = settled_adds p (carried_out request p.history)
-answer_adds p (Err error) = record { reply = refused_reply (p.lines + 1) (refused.Parse error); is = refl }
+answer_adds p (Err error) = record { reply = refused_reply (p.lines + 1) (refused.Parse error); is = refl; ends = refused_ends (p.lines + 1) (refused.Parse error) }
 
 lines_add : (strict : Bool) (p : Progress) (lines : List (List ℕ)) → Adds p (after_lines strict p lines)
 lines_add strict p [] = adds_none p p refl
@@ -54,11 +61,8 @@ replies_stand document options front rest ends =
 
 -- ---- which lines change nothing
 
-apart : (line : ℕ) (reason : Refused) → accepted_reply ≡ refused_reply line reason → ⊥
-apart line reason e = cc
-
-settled_refused : (p : Progress) (result : Result History Refused) (reason : Refused) → (settled_by p result).replies ≡ p.replies ++ refused_reply (p.lines + 1) reason → ((settled_by p result).history ≡ p.history) × (tile_of (settled_by p result) ≡ tile_of p) × ((settled_by p result).any_refused ≡ true)
-settled_refused p (Ok history) reason e = absurd (apart (p.lines + 1) reason (append_cancel_left p.replies accepted_reply (refused_reply (p.lines + 1) reason) e))
+settled_refused : (p : Progress) (result : Result Told Refused) (reason : Refused) → (settled_by p result).replies ≡ p.replies ++ refused_reply (p.lines + 1) reason → ((settled_by p result).history ≡ p.history) × (tile_of (settled_by p result) ≡ tile_of p) × ((settled_by p result).any_refused ≡ true)
+settled_refused p (Ok told) reason e = absurd (accepted_is_not_refused told.lines (p.lines + 1) reason (append_cancel_left p.replies (accepted_reply told.lines) (refused_reply (p.lines + 1) reason) e))
 settled_refused p (Err other) reason e = (refl, refl, refl)
 
 something : (xs : List ℕ) (b : ℕ) (more : List ℕ) → xs ≡ xs ++ b ∷ more → ⊥
@@ -72,8 +76,14 @@ answer_refused p (Err error) reason e = (refl, refl, refl)
 pub refused_lines : RefusedLinesChangeNothing
 refused_lines p line reason e = answer_refused p (answer_to line) reason e
 
-settled_silent : (p : Progress) (result : Result History Refused) → (settled_by p result).replies ≡ p.replies → ⊥
-settled_silent p (Ok history) e = something p.replies _ _ (sym e)
+-- what ends with a line feed is something
+added : (xs ys text : List ℕ) → ys ≡ with_feed text → xs ≡ xs ++ ys → ⊥
+added xs ys text whole e =
+    let longer : length xs ≡ length (xs ++ ys) = ap length e in
+    omega (arith, length-append xs ys, ap length whole, length-append text (10 ∷ []))
+
+settled_silent : (p : Progress) (result : Result Told Refused) → (settled_by p result).replies ≡ p.replies → ⊥
+settled_silent p (Ok told) e = added p.replies (accepted_reply told.lines) (told.lines ++ codes "ok") (accepted_text told.lines) (sym e)
 settled_silent p (Err reason) e = something p.replies _ _ (sym e)
 
 answer_silent : (p : Progress) (answer : Result (Option Request) ParseError) → (answered_by p answer).replies ≡ p.replies → answered_by p answer ≡ record p { lines = p.lines + 1 }
@@ -84,14 +94,25 @@ answer_silent p (Err error) e = absurd (something p.replies _ _ (sym e))
 pub silent_lines : SilentLinesChangeNothing
 silent_lines p line e = answer_silent p (answer_to line) e
 
+-- a request that looks is counted and replied to
+settled_looks : (p : Progress) (result : Result Told Refused) → ((told : Told) → result ≡ Ok told → told.history ≡ p.history) → ((settled_by p result).history ≡ p.history) × (tile_of (settled_by p result) ≡ tile_of p) × ((settled_by p result).lines ≡ p.lines + 1)
+settled_looks p (Ok told) stays = let same = stays told refl in (same, ap (λ (history : History). bytes_of (present_document history)) same, refl)
+settled_looks p (Err reason) stays = (refl, refl, refl)
+
+pub looking_lines : LookingChangesNothing
+looking_lines p line request asks looks =
+    let after : after_line p line ≡ settled_by p (carried_out request p.history) = ap (answered_by p) asks in
+    let settled = settled_looks p (carried_out request p.history) (λ told e. looks_leave_history request p.history told looks e) in
+    (ap (λ (q : Progress). q.history) after ∙ settled.0, ap tile_of after ∙ settled.1, ap (λ (q : Progress). q.lines) after ∙ settled.2)
+
 -- ---- strict runs
 
 pub runs_stop : StrictRunsStop
 runs_stop p lines more over = after_lines-append true p lines more ∙ over_stays true (after_lines true p lines) more over
 
 -- that a line was refused stays so
-settled_stays : (p : Progress) (result : Result History Refused) → p.any_refused ≡ true → (settled_by p result).any_refused ≡ true
-settled_stays p (Ok history) refused = refused
+settled_stays : (p : Progress) (result : Result Told Refused) → p.any_refused ≡ true → (settled_by p result).any_refused ≡ true
+settled_stays p (Ok told) refused = refused
 settled_stays p (Err reason) refused = refl
 
 refused_stays : (p : Progress) (answer : Result (Option Request) ParseError) → p.any_refused ≡ true → (answered_by p answer).any_refused ≡ true
@@ -115,7 +136,7 @@ runs_are_alike p (line ∷ lines) accepted =
 
 follow_adds : (p : Progress) (line : List ℕ) (q : Progress) → MayFollow p line q → Adds p q
 follow_adds p line q (inl e) = subst (Adds p) (sym e) (answer_adds p (answer_to line))
-follow_adds p line q (inr (takes, e)) = subst (Adds p) (sym e) (record { reply = want_of_memory (p.lines + 1); is = refl })
+follow_adds p line q (inr (takes, e)) = subst (Adds p) (sym e) (record { reply = want_of_memory (p.lines + 1); is = refl; ends = refused_ends (p.lines + 1) (refused.Parse parse.NoMemory) })
 
 walk_adds : (strict : Bool) (p : Progress) (lines : List (List ℕ)) (q : Progress) → Walk strict p lines q → Adds p q
 walk_adds strict p [] q walk = adds_none p q (ap (λ (r : Progress). r.replies) walk)
@@ -133,9 +154,9 @@ cut : (p next q : Progress) (added : List ℕ) → q.replies ≡ p.replies ++ ad
 unfolding adds_both
 cut p next q added e first others = append_cancel_left p.replies added (first.reply ++ others.reply) (sym e ∙ (adds_both p next q first others).is)
 
-no_want_behind : (front rest : List ℕ) → HasNoWant (front ++ rest) → HasNoWant rest
-no_want_behind front rest none line before behind e =
-    none line (front ++ before) behind (
+no_want_behind : (front rest : List ℕ) → EndsWithALine front → HasNoWant (front ++ rest) → HasNoWant rest
+no_want_behind front rest whole none line before behind ends e =
+    none line (front ++ before) behind (ends-append front before whole ends) (
     ap (λ (xs : List ℕ). front ++ xs) e ∙ sym (append_assoc front (before ++ want_of_memory line) behind)
     ∙ ap (λ (xs : List ℕ). xs ++ behind) (sym (append_assoc front before (want_of_memory line)))
     )
@@ -152,8 +173,9 @@ runs_are_walks strict p (line ∷ lines) =
 follows_as_run : (p next q : Progress) (line added : List ℕ) → MayFollow p line next → Adds next q → q.replies ≡ p.replies ++ added → HasNoWant added → next ≡ after_line p line
 follows_as_run p next q line added (inl follows) others e none = follows
 follows_as_run p next q line added (inr (takes, follows)) others e none =
-    let first : Adds p next = record { reply = want_of_memory (p.lines + 1); is = ap (λ (r : Progress). r.replies) follows } in
-    absurd (none (p.lines + 1) [] others.reply (cut p next q added e first others))
+    let ends = refused_ends (p.lines + 1) (refused.Parse parse.NoMemory) in
+    let first : Adds p next = record { reply = want_of_memory (p.lines + 1); is = ap (λ (r : Progress). r.replies) follows; ends = ends } in
+    absurd (none (p.lines + 1) [] others.reply (inl refl) (cut p next q added e first others))
 
 pub walks_are_runs : WalksWithoutWantAreRuns
 walks_are_runs strict p q [] added walk e none = walk
@@ -164,7 +186,7 @@ walks_are_runs strict p q (line ∷ lines) added walk e none =
           let steps = walk_on strict p q line lines on walk in
           let others = walk_adds strict steps.0 lines q steps.2 in
           let first = follow_adds p line steps.0 steps.1 in
-          let rest = no_want_behind first.reply others.reply (subst HasNoWant (cut p steps.0 q added e first others) none) in
+          let rest = no_want_behind first.reply others.reply first.ends (subst HasNoWant (cut p steps.0 q added e first others) none) in
           rw on (
           walks_are_runs strict steps.0 q lines others.reply steps.2 others.is rest
           ∙ ap (λ (r : Progress). after_lines strict r lines) (follows_as_run p steps.0 q line added steps.1 others e none)

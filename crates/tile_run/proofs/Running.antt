@@ -2,6 +2,7 @@
 use Rattle.std.proofs.Common.{◌≡◌, ℕ, ◌+◌, ◌-◌, Bool, true, false, ◌||◌, ◌&&◌, List, [], ◌∷◌, ◌++◌, Some, None, refl, sym, ap, subst, ◌∙◌, append-nil}
 use Rattle.std.specs.Prelude.{Result, Ok, Err, is_err}
 use Rattle.std.proofs.Math.Bool.{or-true, or-false}
+use Rattle.mvt_wire.specs.Held.{Held}
 use Rattle.tile_device.specs.Device.{trouble_of}
 use Rattle.tile_device.specs.Seen.{Seen, Sends, Spends, written}
 use Rattle.tile_device.specs.declared.device.Trouble.{Trouble}
@@ -9,7 +10,7 @@ use Rattle.tile_session.specs.History.{History}
 use Rattle.tile_reply.specs.Replies.{reply_to}
 use Rattle.tile_run.specs.Run.{Progress, is_over, MayFollow, Walk}
 use Rattle.tile_session.specs.Session.{StandsFor}
-use Rattle.tile_run.specs.Steps.{Writes, answered, CarriesOut, IsAt, Advances, Falters, Comes, ComesTo, IsCutShort}
+use Rattle.tile_run.specs.Steps.{Writes, answered, told_in, CarriesOut, IsAt, Advances, Falters, Comes, ComesTo, IsCutShort}
 use Rattle.tile_run.specs.declared.editor.Editor.{Editor}
 use Rattle.tile_reply.specs.declared.refused.Refused.{Refused}
 use Rattle.tile_session.specs.declared.session.Session.{Session}
@@ -18,16 +19,16 @@ use Rattle.tile_run.proofs.Overs.{walk-append, walk_over_any}
 
 -- ---- one line
 
-replies_are : (p : Progress) (history : History) (answer : Result (Unit {0}) Refused) → (answered p history (Some answer)).replies ≡ p.replies ++ reply_to (p.lines + 1) answer
+replies_are : (p : Progress) (history : History) (answer : Result (Held ℕ) Refused) → (answered p history (Some answer)).replies ≡ p.replies ++ reply_to (p.lines + 1) (told_in answer)
 replies_are p history (Ok done) = refl
 replies_are p history (Err reason) = refl
 
-is_at : (strict : Bool) (p : Progress) (history : History) (answer : Result (Unit {0}) Refused) (editor : Editor) → StandsFor editor.session history
+is_at : (strict : Bool) (p : Progress) (history : History) (answer : Result (Held ℕ) Refused) (editor : Editor) → StandsFor editor.session history
     → editor.strict ≡ strict → editor.lines ≡ p.lines + 1 → editor.any_refused ≡ (p.any_refused || is_err answer) → IsAt editor strict (answered p history (Some answer))
 is_at strict p history (Ok done) editor stands strictly lines refused = record { strict = strictly; stands = stands; lines = lines; refused = refused ∙ or-false p.any_refused }
 is_at strict p history (Err reason) editor stands strictly lines refused = record { strict = strictly; stands = stands; lines = lines; refused = refused ∙ or-true p.any_refused }
 
-over_is : (strict : Bool) (p : Progress) (history : History) (answer : Result (Unit {0}) Refused) → is_over strict p ≡ false → is_over strict (answered p history (Some answer)) ≡ (strict && is_err answer)
+over_is : (strict : Bool) (p : Progress) (history : History) (answer : Result (Held ℕ) Refused) → is_over strict p ≡ false → is_over strict (answered p history (Some answer)) ≡ (strict && is_err answer)
 over_is true p history (Ok done) on = on
 over_is true p history (Err reason) on = refl
 over_is false p history (Ok done) on = refl
@@ -35,10 +36,10 @@ over_is false p history (Err reason) on = refl
 
 -- a line without a reply
 pub advances_silently : (s : Seen) (left : ℕ) (strict : Bool) (p : Progress) (line : List ℕ) (session : Session) (editor : Editor) → is_over strict p ≡ false
-    → CarriesOut {A = Unit {0}} session line None p → editor.session ≡ session → editor.strict ≡ strict → editor.lines ≡ p.lines + 1 → editor.any_refused ≡ p.any_refused
+    → CarriesOut session line None p → editor.session ≡ session → editor.strict ≡ strict → editor.lines ≡ p.lines + 1 → editor.any_refused ≡ p.any_refused
     → Advances s s left left editor strict line p false
 advances_silently s left strict p line session editor on carries same strictly lines refused = record {
-  next = answered {A = Unit {0}} p carries.history None;
+  next = answered p carries.history None;
   follows = carries.follows;
   at = record { strict = strictly; stands = subst (λ (t : Session). StandsFor t carries.history) (sym same) carries.stands; lines = lines; refused = refused };
   over = on;
@@ -49,19 +50,19 @@ advances_silently s left strict p line session editor on carries same strictly l
 }
 
 -- a line that was replied to
-advances : (a b : Seen) (n m : ℕ) (strict over : Bool) (p : Progress) (line : List ℕ) (number : ℕ) (answer : Result (Unit {0}) Refused) (session : Session) (editor : Editor) (r : Result (Unit {0}) Trouble)
+advances : (a b : Seen) (n m : ℕ) (strict over : Bool) (p : Progress) (line : List ℕ) (number : ℕ) (answer : Result (Held ℕ) Refused) (seen : Result (List ℕ) Refused) (session : Session) (editor : Editor) (r : Result (Unit {0}) Trouble)
     → is_over strict p ≡ false → CarriesOut session line (Some answer) p → editor.session ≡ session → editor.strict ≡ strict → editor.lines ≡ number → p.lines + 1 ≡ number
     → editor.any_refused ≡ (p.any_refused || is_err answer) → (strict && is_err answer) ≡ over
-    → is_err r ≡ false → Sends a b (reply_to number answer) (n - m) r → Spends n m (trouble_of r) → Advances a b n m editor strict line p over
-advances a b n m strict over p line number answer session editor r on carries same strictly lines counted refused ends went sends spends = record {
+    → is_err r ≡ false → seen ≡ told_in answer → Sends a b (reply_to number seen) (n - m) r → Spends n m (trouble_of r) → Advances a b n m editor strict line p over
+advances a b n m strict over p line number answer seen session editor r on carries same strictly lines counted refused ends went shown sends spends = record {
   next = answered p carries.history (Some answer);
   follows = carries.follows;
   at = is_at strict p carries.history answer editor (subst (λ (t : Session). StandsFor t carries.history) (sym same) carries.stands) strictly (lines ∙ sym counted) refused;
   over = over_is strict p carries.history answer on ∙ ends;
-  reply = reply_to number answer;
-  replied = replies_are p carries.history answer ∙ ap (λ (i : ℕ). p.replies ++ reply_to i answer) counted;
+  reply = reply_to number (told_in answer);
+  replied = replies_are p carries.history answer ∙ ap (λ (i : ℕ). p.replies ++ reply_to i (told_in answer)) counted;
   retries = n - m;
-  writes = sent_all a b n m (reply_to number answer) r went sends spends;
+  writes = sent_all a b n m (reply_to number (told_in answer)) r went (subst (λ (told : Result (List ℕ) Refused). Sends a b (reply_to number told) (n - m) r) shown sends) spends;
 }
 
 and_false : (b : Bool) → (b && false) ≡ false
@@ -73,34 +74,35 @@ and_true true = refl
 and_true false = refl
 
 -- a line that was accepted
-pub advances_accepted : (a b : Seen) (n m : ℕ) (strict : Bool) (p : Progress) (line : List ℕ) (number : ℕ) (answer : Result (Unit {0}) Refused) (session : Session) (editor : Editor) (r : Result (Unit {0}) Trouble)
+pub advances_accepted : (a b : Seen) (n m : ℕ) (strict : Bool) (p : Progress) (line : List ℕ) (number : ℕ) (answer : Result (Held ℕ) Refused) (seen : Result (List ℕ) Refused) (session : Session) (editor : Editor) (r : Result (Unit {0}) Trouble)
     → is_over strict p ≡ false → CarriesOut session line (Some answer) p → editor.session ≡ session → editor.strict ≡ strict → editor.lines ≡ number → p.lines + 1 ≡ number
     → editor.any_refused ≡ p.any_refused → is_err answer ≡ false
-    → is_err r ≡ false → Sends a b (reply_to number answer) (n - m) r → Spends n m (trouble_of r) → Advances a b n m editor strict line p false
-advances_accepted a b n m strict p line number answer session editor r on carries same strictly lines counted refused good went sends spends =
-    advances a b n m strict false p line number answer session editor r on carries same strictly lines counted
-    (refused ∙ sym (ap (λ (q : Bool). p.any_refused || q) good ∙ or-false p.any_refused)) (ap (λ (q : Bool). strict && q) good ∙ and_false strict) went sends spends
+    → is_err r ≡ false → seen ≡ told_in answer → Sends a b (reply_to number seen) (n - m) r → Spends n m (trouble_of r) → Advances a b n m editor strict line p false
+advances_accepted a b n m strict p line number answer seen session editor r on carries same strictly lines counted refused good went shown sends spends =
+    advances a b n m strict false p line number answer seen session editor r on carries same strictly lines counted
+    (refused ∙ sym (ap (λ (q : Bool). p.any_refused || q) good ∙ or-false p.any_refused)) (ap (λ (q : Bool). strict && q) good ∙ and_false strict) went shown sends spends
 
 -- a line that was refused
-pub advances_refused : (a b : Seen) (n m : ℕ) (strict over : Bool) (p : Progress) (line : List ℕ) (number : ℕ) (answer : Result (Unit {0}) Refused) (session : Session) (editor : Editor) (r : Result (Unit {0}) Trouble)
+pub advances_refused : (a b : Seen) (n m : ℕ) (strict over : Bool) (p : Progress) (line : List ℕ) (number : ℕ) (answer : Result (Held ℕ) Refused) (seen : Result (List ℕ) Refused) (session : Session) (editor : Editor) (r : Result (Unit {0}) Trouble)
     → is_over strict p ≡ false → CarriesOut session line (Some answer) p → editor.session ≡ session → editor.strict ≡ strict → editor.lines ≡ number → p.lines + 1 ≡ number
     → editor.any_refused ≡ true → is_err answer ≡ true → strict ≡ over
-    → is_err r ≡ false → Sends a b (reply_to number answer) (n - m) r → Spends n m (trouble_of r) → Advances a b n m editor strict line p over
-advances_refused a b n m strict over p line number answer session editor r on carries same strictly lines counted refused bad ends went sends spends =
-    advances a b n m strict over p line number answer session editor r on carries same strictly lines counted
-    (refused ∙ sym (ap (λ (q : Bool). p.any_refused || q) bad ∙ or-true p.any_refused)) (ap (λ (q : Bool). strict && q) bad ∙ and_true strict ∙ ends) went sends spends
+    → is_err r ≡ false → seen ≡ told_in answer → Sends a b (reply_to number seen) (n - m) r → Spends n m (trouble_of r) → Advances a b n m editor strict line p over
+advances_refused a b n m strict over p line number answer seen session editor r on carries same strictly lines counted refused bad ends went shown sends spends =
+    advances a b n m strict over p line number answer seen session editor r on carries same strictly lines counted
+    (refused ∙ sym (ap (λ (q : Bool). p.any_refused || q) bad ∙ or-true p.any_refused)) (ap (λ (q : Bool). strict && q) bad ∙ and_true strict ∙ ends) went shown sends spends
 
 -- a line whose reply met trouble
-pub falters : (a b : Seen) (n m : ℕ) (p : Progress) (line : List ℕ) (number : ℕ) (answer : Result (Unit {0}) Refused) (session : Session) (r : Result (Unit {0}) Trouble)
+pub falters : (a b : Seen) (n m : ℕ) (p : Progress) (line : List ℕ) (number : ℕ) (answer : Result (Held ℕ) Refused) (seen : Result (List ℕ) Refused) (session : Session) (r : Result (Unit {0}) Trouble)
     → CarriesOut session line (Some answer) p → p.lines + 1 ≡ number
-    → is_err r ≡ true → Sends a b (reply_to number answer) (n - m) r → Spends n m (trouble_of r) → Falters a b n m line p
-falters a b n m p line number answer session r carries counted went sends spends =
-    let sent = sent_front a b n m (reply_to number answer) r went sends spends in
+    → is_err r ≡ true → seen ≡ told_in answer → Sends a b (reply_to number seen) (n - m) r → Spends n m (trouble_of r) → Falters a b n m line p
+falters a b n m p line number answer seen session r carries counted went shown sends spends =
+    let sends_told = subst (λ (told : Result (List ℕ) Refused). Sends a b (reply_to number told) (n - m) r) shown sends in
+    let sent = sent_front a b n m (reply_to number (told_in answer)) r went sends_told spends in
     record {
       next = answered p carries.history (Some answer);
       follows = carries.follows;
-      reply = reply_to number answer;
-      replied = replies_are p carries.history answer ∙ ap (λ (i : ℕ). p.replies ++ reply_to i answer) counted;
+      reply = reply_to number (told_in answer);
+      replied = replies_are p carries.history answer ∙ ap (λ (i : ℕ). p.replies ++ reply_to i (told_in answer)) counted;
       output = sent.0;
       is_front = sent.1;
       trouble = sent.2;

@@ -3,16 +3,19 @@ use Rattle.std.proofs.Common.{◌≡◌, ℕ, zero, suc, ◌+◌, ◌≤◌, ◌
 use Rattle.std.proofs.lemmas.Bool.{cases_Bool}
 use Rattle.mvt_wire.specs.Plain.{Document}
 use Rattle.mvt_command.specs.Command.{Command}
-use Rattle.tile_script.specs.Request.{Request, Edit, Undo}
+use Rattle.tile_request.specs.Request.{Request, Edit, Undo, Size, Lists}
 use Rattle.mvt_edit.specs.Meaning.{applied}
 use Rattle.tile_script.specs.Line.{answer_to}
 use Rattle.tile_lines.specs.Lines.{lines_of}
-use Rattle.tile_session.specs.History.{History, IsSound, begun, after_all, present_document, with_command, undone, edited, carried_out}
+use Rattle.tile_session.specs.History.{History, IsSound, begun, after_all, present_document, with_command, undone, edited_to, edited, taken_back}
+use Rattle.tile_session.specs.declared.session.NothingToUndo.{NothingToUndo}
+use Rattle.tile_answer.specs.Answering.{Told, told_by_edit, told_by_undo, carried_out}
+use Rattle.tile_answer.proofs.AnswerLaws.{looks_leave_history}
 use Rattle.tile_run.specs.Run.{Progress, at_first, ran, settled_by, answered_by, after_line, is_over, after_lines}
 use Rattle.tile_run.specs.RunLaws.{Makes, IsHistoryOf, StandingCommands}
 use Rattle.tile_run.specs.declared.outcome.Options.{Options}
 use Rattle.mvt_edit.specs.declared.edit.Refusal.{Refusal}
-use Rattle.tile_script.specs.declared.parse_error.ParseError.{ParseError}
+use Rattle.tile_words.specs.declared.parse_error.ParseError.{ParseError}
 use Rattle.tile_reply.specs.declared.refused.Refused.{Refused}
 use Rattle.tile_session.proofs.Histories.{after_accepted}
 use Rattle.tile_session.proofs.HistoryLaws.{stays_sound}
@@ -45,7 +48,7 @@ makes_present document depth history goes =
     subst (λ (d : Document). Makes document (take history.present history.commands) (after_all (take history.present history.commands) d)) (sym goes.start)
     (makes_first history.present document history.commands goes.made goes.makes)
 
-goes_on : (document : Document) (depth : ℕ) (command : Command) (history after : History) (made : Result Document Refusal) → applied command (present_document history) ≡ made → Goes document depth history → edited command history made ≡ Ok after → IsSound after → Goes document depth after
+goes_on : (document : Document) (depth : ℕ) (command : Command) (history after : History) (made : Result Document Refusal) → applied command (present_document history) ≡ made → Goes document depth history → edited_to command history made ≡ Ok after → IsSound after → Goes document depth after
 goes_on document depth command history after (Ok new) accepted goes e sound =
     let same : with_command command history ≡ after = cc in
     let is_sound : IsSound (with_command command history) = subst IsSound (sym same) sound in
@@ -58,7 +61,7 @@ goes_on document depth command history after (Ok new) accepted goes e sound =
     })
 goes_on document depth command history after (Err refusal) accepted goes e sound = absurd cc
 
-goes_back : (document : Document) (depth : ℕ) (history after : History) → Goes document depth history → carried_out Undo history ≡ Ok after → IsSound after → Goes document depth after
+goes_back : (document : Document) (depth : ℕ) (history after : History) → Goes document depth history → taken_back history ≡ Ok after → IsSound after → Goes document depth after
 goes_back document depth history after goes e sound =
     elim (cases_Bool (history.present == history.floor)) [
       | inl at_floor ↦ absurd (let refused = rw at_floor at e in cc)
@@ -69,14 +72,31 @@ goes_back document depth history after goes e sound =
           )
     ]
 
-goes_after : (document : Document) (depth : ℕ) (request : Request) (history after : History) → Goes document depth history → carried_out request history ≡ Ok after → Goes document depth after
-goes_after document depth (Edit command) history after goes e =
-    goes_on document depth command history after (applied command (present_document history)) refl goes e (stays_sound.1 (Edit command) history after goes.sound e)
-goes_after document depth Undo history after goes e =
-    goes_back document depth history after goes e (stays_sound.1 Undo history after goes.sound e)
+goes_edited : (document : Document) (depth : ℕ) (command : Command) (history after : History) → Goes document depth history → edited command history ≡ Ok after → Goes document depth after
+goes_edited document depth command history after goes e =
+    goes_on document depth command history after (applied command (present_document history)) refl goes e (stays_sound.1 command history after goes.sound e)
 
-goes_settled : (document : Document) (depth : ℕ) (p : Progress) (request : Request) (result : Result History Refused) → carried_out request p.history ≡ result → Goes document depth p.history → Goes document depth (settled_by p result).history
-goes_settled document depth p request (Ok after) e goes = goes_after document depth request p.history after goes e
+goes_undone : (document : Document) (depth : ℕ) (history after : History) → Goes document depth history → taken_back history ≡ Ok after → Goes document depth after
+goes_undone document depth history after goes e = goes_back document depth history after goes e (stays_sound.2 history after goes.sound e)
+
+-- a command and an undo tell of the history that they make
+made_by_edit : (made : Result History Refusal) (told : Told) → told_by_edit made ≡ Ok told → made ≡ Ok told.history
+made_by_edit (Ok history) told e = let same : history ≡ told.history = cc in ap Ok same
+made_by_edit (Err refusal) told e = absurd cc
+
+made_by_undo : (made : Result History NothingToUndo) (told : Told) → told_by_undo made ≡ Ok told → made ≡ Ok told.history
+made_by_undo (Ok history) told e = let same : history ≡ told.history = cc in ap Ok same
+made_by_undo (Err nothing) told e = absurd cc
+
+goes_after : (document : Document) (depth : ℕ) (request : Request) (history : History) (told : Told) → Goes document depth history → carried_out request history ≡ Ok told → Goes document depth told.history
+goes_after document depth (Edit command) history told goes e =
+    goes_edited document depth command history told.history goes (made_by_edit (edited command history) told e)
+goes_after document depth Undo history told goes e = goes_undone document depth history told.history goes (made_by_undo (taken_back history) told e)
+goes_after document depth Size history told goes e = subst (Goes document depth) (sym (looks_leave_history Size history told tt e)) goes
+goes_after document depth (Lists what) history told goes e = subst (Goes document depth) (sym (looks_leave_history (Lists what) history told tt e)) goes
+
+goes_settled : (document : Document) (depth : ℕ) (p : Progress) (request : Request) (result : Result Told Refused) → carried_out request p.history ≡ result → Goes document depth p.history → Goes document depth (settled_by p result).history
+goes_settled document depth p request (Ok told) e goes = goes_after document depth request p.history told goes e
 goes_settled document depth p request (Err reason) e goes = goes
 
 goes_answered : (document : Document) (depth : ℕ) (p : Progress) (answer : Result (Option Request) ParseError) → Goes document depth p.history → Goes document depth (answered_by p answer).history

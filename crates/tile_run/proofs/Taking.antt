@@ -5,7 +5,7 @@ use Rattle.std.proofs.lemmas.Bool.Decides.{nat_tests}
 use Rattle.std.proofs.lemmas.Str.{IsUtf8-from_is_utf8}
 use Rattle.std.specs.Str.{is_utf8}
 use Rattle.tile_script.specs.Line.{answer_to, is_remark, TakesMemory}
-use Rattle.tile_script.specs.Request.{Request}
+use Rattle.tile_request.specs.Request.{Request}
 use Rattle.tile_lines.specs.declared.TheConstants.{LINE_LIMIT}
 
 pub requests_take_memory : (line : List ℕ) (request : Request) → answer_to line ≡ Ok (Some request) → TakesMemory line

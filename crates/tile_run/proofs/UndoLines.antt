@@ -2,12 +2,13 @@
 use Rattle.std.proofs.Common.{◌≡◌, ℕ, Bool, false, List, [], ◌∷◌, ◌++◌, Some, Ok, refl, ap, ◌∙◌, inl, append_assoc}
 use Rattle.mvt_wire.specs.Plain.{Document}
 use Rattle.mvt_wire.specs.Wire.{bytes_of}
-use Rattle.tile_script.specs.Request.{Request, Edit, Undo}
+use Rattle.tile_request.specs.Request.{Request, Edit, Undo}
 use Rattle.tile_script.specs.Line.{answer_to}
-use Rattle.tile_lines.specs.Lines.{lines_of, HasNoLineFeed}
-use Rattle.tile_session.specs.History.{History, with_command, edited, carried_out}
+use Rattle.tile_lines.specs.Lines.{lines_of, HasNoLineFeed, with_feed, EndsWithALine}
+use Rattle.tile_session.specs.History.{History, with_command, edited_to, edited}
+use Rattle.tile_answer.specs.Answering.{Told, told_by_edit, told_by_undo, carried_out}
 use Rattle.tile_run.specs.Run.{Progress, accepted, answered_by, settled_by, after_line, is_over, after_lines, ran, tile_of}
-use Rattle.tile_run.specs.RunLaws.{with_feed, EndsWithALine, UndoInARun, UndoInAScript}
+use Rattle.tile_run.specs.RunLaws.{UndoInARun, UndoInAScript}
 use Rattle.tile_run.specs.declared.outcome.Options.{Options}
 use Rattle.tile_run.proofs.Fronts.{fronts_stand}
 use Rattle.tile_session.proofs.HistoryLaws.{undo_at_once}
@@ -15,20 +16,26 @@ use Rattle.tile_lines.proofs.LineLaws.{lines_only}
 use Rattle.tile_run.proofs.Standing.{sound_ran}
 
 -- a line whose request is accepted
-accepts : (p : Progress) (line : List ℕ) (request : Request) (after : History) → answer_to line ≡ Ok (Some request) → carried_out request p.history ≡ Ok after → after_line p line ≡ accepted after p
-accepts p line request after asks e = ap (answered_by p) asks ∙ ap (settled_by p) e
+accepts : (p : Progress) (line : List ℕ) (request : Request) (told : Told) → answer_to line ≡ Ok (Some request) → carried_out request p.history ≡ Ok told → after_line p line ≡ accepted told p
+accepts p line request told asks e = ap (answered_by p) asks ∙ ap (settled_by p) e
 
 -- two lines that are accepted, in a run that is not over
-two_accepted : (strict : Bool) (p : Progress) (line undo : List ℕ) (first second : History) → is_over strict p ≡ false → after_line p line ≡ accepted first p → after_line (accepted first p) undo ≡ accepted second (accepted first p) → after_lines strict p (line ∷ undo ∷ []) ≡ accepted second (accepted first p)
+two_accepted : (strict : Bool) (p : Progress) (line undo : List ℕ) (first second : Told) → is_over strict p ≡ false → after_line p line ≡ accepted first p → after_line (accepted first p) undo ≡ accepted second (accepted first p) → after_lines strict p (line ∷ undo ∷ []) ≡ accepted second (accepted first p)
 two_accepted strict p line undo first second on one two = rw (on, one, on) two
+
+-- a request that tells nothing
+abbrev telling_nothing : History → Told
+telling_nothing history = record { lines = []; history = history }
 
 pub undo_in_a_run : UndoInARun
 undo_in_a_run strict p line undo command edited_document sound on asks made asks_undo =
-    let done : carried_out (Edit command) p.history ≡ Ok (with_command command p.history) = ap (edited command p.history) made in
+    let done : edited command p.history ≡ Ok (with_command command p.history) = ap (edited_to command p.history) made in
     let back = undo_at_once command p.history (with_command command p.history) sound done in
-    let first = accepts p line (Edit command) (with_command command p.history) asks done in
-    let second = accepts (accepted (with_command command p.history) p) undo Undo back.0 asks_undo back.1 in
-    let both = two_accepted strict p line undo (with_command command p.history) back.0 on first second in (
+    let one = telling_nothing (with_command command p.history) in
+    let two = telling_nothing back.0 in
+    let first = accepts p line (Edit command) one asks (ap told_by_edit done) in
+    let second = accepts (accepted one p) undo Undo two asks_undo (ap told_by_undo back.1) in
+    let both = two_accepted strict p line undo one two on first second in (
       ap (λ (q : Progress). q.replies) both,
       ap tile_of both ∙ ap bytes_of back.2,
     )

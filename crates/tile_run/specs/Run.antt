@@ -2,14 +2,15 @@
 use Rattle.std.specs.Prelude.{◌≡◌, ℕ, ◌+◌, Bool, true, false, ◌&&◌, if◌then◌else◌, MatchBool, List, [], ◌∷◌, ◌++◌, Option, Some, None, Result, Ok, Err, ◌⊎◌}
 use Rattle.mvt_wire.specs.Plain.{Document}
 use Rattle.mvt_wire.specs.Wire.{bytes_of}
-use Rattle.tile_script.specs.Request.{Request}
+use Rattle.tile_request.specs.Request.{Request}
 use Rattle.tile_script.specs.Line.{answer_to, TakesMemory}
 use Rattle.tile_lines.specs.Lines.{lines_of}
-use Rattle.tile_session.specs.History.{History, begun, present_document, carried_out}
+use Rattle.tile_session.specs.History.{History, begun, present_document}
 use Rattle.tile_reply.specs.Replies.{accepted_reply, refused_reply}
+use Rattle.tile_answer.specs.Answering.{Told, carried_out}
 use Rattle.tile_run.specs.declared.outcome.Options.{Options}
-use Rattle.tile_script.specs.declared.parse_error.ParseError.{ParseError}
-use Rattle.tile_script.specs.declared.parse_error.ParseError.TheVariants as parse
+use Rattle.tile_words.specs.declared.parse_error.ParseError.{ParseError}
+use Rattle.tile_words.specs.declared.parse_error.ParseError.TheVariants as parse
 use Rattle.tile_reply.specs.declared.refused.Refused.{Refused}
 use Rattle.tile_reply.specs.declared.refused.Refused.TheVariants as refused
 
@@ -26,15 +27,16 @@ at_first document depth = record { lines = 0; history = begun document depth; re
 abbrev pub silent : Progress → Progress
 silent p = record { lines = p.lines + 1; history = p.history; replies = p.replies; any_refused = p.any_refused }
 
-abbrev pub accepted : History → Progress → Progress
-accepted history p = record { lines = p.lines + 1; history = history; replies = p.replies ++ accepted_reply; any_refused = p.any_refused }
+-- an accepted line is replied to with what it tells
+abbrev pub accepted : Told → Progress → Progress
+accepted told p = record { lines = p.lines + 1; history = told.history; replies = p.replies ++ accepted_reply told.lines; any_refused = p.any_refused }
 
 -- a refused line changes nothing but the replies
 abbrev pub refused_for : Refused → Progress → Progress
 refused_for reason p = record { lines = p.lines + 1; history = p.history; replies = p.replies ++ refused_reply (p.lines + 1) reason; any_refused = true }
 
-abbrev pub settled_by : Progress → Result History Refused → Progress
-settled_by p (Ok history) = accepted history p
+abbrev pub settled_by : Progress → Result Told Refused → Progress
+settled_by p (Ok told) = accepted told p
 settled_by p (Err reason) = refused_for reason p
 
 abbrev pub answered_by : Progress → Result (Option Request) ParseError → Progress

@@ -1,26 +1,19 @@
 -- Laws over whole runs, in the words of scripts, replies and tiles.
-use Rattle.std.specs.Prelude.{◌≡◌, ◌⊎◌, ℕ, ◌+◌, ◌≤◌, Bool, true, false, List, [], ◌∷◌, ◌++◌, length, take, Some, Ok}
+use Rattle.std.specs.Prelude.{◌≡◌, ℕ, ◌+◌, ◌≤◌, Bool, true, false, List, [], ◌∷◌, ◌++◌, length, take, Some, Ok}
 use Rattle.mvt_wire.specs.Plain.{Document}
 use Rattle.mvt_command.specs.Command.{Command}
-use Rattle.tile_script.specs.Request.{Edit, Undo}
+use Rattle.tile_request.specs.Request.{Request, Edit, Undo}
 use Rattle.mvt_edit.specs.Meaning.{applied}
 use Rattle.tile_script.specs.Line.{answer_to}
-use Rattle.tile_lines.specs.Lines.{lines_of, HasNoLineFeed}
+use Rattle.tile_lines.specs.Lines.{lines_of, HasNoLineFeed, with_feed, EndsWithALine}
 use Rattle.tile_session.specs.History.{History, IsSound, present_document}
+use Rattle.tile_answer.specs.Laws.{Looks}
 use Rattle.tile_reply.specs.Replies.{accepted_reply, refused_reply, HasNoWant}
 use Rattle.tile_run.specs.Run.{Progress, after_line, after_lines, is_over, ran, tile_of, Walk}
 use Rattle.tile_run.specs.declared.outcome.Options.{Options}
 use Rattle.tile_reply.specs.declared.refused.Refused.{Refused}
 
 -- ---- fronts
-
--- bytes with a line feed behind them
-abbrev pub with_feed : List ℕ → List ℕ
-with_feed text = text ++ 10 ∷ []
-
--- a front of a script that ends where a line ends: nothing, or bytes up to a line feed
-abbrev pub EndsWithALine : List ℕ → Type 0
-EndsWithALine front = (front ≡ []) ⊎ ((text : List ℕ) × (front ≡ with_feed text))
 
 -- The lines of such a front are the first lines of the script.
 abbrev pub FrontsHaveFirstLines : Type 0
@@ -43,6 +36,11 @@ RefusedLinesChangeNothing = (p : Progress) (line : List ℕ) (reason : Refused) 
 -- A line without a reply is counted, and changes nothing else.
 abbrev pub SilentLinesChangeNothing : Type 0
 SilentLinesChangeNothing = (p : Progress) (line : List ℕ) → (after_line p line).replies ≡ p.replies → after_line p line ≡ record p { lines = p.lines + 1 }
+
+-- A line that asks for the size or for a listing, also one that is refused, changes neither the tile nor what undo takes back:
+-- it is counted and replied to.
+abbrev pub LookingChangesNothing : Type 0
+LookingChangesNothing = (p : Progress) (line : List ℕ) (request : Request) → answer_to line ≡ Ok (Some request) → Looks request → ((after_line p line).history ≡ p.history) × (tile_of (after_line p line) ≡ tile_of p) × ((after_line p line).lines ≡ p.lines + 1)
 
 -- A strict run ends with the first line that is refused: what follows it changes nothing.
 abbrev pub StrictRunsStop : Type 0
@@ -75,11 +73,11 @@ StandingCommands = (document : Document) (options : Options) (script : List ℕ)
 
 -- A line whose command is accepted and then a line that asks for undo: both are accepted, and the tile is as before.
 abbrev pub UndoInARun : Type 0
-UndoInARun = (strict : Bool) (p : Progress) (line undo : List ℕ) (command : Command) (edited : Document) → IsSound p.history → is_over strict p ≡ false → answer_to line ≡ Ok (Some (Edit command)) → applied command (present_document p.history) ≡ Ok edited → answer_to undo ≡ Ok (Some Undo) → ((after_lines strict p (line ∷ undo ∷ [])).replies ≡ p.replies ++ accepted_reply ++ accepted_reply) × (tile_of (after_lines strict p (line ∷ undo ∷ [])) ≡ tile_of p)
+UndoInARun = (strict : Bool) (p : Progress) (line undo : List ℕ) (command : Command) (edited : Document) → IsSound p.history → is_over strict p ≡ false → answer_to line ≡ Ok (Some (Edit command)) → applied command (present_document p.history) ≡ Ok edited → answer_to undo ≡ Ok (Some Undo) → ((after_lines strict p (line ∷ undo ∷ [])).replies ≡ p.replies ++ accepted_reply [] ++ accepted_reply []) × (tile_of (after_lines strict p (line ∷ undo ∷ [])) ≡ tile_of p)
 
 -- The same of a script: these two lines behind it are accepted, and it makes the same tile.
 abbrev pub UndoInAScript : Type 0
-UndoInAScript = (document : Document) (options : Options) (front line undo : List ℕ) (command : Command) (edited : Document) → 1 ≤ options.depth → EndsWithALine front → is_over options.strict (ran document options front) ≡ false → HasNoLineFeed line → HasNoLineFeed undo → answer_to line ≡ Ok (Some (Edit command)) → applied command (present_document (ran document options front).history) ≡ Ok edited → answer_to undo ≡ Ok (Some Undo) → ((ran document options (front ++ with_feed line ++ with_feed undo)).replies ≡ (ran document options front).replies ++ accepted_reply ++ accepted_reply) × (tile_of (ran document options (front ++ with_feed line ++ with_feed undo)) ≡ tile_of (ran document options front))
+UndoInAScript = (document : Document) (options : Options) (front line undo : List ℕ) (command : Command) (edited : Document) → 1 ≤ options.depth → EndsWithALine front → is_over options.strict (ran document options front) ≡ false → HasNoLineFeed line → HasNoLineFeed undo → answer_to line ≡ Ok (Some (Edit command)) → applied command (present_document (ran document options front).history) ≡ Ok edited → answer_to undo ≡ Ok (Some Undo) → ((ran document options (front ++ with_feed line ++ with_feed undo)).replies ≡ (ran document options front).replies ++ accepted_reply [] ++ accepted_reply []) × (tile_of (ran document options (front ++ with_feed line ++ with_feed undo)) ≡ tile_of (ran document options front))
 
 -- ---- want of memory
 

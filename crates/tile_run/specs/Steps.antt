@@ -1,6 +1,7 @@
 -- What the steps of a run answer.
 use Rattle.std.specs.Prelude.{◌≡◌, ℕ, ◌+◌, ◌≤◌, Bool, true, false, List, [], ◌∷◌, ◌++◌, length, Option, Some, None, IsSome, Result, Ok, Err}
 use Rattle.mvt_wire.specs.declared.Document.{Document}
+use Rattle.mvt_wire.specs.Held.{Held}
 use Rattle.mvt_wire.specs.Stands.{document_of}
 use Rattle.tile_device.specs.Seen.{Seen, Intake, Output, IsFront, Receives, Supplies, nothing_read, written}
 use Rattle.tile_device.specs.declared.device.Trouble.TheVariants.{Interrupted}
@@ -48,14 +49,19 @@ OpensTile (Err unopened.NoMemory) tile = tile.trouble ≡ None
 
 -- ---- a line
 
+-- the lines that an answer tells, or why there is none
+abbrev pub told_in : Result (Held ℕ) Refused → Result (List ℕ) Refused
+told_in (Ok told) = Ok told.items
+told_in (Err reason) = Err reason
+
 -- the progress after a line to which this was answered
-abbrev pub answered : {A : Type 0} → Progress → History → Option (Result A Refused) → Progress
+abbrev pub answered : Progress → History → Option (Result (Held ℕ) Refused) → Progress
 answered p history None = record { lines = p.lines + 1; history = history; replies = p.replies; any_refused = p.any_refused }
-answered p history (Some (Ok done)) = record { lines = p.lines + 1; history = history; replies = p.replies ++ accepted_reply; any_refused = p.any_refused }
+answered p history (Some (Ok told)) = record { lines = p.lines + 1; history = history; replies = p.replies ++ accepted_reply told.items; any_refused = p.any_refused }
 answered p history (Some (Err reason)) = record { lines = p.lines + 1; history = history; replies = p.replies ++ refused_reply (p.lines + 1) reason; any_refused = true }
 
 -- the session stands for the history of a progress that may follow
-pub record CarriesOut {A : Type 0} (session : Session) (line : List ℕ) (answer : Option (Result A Refused)) (p : Progress) : Type 0 where
+pub record CarriesOut (session : Session) (line : List ℕ) (answer : Option (Result (Held ℕ) Refused)) (p : Progress) : Type 0 where
   pub history : History
   pub follows : MayFollow p line (answered p history answer)
   pub stands : StandsFor session history

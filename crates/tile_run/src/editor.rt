@@ -8,15 +8,17 @@ ghost use Rattle.tile_device.specs.Device.{trouble_of};
 ghost use Rattle.tile_lines.specs.CutStands.{cut_seen};
 ghost use Rattle.tile_lines.specs.Cutting.{cut_of, nothing_held};
 ghost use Rattle.tile_lines.specs.Lines.{whole_lines};
+ghost use Rattle.tile_reply.specs.Replies.{answer_seen};
 ghost use Rattle.tile_session.specs.History.{History, present_document};
 ghost use Rattle.tile_run.specs.Run.{Progress, at_first, is_over};
 ghost use Rattle.tile_session.specs.Session.{StandsFor};
-ghost use Rattle.tile_run.specs.Steps.{AnswersLine, CarriesOut, CarriesOutLines, CarriesOutPieces, CarriesOutScript, ComesTo, IsAt, WasGiven};
+ghost use Rattle.tile_run.specs.Steps.{AnswersLine, CarriesOut, CarriesOutLines, CarriesOutPieces, CarriesOutScript, ComesTo, IsAt, WasGiven, told_in};
 
 use crate::outcome::{LineStop, ScriptStop};
 use crate::runs::MAX_SCRIPT;
-use mvt_wire::Document;
+use mvt_wire::{Document, Items};
 use std::alloc::Global;
+use tile_answer::carry_out;
 use tile_device::{Retries, Sink, Source, read_some};
 use tile_lines::{Cut, LineCutter};
 use tile_reply::{Refused, reply};
@@ -170,7 +172,7 @@ impl Editor {
             return Ok(());
         };
         let refused = answer.is_err();
-        if reply(replies, self.lines, answer, retries).is_err() {
+        if reply(replies, self.lines, told_in(&answer), retries).is_err() {
             return Err(LineStop::Replies);
         }
         if !refused {
@@ -185,14 +187,28 @@ impl Editor {
     }
 }
 
-/// What is answered to a line that asks for something.
-fn carry_out_line(alloc: Global, session: &mut Session, cut: Cut<'_>) -> Option<Result<(), Refused>>
+/// What is answered to a line that asks for something: the lines that it tells, or why it is refused.
+fn carry_out_line(
+    alloc: Global,
+    session: &mut Session,
+    cut: Cut<'_>,
+) -> Option<Result<Items<u8>, Refused>>
     ensures { (p : Progress) (line : List ℕ) → StandsFor session.old p.history → cut_of line ≡ cut_seen cut.entry
         → CarriesOut session.new line result p }
 {
     match parse_cut(alloc, cut) {
         Ok(None) => None,
-        Ok(Some(request)) => Some(session.carry_out(&request)),
+        Ok(Some(request)) => Some(carry_out(alloc, session, &request)),
         Err(error) => Some(Err(Refused::Parse(error))),
+    }
+}
+
+/// The lines that an answer tells, or why there is none.
+fn told_in(answer: &Result<Items<u8>, Refused>) -> Result<&[u8], Refused>
+    ensures { answer_seen result ≡ told_in answer.now }
+{
+    match answer {
+        Ok(lines) => Ok(lines.as_slice()),
+        Err(reason) => Err(*reason),
     }
 }

@@ -1,9 +1,10 @@
 //! Laws of whole runs. Each function does nothing: its contract is the law. The laws of histories
-//! are passed on.
+//! and of what requests tell are passed on.
 
 ghost use Rattle.tile_run.specs.DeviceLaws.{FailedDevicesAreNamed, WornOutRunsNameADevice, DevicesAreNamedForCause};
-ghost use Rattle.tile_run.specs.RunLaws.{FrontsHaveFirstLines, FrontsStand, RepliesStand, RefusedLinesChangeNothing, SilentLinesChangeNothing, StrictRunsStop, AcceptedRunsAreAlike, StandingCommands, UndoInARun, UndoInAScript, WalksWithoutWantAreRuns, RunsAreWalks, RunsHaveNoWant};
+ghost use Rattle.tile_run.specs.RunLaws.{FrontsHaveFirstLines, FrontsStand, RepliesStand, RefusedLinesChangeNothing, SilentLinesChangeNothing, StrictRunsStop, AcceptedRunsAreAlike, StandingCommands, UndoInARun, UndoInAScript, WalksWithoutWantAreRuns, RunsAreWalks, RunsHaveNoWant, LookingChangesNothing};
 
+pub use tile_answer::laws::{looks_leave_history, requests_have_no_want, requests_tell_lines};
 pub use tile_session::laws::{history_fits, stays_sound, undo_at_once};
 
 /// After each front of whole lines the run has come to where it comes on that front alone. So the
@@ -19,6 +20,11 @@ pub fn prefixes_stand()
 pub fn refused_lines_change_nothing()
     ensures refused { RefusedLinesChangeNothing }
     ensures silent { SilentLinesChangeNothing }
+{}
+
+/// A line that asks for the size or for a listing leaves the tile and the history as they were.
+pub fn looking_changes_nothing()
+    ensures { LookingChangesNothing }
 {}
 
 /// A strict run stops with its first line that is refused. Where none is refused, it comes to what

@@ -1,14 +1,16 @@
 -- A line of the right words asks for a request.
-use Rattle.std.proofs.Common.{◌≡◌, ℕ, true, eqb, List, [], ◌∷◌, ◌++◌, Some, Ok, refl, ap, ◌∙◌}
+use Rattle.std.proofs.Common.{◌≡◌, ℕ, true, false, eqb, List, [], ◌∷◌, ◌++◌, Some, Ok, refl, ap, ◌∙◌}
 use Rattle.std.specs.Prelude.{codes}
 use Rattle.std.specs.Str.Parse.{digits_value}
-use Rattle.mvt_command.specs.Command.{AtOrdinal, Named, RenameLayer}
-use Rattle.tile_script.specs.Request.{Request, Edit, Undo}
-use Rattle.tile_script.specs.Words.{Word, Bare, Quoted, words_of}
-use Rattle.tile_script.specs.Spelling.{SpellsWords}
-use Rattle.tile_script.specs.Line.{is_number, number_of, TakesMemory, keyword_of, layer_of, text_of, rename_layer_of, undo_of, asked_by, is_remark_behind, is_remark, request_in, answer_to, IsReadable}
+use Rattle.mvt_command.specs.Command.{AtOrdinal, Named, RenameLayer, FeatureAtOrdinal, WithId}
+use Rattle.tile_arguments.specs.Arguments.{is_number}
+use Rattle.tile_arguments.proofs.Meant.{text_quoted, layer_named, layer_at, feature_at, feature_with_id}
+use Rattle.tile_request.specs.Request.{Request, Edit, Undo, Size, Lists, Whole, OneLayer, OneFeature}
+use Rattle.tile_words.specs.Words.{Word, Bare, Quoted, words_of}
+use Rattle.tile_words.specs.Spelling.{SpellsWords}
+use Rattle.tile_words.proofs.Again.{words_only, behind_blanks, no_gap}
+use Rattle.tile_script.specs.Line.{TakesMemory, keyword_of, rename_layer_of, undo_of, size_request_of, list_of, asked_by, is_remark_behind, is_remark, request_in, answer_to, IsReadable}
 use Rattle.tile_script.proofs.Silent.{answer_to-words}
-use Rattle.tile_script.proofs.Again.{words_only, behind_blanks, no_gap}
 
 -- a line is no remark, where its first word is bare and begins with another byte
 no_remark : (line : List ℕ) (b : ℕ) (name : List ℕ) (words : List Word) → SpellsWords line (Bare (b ∷ name) ∷ words) → is_remark line ≡ eqb b 35
@@ -20,30 +22,78 @@ asks : (line : List ℕ) (words : List Word) (request : Request) → TakesMemory
 unfolding request_in
 asks line words request takes read asked = answer_to-words line takes ∙ rw (read, asked) refl
 
-undo_asked : asked_by (Bare (codes "undo") ∷ []) ≡ Ok Undo
-unfolding asked_by keyword_of undo_of
-undo_asked = refl
-
-rename_asked : (old new : List ℕ) → asked_by (Bare (codes "rename-layer") ∷ Quoted old ∷ Quoted new ∷ []) ≡ Ok (Edit (RenameLayer (Named old) new))
-unfolding asked_by keyword_of rename_layer_of layer_of text_of
-rename_asked old new = refl
-
-ordinal_asked : (digits new : List ℕ) → is_number digits ≡ true → asked_by (Bare (codes "rename-layer") ∷ Bare (codes "#" ++ digits) ∷ Quoted new ∷ []) ≡ Ok (Edit (RenameLayer (AtOrdinal (digits_value 10 digits)) new))
-unfolding asked_by keyword_of rename_layer_of layer_of number_of text_of
-ordinal_asked digits new number = rw number refl
+-- the same of a line whose first word is bare, and begins with another byte than `#`
+asks_by : (line : List ℕ) (b : ℕ) (name : List ℕ) (arguments : List Word) (request : Request) → IsReadable line → eqb b 35 ≡ false
+    → SpellsWords line (Bare (b ∷ name) ∷ arguments) → asked_by (Bare (b ∷ name) ∷ arguments) ≡ Ok request → answer_to line ≡ Ok (Some request)
+asks_by line b name arguments request readable other s asked =
+    let words = Bare (b ∷ name) ∷ arguments in
+    asks line words request (readable, no_remark line b name arguments s ∙ other) (words_only line words s) asked
 
 pub asks_undo : (line : List ℕ) → IsReadable line → SpellsWords line (Bare (codes "undo") ∷ []) → answer_to line ≡ Ok (Some Undo)
-asks_undo line readable s = asks line (Bare (codes "undo") ∷ []) Undo (readable, no_remark line 117 (110 ∷ 100 ∷ 111 ∷ []) [] s) (words_only line (Bare (codes "undo") ∷ []) s) undo_asked
+unfolding asked_by keyword_of undo_of
+asks_undo line readable s = asks_by line 117 (110 ∷ 100 ∷ 111 ∷ []) [] Undo readable refl s asked
+  where
+    asked : asked_by (Bare (codes "undo") ∷ []) ≡ Ok Undo
+    asked = refl
 
--- a line whose first word is `rename-layer`
-asks_rename : (line : List ℕ) (arguments : List Word) (request : Request) → IsReadable line → SpellsWords line (Bare (codes "rename-layer") ∷ arguments) → asked_by (Bare (codes "rename-layer") ∷ arguments) ≡ Ok request → answer_to line ≡ Ok (Some request)
+pub asks_size : (line : List ℕ) → IsReadable line → SpellsWords line (Bare (codes "size") ∷ []) → answer_to line ≡ Ok (Some Size)
+unfolding asked_by keyword_of size_request_of
+asks_size line readable s = asks_by line 115 (105 ∷ 122 ∷ 101 ∷ []) [] Size readable refl s asked
+  where
+    asked : asked_by (Bare (codes "size") ∷ []) ≡ Ok Size
+    asked = refl
+
+-- ---- lines whose first word is `rename-layer`
+
+asks_rename : (line : List ℕ) (arguments : List Word) (request : Request) → IsReadable line → SpellsWords line (Bare (codes "rename-layer") ∷ arguments) → rename_layer_of arguments ≡ Ok request → answer_to line ≡ Ok (Some request)
+unfolding asked_by keyword_of
 asks_rename line arguments request readable s asked =
-    let words = Bare (codes "rename-layer") ∷ arguments in
-    asks line words request (readable, no_remark line 114 (101 ∷ 110 ∷ 97 ∷ 109 ∷ 101 ∷ 45 ∷ 108 ∷ 97 ∷ 121 ∷ 101 ∷ 114 ∷ []) arguments s) (words_only line words s) asked
+    asks_by line 114 (101 ∷ 110 ∷ 97 ∷ 109 ∷ 101 ∷ 45 ∷ 108 ∷ 97 ∷ 121 ∷ 101 ∷ 114 ∷ []) arguments request readable refl s asked
 
 pub asks_rename_named : (line old new : List ℕ) → IsReadable line → SpellsWords line (Bare (codes "rename-layer") ∷ Quoted old ∷ Quoted new ∷ []) → answer_to line ≡ Ok (Some (Edit (RenameLayer (Named old) new)))
-asks_rename_named line old new readable s = asks_rename line (Quoted old ∷ Quoted new ∷ []) (Edit (RenameLayer (Named old) new)) readable s (rename_asked old new)
+unfolding rename_layer_of
+asks_rename_named line old new readable s = asks_rename line (Quoted old ∷ Quoted new ∷ []) (Edit (RenameLayer (Named old) new)) readable s asked
+  where
+    asked : rename_layer_of (Quoted old ∷ Quoted new ∷ []) ≡ Ok (Edit (RenameLayer (Named old) new))
+    asked = rw (layer_named old, text_quoted new) refl
 
 pub asks_rename_ordinal : (line digits new : List ℕ) → IsReadable line → is_number digits ≡ true → SpellsWords line (Bare (codes "rename-layer") ∷ Bare (codes "#" ++ digits) ∷ Quoted new ∷ []) → answer_to line ≡ Ok (Some (Edit (RenameLayer (AtOrdinal (digits_value 10 digits)) new)))
+unfolding rename_layer_of
 asks_rename_ordinal line digits new readable number s =
-    asks_rename line (Bare (codes "#" ++ digits) ∷ Quoted new ∷ []) (Edit (RenameLayer (AtOrdinal (digits_value 10 digits)) new)) readable s (ordinal_asked digits new number)
+    asks_rename line (Bare (codes "#" ++ digits) ∷ Quoted new ∷ []) (Edit (RenameLayer (AtOrdinal (digits_value 10 digits)) new)) readable s asked
+  where
+    asked : rename_layer_of (Bare (codes "#" ++ digits) ∷ Quoted new ∷ []) ≡ Ok (Edit (RenameLayer (AtOrdinal (digits_value 10 digits)) new))
+    asked = rw (layer_at digits number, text_quoted new) refl
+
+-- ---- lines whose first word is `list`
+
+asks_list : (line : List ℕ) (arguments : List Word) (request : Request) → IsReadable line → SpellsWords line (Bare (codes "list") ∷ arguments) → list_of arguments ≡ Ok request → answer_to line ≡ Ok (Some request)
+unfolding asked_by keyword_of
+asks_list line arguments request readable s asked = asks_by line 108 (105 ∷ 115 ∷ 116 ∷ []) arguments request readable refl s asked
+
+pub asks_list_whole : (line : List ℕ) → IsReadable line → SpellsWords line (Bare (codes "list") ∷ []) → answer_to line ≡ Ok (Some (Lists Whole))
+unfolding list_of
+asks_list_whole line readable s = asks_list line [] (Lists Whole) readable s refl
+
+pub asks_list_layer : (line name : List ℕ) → IsReadable line → SpellsWords line (Bare (codes "list") ∷ Quoted name ∷ []) → answer_to line ≡ Ok (Some (Lists (OneLayer (Named name))))
+unfolding list_of
+asks_list_layer line name readable s = asks_list line (Quoted name ∷ []) (Lists (OneLayer (Named name))) readable s asked
+  where
+    asked : list_of (Quoted name ∷ []) ≡ Ok (Lists (OneLayer (Named name)))
+    asked = rw (layer_named name) refl
+
+pub asks_list_feature_at : (line layer feature : List ℕ) → IsReadable line → is_number layer ≡ true → is_number feature ≡ true → SpellsWords line (Bare (codes "list") ∷ Bare (codes "#" ++ layer) ∷ Bare feature ∷ []) → answer_to line ≡ Ok (Some (Lists (OneFeature (AtOrdinal (digits_value 10 layer)) (FeatureAtOrdinal (digits_value 10 feature)))))
+unfolding list_of
+asks_list_feature_at line layer feature readable at among s =
+    asks_list line (Bare (codes "#" ++ layer) ∷ Bare feature ∷ []) (Lists (OneFeature (AtOrdinal (digits_value 10 layer)) (FeatureAtOrdinal (digits_value 10 feature)))) readable s asked
+  where
+    asked : list_of (Bare (codes "#" ++ layer) ∷ Bare feature ∷ []) ≡ Ok (Lists (OneFeature (AtOrdinal (digits_value 10 layer)) (FeatureAtOrdinal (digits_value 10 feature))))
+    asked = rw (layer_at layer at, feature_at feature among) refl
+
+pub asks_list_feature_with_id : (line name id : List ℕ) → IsReadable line → is_number id ≡ true → SpellsWords line (Bare (codes "list") ∷ Quoted name ∷ Bare (codes "@" ++ id) ∷ []) → answer_to line ≡ Ok (Some (Lists (OneFeature (Named name) (WithId (digits_value 10 id)))))
+unfolding list_of
+asks_list_feature_with_id line name id readable number s =
+    asks_list line (Quoted name ∷ Bare (codes "@" ++ id) ∷ []) (Lists (OneFeature (Named name) (WithId (digits_value 10 id)))) readable s asked
+  where
+    asked : list_of (Quoted name ∷ Bare (codes "@" ++ id) ∷ []) ≡ Ok (Lists (OneFeature (Named name) (WithId (digits_value 10 id))))
+    asked = rw (layer_named name, feature_with_id id number) refl

@@ -1,9 +1,3 @@
-pub mod Again
-pub mod Found
-pub mod Numbers
-pub mod Places
-pub mod Repeats
-pub mod Short
 pub mod Asking
 pub mod ParseRefusals
 pub mod Silent

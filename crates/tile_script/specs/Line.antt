@@ -1,47 +1,25 @@
 -- What a line of a script asks for.
-use Rattle.std.specs.Prelude.{◌≡◌, ℕ, ◌^◌, ◌≤◌, Bool, true, false, ◌&&◌, not, List, [], ◌∷◌, length, Option, Some, None, Result, Ok, Err, ◌==◌, nat_lt, if◌then◌else◌, codes, ok_or}
-use Rattle.std.specs.Str.{bytes_eq, is_utf8, IsUtf8, all_ascii_digits}
-use Rattle.std.specs.Str.Parse.{digits_value}
-use Rattle.mvt_command.specs.Command.{LayerChoice, AtOrdinal, Named, RenameLayer}
-use Rattle.tile_script.specs.Request.{Request, Edit, Undo}
-use Rattle.tile_script.specs.Words.{Word, Bare, Quoted, after_blanks, words_of}
+use Rattle.std.specs.Prelude.{◌≡◌, ℕ, ◌≤◌, Bool, true, false, not, List, [], ◌∷◌, length, Option, Some, None, Result, Ok, Err, ◌==◌, nat_lt, if◌then◌else◌, codes, ok_or}
+use Rattle.std.specs.Str.{bytes_eq, is_utf8, IsUtf8}
+use Rattle.mvt_command.specs.Command.{RenameLayer}
+use Rattle.tile_arguments.specs.Arguments.{text_of, layer_of, feature_of}
+use Rattle.tile_request.specs.Request.{Request, Edit, Undo, Size, Lists, Whole, OneLayer, OneFeature}
+use Rattle.tile_words.specs.Words.{Word, Bare, Quoted, after_blanks, words_of}
+use Rattle.tile_words.specs.Answers.{◌>>=◌}
 use Rattle.tile_lines.specs.declared.TheConstants.{LINE_LIMIT}
 use Rattle.tile_script.specs.declared.keyword.Keyword.{Keyword}
 use Rattle.tile_script.specs.declared.keyword.Keyword.TheVariants as keywords
-use Rattle.tile_script.specs.declared.parse_error.ParseError.{ParseError}
-use Rattle.tile_script.specs.declared.parse_error.ParseError.TheVariants.{LineTooLong, BadUtf8, BadWord, UnknownCommand, BadArguments, BadNumber}
-
--- what follows, unless there was a refusal
-infixl 10 ◌>>=◌
-abbrev pub ◌>>=◌ : {A B : Type 0} → Result A ParseError → (A → Result B ParseError) → Result B ParseError
-(Ok x) >>= f = f x
-(Err e) >>= f = Err e
+use Rattle.tile_words.specs.declared.parse_error.ParseError.{ParseError}
+use Rattle.tile_words.specs.declared.parse_error.ParseError.TheVariants.{LineTooLong, BadUtf8, BadWord, UnknownCommand, BadArguments}
 
 -- the words that a request begins with
 unfoldable pub keyword_of : List ℕ → Option Keyword
 keyword_of name =
     if bytes_eq name (codes "rename-layer") then Some keywords.RenameLayer
     else (if bytes_eq name (codes "undo") then Some keywords.Undo
-    else None)
-
--- a number: one or more decimal digits, leading zeros too, below 2 ^ 64
-abbrev pub is_number : List ℕ → Bool
-is_number bytes = (not (length bytes == 0) && all_ascii_digits bytes) && nat_lt (digits_value 10 bytes) (2 ^ 64)
-
--- the number that the digits write
-unfoldable pub number_of : List ℕ → Result ℕ ParseError
-number_of bytes = if is_number bytes then Ok (digits_value 10 bytes) else Err BadNumber
-
--- a text: a quoted word
-unfoldable pub text_of : Word → Result (List ℕ) ParseError
-text_of (Bare bytes) = Err BadArguments
-text_of (Quoted text) = Ok text
-
--- a layer: `#` and its ordinal, or its name as a text
-unfoldable pub layer_of : Word → Result LayerChoice ParseError
-layer_of (Bare []) = Err BadArguments
-layer_of (Bare (b ∷ digits)) = if b == 35 then (number_of digits >>= λ n. Ok (AtOrdinal n)) else Err BadArguments
-layer_of (Quoted text) = Ok (Named text)
+    else (if bytes_eq name (codes "size") then Some keywords.Size
+    else (if bytes_eq name (codes "list") then Some keywords.List
+    else None)))
 
 -- two arguments: the layer, and its new name as a text
 unfoldable pub rename_layer_of : List Word → Result Request ParseError
@@ -58,11 +36,30 @@ unfoldable pub undo_of : List Word → Result Request ParseError
 undo_of [] = Ok Undo
 undo_of (more ∷ others) = Err BadArguments
 
+-- no argument
+unfoldable pub size_request_of : List Word → Result Request ParseError
+size_request_of [] = Ok Size
+size_request_of (more ∷ others) = Err BadArguments
+
+-- nothing, a layer, or a layer and one of its features
+unfoldable pub list_of : List Word → Result Request ParseError
+list_of [] = Ok (Lists Whole)
+list_of (layer ∷ []) = do
+  choice ← layer_of layer
+  Ok (Lists (OneLayer choice))
+list_of (layer ∷ feature ∷ []) = do
+  choice ← layer_of layer
+  chosen ← feature_of feature
+  Ok (Lists (OneFeature choice chosen))
+list_of (layer ∷ feature ∷ more ∷ others) = Err BadArguments
+
 -- what the arguments of a request make of it
 abbrev pub with_arguments : Option Keyword → List Word → Result Request ParseError
 with_arguments None arguments = Err UnknownCommand
 with_arguments (Some keywords.RenameLayer) arguments = rename_layer_of arguments
 with_arguments (Some keywords.Undo) arguments = undo_of arguments
+with_arguments (Some keywords.Size) arguments = size_request_of arguments
+with_arguments (Some keywords.List) arguments = list_of arguments
 
 -- What the words of a line ask for: the first one is bare, and says which request it is. A line of no words has been
 -- left out before.

@@ -7,6 +7,8 @@ ghost use Rattle.tile_script.specs.Line.{keyword_of};
 pub enum Keyword {
     RenameLayer,
     Undo,
+    Size,
+    List,
 }
 
 /// The request that begins with this word.
@@ -18,6 +20,10 @@ pub fn keyword_of(name: &[u8]) -> Option<Keyword>
         Some(Keyword::RenameLayer)
     } else if name == b"undo".as_slice() {
         Some(Keyword::Undo)
+    } else if name == b"size".as_slice() {
+        Some(Keyword::Size)
+    } else if name == b"list".as_slice() {
+        Some(Keyword::List)
     } else {
         None
     }

@@ -1,24 +1,26 @@
-//! Laws on how a line is read.
+//! Laws on how a line is read. That of a line's words is passed on.
 
 ghost use Rattle.std.specs.Prelude.{◌≡◌, ℕ, List, [], ◌∷◌, ◌++◌, Some, Ok, codes, IsTrue};
 ghost use Rattle.std.specs.Str.Parse.{digits_value};
-ghost use Rattle.mvt_command.specs.Command.{AtOrdinal, Named, RenameLayer};
-ghost use Rattle.tile_script.specs.Line.{IsReadable, is_number, answer_to};
-ghost use Rattle.tile_script.specs.Request.{Edit, Undo};
-ghost use Rattle.tile_script.specs.Spelling.{SpellsWords};
-ghost use Rattle.tile_script.specs.Words.{Word, Bare, Quoted, words_of};
+ghost use Rattle.mvt_command.specs.Command.{AtOrdinal, Named, RenameLayer, FeatureAtOrdinal, WithId};
+ghost use Rattle.tile_arguments.specs.Arguments.{is_number};
+ghost use Rattle.tile_request.specs.Request.{Edit, Undo, Size, Lists, Whole, OneLayer, OneFeature};
+ghost use Rattle.tile_script.specs.Line.{IsReadable, answer_to};
+ghost use Rattle.tile_words.specs.Spelling.{SpellsWords};
+ghost use Rattle.tile_words.specs.Words.{Bare, Quoted};
 
-/// A line that is read as words is spelled so, and a line that is spelled so is read as these words. So no line has
-/// two lists of words.
-pub fn words_are_spelled()
-    ensures found { (line : List ℕ) (words : List Word) → words_of line ≡ Some words → SpellsWords line words }
-    ensures only { (line : List ℕ) (words : List Word) → SpellsWords line words → words_of line ≡ Some words }
-{}
+pub use tile_words::laws::words_are_spelled;
 
-/// What three shapes of line ask for: `undo`, and `rename-layer` with a layer's name or its ordinal, and with the new
-/// name.
+/// What some shapes of line ask for: `undo` and `size`, `rename-layer` with a layer's name or its ordinal, and with the
+/// new name, and `list` alone, with a layer's name, with the ordinals of a layer and of a feature, and with a layer's
+/// name and a feature's id.
 pub fn words_ask_for_requests()
     ensures undo { (line : List ℕ) → IsReadable line → SpellsWords line (Bare (codes "undo") ∷ []) → answer_to line ≡ Ok (Some Undo) }
     ensures rename_layer { (line old new : List ℕ) → IsReadable line → SpellsWords line (Bare (codes "rename-layer") ∷ Quoted old ∷ Quoted new ∷ []) → answer_to line ≡ Ok (Some (Edit (RenameLayer (Named old) new))) }
     ensures rename_layer_at { (line digits new : List ℕ) → IsReadable line → IsTrue (is_number digits) → SpellsWords line (Bare (codes "rename-layer") ∷ Bare (codes "#" ++ digits) ∷ Quoted new ∷ []) → answer_to line ≡ Ok (Some (Edit (RenameLayer (AtOrdinal (digits_value 10 digits)) new))) }
+    ensures size { (line : List ℕ) → IsReadable line → SpellsWords line (Bare (codes "size") ∷ []) → answer_to line ≡ Ok (Some Size) }
+    ensures list { (line : List ℕ) → IsReadable line → SpellsWords line (Bare (codes "list") ∷ []) → answer_to line ≡ Ok (Some (Lists Whole)) }
+    ensures list_layer { (line name : List ℕ) → IsReadable line → SpellsWords line (Bare (codes "list") ∷ Quoted name ∷ []) → answer_to line ≡ Ok (Some (Lists (OneLayer (Named name)))) }
+    ensures list_feature_at { (line layer feature : List ℕ) → IsReadable line → IsTrue (is_number layer) → IsTrue (is_number feature) → SpellsWords line (Bare (codes "list") ∷ Bare (codes "#" ++ layer) ∷ Bare feature ∷ []) → answer_to line ≡ Ok (Some (Lists (OneFeature (AtOrdinal (digits_value 10 layer)) (FeatureAtOrdinal (digits_value 10 feature))))) }
+    ensures list_feature_with_id { (line name id : List ℕ) → IsReadable line → IsTrue (is_number id) → SpellsWords line (Bare (codes "list") ∷ Quoted name ∷ Bare (codes "@" ++ id) ∷ []) → answer_to line ≡ Ok (Some (Lists (OneFeature (Named name) (WithId (digits_value 10 id))))) }
 {}

@@ -4,10 +4,8 @@
 mod keyword;
 pub mod laws;
 mod parse;
-mod parse_error;
-mod request;
-mod words;
+mod requests;
 
 pub use parse::{parse_cut, parse_line};
-pub use parse_error::ParseError;
-pub use request::Request;
+pub use tile_request::{Request, What};
+pub use tile_words::ParseError;

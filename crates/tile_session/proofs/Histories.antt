@@ -4,9 +4,8 @@ use Rattle.std.proofs.lemmas.Bool.Decides.{nat_tests}
 use Rattle.std.proofs.lemmas.List.{take_all, take_at}
 use Rattle.mvt_wire.specs.Plain.{Document}
 use Rattle.mvt_command.specs.Command.{Command}
-use Rattle.tile_script.specs.Request.{Undo}
 use Rattle.mvt_edit.specs.Meaning.{applied}
-use Rattle.tile_session.specs.History.{History, IsSound, after, after_all, document_at, present_document, with_command, undone, carried_out}
+use Rattle.tile_session.specs.History.{History, IsSound, after, after_all, document_at, present_document, with_command, undone, taken_back}
 
 after_all-append : (commands more : List Command) (document : Document) → after_all (commands ++ more) document ≡ after_all more (after_all commands document)
 after_all-append [] more document = refl
@@ -40,5 +39,5 @@ pub sound_undone : (history : History) → IsSound history → history.floor < h
 sound_undone history sound above =
     record { some_depth = sound.some_depth; above_floor = omega arith; within_depth = omega arith; within_commands = omega arith }
 
-pub undo_carried_out : (history : History) → history.floor < history.present → carried_out Undo history ≡ Ok (undone history)
-undo_carried_out history above = let apart : (history.present == history.floor) ≡ false = grind (arith, nat_tests) in rw apart refl
+pub undo_taken_back : (history : History) → history.floor < history.present → taken_back history ≡ Ok (undone history)
+undo_taken_back history above = let apart : (history.present == history.floor) ≡ false = grind (arith, nat_tests) in rw apart refl

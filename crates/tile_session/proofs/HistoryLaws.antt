@@ -7,37 +7,38 @@ use Rattle.mvt_wire.specs.TheConstants.{MAX_FILE}
 use Rattle.mvt_wire.specs.Plain.{Document}
 use Rattle.mvt_wire.specs.Wire.{bytes_of}
 use Rattle.mvt_command.specs.Command.{Command}
-use Rattle.tile_script.specs.Request.{Request, Edit, Undo}
 use Rattle.mvt_edit.specs.Meaning.{applied}
-use Rattle.tile_session.specs.History.{History, IsSound, after, after_all, begun, present_document, with_command, undone, edited, carried_out}
+use Rattle.tile_session.specs.History.{History, IsSound, after, after_all, begun, present_document, with_command, undone, edited_to, edited, taken_back}
 use Rattle.tile_session.specs.Laws.{UndoAtOnce, StaysSound, HistoryFits}
 use Rattle.mvt_edit.specs.declared.edit.Refusal.{Refusal}
-use Rattle.tile_session.proofs.Histories.{point_before, sound_with_command, sound_undone, undo_carried_out}
+use Rattle.tile_session.proofs.Histories.{point_before, sound_with_command, sound_undone, undo_taken_back}
 use Rattle.mvt_edit.proofs.EditLaws.{command_fits}
 
 -- ---- undo
 
-made_from : (command : Command) (history after : History) (made : Result Document Refusal) → edited command history made ≡ Ok after → with_command command history ≡ after
+made_from : (command : Command) (history after : History) (made : Result Document Refusal) → edited_to command history made ≡ Ok after → with_command command history ≡ after
 made_from command history after (Ok document) e = cc
 made_from command history after (Err refusal) e = absurd cc
 
-undo_brings_back : (command : Command) (history : History) → IsSound history → (back : History) × (carried_out Undo (with_command command history) ≡ Ok back) × (present_document back ≡ present_document history)
+undo_brings_back : (command : Command) (history : History) → IsSound history → (back : History) × (taken_back (with_command command history) ≡ Ok back) × (present_document back ≡ present_document history)
 undo_brings_back command history sound =
     let after = with_command command history in
     let some = sound.some_depth in
     let above = sound.above_floor in
     let floor : after.floor < after.present = omega arith in
     let point : history.present + 1 - 1 ≡ history.present = omega arith in
-    (undone after, undo_carried_out after floor, rw point (point_before command history sound.within_commands))
+    (undone after, undo_taken_back after floor, rw point (point_before command history sound.within_commands))
 
 pub undo_at_once : UndoAtOnce
-undo_at_once command history edited sound e =
-    rw (← made_from command history edited (applied command (present_document history)) e) (undo_brings_back command history sound)
+undo_at_once command history after sound e =
+    rw (← made_from command history after (applied command (present_document history)) e) (undo_brings_back command history sound)
 
-sound_after : (request : Request) (history after : History) → IsSound history → carried_out request history ≡ Ok after → IsSound after
-sound_after (Edit command) history after sound e =
+sound_after_command : (command : Command) (history after : History) → IsSound history → edited command history ≡ Ok after → IsSound after
+sound_after_command command history after sound e =
     rw (← made_from command history after (applied command (present_document history)) e) (sound_with_command command history sound)
-sound_after Undo history after sound e =
+
+sound_after_undo : (history after : History) → IsSound history → taken_back history ≡ Ok after → IsSound after
+sound_after_undo history after sound e =
     elim (cases_Bool (history.present == history.floor)) [
       | inl at_floor ↦ absurd (let refused = rw at_floor at e in cc)
       | inr not_at ↦ (
@@ -51,7 +52,7 @@ begins_sound : (document : Document) (depth : ℕ) → 1 ≤ depth → IsSound (
 begins_sound document depth some = record { some_depth = some; above_floor = omega arith; within_depth = omega arith; within_commands = omega arith }
 
 pub stays_sound : StaysSound
-stays_sound = (begins_sound, sound_after)
+stays_sound = (begins_sound, sound_after_command, sound_after_undo)
 
 -- ---- the limit
 

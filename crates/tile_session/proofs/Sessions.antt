@@ -1,4 +1,4 @@
--- What a session stands for after a request.
+-- What a session stands for after a command or an undo.
 use Rattle.std.proofs.Common.{◌≡◌, ◌+◌, ◌-◌, ◌<◌, ◌≤◌, true, false, Some, None, option_map, Ok, nat_lt, refl, sym, ap, ◌∙◌, inl, inr, arith}
 use Rattle.std.proofs.lemmas.Bool.{cases_Bool}
 use Rattle.std.proofs.lemmas.Bool.Decides.{nat_tests}
@@ -6,17 +6,13 @@ use Rattle.mvt_wire.specs.Plain as plain
 use Rattle.mvt_wire.specs.Stands.{document_of}
 use Rattle.mvt_wire.specs.declared.Document.{Document}
 use Rattle.mvt_command.specs.Command.{Command}
-use Rattle.tile_script.specs.Request.{Request, Edit, Undo}
 use Rattle.mvt_edit.specs.Meaning.{applied}
-use Rattle.tile_session.specs.History.{History, document_at, present_document, with_command, undone, carried_out}
+use Rattle.tile_session.specs.History.{History, document_at, present_document, with_command, undone, edited, taken_back}
 use Rattle.mvt_edit.specs.Former.{former_of, restored}
 use Rattle.mvt_edit.specs.declared.edit.Former.{Former}
-use Rattle.tile_session.specs.Session.{StandsFor, IsWant, document_before}
-use Rattle.mvt_edit.specs.declared.edit.Refusal.TheVariants.{NoMemory}
-use Rattle.tile_reply.specs.declared.refused.Refused.{Refused}
-use Rattle.tile_reply.specs.declared.refused.Refused.TheVariants as refused
+use Rattle.tile_session.specs.Session.{StandsFor, document_before}
 use Rattle.tile_session.specs.declared.session.Session.{Session}
-use Rattle.tile_session.proofs.Histories.{point_before, present_after, after_accepted, sound_with_command, sound_undone, undo_carried_out}
+use Rattle.tile_session.proofs.Histories.{point_before, present_after, after_accepted, sound_with_command, sound_undone, undo_taken_back}
 
 some_before : (history : History) → history.floor < history.present → document_before history ≡ Some (document_at (history.present - 1) history)
 some_before history above = let yes : nat_lt history.floor history.present ≡ true = grind (arith, nat_tests) in rw yes refl
@@ -29,7 +25,7 @@ above_from_before : (history : History) (document : plain.Document) → Some doc
 above_from_before history document e =
     elim (cases_Bool (nat_lt history.floor history.present)) [ inl less ↦ grind (arith, nat_tests) | inr not_less ↦ absurd (let none = rw not_less at e in cc) ]
 
-pub command_stands : (command : Command) (history : History) (session : Session) (new : Document) (former : Former) → StandsFor session history → applied command (document_of session.document) ≡ Ok (document_of new) → restored (former_of former) (document_of new) ≡ document_of session.document → (after : History) × (carried_out (Edit command) history ≡ Ok after) × StandsFor (record { alloc = session.alloc; document = new; before = Some former }) after
+pub command_stands : (command : Command) (history : History) (session : Session) (new : Document) (former : Former) → StandsFor session history → applied command (document_of session.document) ≡ Ok (document_of new) → restored (former_of former) (document_of new) ≡ document_of session.document → (after : History) × (edited command history ≡ Ok after) × StandsFor (record { alloc = session.alloc; document = new; before = Some former }) after
 command_stands command history session new former stands e back =
     let within = stands.sound.within_commands in
     let made : applied command (present_document history) ≡ Ok (document_of new) = rw (← stands.document) e in
@@ -46,7 +42,7 @@ command_stands command history session new former stands e back =
       },
     )
 
-pub undo_stands : (history : History) (session : Session) (new : Document) (former : Former) → StandsFor session history → session.before ≡ Some former → document_of new ≡ restored (former_of former) (document_of session.document) → (after : History) × (carried_out Undo history ≡ Ok after) × StandsFor (record { alloc = session.alloc; document = new; before = None }) after
+pub undo_stands : (history : History) (session : Session) (new : Document) (former : Former) → StandsFor session history → session.before ≡ Some former → document_of new ≡ restored (former_of former) (document_of session.document) → (after : History) × (taken_back history ≡ Ok after) × StandsFor (record { alloc = session.alloc; document = new; before = None }) after
 undo_stands history session new former stands e back =
     let then = restored (former_of former) (document_of session.document) in
     let kept : Some then ≡ document_before history = ap (option_map (λ former. restored (former_of former) (document_of session.document))) (sym e) ∙ stands.before in
@@ -55,7 +51,7 @@ undo_stands history session new former stands e back =
     let one = stands.one_step in
     let near = stands.sound.within_depth in (
       undone history,
-      undo_carried_out history above,
+      undo_taken_back history above,
       record {
         sound = sound_undone history stands.sound above;
         one_step = stands.one_step;
@@ -63,7 +59,3 @@ undo_stands history session new former stands e back =
         before = sym (none_before (undone history) (omega arith));
       },
     )
-
-pub want_is : (request : Request) (reason : Refused) → IsWant request reason → reason ≡ refused.Edit NoMemory
-want_is (Edit command) reason e = e
-want_is Undo reason e = absurd e

@@ -3,11 +3,9 @@ use Rattle.std.specs.Prelude.{ℕ, ◌+◌, ◌-◌, ◌≤◌, max, List, [], �
 use Rattle.std.specs.Result.{result_unwrap_or}
 use Rattle.mvt_wire.specs.Plain.{Document}
 use Rattle.mvt_command.specs.Command.{Command}
-use Rattle.tile_script.specs.Request.{Request, Edit, Undo}
 use Rattle.mvt_edit.specs.Meaning.{applied}
 use Rattle.mvt_edit.specs.declared.edit.Refusal.{Refusal}
-use Rattle.tile_reply.specs.declared.refused.Refused.{Refused}
-use Rattle.tile_reply.specs.declared.refused.Refused.TheVariants as refused
+use Rattle.tile_session.specs.declared.session.NothingToUndo.{NothingToUndo}
 
 -- The tile at the start, the commands so far, how many of them stand now, the least
 -- number to which undo goes back, and how many steps it goes back at most.
@@ -63,11 +61,19 @@ undone history = record {
   depth = history.depth;
 }
 
-abbrev pub edited : Command → History → Result Document Refusal → Result History Refused
-edited command history (Ok document) = Ok (with_command command history)
-edited command history (Err refusal) = Err (refused.Edit refusal)
+-- the one value of this refusal
+abbrev pub nothing_to_undo : NothingToUndo
+nothing_to_undo = record {}
 
--- the history after a request, or why it is refused
-abbrev pub carried_out : Request → History → Result History Refused
-carried_out (Edit command) history = edited command history (applied command (present_document history))
-carried_out Undo history = if history.present == history.floor then Err refused.NothingToUndo else Ok (undone history)
+-- the history after a command that makes this document, or that is refused so
+abbrev pub edited_to : Command → History → Result Document Refusal → Result History Refusal
+edited_to command history (Ok document) = Ok (with_command command history)
+edited_to command history (Err refusal) = Err refusal
+
+-- the history after a command, or why it is refused
+abbrev pub edited : Command → History → Result History Refusal
+edited command history = edited_to command history (applied command (present_document history))
+
+-- the history with its last command taken back, where undo may go back
+abbrev pub taken_back : History → Result History NothingToUndo
+taken_back history = if history.present == history.floor then Err nothing_to_undo else Ok (undone history)

@@ -4,16 +4,18 @@ use Rattle.mvt_wire.specs.TheConstants.{MAX_FILE}
 use Rattle.mvt_wire.specs.Plain.{Document}
 use Rattle.mvt_wire.specs.Wire.{bytes_of}
 use Rattle.mvt_command.specs.Command.{Command}
-use Rattle.tile_script.specs.Request.{Request, Edit, Undo}
-use Rattle.tile_session.specs.History.{History, IsSound, begun, document_at, present_document, carried_out}
+use Rattle.tile_session.specs.History.{History, IsSound, begun, document_at, present_document, edited, taken_back}
 
 -- An undo right after an accepted command is accepted, and the document is the one before the command.
 abbrev pub UndoAtOnce : Type 0
-UndoAtOnce = (command : Command) (history edited : History) → IsSound history → carried_out (Edit command) history ≡ Ok edited → (back : History) × (carried_out Undo edited ≡ Ok back) × (present_document back ≡ present_document history)
+UndoAtOnce = (command : Command) (history after : History) → IsSound history → edited command history ≡ Ok after → (back : History) × (taken_back after ≡ Ok back) × (present_document back ≡ present_document history)
 
--- A history begins sound, and each accepted request keeps it so.
+-- A history begins sound, and each accepted command keeps it so, and each undo.
 abbrev pub StaysSound : Type 0
-StaysSound = ((document : Document) (depth : ℕ) → 1 ≤ depth → IsSound (begun document depth)) × ((request : Request) (history after : History) → IsSound history → carried_out request history ≡ Ok after → IsSound after)
+StaysSound =
+    ((document : Document) (depth : ℕ) → 1 ≤ depth → IsSound (begun document depth))
+    × ((command : Command) (history after : History) → IsSound history → edited command history ≡ Ok after → IsSound after)
+    × ((history after : History) → IsSound history → taken_back history ≡ Ok after → IsSound after)
 
 -- Where a file can hold the tile at the start, it can hold each tile of the history.
 abbrev pub HistoryFits : Type 0

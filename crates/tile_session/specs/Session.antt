@@ -2,12 +2,12 @@
 use Rattle.std.specs.Prelude.{◌≡◌, ◌-◌, nat_lt, Option, Some, None, option_map, Result, Ok, Err, if◌then◌else◌, ◌⊎◌}
 use Rattle.mvt_wire.specs.Plain as plain
 use Rattle.mvt_wire.specs.Stands.{document_of}
-use Rattle.tile_script.specs.Request.{Request, Edit, Undo}
+use Rattle.mvt_command.specs.Command.{Command}
 use Rattle.mvt_edit.specs.Former.{former_of, restored}
-use Rattle.tile_session.specs.History.{History, IsSound, document_at, present_document, carried_out}
+use Rattle.tile_session.specs.History.{History, IsSound, document_at, present_document, edited, taken_back}
+use Rattle.mvt_edit.specs.declared.edit.Refusal.{Refusal}
 use Rattle.mvt_edit.specs.declared.edit.Refusal.TheVariants.{NoMemory}
-use Rattle.tile_reply.specs.declared.refused.Refused.{Refused}
-use Rattle.tile_reply.specs.declared.refused.Refused.TheVariants as refused
+use Rattle.tile_session.specs.declared.session.NothingToUndo.{NothingToUndo}
 use Rattle.tile_session.specs.declared.session.Session.{Session}
 
 -- the document to which undo goes back
@@ -26,13 +26,13 @@ pub record HoldsSame (old new : Session) : Type 0 where
   pub document : document_of new.document ≡ document_of old.document
   pub before : option_map former_of new.before ≡ option_map former_of old.before
 
--- want of memory, which a command alone may meet
-abbrev pub IsWant : Request → Refused → Type 0
-IsWant (Edit command) reason = reason ≡ refused.Edit NoMemory
-IsWant Undo reason = ⊥
-
--- The request is carried out on the history as it is defined, or refused as it is defined.
+-- The command is carried out on the history as it is defined, or refused as it is defined.
 -- Want of memory, and no other refusal, may come in its place. After a refusal the history is as before.
-abbrev pub Answers : Request → History → Result (Unit {0}) Refused → Session → Type 0
-Answers request history (Ok done) new = (after : History) × (carried_out request history ≡ Ok after) × StandsFor new after
-Answers request history (Err reason) new = (IsWant request reason ⊎ (carried_out request history ≡ Err reason)) × StandsFor new history
+abbrev pub AnswersCommand : Command → History → Result (Unit {0}) Refusal → Session → Type 0
+AnswersCommand command history (Ok done) new = (after : History) × (edited command history ≡ Ok after) × StandsFor new after
+AnswersCommand command history (Err refusal) new = ((refusal ≡ NoMemory) ⊎ (edited command history ≡ Err refusal)) × StandsFor new history
+
+-- The last command is taken back as it is defined, or there is nothing to take back, and the history is as before.
+abbrev pub AnswersUndo : History → Result (Unit {0}) NothingToUndo → Session → Type 0
+AnswersUndo history (Ok done) new = (after : History) × (taken_back history ≡ Ok after) × StandsFor new after
+AnswersUndo history (Err nothing) new = (taken_back history ≡ Err nothing) × StandsFor new history

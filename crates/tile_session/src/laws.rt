@@ -7,7 +7,7 @@ pub fn undo_at_once()
     ensures { UndoAtOnce }
 {}
 
-/// In each history that requests make, the undo of the last command is at hand.
+/// In each history that commands and undo make, the undo of the last command is at hand.
 pub fn stays_sound()
     ensures { StaysSound }
 {}

@@ -1,7 +1,7 @@
-//! A document that requests edit, and what undo brings back.
+//! A document that commands edit, and what undo brings back.
 #![tactic(auto)]
 
 pub mod laws;
 mod session;
 
-pub use session::Session;
+pub use session::{NothingToUndo, Session};

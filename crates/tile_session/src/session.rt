@@ -3,16 +3,18 @@
 ghost use Rattle.std.specs.Prelude.{◌≡◌, OnErr};
 ghost use Rattle.mvt_wire.specs.Stands.{document_of};
 ghost use Rattle.mvt_command.specs.CommandStands.{command_of};
-ghost use Rattle.tile_script.specs.RequestStands.{request_of};
-ghost use Rattle.tile_script.specs.Request.{Edit, Undo};
 ghost use Rattle.tile_session.specs.History.{History, begun, present_document};
-ghost use Rattle.tile_session.specs.Session.{StandsFor, HoldsSame, Answers};
+ghost use Rattle.tile_session.specs.Session.{StandsFor, HoldsSame, AnswersCommand, AnswersUndo};
 
-use mvt_edit::{Command, Former, apply, put_back};
+use mvt_edit::{Command, Former, Refusal, apply, put_back};
 use mvt_wire::Document;
 use std::alloc::Global;
-use tile_reply::Refused;
-use tile_script::Request;
+use thiserror::Error;
+
+/// Why an undo was refused.
+#[derive(Clone, Copy, Debug, PartialEq, Eq, Error)]
+#[error("there is nothing to undo")]
+pub struct NothingToUndo;
 
 /// A document, and what its last command took out.
 #[derive(Drop)]
@@ -23,7 +25,7 @@ pub struct Session {
 }
 
 impl Session {
-    /// A session of a document that no request has edited.
+    /// A session of a document that no command has edited.
     pub fn start(alloc: Global, document: Document) -> Session
         ensures { StandsFor result (begun (document_of document) 1) }
     {
@@ -42,21 +44,10 @@ impl Session {
         &self.document
     }
 
-    /// Carries out a request.
-    pub fn carry_out(&mut self, request: &Request) -> Result<(), Refused>
+    /// Carries out a command.
+    pub fn command(&mut self, command: &Command) -> Result<(), Refusal>
         ensures answer { (history : History) → StandsFor self.old history →
-            Answers (request_of request.now) history result self.new }
-        ensures err { OnErr result (HoldsSame self.old self.new) }
-    {
-        match request {
-            Request::Edit(command) => self.command(command),
-            Request::Undo => self.undo(),
-        }
-    }
-
-    fn command(&mut self, command: &Command) -> Result<(), Refused>
-        ensures answer { (history : History) → StandsFor self.old history →
-            Answers (Edit (command_of command.now)) history result self.new }
+            AnswersCommand (command_of command.now) history result self.new }
         ensures err { OnErr result (HoldsSame self.old self.new) }
     {
         let former = apply(self.alloc, &mut self.document, command)?;
@@ -64,9 +55,10 @@ impl Session {
         Ok(())
     }
 
-    fn undo(&mut self) -> Result<(), Refused>
+    /// Takes the last command back.
+    pub fn undo(&mut self) -> Result<(), NothingToUndo>
         ensures answer { (history : History) → StandsFor self.old history →
-            Answers Undo history result self.new }
+            AnswersUndo history result self.new }
         ensures err { OnErr result (HoldsSame self.old self.new) }
     {
         match self.before.take() {
@@ -74,7 +66,7 @@ impl Session {
                 put_back(&mut self.document, former);
                 Ok(())
             }
-            None => Err(Refused::NothingToUndo),
+            None => Err(NothingToUndo),
         }
     }
 }

@@ -6,11 +6,15 @@ mod in_memory;
 mod program;
 
 pub use in_memory::{Edited, edit};
-pub use mvt_edit::{Command, LayerChoice, Refusal, laws as edit_laws};
+pub use mvt_command::{Command, FeatureChoice, LayerChoice};
+pub use mvt_edit::{Refusal, laws as edit_laws};
 pub use mvt_wire::laws as wire_laws;
 pub use program::shell;
 pub use tile_device::{FromRead, FromWrite, Retries, Sink, Source, Trouble};
 pub use tile_lines::laws as line_laws;
+pub use tile_listing::{laws as listing_laws, listing};
 pub use tile_reply::Refused;
+pub use tile_request::{Request, What};
 pub use tile_run::{DeviceName, MAX_RETRIES, MAX_SCRIPT, Options, Outcome, TileFault, laws, run};
-pub use tile_script::{ParseError, Request, laws as script_laws, parse_line};
+pub use tile_script::{ParseError, laws as script_laws, parse_line};
+pub use tile_text::{laws as text_laws, quote};

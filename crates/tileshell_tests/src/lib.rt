@@ -2,17 +2,27 @@
 #![tactic(auto)]
 
 #[cfg(test)]
+mod answer;
+#[cfg(test)]
+mod arguments;
+#[cfg(test)]
 mod console;
 #[cfg(test)]
 mod devices;
 #[cfg(test)]
 mod drip;
 #[cfg(test)]
+mod geometry;
+#[cfg(test)]
 mod groups;
 #[cfg(test)]
 mod limits;
 #[cfg(test)]
+mod listing;
+#[cfg(test)]
 mod memory;
+#[cfg(test)]
+mod numbers;
 #[cfg(test)]
 mod order;
 #[cfg(test)]
@@ -22,7 +32,11 @@ mod rows;
 #[cfg(test)]
 mod script;
 #[cfg(test)]
+mod selection;
+#[cfg(test)]
 mod std_devices;
+#[cfg(test)]
+mod texts;
 #[cfg(test)]
 mod tiles;
 #[cfg(test)]

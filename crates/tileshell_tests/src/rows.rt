@@ -1,7 +1,7 @@
 //! Scripts on small tiles, with the replies and the tile that they give.
 
 use crate::memory::{Wanted, assert_runs, joined};
-use crate::tiles::{BEHIND_NAME, RENAME, ROADS, T0};
+use crate::tiles::{BEHIND_NAME, RENAME, ROADS, SAME_FEATURES, T0, TWO_FEATURES};
 use std::process::Abort;
 use std::test::Fail;
 use tileshell::{Outcome, TileFault};
@@ -146,5 +146,88 @@ fn what_is_no_tile_is_refused(rt: HostRuntime) -> Result<(), Fail> {
         };
         assert_runs(&rt, file, b"undo\n", want);
     }
+    Ok(())
+}
+
+#[test]
+fn a_tile_a_layer_and_a_feature_are_listed(rt: HostRuntime) {
+    let replies = b"layers 1
+layer 0 \"a\" version 2 extent 4096 features 1 keys 1 values 1
+ok
+layer 0 \"a\" version 2 extent 4096 features 1 keys 1 values 1
+key 0 \"k\"
+value 0 int 5
+feature 0 id 1 point
+ok
+feature 0 id 1 point
+attribute \"k\" int 5
+geometry point 25,17
+ok
+";
+    assert_done(&rt, &T0, b"list\nlist #0\nlist \"a\" @1\n", replies, &T0);
+}
+
+#[test]
+fn an_empty_layer_is_listed(rt: HostRuntime) {
+    let replies = b"layers 1
+layer 0 - version 1 extent 4096 features 0 keys 0 values 0
+ok
+";
+    assert_done(&rt, b"\x1a\x00", b"list\n", replies, b"\x1a\x00");
+}
+
+#[test]
+fn what_cannot_be_read_is_listed_so(rt: HostRuntime) {
+    let replies = b"feature 1 id - point
+attributes unreadable
+geometry point 25,17
+ok
+line 2 refused 22 NoFeature
+line 3 refused 20 NoLayer
+";
+    let script = b"list #0 1\nlist #0 2\nlist \"b\"\n";
+    assert_some_refused(&rt, TWO_FEATURES, script, replies, TWO_FEATURES);
+}
+
+#[test]
+fn what_is_there_twice_is_not_listed(rt: HostRuntime) -> Result<(), Fail> {
+    let feature = b"line 1 refused 25 AmbiguousFeature\n";
+    assert_some_refused(&rt, SAME_FEATURES, b"list #0 @1\n", feature, SAME_FEATURES);
+    let twice = joined(rt.alloc(), &[&T0, &T0])?;
+    let layer = b"line 1 refused 21 AmbiguousLayer\n";
+    assert_some_refused(&rt, &twice, b"list \"a\"\n", layer, &twice);
+    Ok(())
+}
+
+#[test]
+fn what_is_told_is_of_the_tile_as_it_stands(rt: HostRuntime) {
+    let replies = b"size 32
+ok
+ok
+size 36
+ok
+layers 1
+layer 0 \"roads\" version 2 extent 4096 features 1 keys 1 values 1
+ok
+ok
+size 32
+ok
+";
+    let script = b"size\nrename-layer \"a\" \"roads\"\nsize\nlist\nundo\nsize\n";
+    assert_done(&rt, &T0, script, replies, &T0);
+}
+
+#[test]
+fn a_text_in_hexadecimal_digits_need_not_be_utf8(rt: HostRuntime) -> Result<(), Fail> {
+    let replies = b"ok
+layers 1
+layer 0 x:ff version 2 extent 4096 features 1 keys 1 values 1
+ok
+";
+    let named = joined(
+        rt.alloc(),
+        &[b"\x1a\x1e\x0a\x01\xff".as_slice(), BEHIND_NAME.as_slice()],
+    )?;
+    assert_done(&rt, &T0, b"rename-layer #0 x:Ff\nlist\n", replies, &named);
     Ok(())
 }

@@ -2,7 +2,8 @@
 
 use std::test::Fail;
 use tile_lines::{Cut, LineCutter};
-use tile_script::{ParseError, Request, parse_line};
+use tile_request::Request;
+use tile_script::{ParseError, parse_line};
 use tileshell::{Command, LayerChoice};
 
 const REFUSED: [(&[u8], ParseError); 13] = [
@@ -21,7 +22,7 @@ const REFUSED: [(&[u8], ParseError); 13] = [
     (b"rename-layer #x \"a\"", ParseError::BadNumber),
     (b"rename-layer # x", ParseError::BadNumber),
     (b"rename-layer a \"b\"", ParseError::BadArguments),
-    (b"rename-layer x:61 \"b\"", ParseError::BadArguments),
+    (b"rename-layer x:6 \"b\"", ParseError::BadArguments),
 ];
 
 #[test]

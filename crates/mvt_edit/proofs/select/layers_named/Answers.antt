@@ -1,35 +1,28 @@
-use Rattle.std.proofs.Common.{◌≡◌, ◌+◌, length, length-append, ◌∙◌, ap, sym, arith, [], ◌∷◌}
-use Rattle.mvt_wire.specs.Stands.{layer_of}
-use Rattle.mvt_edit.specs.Selection.{the_one, layers, ordinals_of}
-use Rattle.mvt_edit.proofs.Named.{tile_to, layers_with_layer, layers_with_field, ordinals_with, ordinals_same}
+use Rattle.std.proofs.Common.{ap, ◌∙◌}
+use Rattle.std.proofs.lemmas.Iterator.Consumers.{YieldsList-at, YieldsList-end, YieldsList-from_enumerate, YieldsList-from_first}
+use Rattle.mvt_view.specs.Seen.{layer_seen}
+use Rattle.mvt_edit.proofs.Named.{layer_is, named_among, numbered, one_more}
+use Rattle.mvt_edit.proofs.SelectionLemmas.{one_layer}
 use Rattle.mvt_edit.proofs.select.layers_named.Goals as goal
-use Rattle.mvt_edit.proofs.select.layers_named.Goals.{in-Layer, in_default}
 
-pub loop-item-preserved : goal.loop-item-preserved
-loop-item-preserved c =
-    let kept = c.loop-item.invariant in
-    elim c.match-item.branch [
-      | in-Layer w ↦ (
-          let more = layers_with_layer c.args.items.now c.loop-item.item-index w.in-Layer.layer c.loop-item-test.true (rw w.in-Layer.is at c.item-item.is) in
-          let before = tile_to c.loop-item.item-index c.args.items.now in
-          let after = tile_to (c.loop-item.item-index + 1) c.args.items.now in
-          let count : length (layers after) ≡ length (layers before) + 1 = ap length more ∙ length-append (layers before) (layer_of w.in-Layer.layer ∷ []) in
-          record {
-            within = omega (arith, w.ordinal-is, kept.within);
-            ordinal = omega (arith, w.ordinal-is, kept.ordinal, count);
-            one = w.of_one-is ∙ w.and_layer-of_one.ensures (ordinals_of c.args.one.now before) kept.one ∙ rw (rw w.name_of-text.ensures at w.is_text.ensures, kept.ordinal) (ap the_one (sym (ordinals_with c.args.one.now before after (layer_of w.in-Layer.layer) more)));
-            other = w.of_other-is ∙ w.and_layer-of_other.ensures (ordinals_of c.args.other.now before) kept.other ∙ rw (rw w.name_of-text.ensures at w.is_text-in-Layer.ensures, kept.ordinal) (ap the_one (sym (ordinals_with c.args.other.now before after (layer_of w.in-Layer.layer) more)));
-          }
-          )
-      | in_default w ↦ (
-          let before = tile_to c.loop-item.item-index c.args.items.now in
-          let after = tile_to (c.loop-item.item-index + 1) c.args.items.now in
-          let same = layers_with_field c.args.items.now c.loop-item.item-index w.in_default.field-0 c.loop-item-test.true (rw w.in_default.is at c.item-item.is) in
-          record {
-            within = omega (arith, w.ordinal-is, kept.within);
-            ordinal = w.ordinal-is ∙ kept.ordinal ∙ ap length (sym same);
-            one = w.of_one-is ∙ kept.one ∙ ap the_one (ordinals_same c.args.one.now before after (sym same));
-            other = w.of_other-is ∙ kept.other ∙ ap the_one (ordinals_same c.args.other.now before after (sym same));
-          }
-          )
-    ]
+pub loop-ordinal-preserved : goal.loop-ordinal-preserved
+loop-ordinal-preserved c =
+    let kept = c.loop-ordinal.invariant in
+    let layer = layer_seen c.in-Some.layer in
+    record {
+      one = one_more c.args.one.now c.loop-ordinal.yielded c.in-Some.ordinal c.in-Some.layer c.eq.result c.and_layer-of_one.result
+          (layer_is c.name-name.result c.args.one layer c.eq.result c.name-name.ensures c.eq.ensures)
+          (c.and_layer-of_one.ensures (named_among c.args.one.now (numbered c.loop-ordinal.yielded)) kept.one);
+      other = one_more c.args.other.now c.loop-ordinal.yielded c.in-Some.ordinal c.in-Some.layer c.eq-in-loop-ordinal.result c.and_layer-of_other.result
+          (layer_is c.name-name.result c.args.other layer c.eq-in-loop-ordinal.result c.name-name.ensures c.eq-in-loop-ordinal.ensures)
+          (c.and_layer-of_other.ensures (named_among c.args.other.now (numbered c.loop-ordinal.yielded)) kept.other);
+    }
+
+pub returns : goal.returns
+returns c =
+    let all = YieldsList-from_enumerate (YieldsList-at c.enumerate-ordinal-items.ensures.source (YieldsList-from_first layer_seen (λ left. left) _ c.layers.ensures.items)) c.enumerate-ordinal-items.ensures.count in
+    let came = YieldsList-end (YieldsList-at c.into_iter-ordinal-iterator.ensures.into_iter_gives all) c.loop-ordinal.yielded _ c.loop-ordinal.yielded_by _ _ c.in-None.is c.next.ensures.steps in
+    record {
+      one = c.loop-ordinal.invariant.one ∙ ap (λ seen. one_layer (named_among c.args.one.now seen)) came.0;
+      other = c.loop-ordinal.invariant.other ∙ ap (λ seen. one_layer (named_among c.args.other.now seen)) came.0;
+    }

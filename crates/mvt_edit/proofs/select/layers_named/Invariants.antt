@@ -1,13 +1,10 @@
-use Rattle.std.proofs.Common.{◌≡◌, ◌≤◌, length}
-use Rattle.mvt_command.specs.Command.{Named}
-use Rattle.mvt_edit.specs.Selection.{layers, selected}
-use Rattle.mvt_edit.proofs.Named.{tile_to}
+use Rattle.std.proofs.Common.{◌≡◌}
+use Rattle.mvt_edit.proofs.Named.{named_among, numbered}
+use Rattle.mvt_edit.proofs.SelectionLemmas.{one_layer}
 use Rattle.mvt_edit.proofs.select.layers_named.Given as goal
 
-abbrev pub invariant-loop-item : goal.invariant-loop-item
-invariant-loop-item l = record {
-  within : l.ordinal ≤ l.item-index;
-  ordinal : l.ordinal ≡ length (layers (tile_to l.item-index l.items));
-  one : l.of_one ≡ selected (Named l.one) (tile_to l.item-index l.items);
-  other : l.of_other ≡ selected (Named l.other) (tile_to l.item-index l.items);
+abbrev pub invariant-loop-ordinal : goal.invariant-loop-ordinal
+invariant-loop-ordinal l = record {
+  one : l.of_one ≡ one_layer (named_among l.one (numbered l.yielded));
+  other : l.of_other ≡ one_layer (named_among l.other (numbered l.yielded));
 }

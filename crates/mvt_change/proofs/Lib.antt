@@ -1,0 +1,5 @@
+pub mod Splicing
+pub mod Lenses
+pub mod Turning
+pub mod Weighing
+pub mod Changed

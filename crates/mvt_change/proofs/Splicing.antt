@@ -1,0 +1,126 @@
+-- A list with a part replaced or an item moved: what leads back, its length, and its items.
+use Rattle.std.proofs.Common.{◌≡◌, ℕ, zero, suc, ◌+◌, ◌<◌, ◌≤◌, List, [], ◌∷◌, ◌++◌, length, length-append, length-drop, take, drop, take-append-drop, append_assoc, refl, sym, ap, ◌∙◌, arith}
+use Rattle.std.proofs.lemmas.List.{length-take-le, take_at, drop_at, drop-drop}
+use Rattle.std.specs.List.{AllByRecursion}
+use Rattle.mvt_wire.specs.Splicing.{part, splice, moved}
+use Rattle.mvt_change.specs.Lists.{CanSplice, CanMove}
+
+pub length-part : {A : Type 0} (index count : ℕ) (items : List A) → index + count ≤ length items → length (part index count items) ≡ count
+length-part index count items within = length-take-le count (drop index items) (omega (arith, length-drop index items))
+
+pub length-splice : {A : Type 0} (index taken : ℕ) (put items : List A) → index + taken ≤ length items → length (splice index taken put items) + taken ≡ length items + length put
+length-splice index taken put items within =
+    omega (arith, length-append (take index items ++ put) (drop (index + taken) items), length-append (take index items) put, length-take-le index items (omega arith), length-drop (index + taken) items)
+
+length_front : {A : Type 0} (index : ℕ) (put items : List A) → index ≤ length items → length (take index items ++ put) ≡ index + length put
+length_front index put items within = length-append (take index items) put ∙ ap (λ n. n + length put) (length-take-le index items within)
+
+-- the front stays, and so does what is behind
+take-splice : {A : Type 0} (index taken : ℕ) (put items : List A) → index ≤ length items → take index (splice index taken put items) ≡ take index items
+take-splice index taken put items within =
+    ap (take index) (append_assoc (take index items) put (drop (index + taken) items)) ∙ take_at (take index items) (put ++ drop (index + taken) items) index (length-take-le index items within)
+
+drop-splice : {A : Type 0} (index taken : ℕ) (put items : List A) → index ≤ length items → drop (index + length put) (splice index taken put items) ≡ drop (index + taken) items
+drop-splice index taken put items within =
+    drop_at (take index items ++ put) (drop (index + taken) items) (index + length put) (length_front index put items within)
+
+pub part-splice : {A : Type 0} (index taken : ℕ) (put items : List A) → index ≤ length items → part index (length put) (splice index taken put items) ≡ put
+part-splice index taken put items within =
+    ap (λ xs. take (length put) (drop index xs)) (append_assoc (take index items) put (drop (index + taken) items))
+    ∙ ap (take (length put)) (drop_at (take index items) (put ++ drop (index + taken) items) index (length-take-le index items within))
+    ∙ take_at put (drop (index + taken) items) (length put) refl
+
+-- the front, a part and the rest are the list
+pieces_join : {A : Type 0} (index taken : ℕ) (items : List A) → take index items ++ part index taken items ++ drop (index + taken) items ≡ items
+pieces_join index taken items =
+    append_assoc (take index items) (part index taken items) (drop (index + taken) items)
+    ∙ ap (λ rest. take index items ++ (part index taken items ++ rest)) (sym (drop-drop taken index items))
+    ∙ ap (λ rest. take index items ++ rest) (take-append-drop taken (drop index items))
+    ∙ take-append-drop index items
+
+-- what was taken out put back for what was put
+pub splice-back : {A : Type 0} (index taken : ℕ) (put items : List A) → index ≤ length items → splice index (length put) (part index taken items) (splice index taken put items) ≡ items
+splice-back index taken put items within =
+    ap (λ front. front ++ part index taken items ++ drop (index + length put) (splice index taken put items)) (take-splice index taken put items within)
+    ∙ ap (λ rest. take index items ++ part index taken items ++ rest) (drop-splice index taken put items within)
+    ∙ pieces_join index taken items
+
+-- ---- an item that moves
+
+-- the list without the item
+abbrev pub without : {A : Type 0} → ℕ → List A → List A
+without from items = splice from 1 [] items
+
+length-without : {A : Type 0} (from : ℕ) (items : List A) → from < length items → length (without from items) + 1 ≡ length items
+length-without from items there = omega (arith, length-splice from 1 [] items (omega arith))
+
+pub length-moved : {A : Type 0} (from to : ℕ) (items : List A) → CanMove from to items → length (moved from to items) ≡ length items
+length-moved from to items can =
+    let there : from < length items = can.there in
+    let within : to < length items = can.within in
+    let rest = length-without from items there in
+    omega (arith, length-splice to 0 (part from 1 items) (without from items) (omega arith), length-part from 1 items (omega arith))
+
+part-moved : {A : Type 0} (from to : ℕ) (items : List A) → CanMove from to items → part to 1 (moved from to items) ≡ part from 1 items
+part-moved from to items can =
+    let there : from < length items = can.there in
+    let within : to < length items = can.within in
+    let rest = length-without from items there in
+    let one : length (part from 1 items) ≡ 1 = length-part from 1 items (omega arith) in
+    ap (λ n. part to n (moved from to items)) (sym one) ∙ part-splice to 0 (part from 1 items) (without from items) (omega arith)
+
+without-moved : {A : Type 0} (from to : ℕ) (items : List A) → CanMove from to items → without to (moved from to items) ≡ without from items
+without-moved from to items can =
+    let there : from < length items = can.there in
+    let within : to < length items = can.within in
+    let rest = length-without from items there in
+    let one : length (part from 1 items) ≡ 1 = length-part from 1 items (omega arith) in
+    ap (λ n. splice to n [] (moved from to items)) (sym one)
+    ∙ splice-back to 0 (part from 1 items) (without from items) (omega arith)
+
+pub moved-back : {A : Type 0} (from to : ℕ) (items : List A) → CanMove from to items → moved to from (moved from to items) ≡ items
+moved-back from to items can =
+    let there : from < length items = can.there in
+    ap (λ item. splice from 0 item (without to (moved from to items))) (part-moved from to items can)
+    ∙ ap (λ rest. splice from 0 (part from 1 items) rest) (without-moved from to items can)
+    ∙ splice-back from 1 [] items (omega arith)
+
+-- ---- what holds of each item
+
+pub all_take : {A : Type 0} (P : A → Type 0) (n : ℕ) (items : List A) → AllByRecursion P items → AllByRecursion P (take n items)
+all_take P zero items all = tt
+all_take P (suc n) [] all = tt
+all_take P (suc n) (x ∷ items) all = (all.0, all_take P n items all.1)
+
+pub all_drop : {A : Type 0} (P : A → Type 0) (n : ℕ) (items : List A) → AllByRecursion P items → AllByRecursion P (drop n items)
+all_drop P zero items all = all
+all_drop P (suc n) [] all = tt
+all_drop P (suc n) (x ∷ items) all = all_drop P n items all.1
+
+pub all_append : {A : Type 0} (P : A → Type 0) (xs ys : List A) → AllByRecursion P xs → AllByRecursion P ys → AllByRecursion P (xs ++ ys)
+all_append P [] ys first second = second
+all_append P (x ∷ xs) ys first second = (first.0, all_append P xs ys first.1 second)
+
+pub all_part : {A : Type 0} (P : A → Type 0) (index count : ℕ) (items : List A) → AllByRecursion P items → AllByRecursion P (part index count items)
+all_part P index count items all = all_take P count (drop index items) (all_drop P index items all)
+
+pub all_splice : {A : Type 0} (P : A → Type 0) (index taken : ℕ) (put items : List A) → AllByRecursion P put → AllByRecursion P items → AllByRecursion P (splice index taken put items)
+all_splice P index taken put items new all =
+    all_append P (take index items ++ put) (drop (index + taken) items) (all_append P (take index items) put (all_take P index items all) new) (all_drop P (index + taken) items all)
+
+pub all_moved : {A : Type 0} (P : A → Type 0) (from to : ℕ) (items : List A) → AllByRecursion P items → AllByRecursion P (moved from to items)
+all_moved P from to items all =
+    all_splice P to 0 (part from 1 items) (without from items) (all_part P from 1 items all) (all_splice P from 1 [] items tt all)
+
+-- ---- a step on a list fits again, turned
+
+pub can_splice_back : {A : Type 0} (P : A → Type 0) (index taken : ℕ) (put items : List A) → AllByRecursion P items → CanSplice P index taken put items → CanSplice P index (length put) (part index taken items) (splice index taken put items)
+can_splice_back P index taken put items all can =
+    let within : index + taken ≤ length items = can.within in
+    record { within = omega (arith, length-splice index taken put items within); valid_put = all_part P index taken items all }
+
+pub can_move_back : {A : Type 0} (from to : ℕ) (items : List A) → CanMove from to items → CanMove to from (moved from to items)
+can_move_back from to items can =
+    let there : from < length items = can.there in
+    let within : to < length items = can.within in
+    record { there = omega (arith, length-moved from to items can); within = omega (arith, length-moved from to items can) }

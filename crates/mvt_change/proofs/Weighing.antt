@@ -1,0 +1,91 @@
+-- Valid items have at least two bytes: a tag has one, and so has a body.
+use Rattle.std.proofs.Common.{◌≡◌, ℕ, zero, suc, ◌+◌, ◌/◌, ◌<◌, ◌≤◌, max, Option, Some, None, List, [], ◌∷◌, ◌++◌, length, length-append, get_or, take, map, refl, sym, ap, ◌∙◌, arith}
+use Rattle.std.specs.List.{AllByRecursion, flat_map, sum_by}
+use Rattle.std.specs.Option.{IsSomeAnd}
+use Rattle.std.proofs.lemmas.List.{length-map, take-map, get_or-map}
+use Rattle.std.proofs.lemmas.List.Sums.{sum_by-cons, sum_by_more, sum_by-take-le}
+use Rattle.mvt_wire.specs.TheConstants.{MAX_GROUPS}
+use Rattle.mvt_wire.specs.Plain.{Number, Body, Spelled, Eight, Four, Delimited, Group, OfFeature, PlainInLayer, OfLayer, PlainInTile, Document}
+use Rattle.mvt_wire.specs.Wire.{spell, minimal_width, spelling, delimited, body_bytes, field_bytes, layer_item_bytes, tile_item_bytes}
+use Rattle.mvt_wire.specs.Groups.{IsNumber, IsBodyWith, IsGroupWithin, IsGroup}
+use Rattle.mvt_wire.specs.Opens.{IsField, IsLayerItem, IsTileItem}
+use Rattle.mvt_wire.proofs.Spelling.{length-spell, spelling_some, minimal_width_some}
+use Rattle.mvt_change.specs.Lists.{CanSplice}
+use Rattle.mvt_change.specs.Places.{items_at, fields_at}
+use Rattle.mvt_change.specs.Changes.{Step, TileStep, LayerStep, FeatureStep, MoveStep, go_step, FitsStep, step_weight, put_count}
+use Rattle.mvt_change.specs.Laws.{FieldWeighs, LayerItemWeighs, TileItemWeighs, NothingPut}
+
+number_weighs : (n : Number) → IsNumber n → 1 ≤ length (spelling n)
+number_weighs n valid = omega (arith, length-spell n.value n.width, spelling_some n.value n.width valid)
+
+delimited_weighs : (width : ℕ) (bytes : List ℕ) → 1 ≤ length (delimited width bytes)
+delimited_weighs width bytes =
+    let room = max width (minimal_width (length bytes)) in
+    omega (arith, length-append (spell (length bytes) room) bytes, length-spell (length bytes) room, minimal_width_some (length bytes))
+
+group_weighs : (levels number : ℕ) (bytes : List ℕ) → IsGroupWithin levels number bytes → 1 ≤ length bytes
+unfolding IsGroupWithin
+group_weighs zero number bytes valid = absurd valid
+group_weighs (suc levels) number bytes valid =
+    let end = number_weighs valid.last valid.ends.spelled in
+    let whole = ap length valid.spelled in
+    omega (arith, end, whole, length-append (flat_map field_bytes valid.fields) (spelling valid.last))
+
+body_weighs : (number : ℕ) (body : Body) → IsBodyWith IsGroup number body → 1 ≤ length (body_bytes body)
+body_weighs number (Spelled value) valid = number_weighs value valid
+body_weighs number (Eight bytes) valid = omega (arith, valid)
+body_weighs number (Four bytes) valid = omega (arith, valid)
+body_weighs number (Delimited width bytes) valid = delimited_weighs width bytes
+body_weighs number (Group bytes) valid = group_weighs MAX_GROUPS number bytes valid
+
+pub field_weighs : FieldWeighs
+field_weighs field valid =
+    let tag = number_weighs field.tag valid.number in
+    let body = body_weighs (field.tag.value / 8) field.body valid.body in
+    omega (arith, tag, body, length-append (spelling field.tag) (body_bytes field.body))
+
+message_weighs : (tag : Number) (width : ℕ) (bytes : List ℕ) → IsNumber tag → 2 ≤ length (spelling tag ++ delimited width bytes)
+message_weighs tag width bytes valid =
+    omega (arith, number_weighs tag valid, delimited_weighs width bytes, length-append (spelling tag) (delimited width bytes))
+
+pub layer_item_weighs : LayerItemWeighs
+layer_item_weighs (OfFeature feature) valid = message_weighs feature.tag feature.width (flat_map field_bytes feature.fields) valid.number
+layer_item_weighs (PlainInLayer field) valid = field_weighs field valid.0
+
+pub tile_item_weighs : TileItemWeighs
+tile_item_weighs (OfLayer layer) valid = message_weighs layer.tag layer.width (flat_map layer_item_bytes layer.items) valid.number
+tile_item_weighs (PlainInTile field) valid = field_weighs field valid.0
+
+-- ---- items that have no bytes are none
+
+none_put : {A : Type 0} (bytes : A → List ℕ) (P : A → Type 0) → ((x : A) → P x → 2 ≤ length (bytes x)) → (put : List A) → AllByRecursion P put → length (flat_map bytes put) ≡ 0 → length put ≡ 0
+none_put bytes P weighs [] valid nothing = refl
+none_put bytes P weighs (x ∷ put) valid nothing = absurd (omega (arith, weighs x valid.0, length-append (bytes x) (flat_map bytes put)))
+
+valid_of : {A : Type 0} (P : A → Type 0) (index taken : ℕ) (put : List A) (o : Option (List A)) → IsSomeAnd o (CanSplice P index taken put) → AllByRecursion P put
+valid_of P index taken put None can = absurd can
+valid_of P index taken put (Some items) can = can.valid_put
+
+step_puts_nothing : (step : Step) (document : Document) → FitsStep step document → step_weight step ≡ 0 → put_count step ≡ 0
+step_puts_nothing (TileStep index taken put) document fits nothing = none_put tile_item_bytes IsTileItem tile_item_weighs put fits.valid_put nothing
+step_puts_nothing (LayerStep layer index taken put) document fits nothing =
+    none_put layer_item_bytes IsLayerItem layer_item_weighs put (valid_of IsLayerItem index taken put (items_at layer document) fits) nothing
+step_puts_nothing (FeatureStep layer item index taken put) document fits nothing =
+    none_put field_bytes IsField field_weighs put (valid_of IsField index taken put (fields_at layer item document) fits) nothing
+step_puts_nothing (MoveStep place from to) document fits nothing = refl
+
+pub nothing_put : NothingPut
+nothing_put [] document fits nothing = tt
+nothing_put (step ∷ change) document fits nothing =
+    let sum = sum_by-cons step_weight step change in
+    (step_puts_nothing step document fits.0 (omega (arith, sum, nothing)), nothing_put change (go_step step document) fits.1 (omega (arith, sum, nothing)))
+
+-- ---- a sum over steps
+
+-- the steps before one and that step weigh no more than all
+pub sum_with_next : {X Y : Type 0} (weigh : Y → ℕ) (stands : X → Y) (xs : List X) (i : ℕ) (x : X) → i < length xs → x ≡ get_or xs i x → sum_by weigh (map stands (take i xs)) + weigh (stands x) ≤ sum_by weigh (map stands xs)
+sum_with_next weigh stands xs i x inside is =
+    let more = sum_by_more weigh (map stands xs) i (stands x) (omega (arith, inside, length-map xs stands)) in
+    let front = ap (sum_by weigh) (take-map stands i xs) in
+    let item = ap weigh (get_or-map stands xs i x (stands x) inside ∙ ap stands (sym is)) in
+    omega (arith, more, front, item, sum_by-take-le weigh (map stands xs) (i + 1))

@@ -1,0 +1,21 @@
+use Rattle.std.proofs.Common.{List, map, is_ok, ap, ◌∙◌}
+use Rattle.mvt_wire.specs.Plain.{Field, LayerItem, OfFeature}
+use Rattle.mvt_wire.specs.Stands.{number_of, field_of}
+use Rattle.mvt_wire.specs.Splicing.{splice}
+use Rattle.mvt_change.proofs.Changed.{apply_cond, spliced_or_kept, part_or_kept}
+use Rattle.mvt_change.proofs.exchange.exchange_fields.Goals as goal
+
+pub returns-clause-item : goal.returns-clause-item
+returns-clause-item c =
+    let feature = c.in-Feature.feature in
+    let with : List Field → LayerItem = λ items. OfFeature (record { tag = number_of feature.tag; width = feature.width; fields = items }) in
+    let old = map field_of feature.fields.items in
+    let new = splice c.args.index c.args.taken (map field_of c.args.put.now.items) old in
+    rw c.in-Feature.is (
+    ap with (spliced_or_kept field_of (is_ok c.exchange.result) c.args.index c.args.taken c.args.put.now.items feature.fields.items c.exchange.new.self.items c.exchange.ensures.items)
+    ∙ apply_cond with (is_ok c.exchange.result) new old
+    )
+
+pub returns-clause-put : goal.returns-clause-put
+returns-clause-put c =
+    rw c.in-Feature.is (part_or_kept field_of (is_ok c.exchange.result) c.args.index c.args.taken c.args.put.now.items c.in-Feature.feature.fields.items c.exchange.new.put.items c.exchange.ensures.put)

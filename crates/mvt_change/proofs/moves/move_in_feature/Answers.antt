@@ -1,0 +1,10 @@
+use Rattle.mvt_wire.specs.Stands.{tile_item_of}
+use Rattle.mvt_wire.specs.Splicing.{moved}
+use Rattle.mvt_change.specs.Lists.{change_at}
+use Rattle.mvt_change.specs.Places.{in_feature, in_layer}
+use Rattle.mvt_change.proofs.Changed.{set_changes}
+use Rattle.mvt_change.proofs.moves.move_in_feature.Goals as goal
+
+pub returns : goal.returns
+returns c =
+    rw c.remember.ensures (set_changes tile_item_of (in_layer (change_at (in_feature (moved c.args.from c.args.to)) c.args.item)) c.args.layer c.args.document.now.items.items c.item_mut.result.now c.move_in_tile_item.new.holder c.item_mut.ensures.value c.move_in_tile_item.ensures)

@@ -1,0 +1,5 @@
+pub mod Lists
+pub mod Places
+pub mod Changes
+pub mod ChangeStands
+pub mod Laws

@@ -1,0 +1,82 @@
+//! Items that move within a list of a document.
+
+ghost use Rattle.std.specs.Prelude.{◌≡◌, map};
+ghost use Rattle.std.specs.Option.{IsSomeAnd, option_and_then};
+ghost use Rattle.mvt_wire.specs.Stands.{document_of, layer_item_of, tile_item_of};
+ghost use Rattle.mvt_wire.specs.Splicing.{moved};
+ghost use Rattle.mvt_change.specs.ChangeStands.{place_of};
+ghost use Rattle.mvt_change.specs.Lists.{CanMove, change_at};
+ghost use Rattle.mvt_change.specs.Places.{change_fields, change_items, fields_at, fields_in, fields_in_at, in_feature, in_layer, items_at, items_in};
+ghost use Rattle.mvt_change.specs.Changes.{FitsMove, move_at};
+
+use crate::change::Place;
+use mvt_wire::{Document, LayerItem, Message, TileItem};
+
+/// Moves an item of the list at this place.
+pub(crate) fn move_at(document: &mut Document, place: Place, from: usize, to: usize)
+    requires { FitsMove (place_of place) from to (document_of document.old) }
+    ensures { document_of document.new ≡ move_at (place_of place) from to (document_of document.old) }
+{
+    match place {
+        Place::Tile => document.items.move_item(from, to),
+        Place::Layer { layer } => move_in_layer(document, layer, from, to),
+        Place::Feature { layer, item } => move_in_feature(document, layer, item, from, to),
+    }
+}
+
+fn move_in_layer(document: &mut Document, layer: usize, from: usize, to: usize)
+    requires { IsSomeAnd (items_at layer (document_of document.old)) (CanMove from to) }
+    ensures { document_of document.new ≡ change_items (moved from to) layer (document_of document.old) }
+{
+    let beside = document.items.size_beside(layer);
+    move_items(document.items.item_mut(layer), from, to);
+    document.items.remember(layer, beside);
+}
+
+fn move_items(item: &mut TileItem, from: usize, to: usize)
+    requires { IsSomeAnd (items_in (tile_item_of item.old)) (CanMove from to) }
+    ensures { tile_item_of item.new ≡ in_layer (moved from to) (tile_item_of item.old) }
+{
+    match item {
+        TileItem::Layer(layer) => layer.items.move_item(from, to),
+        TileItem::Plain(_) => unreachable!(),
+    }
+}
+
+fn move_in_feature(document: &mut Document, layer: usize, item: usize, from: usize, to: usize)
+    requires { IsSomeAnd (fields_at layer item (document_of document.old)) (CanMove from to) }
+    ensures { document_of document.new ≡ change_fields (moved from to) layer item (document_of document.old) }
+{
+    let beside = document.items.size_beside(layer);
+    move_in_tile_item(document.items.item_mut(layer), item, from, to);
+    document.items.remember(layer, beside);
+}
+
+fn move_in_tile_item(holder: &mut TileItem, item: usize, from: usize, to: usize)
+    requires { IsSomeAnd (option_and_then (fields_in_at item) (items_in (tile_item_of holder.old))) (CanMove from to) }
+    ensures { tile_item_of holder.new ≡ in_layer (change_at (in_feature (moved from to)) item) (tile_item_of holder.old) }
+{
+    match holder {
+        TileItem::Layer(layer) => move_in_items(&mut layer.items, item, from, to),
+        TileItem::Plain(_) => unreachable!(),
+    }
+}
+
+fn move_in_items(items: &mut Message<LayerItem>, item: usize, from: usize, to: usize)
+    requires { IsSomeAnd (fields_in_at item (map layer_item_of items.old.items)) (CanMove from to) }
+    ensures { map layer_item_of items.new.items ≡ change_at (in_feature (moved from to)) item (map layer_item_of items.old.items) }
+{
+    let beside = items.size_beside(item);
+    move_fields(items.item_mut(item), from, to);
+    items.remember(item, beside);
+}
+
+fn move_fields(item: &mut LayerItem, from: usize, to: usize)
+    requires { IsSomeAnd (fields_in (layer_item_of item.old)) (CanMove from to) }
+    ensures { layer_item_of item.new ≡ in_feature (moved from to) (layer_item_of item.old) }
+{
+    match item {
+        LayerItem::Feature(feature) => feature.fields.move_item(from, to),
+        LayerItem::Plain(_) => unreachable!(),
+    }
+}

@@ -1,0 +1,15 @@
+use Rattle.std.proofs.Common.{◌≡◌, ◌++◌, length, take, drop, ap, ◌∙◌, arith}
+use Rattle.std.specs.List.{flat_map}
+use Rattle.std.proofs.lemmas.List.{take_at}
+use Rattle.mvt_document.specs.Splicing.{moved}
+use Rattle.mvt_document.proofs.Beside.{kept_so, moved_size}
+use Rattle.mvt_document.proofs.message.Message.move_item.Goals as goal
+
+pub invariant_of-self : goal.invariant_of-self
+invariant_of-self g c =
+    let items = c.self.inside.inner.items in
+    let new = c.move_item.new.items in
+    let written : take c.self.inside.inner.len (new ++ drop (length new) items) ≡ new = take_at new (drop (length new) items) c.self.inside.inner.len (omega (arith, c.move_item.auto.items, c.as_mut_slice.ensures.len)) in
+    let f = g.T.Measured.bytes in
+    kept_so f items (take c.self.inside.inner.len (new ++ drop (length new) items)) c.self.inside.sum
+    (ap (λ xs. length (flat_map f xs)) (written ∙ c.move_item.ensures ∙ ap (moved c.args.from c.args.to) c.as_mut_slice.ensures.value) ∙ moved_size f c.args.from c.args.to items) c.self.invariant

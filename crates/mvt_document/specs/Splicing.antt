@@ -1,0 +1,14 @@
+-- Lists of which a part is replaced, or an item goes elsewhere.
+use Rattle.std.specs.Prelude.{ℕ, ◌+◌, List, [], ◌++◌, take, drop}
+
+-- so many items from an index on
+abbrev pub part : {A : Type 0} → ℕ → ℕ → List A → List A
+part index count items = take count (drop index items)
+
+-- the list with so many items from an index on taken out, and others in their place
+abbrev pub splice : {A : Type 0} → ℕ → ℕ → List A → List A → List A
+splice index taken put items = take index items ++ put ++ drop (index + taken) items
+
+-- the list with the item at `from` taken out and put back so that it stands at `to`
+abbrev pub moved : {A : Type 0} → ℕ → ℕ → List A → List A
+moved from to items = splice to 0 (part from 1 items) (splice from 1 [] items)

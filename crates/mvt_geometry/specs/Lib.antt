@@ -1,0 +1,5 @@
+pub mod Shapes
+pub mod Integers
+pub mod Walks
+pub mod Stands
+pub mod Laws

@@ -1,0 +1,155 @@
+//! The bytes of a geometry.
+
+ghost use Rattle.std.specs.Prelude.{◌≡◌, ◌+◌, ◌*◌, ◌^◌, ◌<◌, ◌≤◌, ◌-ℤ◌, [], ◌∷◌, ◌++◌, length, IfOk, OnOk, IsErrOf};
+ghost use Rattle.std.specs.List.{AllByRecursion};
+ghost use Rattle.mvt_zigzag.specs.Signed.{zigzag};
+ghost use Rattle.mvt_geometry.specs.Integers.{ways, parameters, last_from, IsWay, IsInRange, shortest, packed, encoded};
+ghost use Rattle.mvt_geometry.specs.Walks.{integers_of_part, IsPartInRange};
+
+use crate::faults::EncodeError;
+use crate::geometry::Geometry;
+use crate::path::{LINE_TO, MOVE_TO_ONE};
+use crate::read::{CLOSE_PATH, MOVE_TO};
+use crate::shapes::{Kind, ORIGIN, Point};
+use mvt_wire::{Items, least_width, put_number};
+use mvt_zigzag::to_zigzag;
+use std::alloc::{AllocError, Global};
+
+/// How many bytes a number takes at most.
+const WIDEST: usize = 10;
+
+/// How often a command may be carried out.
+const MAX_COUNT: usize = 0x1fff_ffff;
+
+/// How far a way may go.
+const MAX_WAY: u64 = 0x7fff_ffff;
+
+/// The bytes of the geometry: its integers packed, each in its shortest spelling.
+pub fn encode_geometry(alloc: Global, geometry: &Geometry) -> Result<Items<u8>, EncodeError>
+    ensures bytes { IfOk result (λ bytes. bytes.items ≡ encoded geometry.now) }
+    ensures in_range { OnOk result (IsInRange geometry.now) }
+    ensures out_of_range { IsErrOf result EncodeError.OutOfRange → ¬ IsInRange geometry.now }
+{
+    let kind = geometry.kind();
+    let mut bytes = Vec::new(alloc);
+    let mut from = ORIGIN;
+    for part in geometry.parts() {
+        from = put_part(&mut bytes, kind, from, part.points.as_slice())?;
+    }
+    Ok(Items::from_vec(bytes))
+}
+
+/// Adds the integers of a part, and gives its last point.
+fn put_part(
+    bytes: &mut Vec<u8>,
+    kind: Kind,
+    from: Point,
+    points: &[Point],
+) -> Result<Point, EncodeError>
+    requires { 1 ≤ length points.now }
+    ensures bytes { OnOk result (bytes.new.items ≡ bytes.old.items ++ packed (integers_of_part kind from points.now)) }
+    ensures in_range { OnOk result (IsPartInRange kind from points.now) }
+    ensures last { IfOk result (λ last. last ≡ last_from from points.now) }
+    ensures out_of_range { IsErrOf result EncodeError.OutOfRange → ¬ IsPartInRange kind from points.now }
+{
+    match kind {
+        Kind::Dots => put_dots(bytes, from, points),
+        Kind::Lines => put_path(bytes, from, points),
+        Kind::Areas => {
+            let last = put_path(bytes, from, points)?;
+            put_integer(bytes, u64::from(CLOSE_PATH))?;
+            Ok(last)
+        }
+    }
+}
+
+fn put_dots(bytes: &mut Vec<u8>, from: Point, points: &[Point]) -> Result<Point, EncodeError>
+    ensures bytes { OnOk result (bytes.new.items ≡ bytes.old.items ++ packed (integers_of_part Kind.Dots from points.now)) }
+    ensures in_range { OnOk result (IsPartInRange Kind.Dots from points.now) }
+    ensures last { IfOk result (λ last. last ≡ last_from from points.now) }
+    ensures out_of_range { IsErrOf result EncodeError.OutOfRange → ¬ IsPartInRange Kind.Dots from points.now }
+{
+    put_command(bytes, MOVE_TO, points.len())?;
+    put_points(bytes, from, points)
+}
+
+/// Adds the path of a part, without what closes it.
+fn put_path(bytes: &mut Vec<u8>, from: Point, points: &[Point]) -> Result<Point, EncodeError>
+    requires { 1 ≤ length points.now }
+    ensures bytes { OnOk result (bytes.new.items ≡ bytes.old.items ++ packed (integers_of_part Kind.Lines from points.now)) }
+    ensures in_range { OnOk result (IsPartInRange Kind.Lines from points.now) }
+    ensures last { IfOk result (λ last. last ≡ last_from from points.now) }
+    ensures out_of_range { IsErrOf result EncodeError.OutOfRange → ¬ IsPartInRange Kind.Lines from points.now }
+{
+    put_integer(bytes, u64::from(MOVE_TO_ONE))?;
+    let first = points[0];
+    put_move(bytes, from, first)?;
+    put_command(bytes, LINE_TO, points.len() - 1)?;
+    put_points(bytes, first, &points[1..])
+}
+
+/// Adds the ways to the points, from this one on, and gives the last point. There are two to each
+/// point, and each takes at least one byte.
+fn put_points(bytes: &mut Vec<u8>, from: Point, points: &[Point]) -> Result<Point, EncodeError>
+    ensures bytes { OnOk result (bytes.new.items ≡ bytes.old.items ++ packed (parameters from points.now)) }
+    ensures short { OnOk result (AllByRecursion IsWay (ways from points.now)) }
+    ensures last { IfOk result (λ last. last ≡ last_from from points.now) }
+    ensures out_of_range { IsErrOf result EncodeError.OutOfRange → ¬ AllByRecursion IsWay (ways from points.now) }
+{
+    bytes.reserve(points.len().saturating_mul(2))?;
+    let mut last = from;
+    for point in points {
+        put_move(bytes, last, *point)?;
+        last = *point;
+    }
+    Ok(last)
+}
+
+/// Adds the ways from one point to another.
+fn put_move(bytes: &mut Vec<u8>, from: Point, to: Point) -> Result<(), EncodeError>
+    ensures bytes { OnOk result (bytes.new.items ≡ bytes.old.items ++ packed (parameters from (to ∷ []))) }
+    ensures short { OnOk result (AllByRecursion IsWay (ways from (to ∷ []))) }
+    ensures out_of_range { IsErrOf result EncodeError.OutOfRange → ¬ AllByRecursion IsWay (ways from (to ∷ [])) }
+{
+    put_way(bytes, from.x, to.x)?;
+    put_way(bytes, from.y, to.y)
+}
+
+/// Adds the way from one coordinate to another.
+fn put_way(bytes: &mut Vec<u8>, from: i64, to: i64) -> Result<(), EncodeError>
+    ensures bytes { OnOk result (bytes.new.items ≡ bytes.old.items ++ shortest (zigzag (to -ℤ from))) }
+    ensures short { OnOk result (IsWay (to -ℤ from)) }
+    ensures out_of_range { IsErrOf result EncodeError.OutOfRange → ¬ IsWay (to -ℤ from) }
+{
+    let Some(way) = to.checked_sub(from) else {
+        return Err(EncodeError::OutOfRange);
+    };
+    if way.unsigned_abs() > MAX_WAY {
+        return Err(EncodeError::OutOfRange);
+    }
+    put_integer(bytes, to_zigzag(way))?;
+    Ok(())
+}
+
+/// Adds a command that is carried out so often.
+fn put_command(bytes: &mut Vec<u8>, id: u32, count: usize) -> Result<(), EncodeError>
+    requires { id < 8 }
+    ensures bytes { OnOk result (bytes.new.items ≡ bytes.old.items ++ shortest (id + 8 * count)) }
+    ensures short { OnOk result (count < 2 ^ 29) }
+    ensures out_of_range { IsErrOf result EncodeError.OutOfRange → ¬ (count < 2 ^ 29) }
+{
+    if count > MAX_COUNT {
+        return Err(EncodeError::OutOfRange);
+    }
+    put_integer(bytes, u64::from(id) + 8 * count as u64)?;
+    Ok(())
+}
+
+/// Adds an integer in its shortest spelling.
+fn put_integer(bytes: &mut Vec<u8>, integer: u64) -> Result<(), AllocError>
+    ensures { OnOk result (bytes.new.items ≡ bytes.old.items ++ shortest integer) }
+{
+    let mut room = [0; WIDEST];
+    let start = put_number(integer, least_width(integer), &mut room);
+    bytes.extend_from_slice(&room[start..])
+}

@@ -1,0 +1,18 @@
+//! Laws of geometries, their integers and their bytes. Each is the contract of a function that does nothing.
+
+ghost use Rattle.mvt_geometry.specs.Laws.{OneGeometry, IntegersHaveTheirs, EncodedArePacked};
+
+/// Numbers have one geometry of a kind at most.
+pub fn one_geometry()
+    ensures { OneGeometry }
+{}
+
+/// The integers of a geometry in range have that geometry, and no other of its kind.
+pub fn integers_have_theirs()
+    ensures { IntegersHaveTheirs }
+{}
+
+/// The bytes of a geometry are the spellings of its integers, so a reader of packed numbers finds just these.
+pub fn encoded_are_packed()
+    ensures { EncodedArePacked }
+{}

@@ -1,0 +1,76 @@
+//! Points, parts and kinds of geometries.
+
+ghost use Rattle.std.specs.Prelude.{◌≡◌, IfSome, IfNone};
+ghost use Rattle.mvt_geometry.specs.Shapes.{number_of, least_points};
+
+use mvt_wire::Items;
+
+/// A place in a tile. The y axis goes down.
+#[derive(Clone, Copy, Debug, PartialEq, Eq)]
+pub struct Point {
+    pub x: i64,
+    pub y: i64,
+}
+
+/// Where the first way of a geometry begins.
+pub(crate) const ORIGIN: Point = Point { x: 0, y: 0 };
+
+/// Points that belong together: all dots, or the points of one line or of one ring.
+#[derive(Debug, Drop)]
+pub struct Part {
+    pub points: Items<Point>,
+}
+
+/// What the parts of a geometry are.
+#[derive(Clone, Copy, Debug, PartialEq, Eq)]
+pub enum Kind {
+    /// POINT
+    Dots,
+    /// LINESTRING
+    Lines,
+    /// POLYGON: the parts are its rings. The last point of a ring is not the first again.
+    Areas,
+}
+
+const DOTS: u64 = 1;
+
+const LINES: u64 = 2;
+
+const AREAS: u64 = 3;
+
+impl Kind {
+    /// The number of the kind in a feature.
+    pub fn number(self) -> u64
+        ensures { result ≡ number_of self }
+    {
+        match self {
+            Kind::Dots => DOTS,
+            Kind::Lines => LINES,
+            Kind::Areas => AREAS,
+        }
+    }
+
+    /// The kind with this number. UNKNOWN, which is 0, is no kind.
+    pub fn from_number(number: u64) -> Option<Kind>
+        ensures found { IfSome result (λ kind. number_of kind ≡ number) }
+        ensures none { IfNone result ((kind : Self) → number_of kind ≡ number → ⊥) }
+    {
+        match number {
+            DOTS => Some(Kind::Dots),
+            LINES => Some(Kind::Lines),
+            AREAS => Some(Kind::Areas),
+            _ => None,
+        }
+    }
+
+    /// How many points a part of such a geometry has at least.
+    pub(crate) fn least_points(self) -> usize
+        ensures { result ≡ least_points self }
+    {
+        match self {
+            Kind::Dots => 1,
+            Kind::Lines => 2,
+            Kind::Areas => 3,
+        }
+    }
+}

@@ -1,0 +1,4 @@
+pub mod Signed
+pub mod Values
+pub mod Checks
+pub mod Geometries

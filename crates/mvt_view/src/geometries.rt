@@ -1,0 +1,44 @@
+//! The geometry of a feature.
+
+ghost use Rattle.std.specs.Prelude.{◌≡◌, Some, None, IfOk};
+ghost use Rattle.std.specs.Result.{IsErrOf};
+ghost use Rattle.mvt_numbers.specs.Seen.{number_seen};
+ghost use Rattle.mvt_geometry.specs.Shapes.{Geometry as PlainGeometry};
+ghost use Rattle.mvt_view.specs.FeatureGeometry.{HasFeatureGeometry, integer_in, integers_in};
+ghost use Rattle.mvt_view.specs.Seen.{feature_seen};
+
+use crate::views::FeatureView;
+use mvt_geometry::{Geometry, GeometryError, geometry_of};
+use mvt_numbers::{BadChunk, Number, Numbers};
+use std::alloc::Global;
+
+/// The geometry whose numbers the feature has, for its kind.
+pub fn geometry(alloc: Global, feature: &FeatureView) -> Result<Geometry, GeometryError>
+    ensures found { IfOk result (HasFeatureGeometry (feature_seen feature.now)) }
+    ensures bad { IsErrOf result GeometryError.BadGeometry → (geometry : PlainGeometry) → HasFeatureGeometry (feature_seen feature.now) geometry → ⊥ }
+{
+    let integers = integers(alloc, feature.geometry_numbers())?;
+    geometry_of(alloc, feature.kind(), integers.as_slice())
+}
+
+/// The numbers as integers of 32 bits.
+fn integers(alloc: Global, numbers: Numbers<'_>) -> Result<Vec<u32>, GeometryError>
+    ensures found { IfOk result (λ integers. integers_in numbers.entry ≡ Some integers.items) }
+    ensures bad { IsErrOf result GeometryError.BadGeometry → integers_in numbers.entry ≡ None }
+{
+    let mut integers = Vec::new(alloc);
+    for number in numbers {
+        integers.push(integer(number).ok_or(GeometryError::BadGeometry)?)?;
+    }
+    Ok(integers)
+}
+
+/// The integer that a number is, where it has 32 bits.
+fn integer(number: Result<Number, BadChunk>) -> Option<u32>
+    ensures { result ≡ integer_in (number_seen number) }
+{
+    match number {
+        Ok(number) => u32::try_from(number.varint.value).ok(),
+        Err(_) => None,
+    }
+}

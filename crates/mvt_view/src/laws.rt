@@ -1,0 +1,8 @@
+//! Laws of a feature's attributes. Each is the contract of a function that does nothing.
+
+ghost use Rattle.mvt_view.specs.Laws.{PairsName};
+
+/// Each pair of a feature names a key and a value of the layer.
+pub fn pairs_name()
+    ensures { PairsName }
+{}

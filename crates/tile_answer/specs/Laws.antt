@@ -1,0 +1,27 @@
+-- Laws of what requests tell.
+use Rattle.std.specs.Prelude.{◌≡◌, ◌≢◌, Ok, Err}
+use Rattle.tile_request.specs.Request.{Request, Edit, Undo, Size, Lists}
+use Rattle.tile_listing.specs.Told.{AreLinesToTell}
+use Rattle.tile_session.specs.History.{History}
+use Rattle.tile_reply.specs.Replies.{refusal_number}
+use Rattle.tile_reply.specs.declared.refused.Refused.{Refused}
+use Rattle.tile_answer.specs.Answering.{Told, carried_out}
+
+-- What a request tells is whole lines, and none of them looks like a refusal.
+abbrev pub RequestsTellLines : Type 0
+RequestsTellLines = (request : Request) (history : History) (told : Told) → carried_out request history ≡ Ok told → AreLinesToTell told.lines
+
+-- No request is refused with the number of want of memory by its definition.
+abbrev pub RequestsHaveNoWant : Type 0
+RequestsHaveNoWant = (request : Request) (history : History) (reason : Refused) → carried_out request history ≡ Err reason → refusal_number reason ≢ 60
+
+-- a request that only looks
+abbrev pub Looks : Request → Type 0
+Looks (Edit command) = ⊥
+Looks Undo = ⊥
+Looks Size = Unit {0}
+Looks (Lists what) = Unit {0}
+
+-- A look leaves the history as it was, and so what undo takes back.
+abbrev pub LooksLeaveHistory : Type 0
+LooksLeaveHistory = (request : Request) (history : History) (told : Told) → Looks request → carried_out request history ≡ Ok told → told.history ≡ history

@@ -1,0 +1,7 @@
+//! Requests carried out in a session, and what they tell.
+#![tactic(auto)]
+
+mod answer;
+pub mod laws;
+
+pub use answer::carry_out;

@@ -1,0 +1,41 @@
+//! The layer and the feature that are meant.
+
+ghost use Rattle.mvt_command.specs.CommandStands.{layer_choice_of, feature_choice_of};
+ghost use Rattle.tile_words.specs.Answers.{Gives, GivesAlways};
+ghost use Rattle.tile_words.specs.WordStands.{word_of};
+ghost use Rattle.tile_arguments.specs.Arguments.{layer_of, feature_of};
+
+use crate::marks::behind;
+use crate::numbers::number;
+use crate::texts::text_argument;
+use mvt_command::{FeatureChoice, LayerChoice};
+use std::alloc::Global;
+use tile_words::{ParseError, Word};
+
+/// The layer that a word means.
+#[tactic(auto, unfolding(crate::specs::Arguments::layer_of))]
+pub fn layer_choice(alloc: Global, word: Word<'_>) -> Result<LayerChoice, ParseError>
+    ensures { Gives layer_choice_of result (layer_of (word_of word.entry)) }
+{
+    match word {
+        Word::Bare(bytes) => match behind(b"#", bytes) {
+            Some(digits) => Ok(LayerChoice::Ordinal(number(digits)?)),
+            None => Ok(LayerChoice::Name(text_argument(alloc, word)?)),
+        },
+        Word::Quoted(_) => Ok(LayerChoice::Name(text_argument(alloc, word)?)),
+    }
+}
+
+/// The feature of a layer that a word means.
+#[tactic(auto, unfolding(crate::specs::Arguments::feature_of))]
+pub fn feature_choice(word: Word<'_>) -> Result<FeatureChoice, ParseError>
+    ensures { GivesAlways feature_choice_of result (feature_of (word_of word.entry)) }
+{
+    match word {
+        Word::Bare(bytes) => match behind(b"@", bytes) {
+            Some(digits) => Ok(FeatureChoice::Id(number(digits)?)),
+            None => Ok(FeatureChoice::Ordinal(number(bytes)?)),
+        },
+        Word::Quoted(_) => Err(ParseError::BadNumber),
+    }
+}

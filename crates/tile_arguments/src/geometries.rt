@@ -1,0 +1,121 @@
+//! Geometries, each by the name of its kind and its points.
+
+ghost use Rattle.std.specs.Prelude.{◌≡◌, ◌==◌, map, position};
+ghost use Rattle.std.specs.List.{AllByRecursion};
+ghost use Rattle.mvt_geometry.specs.Shapes.{IsPlaced};
+ghost use Rattle.mvt_geometry.specs.Stands.{points_of};
+ghost use Rattle.tile_words.specs.Answers.{Gives};
+ghost use Rattle.tile_words.specs.WordStands.{word_of};
+ghost use Rattle.tile_arguments.specs.Arguments.{point_in, point_of, part_of, is_bar, parts_of, shaped, kind_of, geometry_of};
+
+use crate::numbers::way;
+use mvt_geometry::{Geometry, Kind, Part, Point};
+use mvt_wire::Items;
+use std::alloc::Global;
+use tile_words::{ParseError, Word};
+
+/// The geometry that words say: the name of its kind, and its points.
+#[tactic(auto, unfolding(crate::specs::Arguments::geometry_of))]
+pub fn new_geometry(alloc: Global, words: &[Word<'_>]) -> Result<Geometry, ParseError>
+    ensures { Gives (λ geometry. geometry) result (geometry_of (map word_of words.now)) }
+{
+    let [Word::Bare(name), words @ ..] = words else {
+        return Err(ParseError::BadGeometryText);
+    };
+    let kind = kind_of(name)?;
+    let parts = parts(alloc, words)?;
+    shaped(kind, parts)
+}
+
+/// The geometry of these parts, where they are as the kind asks for them.
+#[tactic(auto, unfolding(crate::specs::Arguments::shaped))]
+fn shaped(kind: Kind, parts: Items<Part>) -> Result<Geometry, ParseError>
+    requires { AllByRecursion (AllByRecursion IsPlaced) (map points_of parts.items) }
+    ensures { result ≡ shaped kind (map points_of parts.items) }
+{
+    match Geometry::new(kind, parts) {
+        Ok(geometry) => Ok(geometry),
+        Err(_) => Err(ParseError::BadGeometryText),
+    }
+}
+
+/// The kind of this name.
+#[tactic(auto, unfolding(crate::specs::Arguments::kind_of))]
+fn kind_of(name: &[u8]) -> Result<Kind, ParseError>
+    ensures { result ≡ kind_of name.now }
+{
+    if name == b"point".as_slice() {
+        Ok(Kind::Dots)
+    } else if name == b"line".as_slice() {
+        Ok(Kind::Lines)
+    } else if name == b"polygon".as_slice() {
+        Ok(Kind::Areas)
+    } else {
+        Err(ParseError::BadGeometryText)
+    }
+}
+
+/// Parts with a bar between each two.
+#[tactic(auto, unfolding(crate::specs::Arguments::parts_of))]
+fn parts(alloc: Global, words: &[Word<'_>]) -> Result<Items<Part>, ParseError>
+    ensures { Gives (λ parts. map points_of parts.items) result (parts_of (map word_of words.now)) }
+{
+    let mut parts = Vec::new(alloc);
+    for group in words.split(|word| is_bar(*word)) {
+        parts.push(part(alloc, group)?)?;
+    }
+    Ok(Items::from_vec(parts))
+}
+
+fn is_bar(word: Word<'_>) -> bool
+    ensures { result ≡ is_bar (word_of word.entry) }
+{
+    match word {
+        Word::Bare(bytes) => bytes == b"/".as_slice(),
+        Word::Quoted(_) => false,
+    }
+}
+
+/// A part with these points.
+#[tactic(auto, unfolding(crate::specs::Arguments::part_of))]
+fn part(alloc: Global, words: &[Word<'_>]) -> Result<Part, ParseError>
+    ensures { Gives points_of result (part_of (map word_of words.now)) }
+{
+    let mut points = Vec::with_capacity(alloc, words.len())?;
+    for word in words {
+        points.push(point(*word)?)?;
+    }
+    Ok(Part {
+        points: Items::from_vec(points),
+    })
+}
+
+/// A point: x and y, with a comma between them.
+#[tactic(auto, unfolding(crate::specs::Arguments::point_of))]
+fn point(word: Word<'_>) -> Result<Point, ParseError>
+    ensures { result ≡ point_of (word_of word.entry) }
+{
+    match word {
+        Word::Bare(bytes) => point_in(bytes).ok_or(ParseError::BadGeometryText),
+        Word::Quoted(_) => Err(ParseError::BadGeometryText),
+    }
+}
+
+/// The point whose coordinates stand around the first comma.
+fn point_in(bytes: &[u8]) -> Option<Point>
+    ensures { result ≡ point_in bytes.now }
+{
+    let comma = comma_in(bytes)?;
+    let (x, _) = bytes.split_at(comma);
+    let (_, y) = bytes.split_at(comma + 1);
+    Some(Point {
+        x: way(x)?,
+        y: way(y)?,
+    })
+}
+
+fn comma_in(bytes: &[u8]) -> Option<usize>
+    ensures { result ≡ position (λ b. b == 44) bytes.now }
+{
+    bytes.iter().position(|byte| *byte == b',')
+}

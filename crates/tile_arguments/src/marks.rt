@@ -1,0 +1,11 @@
+//! Marks that bare words begin with.
+
+ghost use Rattle.std.specs.Prelude.{◌≡◌, option_copied};
+ghost use Rattle.tile_arguments.specs.Arguments.{behind};
+
+/// What stands behind the mark, where the bytes begin with it.
+pub(crate) fn behind<'a>(mark: &[u8], bytes: &'a [u8]) -> Option<&'a [u8]>
+    ensures { option_copied result ≡ behind mark.now bytes.now }
+{
+    bytes.strip_prefix(mark)
+}

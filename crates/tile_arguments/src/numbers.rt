@@ -1,0 +1,89 @@
+//! Numbers in decimal digits.
+
+ghost use Rattle.std.specs.Prelude.{◌≡◌, ◌+◌, ◌*◌, ◌^◌, ◌<◌, ◌≤◌, neg_ℤ, pos, IfSome};
+ghost use Rattle.std.specs.Option.{SomeIff};
+ghost use Rattle.tile_words.specs.WordStands.{word_of};
+ghost use Rattle.tile_arguments.specs.Arguments.{number_of, number_up_to, signed_of, way_of, distance_of};
+
+use crate::marks::behind;
+use tile_words::{ParseError, Word};
+
+/// How far points move or lie at most.
+const FARTHEST: u64 = 2_147_483_647;
+
+/// The number that the digits write.
+pub fn number(digits: &[u8]) -> Result<u64, ParseError>
+    ensures { result ≡ number_of digits.now }
+{
+    if digits.is_empty() {
+        return Err(ParseError::BadNumber);
+    }
+    let mut value: u64 = 0;
+    for digit in digits {
+        if !digit.is_ascii_digit() {
+            return Err(ParseError::BadNumber);
+        }
+        let Some(next) = with_digit(value, *digit - b'0') else {
+            return Err(ParseError::BadNumber);
+        };
+        value = next;
+    }
+    Ok(value)
+}
+
+fn with_digit(value: u64, digit: u8) -> Option<u64>
+    ensures { SomeIff result (value * 10 + digit < 2 ^ 64) (value * 10 + digit) }
+{
+    value.checked_mul(10)?.checked_add(u64::from(digit))
+}
+
+/// The number that the digits write, where it is at most so great.
+#[tactic(auto, unfolding(crate::specs::Arguments::number_up_to))]
+fn number_up_to(most: u64, digits: &[u8]) -> Option<u64>
+    ensures value { result ≡ number_up_to most digits.now }
+    ensures bound { IfSome result (λ n. n ≤ most) }
+{
+    match number(digits) {
+        Ok(value) if value <= most => Some(value),
+        _ => None,
+    }
+}
+
+/// The number of a `-`, where one is there, and digits: from `-least` to `greatest`.
+#[tactic(auto, unfolding(crate::specs::Arguments::signed_of))]
+pub(crate) fn signed(least: u64, greatest: u64, bytes: &[u8]) -> Option<i64>
+    requires least { least ≤ 2 ^ 63 }
+    requires greatest { greatest < 2 ^ 63 }
+    ensures { result ≡ signed_of least greatest bytes.now }
+{
+    match behind(b"-", bytes) {
+        Some(digits) => Some(below_zero(number_up_to(least, digits)?)),
+        None => Some(number_up_to(greatest, bytes)? as i64),
+    }
+}
+
+/// The number that is so far below 0.
+fn below_zero(distance: u64) -> i64
+    requires { distance ≤ 2 ^ 63 }
+    ensures { result ≡ neg_ℤ (pos distance) }
+{
+    0_i64.wrapping_sub_unsigned(distance)
+}
+
+/// How far a point moves or lies, from the bytes of a word.
+pub(crate) fn way(bytes: &[u8]) -> Option<i64>
+    ensures { result ≡ way_of bytes.now }
+{
+    signed(FARTHEST, FARTHEST, bytes)
+}
+
+/// How far a point moves or lies.
+#[tactic(auto, unfolding(crate::specs::Arguments::distance_of))]
+pub fn distance(word: Word<'_>) -> Result<i64, ParseError>
+    ensures { result ≡ distance_of (word_of word.entry) }
+{
+    match word {
+        Word::Bare(bytes) => way(bytes).ok_or(ParseError::BadNumber),
+        Word::Quoted(_) => Err(ParseError::BadNumber),
+    }
+}

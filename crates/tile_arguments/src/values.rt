@@ -1,0 +1,87 @@
+//! Values, each by its type and a word.
+
+ghost use Rattle.std.specs.Prelude.{◌≡◌, IfOk, option_map};
+ghost use Rattle.mvt_value.specs.Stands.{new_value_of};
+ghost use Rattle.tile_words.specs.Answers.{Gives};
+ghost use Rattle.tile_words.specs.WordStands.{word_of};
+ghost use Rattle.tile_arguments.specs.Arguments.{value_of, value_in, bare_value, pairs_in, integer_of, truth_in};
+
+use crate::numbers::{number, signed};
+use crate::texts::text_in;
+use hex::FromHex;
+use mvt_value::NewValue;
+use std::alloc::{AllocError, Global};
+use tile_words::{ParseError, Word};
+
+/// The value that a word says, of the type that the word before it names.
+#[tactic(auto, unfolding(crate::specs::Arguments::value_of))]
+pub fn new_value(alloc: Global, name: Word<'_>, value: Word<'_>) -> Result<NewValue, ParseError>
+    ensures { Gives new_value_of result (value_of (word_of name.entry) (word_of value.entry)) }
+{
+    match name {
+        Word::Bare(name) => value_in(alloc, name, value)?.ok_or(ParseError::BadValue),
+        Word::Quoted(_) => Err(ParseError::BadValue),
+    }
+}
+
+/// The value of the type with this name that a word says, where it says one.
+#[tactic(auto, unfolding(crate::specs::Arguments::value_in))]
+fn value_in(alloc: Global, name: &[u8], value: Word<'_>) -> Result<Option<NewValue>, AllocError>
+    ensures { IfOk result (λ said. option_map new_value_of said ≡ value_in name.now (word_of value.entry)) }
+{
+    if name == b"string".as_slice() {
+        return Ok(text_in(alloc, value)?.map(NewValue::Text));
+    }
+    match value {
+        Word::Bare(bytes) => Ok(bare_value(name, bytes)),
+        Word::Quoted(_) => Ok(None),
+    }
+}
+
+/// The value of the type with this name that a bare word says, where it says one.
+#[tactic(auto, unfolding(crate::specs::Arguments::bare_value))]
+fn bare_value(name: &[u8], bytes: &[u8]) -> Option<NewValue>
+    ensures { option_map new_value_of result ≡ bare_value name.now bytes.now }
+{
+    if name == b"float".as_slice() {
+        Some(NewValue::Float4(pairs_in(bytes)?))
+    } else if name == b"double".as_slice() {
+        Some(NewValue::Double8(pairs_in(bytes)?))
+    } else if name == b"int".as_slice() {
+        Some(NewValue::Int(integer(bytes)?))
+    } else if name == b"uint".as_slice() {
+        Some(NewValue::Uint(number(bytes).ok()?))
+    } else if name == b"sint".as_slice() {
+        Some(NewValue::Sint(integer(bytes)?))
+    } else if name == b"bool".as_slice() {
+        Some(NewValue::Bool(truth(bytes)?))
+    } else {
+        None
+    }
+}
+
+/// The bytes of so many pairs of hexadecimal digits, where they are just these.
+fn pairs_in<const N: usize>(digits: &[u8]) -> Option<[u8; N]>
+    ensures { result ≡ pairs_in N digits.now }
+{
+    <[u8; N]>::from_hex(digits).ok()
+}
+
+/// A signed number of 64 bits.
+fn integer(bytes: &[u8]) -> Option<i64>
+    ensures { result ≡ integer_of bytes.now }
+{
+    signed(1 << 63, (1 << 63) - 1, bytes)
+}
+
+fn truth(bytes: &[u8]) -> Option<bool>
+    ensures { result ≡ truth_in bytes.now }
+{
+    if bytes == b"true".as_slice() {
+        Some(true)
+    } else if bytes == b"false".as_slice() {
+        Some(false)
+    } else {
+        None
+    }
+}

@@ -1,0 +1,173 @@
+-- Each line of a listing may be told.
+use Rattle.std.proofs.Common.{◌≡◌, ◌≢◌, ℕ, ◌==◌, Bool, true, false, List, [], ◌∷◌, ◌++◌, length, map, Option, Some, None, codes, decimal, refl, sym, ◌∙◌}
+use Rattle.std.specs.Prelude.{◌&&◌, not, slice_index, if◌then◌else◌}
+use Rattle.std.specs.List.{AllByRecursion, enumerate_from}
+use Rattle.std.specs.Option.{option_and_then, option_map_or}
+use Rattle.std.proofs.lemmas.Bool.{and_parts, false≢true}
+use Rattle.mvt_wire.specs.Plain.{Document, Feature, Layer}
+use Rattle.mvt_value.specs.Values.{Value}
+use Rattle.mvt_value.proofs.Fields.{read_in_range}
+use Rattle.mvt_numbers.specs.Numbers.{numbers}
+use Rattle.mvt_geometry.specs.Shapes.{Geometry, IsGeometry}
+use Rattle.mvt_view.specs.Views.{extent_of, features, id_of, keys, kind_of, layers, name_of, values, version_of}
+use Rattle.mvt_view.specs.Attributes.{attributes, values_in}
+use Rattle.mvt_shown.specs.Values.{value_in}
+use Rattle.mvt_shown.specs.Geometries.{geometry_in}
+use Rattle.mvt_shown.proofs.Values.{value_in_bytes}
+use Rattle.mvt_shown.proofs.Geometries.{geometry_in_numbers}
+use Rattle.tile_text.specs.Texts.{text_form, value_form, raw_form, geometry_form}
+use Rattle.tile_text.proofs.Feeds.{text_form_feedless, value_form_feedless, raw_form_feedless, geometry_form_feedless}
+use Rattle.tile_lines.specs.Lines.{is_line_feed, HasNoLineFeed}
+use Rattle.tile_listing.specs.Listing.{absent, attribute_line, attribute_lines, feature_line, geometry_line, geometry_of, id_word, key_line, kind_form, layer_line, layer_numbers, layers_line, lines_of_feature, lines_of_layer, lines_of_tile, name_word, numbered, spaced, value_line, value_shown}
+use Rattle.tile_listing.specs.Told.{MayBeTold}
+use Rattle.tile_listing.proofs.Telling.{uncut-append, decimal_uncut}
+
+-- ---- words without a line feed
+
+-- a test for literals, which computes
+abbrev feedless : List ℕ → Bool
+feedless [] = true
+feedless (b ∷ bytes) = not (is_line_feed b) && feedless bytes
+
+not_true : (b : Bool) → not b ≡ true → b ≡ false
+not_true true e = absurd cc
+not_true false e = refl
+
+tested : (bytes : List ℕ) → feedless bytes ≡ true → HasNoLineFeed bytes
+tested [] e = tt
+tested (b ∷ bytes) e = let parts = and_parts (not (is_line_feed b)) (feedless bytes) e in (not_true (is_line_feed b) parts.0, tested bytes parts.1)
+
+spaced_uncut : (words : List (List ℕ)) → AllByRecursion HasNoLineFeed words → HasNoLineFeed (spaced words)
+spaced_uncut [] h = tt
+spaced_uncut (word ∷ []) h = h.0
+spaced_uncut (word ∷ next ∷ more) h = uncut-append word (32 ∷ spaced (next ∷ more)) h.0 (refl, spaced_uncut (next ∷ more) h.1)
+
+name_uncut : (name : Option (List ℕ)) → HasNoLineFeed (name_word name)
+name_uncut None = tested absent refl
+name_uncut (Some name) = text_form_feedless name
+
+id_uncut : (id : Option ℕ) → HasNoLineFeed (id_word id)
+id_uncut None = tested absent refl
+id_uncut (Some id) = decimal_uncut id
+
+found_value_uncut : (bytes : List ℕ) (found : Option Value) → value_in bytes ≡ found → HasNoLineFeed (option_map_or value_form found (raw_form bytes))
+found_value_uncut bytes None e = raw_form_feedless bytes
+found_value_uncut bytes (Some value) e = value_form_feedless value (read_in_range bytes value ((value_in_bytes bytes value).0 e))
+
+value_uncut : (bytes : List ℕ) → HasNoLineFeed (value_shown bytes)
+value_uncut bytes = found_value_uncut bytes (value_in bytes) refl
+
+either_uncut : (b : Bool) (xs ys : List ℕ) → HasNoLineFeed xs → HasNoLineFeed ys → HasNoLineFeed (if b then xs else ys)
+either_uncut true xs ys h k = h
+either_uncut false xs ys h k = k
+
+kind_uncut : (kind : ℕ) → HasNoLineFeed (kind_form kind)
+kind_uncut kind =
+    either_uncut (kind == 0) (codes "unknown") _ (tested (codes "unknown") refl)
+    (either_uncut (kind == 1) (codes "point") _ (tested (codes "point") refl)
+    (either_uncut (kind == 2) (codes "line") _ (tested (codes "line") refl)
+    (either_uncut (kind == 3) (codes "polygon") _ (tested (codes "polygon") refl)
+    (spaced_uncut (codes "kind" ∷ decimal kind ∷ []) (tested (codes "kind") refl, (decimal_uncut kind, tt))))))
+
+found_is_geometry : (kind : ℕ) (read : Option (List ℕ)) (geometry : Geometry) → option_and_then (geometry_in kind) read ≡ Some geometry → IsGeometry geometry
+found_is_geometry kind None geometry e = absurd cc
+found_is_geometry kind (Some integers) geometry e = let has = (geometry_in_numbers kind integers geometry).0 e in has.valid
+
+found_geometry_uncut : (feature : Feature) (found : Option Geometry) → geometry_of feature ≡ found → HasNoLineFeed (option_map_or geometry_form found (codes "unreadable"))
+found_geometry_uncut feature None e = tested (codes "unreadable") refl
+found_geometry_uncut feature (Some geometry) e = geometry_form_feedless geometry (found_is_geometry (kind_of feature) (values_in (numbers 4 feature.fields)) geometry e)
+
+-- ---- lines
+
+-- the second byte is not that of `line `
+other_than : (line : List ℕ) → (slice_index line 1 == 105) ≡ false → (rest : List ℕ) → line ≢ codes "line " ++ rest
+other_than line other rest e = let same : (slice_index line 1 == 105) ≡ true = rw e refl in absurd (false≢true (sym other ∙ same))
+
+layers_line_may : (document : Document) → MayBeTold (layers_line document)
+layers_line_may document = record {
+  uncut = spaced_uncut (codes "layers" ∷ decimal (length (layers document)) ∷ []) (tested (codes "layers") refl, (decimal_uncut _, tt));
+  other = other_than (layers_line document) refl;
+}
+
+layer_numbers_uncut : (layer : Layer) → HasNoLineFeed (layer_numbers layer)
+layer_numbers_uncut layer = spaced_uncut
+    (codes "version" ∷ decimal (version_of layer) ∷ codes "extent" ∷ decimal (extent_of layer)
+    ∷ codes "features" ∷ decimal (length (features layer)) ∷ codes "keys" ∷ decimal (length (keys layer)) ∷ codes "values" ∷ decimal (length (values layer)) ∷ [])
+    (tested (codes "version") refl, (decimal_uncut _, (tested (codes "extent") refl, (decimal_uncut _, (tested (codes "features") refl, (decimal_uncut _, (tested (codes "keys") refl, (decimal_uncut _, (tested (codes "values") refl, (decimal_uncut _, tt))))))))))
+
+layer_line_may : (ordinal : ℕ) (layer : Layer) → MayBeTold (layer_line ordinal layer)
+layer_line_may ordinal layer = record {
+  uncut = spaced_uncut (codes "layer" ∷ decimal ordinal ∷ name_word (name_of layer) ∷ layer_numbers layer ∷ [])
+      (tested (codes "layer") refl, (decimal_uncut ordinal, (name_uncut (name_of layer), (layer_numbers_uncut layer, tt))));
+  other = other_than (layer_line ordinal layer) refl;
+}
+
+key_line_may : (ordinal : ℕ) (key : List ℕ) → MayBeTold (key_line ordinal key)
+key_line_may ordinal key = record {
+  uncut = spaced_uncut (codes "key" ∷ decimal ordinal ∷ text_form key ∷ []) (tested (codes "key") refl, (decimal_uncut ordinal, (text_form_feedless key, tt)));
+  other = other_than (key_line ordinal key) refl;
+}
+
+value_line_may : (ordinal : ℕ) (value : List ℕ) → MayBeTold (value_line ordinal value)
+value_line_may ordinal value = record {
+  uncut = spaced_uncut (codes "value" ∷ decimal ordinal ∷ value_shown value ∷ []) (tested (codes "value") refl, (decimal_uncut ordinal, (value_uncut value, tt)));
+  other = other_than (value_line ordinal value) refl;
+}
+
+feature_line_may : (ordinal : ℕ) (feature : Feature) → MayBeTold (feature_line ordinal feature)
+feature_line_may ordinal feature = record {
+  uncut = spaced_uncut (codes "feature" ∷ decimal ordinal ∷ codes "id" ∷ id_word (id_of feature) ∷ kind_form (kind_of feature) ∷ [])
+      (tested (codes "feature") refl, (decimal_uncut ordinal, (tested (codes "id") refl, (id_uncut (id_of feature), (kind_uncut (kind_of feature), tt)))));
+  other = other_than (feature_line ordinal feature) refl;
+}
+
+attribute_line_may : (attribute : List ℕ × List ℕ) → MayBeTold (attribute_line attribute)
+attribute_line_may attribute = record {
+  uncut = spaced_uncut (codes "attribute" ∷ text_form attribute.0 ∷ value_shown attribute.1 ∷ []) (tested (codes "attribute") refl, (text_form_feedless attribute.0, (value_uncut attribute.1, tt)));
+  other = other_than (attribute_line attribute) refl;
+}
+
+unreadable_may : MayBeTold (codes "attributes unreadable")
+unreadable_may = record { uncut = tested (codes "attributes unreadable") refl; other = other_than (codes "attributes unreadable") refl }
+
+geometry_line_may : (feature : Feature) → MayBeTold (geometry_line feature)
+geometry_line_may feature = record {
+  uncut = spaced_uncut (codes "geometry" ∷ option_map_or geometry_form (geometry_of feature) (codes "unreadable") ∷ [])
+      (tested (codes "geometry") refl, (found_geometry_uncut feature (geometry_of feature) refl, tt));
+  other = other_than (geometry_line feature) refl;
+}
+
+-- ---- listings
+
+abbrev pub MayAllBeTold : List (List ℕ) → Type 0
+MayAllBeTold lines = AllByRecursion MayBeTold lines
+
+both_may : (xs ys : List (List ℕ)) → MayAllBeTold xs → MayAllBeTold ys → MayAllBeTold (xs ++ ys)
+both_may [] ys h k = k
+both_may (x ∷ xs) ys h k = (h.0, both_may xs ys h.1 k)
+
+each_may : {A : Type 0} (line : A → List ℕ) → ((x : A) → MayBeTold (line x)) → (items : List A) → MayAllBeTold (map line items)
+each_may line may [] = tt
+each_may line may (x ∷ items) = (may x, each_may line may items)
+
+numbered_may : {A : Type 0} (line : ℕ → A → List ℕ) → ((ordinal : ℕ) (x : A) → MayBeTold (line ordinal x)) → (items : List A) → MayAllBeTold (numbered line items)
+numbered_may {A} line may items = each_may (λ (p : ℕ × A). line p.0 p.1) (λ p. may p.0 p.1) (enumerate_from 0 items)
+
+pub tile_may : (document : Document) → MayAllBeTold (lines_of_tile document)
+tile_may document = (layers_line_may document, numbered_may layer_line layer_line_may (layers document))
+
+pub layer_may : (ordinal : ℕ) (layer : Layer) → MayAllBeTold (lines_of_layer ordinal layer)
+layer_may ordinal layer = (
+  layer_line_may ordinal layer,
+  both_may (numbered key_line (keys layer)) (numbered value_line (values layer) ++ numbered feature_line (features layer))
+      (numbered_may key_line key_line_may (keys layer))
+      (both_may (numbered value_line (values layer)) (numbered feature_line (features layer)) (numbered_may value_line value_line_may (values layer)) (numbered_may feature_line feature_line_may (features layer))),
+)
+
+attributes_may : (found : Option (List (List ℕ × List ℕ))) → MayAllBeTold (option_map_or (map attribute_line) found (codes "attributes unreadable" ∷ []))
+attributes_may None = (unreadable_may, tt)
+attributes_may (Some list) = each_may attribute_line attribute_line_may list
+
+pub feature_may : (layer : Layer) (ordinal : ℕ) (feature : Feature) → MayAllBeTold (lines_of_feature layer ordinal feature)
+feature_may layer ordinal feature =
+    (feature_line_may ordinal feature, both_may (attribute_lines layer feature) (geometry_line feature ∷ []) (attributes_may (attributes layer feature)) (geometry_line_may feature, tt))

@@ -1,0 +1,38 @@
+-- What is selected is there.
+use Rattle.std.proofs.Common.{◌≡◌, ℕ, zero, suc, ◌<◌, List, [], ◌∷◌, length, Some, Result, Ok, refl, ap, arith}
+use Rattle.std.specs.Prelude.{slice_get}
+use Rattle.std.proofs.lemmas.Bool.Decides.{nat_tests}
+use Rattle.mvt_wire.specs.Plain.{Layer}
+use Rattle.mvt_command.specs.Command.{FeatureChoice, FeatureAtOrdinal, WithId}
+use Rattle.mvt_view.specs.Views.{features, has_id, layers, ordinals_of, the_one}
+use Rattle.mvt_edit.specs.Meaning.{◌>>=◌}
+use Rattle.mvt_edit.specs.Selection.{selected, selected_feature}
+use Rattle.mvt_edit.specs.declared.edit.Refusal.{Refusal}
+use Rattle.mvt_edit.specs.declared.edit.Refusal.TheVariants.{NoFeature, AmbiguousFeature, NoLayer}
+use Rattle.mvt_edit.proofs.Positions.{positions_within}
+use Rattle.mvt_edit.proofs.Selecting.{selected_within}
+use Rattle.tile_listing.specs.Listing.{with_ordinal}
+use Rattle.tile_listing.specs.Laws.{SelectedFeatureIsThere, SelectedLayerIsThere}
+
+item_at : {A : Type 0} (items : List A) (i : ℕ) → i < length items → (x : A) × (slice_get items i ≡ Some x)
+item_at [] i lt = absurd (omega arith)
+item_at (x ∷ items) zero lt = (x, refl)
+item_at (x ∷ items) (suc i) lt = item_at items i (omega arith)
+
+found_at : {A : Type 0} (none : Refusal) (items : List A) (i : ℕ) (found : Result ℕ Refusal) → found ≡ Ok i → i < length items → (x : A) × ((found >>= with_ordinal none items) ≡ Ok (i, x))
+found_at none items i found e lt = let at = item_at items i lt in (at.0, rw (e, at.1) refl)
+
+pub layer_is_there : SelectedLayerIsThere
+layer_is_there choice document ordinal e = found_at NoLayer (layers document) ordinal (selected choice document) e (selected_within choice document ordinal e)
+
+the_one_first : (ordinals : List ℕ) (ordinal : ℕ) → the_one NoFeature AmbiguousFeature ordinals ≡ Ok ordinal → slice_get ordinals 0 ≡ Some ordinal
+the_one_first [] ordinal e = absurd cc
+the_one_first (x ∷ []) ordinal e = let same : x ≡ ordinal = cc in ap (λ (y : ℕ). Some y) same
+the_one_first (x ∷ y ∷ more) ordinal e = absurd cc
+
+feature_within : (choice : FeatureChoice) (layer : Layer) (ordinal : ℕ) → selected_feature choice layer ≡ Ok ordinal → ordinal < length (features layer)
+feature_within (FeatureAtOrdinal n) layer ordinal e = grind (arith, nat_tests)
+feature_within (WithId id) layer ordinal e = let bounds = positions_within (has_id id) 0 (features layer) 0 ordinal (the_one_first (ordinals_of (has_id id) (features layer)) ordinal e) in omega arith
+
+pub feature_is_there : SelectedFeatureIsThere
+feature_is_there choice layer ordinal e = found_at NoFeature (features layer) ordinal (selected_feature choice layer) e (feature_within choice layer ordinal e)

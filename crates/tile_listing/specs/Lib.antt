@@ -1,0 +1,4 @@
+pub mod Told
+pub mod Listing
+pub mod ListingStands
+pub mod Laws

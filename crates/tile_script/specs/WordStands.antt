@@ -1,9 +1,0 @@
--- Which plain word a word of the program stands for.
-use Rattle.tile_script.specs.Words as plain
-use Rattle.tile_script.specs.declared.words.Word.{Word}
-use Rattle.tile_script.specs.declared.words.Word.TheVariants.{Bare, Quoted}
-
--- the bytes of a bare word, and the text that begins behind an opening quote
-abbrev pub word_of : Word → plain.Word
-word_of (Bare bytes) = plain.Bare bytes.now
-word_of (Quoted bytes) = plain.Quoted (plain.text_at bytes.now).0

@@ -1,0 +1,138 @@
+-- Forms that are written piece by piece.
+use Rattle.std.proofs.Common.{◌≡◌, ℕ, suc, ◌+◌, ◌-◌, ◌<◌, ◌≤◌, ◌/◌, ◌%◌, Bool, true, false, cond, not, ◌||◌, List, [], ◌∷◌, ◌++◌, length, map, take, drop, get_or, refl, sym, ap, ◌∙◌, append_assoc, arith}
+use Rattle.std.specs.Prelude.{slice_index, codes}
+use Rattle.std.specs.Char.{is_ascii_control}
+use Rattle.std.specs.List.{flat_map, position_or_len}
+use Rattle.std.proofs.lemmas.List.Sums.{prefix_len_stops}
+use Rattle.std.proofs.lemmas.List.{append-nil, nil_from_length, take_all, length-drop, get_or-drop}
+use Rattle.std.proofs.lemmas.List.Concat.{flat_map-append}
+use Rattle.hex.specs.Hex.{encode_with, encode_lower, lower_digits}
+use Rattle.tile_text.specs.Extends.{Extends}
+use Rattle.tile_text.specs.Texts.{is_mark, is_escaped, quoted_byte, raw_form, point_form, part_words}
+use Rattle.tile_text.specs.TextStands.{raw_word, spaced, other_part}
+use Rattle.mvt_geometry.specs.Stands.{points_of}
+use Rattle.mvt_geometry.specs.declared.shapes.Part.{Part}
+use Rattle.mvt_geometry.specs.declared.shapes.Point.{Point}
+
+-- ---- what stays at the front
+
+pub extends_more : (a b c : List ℕ) → Extends a b → Extends b c → Extends a c
+extends_more a b c h k = record { added = h.added ++ k.added; whole = k.whole ∙ ap (λ (xs : List ℕ). xs ++ k.added) h.whole ∙ append_assoc a h.added k.added }
+
+pub extends_same : (a b : List ℕ) → b ≡ a → Extends a b
+extends_same a b e = record { added = []; whole = e ∙ sym (append-nil a) }
+
+pub extends_by : (a b more : List ℕ) → b ≡ a ++ more → Extends a b
+extends_by a b more e = record { added = more; whole = e }
+
+-- ---- hexadecimal digits
+
+pub encode_with-append : (t xs ys : List ℕ) → encode_with t (xs ++ ys) ≡ encode_with t xs ++ encode_with t ys
+unfolding encode_with
+encode_with-append t [] ys = refl
+encode_with-append t (b ∷ xs) ys = ap (λ (s : List ℕ). slice_index t (b / 16) ∷ slice_index t (b % 16) ∷ s) (encode_with-append t xs ys)
+
+pub encode_with-nil : (t : List ℕ) → encode_with t [] ≡ []
+unfolding encode_with
+encode_with-nil t = refl
+
+-- ---- a form that is written piece by piece: behind what is written, the form of what is left
+
+pub piece_written : (form : List ℕ → List ℕ) → ((xs ys : List ℕ) → form (xs ++ ys) ≡ form xs ++ form ys) → (line new rest piece after all : List ℕ)
+    → rest ≡ piece ++ after → new ≡ line ++ form piece → line ++ form rest ≡ all → new ++ form after ≡ all
+piece_written form joins line new rest piece after all e written so_far =
+    ap (λ (xs : List ℕ). xs ++ form after) written ∙ append_assoc line (form piece) (form after) ∙ ap (λ (xs : List ℕ). line ++ xs) (sym (joins piece after)) ∙ ap (λ (xs : List ℕ). line ++ form xs) (sym e) ∙ so_far
+
+pub all_written : (form : List ℕ → List ℕ) → form [] ≡ [] → (line rest all : List ℕ) → length rest ≡ 0 → line ++ form rest ≡ all → line ≡ all
+all_written form none line rest all e so_far =
+    sym (append-nil line) ∙ ap (λ (xs : List ℕ). line ++ xs) (sym none) ∙ ap (λ (xs : List ℕ). line ++ form xs) (sym (nil_from_length rest e)) ∙ so_far
+
+-- ---- bytes that stand for themselves
+
+-- the bytes before the first that is escaped are their own form
+abbrev StandsAlone : List ℕ → ℕ → Type 0
+StandsAlone bytes n = flat_map quoted_byte bytes ≡ take n bytes ++ flat_map quoted_byte (drop n bytes)
+
+neither : (a b : Bool) → (a || b) ≡ false → (a ≡ false) × (b ≡ false)
+neither true b e = absurd cc
+neither false b e = (refl, e)
+
+pub plain_form : (b : ℕ) → is_escaped b ≡ false → quoted_byte b ≡ b ∷ []
+plain_form b e =
+    let parts = neither (is_mark b) (is_ascii_control b) e in
+    rw (parts.0, parts.1) refl
+
+plain_first : (b : ℕ) (bytes : List ℕ) (n : ℕ) (escaped : Bool) → is_escaped b ≡ escaped → StandsAlone bytes n → StandsAlone (b ∷ bytes) (cond (not (is_escaped b)) (1 + n) 0)
+plain_first b bytes n true e more = rw e refl
+plain_first b bytes n false e more =
+    let one : 1 + n ≡ suc n = omega arith in
+    let alone = plain_form b e in
+    rw (e, one, alone) (ap (λ (xs : List ℕ). b ∷ xs) more)
+
+pub plain_front : (bytes : List ℕ) → StandsAlone bytes (position_or_len is_escaped bytes)
+plain_front [] = refl
+plain_front (b ∷ bytes) = plain_first b bytes (position_or_len is_escaped bytes) (is_escaped b) refl (plain_front bytes)
+
+pub front_written : (line new bytes front behind : List ℕ) (n : ℕ) → n ≡ position_or_len is_escaped bytes → front ≡ take n bytes → behind ≡ drop n bytes → new ≡ line ++ front
+    → new ++ flat_map quoted_byte behind ≡ line ++ flat_map quoted_byte bytes
+front_written line new bytes front behind n place is_front is_behind written =
+    let whole : flat_map quoted_byte bytes ≡ take n bytes ++ flat_map quoted_byte (drop n bytes) = rw place (plain_front bytes) in
+    rw (written, is_front, is_behind, whole) (append_assoc line (take n bytes) (flat_map quoted_byte (drop n bytes)))
+
+-- a list that is not empty: its first element, and what follows it
+pub first_and_rest : {X : Type 0} (xs : List X) (d : X) → 1 ≤ length xs → xs ≡ get_or xs 0 d ∷ take (length xs - 1) (drop 1 xs)
+first_and_rest [] d le = absurd (omega arith)
+first_and_rest {X} (x ∷ xs) d le =
+    let n : suc (length xs) - 1 ≡ length xs = omega arith in
+    rw n (ap (λ (ys : List X). x ∷ ys) (sym (take_all (length xs) xs (omega arith))))
+
+not_not : (b : Bool) → not b ≡ false → b ≡ true
+not_not true e = refl
+not_not false e = absurd cc
+
+-- the first byte behind the plain ones is escaped
+pub first_is_escaped : (bytes behind : List ℕ) (n : ℕ) → n ≡ position_or_len is_escaped bytes → behind ≡ drop n bytes → 1 ≤ length behind → is_escaped (get_or behind 0 0) ≡ true
+first_is_escaped bytes behind n place is_behind some =
+    let long : 1 ≤ length (drop n bytes) = rw (← is_behind) some in
+    let lt : n < length bytes = omega (arith, length-drop n bytes) in
+    let front : n + 0 ≡ n = omega arith in
+    let at : get_or behind 0 0 ≡ get_or bytes n 0 = ap (λ (xs : List ℕ). get_or xs 0 0) is_behind ∙ get_or-drop n bytes 0 0 ∙ ap (λ (k : ℕ). get_or bytes k 0) front in
+    rw (at, place) (not_not _ (prefix_len_stops (λ x. not (is_escaped x)) bytes 0 (rw (← place) lt)))
+
+pub first_written : (line new behind : List ℕ) → 1 ≤ length behind → new ≡ line ++ quoted_byte (get_or behind 0 0)
+    → new ++ flat_map quoted_byte (take (length behind - 1) (drop 1 behind)) ≡ line ++ flat_map quoted_byte behind
+first_written line new behind some written =
+    let rest : List ℕ = take (length behind - 1) (drop 1 behind) in
+    ap (λ (xs : List ℕ). xs ++ flat_map quoted_byte rest) written ∙ append_assoc line (quoted_byte (get_or behind 0 0)) (flat_map quoted_byte rest)
+    ∙ ap (λ (xs : List ℕ). line ++ flat_map quoted_byte xs) (sym (first_and_rest behind 0 some))
+
+-- ---- bytes that are no value
+
+pub raw_whole : (bytes : List ℕ) → raw_word bytes ++ encode_lower bytes ≡ raw_form bytes
+raw_whole [] = ap (λ (xs : List ℕ). codes "raw" ++ xs) (encode_with-nil lower_digits)
+raw_whole (b ∷ bytes) = refl
+
+-- ---- the parts of a geometry
+
+others_form : (others : List Part) → spaced (flat_map (λ points. codes "/" ∷ [] ++ map point_form points) (map points_of others)) ≡ flat_map (λ part. other_part (points_of part)) others
+others_form [] = refl
+others_form (part ∷ others) =
+    flat_map-append (λ word. codes " " ++ word) (codes "/" ∷ [] ++ map point_form (points_of part)) (flat_map (λ points. codes "/" ∷ [] ++ map point_form points) (map points_of others))
+    ∙ ap (λ (xs : List ℕ). other_part (points_of part) ++ xs) (others_form others)
+
+parts_form : (part : Part) (others : List Part) → spaced (part_words (map points_of (part ∷ others))) ≡ spaced (map point_form (points_of part)) ++ flat_map (λ part. other_part (points_of part)) others
+parts_form part others =
+    flat_map-append (λ word. codes " " ++ word) (map point_form (points_of part)) (flat_map (λ points. codes "/" ∷ [] ++ map point_form points) (map points_of others))
+    ∙ ap (λ (xs : List ℕ). spaced (map point_form (points_of part)) ++ xs) (others_form others)
+
+pub parts_written : (line first new : List ℕ) (parts : List Part) (part : Part) (points : List Point) → 1 ≤ length parts → part ≡ get_or parts 0 part → points ≡ points_of part
+    → first ≡ line ++ spaced (map point_form points) → new ≡ first ++ flat_map (λ part. other_part (points_of part)) (take (length parts - 1) (drop 1 parts))
+    → new ≡ line ++ spaced (part_words (map points_of parts))
+parts_written line first new parts part points some is points_are written behind =
+    let others : List Part = take (length parts - 1) (drop 1 parts) in
+    let rest : List ℕ = flat_map (λ part. other_part (points_of part)) others in
+    let whole : parts ≡ part ∷ others = first_and_rest parts part some ∙ ap (λ (p : Part). p ∷ others) (sym is) in
+    behind ∙ ap (λ (xs : List ℕ). xs ++ rest) (written ∙ ap (λ (ps : List Point). line ++ spaced (map point_form ps)) points_are)
+    ∙ append_assoc line (spaced (map point_form (points_of part))) rest
+    ∙ ap (λ (xs : List ℕ). line ++ xs) (sym (parts_form part others))
+    ∙ ap (λ (ps : List Part). line ++ spaced (part_words (map points_of ps))) (sym whole)

@@ -1,0 +1,17 @@
+use Rattle.std.proofs.Common.{◌∙◌}
+use Rattle.tile_text.proofs.Writing.{front_written, first_is_escaped, first_written}
+use Rattle.tile_text.proofs.texts.put_run.Goals as goal
+
+pub returns-in-empty-clause-ok : goal.returns-in-empty-clause-ok
+returns-in-empty-clause-ok c =
+    front_written c.args.line.now.items _ c.args.bytes.now _ c.split_at.result.1.now c.plain_len.result c.plain_len.ensures.place c.split_at.ensures.front c.split_at.ensures.back c.in_ok-extend_from_slice.ensures.items
+
+pub put_escaped-requires : goal.put_escaped-requires
+put_escaped-requires c =
+    first_is_escaped c.args.bytes.now c.split_at.result.1.now c.plain_len.result c.plain_len.ensures.place c.split_at.ensures.back c.in-len1-up.len_at_least
+
+pub returns-in_ok-put_escaped-in-len1-up-clause-ok : goal.returns-in_ok-put_escaped-in-len1-up-clause-ok
+returns-in_ok-put_escaped-in-len1-up-clause-ok c =
+    let behind = c.split_at.result.1.now in
+    first_written c.extend_from_slice.new.self.items _ behind c.in-len1-up.len_at_least c.in_ok-put_escaped-in-len1-up.ensures.ok
+    ∙ front_written c.args.line.now.items _ c.args.bytes.now _ behind c.plain_len.result c.plain_len.ensures.place c.split_at.ensures.front c.split_at.ensures.back c.in_ok-extend_from_slice.ensures.items

@@ -1,0 +1,36 @@
+-- Laws of the forms of texts, values and geometries.
+use Rattle.std.specs.Prelude.{ℕ, List}
+use Rattle.std.specs.List.{AllByRecursion, Contains}
+use Rattle.mvt_value.specs.Values.{Value}
+use Rattle.mvt_value.specs.Messages.{IsInRange}
+use Rattle.mvt_geometry.specs.Shapes.{Geometry, IsGeometry}
+use Rattle.tile_text.specs.Texts.{text_form, value_form, raw_form, geometry_form}
+use Rattle.tile_text.specs.ReadBack.{AreBytes, HoldsBytes, IsNear, IsReadAsText, IsReadAsValue, IsReadAsGeometry}
+
+-- the form of any bytes is read as those bytes
+abbrev pub TextsReadBack : Type 0
+TextsReadBack = (bytes : List ℕ) → AreBytes bytes → IsReadAsText bytes
+
+-- the form of a value in range is read as that value
+abbrev pub ValuesReadBack : Type 0
+ValuesReadBack = (value : Value) → IsInRange value → HoldsBytes value → IsReadAsValue value
+
+-- the form of a geometry whose points are near is read as that geometry
+abbrev pub GeometriesReadBack : Type 0
+GeometriesReadBack = (g : Geometry) → IsGeometry g → AllByRecursion (AllByRecursion IsNear) g.parts → IsReadAsGeometry g
+
+-- no line feed is among the bytes, so they stand on one line
+abbrev pub StandsOnALine : List ℕ → Type 0
+StandsOnALine form = ¬ (Contains form 10)
+
+abbrev pub TextsStandOnALine : Type 0
+TextsStandOnALine = (bytes : List ℕ) → StandsOnALine (text_form bytes)
+
+abbrev pub ValuesStandOnALine : Type 0
+ValuesStandOnALine = (value : Value) → IsInRange value → StandsOnALine (value_form value)
+
+abbrev pub RawStandsOnALine : Type 0
+RawStandsOnALine = (bytes : List ℕ) → StandsOnALine (raw_form bytes)
+
+abbrev pub GeometriesStandOnALine : Type 0
+GeometriesStandOnALine = (g : Geometry) → IsGeometry g → StandsOnALine (geometry_form g)

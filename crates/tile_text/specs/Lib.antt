@@ -1,0 +1,5 @@
+pub mod Texts
+pub mod TextStands
+pub mod Extends
+pub mod ReadBack
+pub mod Laws

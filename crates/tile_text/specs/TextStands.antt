@@ -1,0 +1,43 @@
+-- How what the program holds is written, piece by piece.
+use Rattle.std.specs.Prelude.{ℕ, List, [], ◌∷◌, ◌++◌, map, codes}
+use Rattle.std.specs.List.{flat_map}
+use Rattle.mvt_geometry.specs.declared.shapes.Point.{Point}
+use Rattle.mvt_value.specs.declared.value.Value.{Value}
+use Rattle.mvt_value.specs.declared.value.Value.TheVariants as shown
+use Rattle.mvt_value.specs.Values as plain
+use Rattle.tile_text.specs.Texts.{value_form, raw_form, point_form}
+
+-- the value, or the bytes that have none
+abbrev pub shown_form : Value → List ℕ
+shown_form (shown.Text text) = value_form (plain.OfText text.now)
+shown_form (shown.Float4 bytes) = value_form (plain.OfFloat bytes)
+shown_form (shown.Double8 bytes) = value_form (plain.OfDouble bytes)
+shown_form (shown.Int number) = value_form (plain.OfInt number)
+shown_form (shown.Uint number) = value_form (plain.OfUint number)
+shown_form (shown.Sint number) = value_form (plain.OfSint number)
+shown_form (shown.Bool truth) = value_form (plain.OfBool truth)
+shown_form (shown.Raw bytes) = raw_form bytes.now
+
+-- the word before bytes that are no value, and the space behind it where there are any
+abbrev pub raw_word : List ℕ → List ℕ
+raw_word [] = codes "raw"
+raw_word (b ∷ bytes) = codes "raw "
+
+-- the type's word, and the space behind it where something follows
+abbrev pub type_word : Value → List ℕ
+type_word (shown.Text text) = codes "string "
+type_word (shown.Float4 bytes) = codes "float "
+type_word (shown.Double8 bytes) = codes "double "
+type_word (shown.Int number) = codes "int "
+type_word (shown.Uint number) = codes "uint "
+type_word (shown.Sint number) = codes "sint "
+type_word (shown.Bool truth) = codes "bool "
+type_word (shown.Raw bytes) = raw_word bytes.now
+
+-- words, each with a space before it
+abbrev pub spaced : List (List ℕ) → List ℕ
+spaced words = flat_map (λ word. codes " " ++ word) words
+
+-- a part behind another one
+abbrev pub other_part : List Point → List ℕ
+other_part points = codes " /" ++ spaced (map point_form points)

@@ -1,0 +1,4 @@
+pub mod Words
+pub mod WordStands
+pub mod Spelling
+pub mod Answers
