@@ -9,10 +9,12 @@ all: toolchain
 	mkdir -p build
 	cp crates/tileshell_program/out/tileshell_program build/tileshell
 
-# Every proof, test, wrong body and stored run, from nothing; before them that each definition has its row in docs/.
+# Every proof, test, wrong body and stored run, from nothing; before them that each definition has its row in docs/, and
+# after them that a document, a layer and a feature cannot be copied.
 check: toolchain
 	tools/definitions
 	rt ci
+	tools/no-copies
 
 # Speed and memory beside other programs. TILESHELL=PATH measures a program that was built before.
 bench: $(if $(TILESHELL),,all)

@@ -9,9 +9,9 @@ from pathlib import Path
 import peers
 from measure import (COUNTED_MILLISECONDS, RUNS, RUNS_OF_LARGE, Program, costliest, count_instructions, measure,
                      measure_alone, run_once)
-from report import Listed, Result, comparison, endings, growth, instructions, memory, put_section, shown, table, time
-from targets import JOB, MANY, OURS, verdicts
-from tiles import LARGE, MEBIBYTE, generated_tiles, real_tiles, smallest_map
+from report import Kept, Listed, Result, comparison, endings, growth, instructions, memory, put_section, shown, table, time
+from targets import IDS, JOB, KEPT, MANY, OURS, verdicts
+from tiles import LARGE, MEBIBYTE, alternating_layers, generated_tiles, real_tiles, smallest_map
 
 RESULTS = peers.HERE / "RESULTS.md"
 
@@ -22,7 +22,18 @@ JOBS = {
     "empty script": "",
     JOB: RENAME,
     MANY: (RENAME + "undo\n") * 1000,
+    KEPT: 'keep "{layer}"\n',
+    "one layer dropped": 'drop-layer "{layer}"\n',
+    IDS: "".join(f'set-id "{{layer}}" {turn % 100} {10**9 + turn}\n' for turn in range(1000)),
 }
+
+# Jobs that are left out on a large tile, and jobs of the smallest map alone.
+LONG_JOBS = [MANY, IDS]
+SMALL_JOBS = [IDS]
+
+# The job `alternating layers`, of tileshell alone: layers of one name in turns with layers of another, of which one
+# kind goes, and comes back. The first script is what it is held against.
+ALTERNATING = ["", 'keep "{layer}"\nundo\n']
 
 # The job `long script`: one script of few of these lines and one of many, of tileshell alone, for its memory.
 LONG_PAIR = 'rename-layer "{layer}" "renamed for the length of a line"\nundo\n'
@@ -66,8 +77,9 @@ def script_of(lines, tile):
 
 
 def jobs_of(tile):
-    """On a large tile the long job is left out."""
-    return [job for job in JOBS if job != MANY or not tile.is_large]
+    """On a large tile the long jobs are left out."""
+    return [job for job in JOBS
+            if not (tile.is_large and job in LONG_JOBS) and (tile.is_smallest_map or job not in SMALL_JOBS)]
 
 
 def results_of(programs, tiles, with_valgrind):
@@ -143,22 +155,37 @@ def listed(tileshell, tiles):
     return found
 
 
+def alternated(tileshell):
+    """The times of an empty script on a tile of alternating layers, and of one that keeps one kind and undoes it."""
+    tile = alternating_layers()
+    print(f"bench: {tile.name}", flush=True)
+    figures = [measure_alone(tileshell, tile, script_of(lines, tile)) for lines in ALTERNATING]
+    return Kept(tile, *(each and time(each) for each in figures))
+
+
+def alternation(kept):
+    """What keeping one of two kinds takes beside an empty script."""
+    row = [kept.tile.name, shown(kept.empty, 1), shown(kept.both, 1), shown(kept.ratio, 2)]
+    return table(["Tile", "Empty script", "One kind kept, and undone", "Kept / empty"], [row])
+
+
 def listing(lists):
     """What listing takes beside reading."""
     rows = [[each.tile.name, shown(each.reading, 1), shown(each.both, 1), shown(each.ratio, 2)] for each in lists]
     return table(["Tile", "Reading", "Reading and listing", "Listing / reading"], rows)
 
 
-def section(results, lists, names):
+def section(results, lists, kept, names):
     """The tables of all results."""
     without_floor = [name for name in names if name != "cat"]
     parts = [
-        ("Targets", verdicts(results, lists)),
+        ("Targets", verdicts(results, lists, kept)),
         (f"Wall time in milliseconds, {RUNS_MEASURED}", comparison(results, names, time, 1)),
         ("Peak memory, as a multiple of the tile", memory(results, names)),
         ("Millions of instructions", comparison(results, without_floor, instructions, 1e6)),
         ("Growth of time from the smallest to the largest tile, as an exponent", growth(results, names)),
         ("One layer listed: wall time in milliseconds, tileshell alone", listing(lists)),
+        ("Layers of two names in turns: wall time in milliseconds, tileshell alone", alternation(kept)),
         ("Not done", endings(results)),
     ]
     return "\n\n".join([*(f"### {heading}\n\n{text}" for heading, text in parts), DASHES])
@@ -178,7 +205,8 @@ def all_jobs(run):
     load_before = load()
     results = results_of(run, tiles, "valgrind" not in missing)
     lists = listed(run[0], [tile for tile in tiles if tile.kind == "map"])
-    parts = [conditions(load_before, missing), section(results, lists, [program.name for program in run])]
+    kept = alternated(run[0])
+    parts = [conditions(load_before, missing), section(results, lists, kept, [program.name for program in run])]
     parts.append(long_script(run[0], counted_maps(tiles)[0]))
     if "valgrind" not in missing:
         parts.append(costs(run[0], counted_maps(tiles)[-1]))

@@ -1,5 +1,5 @@
 #!/usr/bin/env python3
-"""Makes tiles from a seed: 'map', as a basemap has; 'crumbs', of the smallest fields; two kinds of groups."""
+"""Makes tiles from a seed: 'map', as a basemap has; 'crumbs', of the smallest fields; two kinds of groups; layers of two names in turns."""
 import argparse
 import random
 from pathlib import Path
@@ -114,11 +114,18 @@ def groups_tile(deep, size):
     return (size - len(small)) // len(groups) * groups + small
 
 
+def alternating_tile(size):
+    """The smallest layers of two names, in turns."""
+    pair = b"".join(bytes_field(3, bytes_field(1, name)) for name in [b"a", b"b"])
+    return size // len(pair) * pair
+
+
 MAKERS = {
     "map": map_tile,
     "crumbs": crumbs_tile,
     "nested groups": lambda draw, size: groups_tile(MOST_OPEN, size),
     "flat groups": lambda draw, size: groups_tile(1, size),
+    "alternating layers": lambda draw, size: alternating_tile(size),
 }
 
 

@@ -2,10 +2,13 @@
 
 #pragma once
 
+#include <algorithm>
 #include <fstream>
+#include <iomanip>
 #include <iostream>
 #include <iterator>
 #include <optional>
+#include <sstream>
 #include <stdexcept>
 #include <string>
 #include <utility>
@@ -37,52 +40,87 @@ inline void write_file(const std::string& path, const std::string& bytes) {
     write_file_of(path, [&bytes](std::ostream& file) { file << bytes; });
 }
 
-// The texts between quotes of a line; the benchmark's scripts have no escapes.
-inline std::vector<std::string> quoted_words(const std::string& line) {
+// The words of a line, each without its quotes; the benchmark's scripts have no escapes and no blanks in texts.
+inline std::vector<std::string> words_of(const std::string& line) {
+    std::istringstream rest(line);
     std::vector<std::string> words;
-    std::size_t open = line.find('"');
-    while (open != std::string::npos) {
-        const std::size_t close = line.find('"', open + 1);
-        if (close == std::string::npos) {
-            throw std::runtime_error("a quote is left open: " + line);
-        }
-        words.push_back(line.substr(open + 1, close - open - 1));
-        open = line.find('"', close + 1);
+    std::string word;
+    while (rest >> std::quoted(word)) {
+        words.push_back(word);
     }
     return words;
 }
 
-template <typename Layer>
-Layer* layer_named(const std::vector<Layer*>& layers, const std::string& name) {
-    for (Layer* layer : layers) {
-        if (layer->name() == name) {
-            return layer;
-        }
-    }
-    return nullptr;
+inline bool is_among(const std::string& name, const std::vector<std::string>& names) {
+    return std::find(names.begin(), names.end(), name) != names.end();
 }
 
-// Carries out the script's renames and undos, and answers each.
-template <typename Layer>
-void carry_out(std::istream& script, std::ostream& replies, const std::vector<Layer*>& layers) {
-    std::optional<std::pair<Layer*, std::string>> before;
-    std::string line;
-    while (std::getline(script, line)) {
-        if (line == "undo" && before) {
-            before->first->set_name(before->second);
-            before.reset();
-        } else {
-            const std::vector<std::string> words = quoted_words(line);
-            Layer* layer = words.size() == 2 ? layer_named(layers, words[0]) : nullptr;
-            if (layer == nullptr || layer_named(layers, words[1]) != nullptr) {
+// Carries out a script on a tile, and answers each line. A tile has `layer_named`, which gives a layer or none,
+// and `keep_layers`, which keeps those whose name passes; a layer has `name`, `set_name` and `set_id`.
+template <typename Tile>
+class Script {
+public:
+    explicit Script(Tile& tile) : tile_(tile) {}
+
+    void carry_out(std::istream& script, std::ostream& replies) {
+        std::string line;
+        while (std::getline(script, line)) {
+            if (!is_done(words_of(line))) {
                 throw std::runtime_error("refused: " + line);
             }
-            before.emplace(layer, layer->name());
-            layer->set_name(words[1]);
+            replies << "ok" << std::endl;
         }
-        replies << "ok" << std::endl;
     }
-}
+
+private:
+    using LayerPointer = decltype(std::declval<Tile&>().layer_named(std::string()));
+
+    Tile& tile_;
+    // The layer that was renamed last, and its former name.
+    std::optional<std::pair<LayerPointer, std::string>> before_;
+
+    bool is_done(const std::vector<std::string>& words) {
+        const std::string& request = words.at(0);
+        if (request == "undo") {
+            return is_undone();
+        }
+        if (request == "rename-layer") {
+            return is_renamed(words.at(1), words.at(2));
+        }
+        if (request == "keep") {
+            tile_.keep_layers([&](const std::string& name) { return is_among(name, {words.begin() + 1, words.end()}); });
+            return true;
+        }
+        if (request == "drop-layer") {
+            tile_.keep_layers([&](const std::string& name) { return name != words.at(1); });
+            return true;
+        }
+        if (request == "set-id") {
+            LayerPointer layer = tile_.layer_named(words.at(1));
+            return layer != nullptr && layer->set_id(std::stoul(words.at(2)), std::stoul(words.at(3)));
+        }
+        return false;
+    }
+
+    bool is_undone() {
+        if (!before_) {
+            return false;
+        }
+        before_->first->set_name(before_->second);
+        before_.reset();
+        return true;
+    }
+
+    bool is_renamed(const std::string& old, const std::string& name) {
+        LayerPointer layer = tile_.layer_named(old);
+        if (layer == nullptr || tile_.layer_named(name) != nullptr) {
+            return false;
+        }
+        before_.emplace(layer, layer->name());
+        layer->set_name(name);
+        return true;
+    }
+};
 
 // Runs a job on the words of a command line: a program, a tile and the file for the edited tile.
 template <typename Job>

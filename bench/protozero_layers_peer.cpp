@@ -53,8 +53,21 @@ public:
         name_ = name;
     }
 
+    // Features are not read.
+    bool set_id(std::size_t, std::uint64_t) const {
+        return false;
+    }
+
+    void drop() {
+        is_dropped_ = true;
+    }
+
+    bool is_dropped() const {
+        return is_dropped_;
+    }
+
     bool is_changed() const {
-        return name_ != read_name_;
+        return is_dropped_ || name_ != read_name_;
     }
 
     // Writes the layer with its name as it is now.
@@ -74,30 +87,55 @@ private:
     std::string_view behind_;
     std::string_view read_name_;
     std::string name_;
+    bool is_dropped_ = false;
 };
 
-static std::vector<Layer> read_layers(const std::string& tile) {
+struct Tile {
     std::vector<Layer> layers;
-    pbf_reader reader(tile);
+
+    Layer* layer_named(const std::string& name) {
+        for (Layer& layer : layers) {
+            if (layer.name() == name && !layer.is_dropped()) {
+                return &layer;
+            }
+        }
+        return nullptr;
+    }
+
+    template <typename Passes>
+    void keep_layers(Passes passes) {
+        for (Layer& layer : layers) {
+            if (!passes(layer.name())) {
+                layer.drop();
+            }
+        }
+    }
+};
+
+static Tile read_tile(const std::string& bytes) {
+    Tile tile;
+    pbf_reader reader(bytes);
     std::string_view rest = reader.data();
     while (reader.next()) {
         if (is_bytes(reader, tile_layer)) {
             const std::string_view content = reader.get_view();
-            layers.emplace_back(up_to_end(rest, content), content);
+            tile.layers.emplace_back(up_to_end(rest, content), content);
         } else {
             reader.skip();
         }
         rest = reader.data();
     }
-    return layers;
+    return tile;
 }
 
-static void write_tile(std::ostream& file, std::string_view tile, const std::vector<Layer>& layers) {
-    std::string_view rest = tile;
-    for (const Layer& layer : layers) {
+static void write_tile(std::ostream& file, std::string_view bytes, const Tile& tile) {
+    std::string_view rest = bytes;
+    for (const Layer& layer : tile.layers) {
         if (layer.is_changed()) {
             file << up_to_start(rest, layer.bytes());
-            layer.write(file);
+            if (!layer.is_dropped()) {
+                layer.write(file);
+            }
             rest.remove_prefix(up_to_end(rest, layer.bytes()).size());
         }
     }
@@ -105,14 +143,10 @@ static void write_tile(std::ostream& file, std::string_view tile, const std::vec
 }
 
 static void edit(const std::string& in, const std::string& out) {
-    const std::string tile = read_file(in);
-    std::vector<Layer> layers = read_layers(tile);
-    std::vector<Layer*> places;
-    for (Layer& layer : layers) {
-        places.push_back(&layer);
-    }
-    carry_out(std::cin, std::cout, places);
-    write_file_of(out, [&](std::ostream& file) { write_tile(file, tile, layers); });
+    const std::string bytes = read_file(in);
+    Tile tile = read_tile(bytes);
+    Script(tile).carry_out(std::cin, std::cout);
+    write_file_of(out, [&](std::ostream& file) { write_tile(file, bytes, tile); });
 }
 
 int main(int count, char** words) {

@@ -9,6 +9,7 @@
 #include <variant>
 
 constexpr pbf_tag_type layer_feature = 2;
+constexpr pbf_tag_type feature_id = 1;
 
 // Room for the lengths of messages that are not ended, and for a longer name.
 constexpr std::size_t spare = 64;
@@ -28,6 +29,18 @@ struct Field {
 
 struct Feature {
     std::vector<Field> fields;
+
+    // Whether it has an id. The last one gets the number.
+    bool set_id(std::uint64_t id) {
+        const auto last = std::find_if(fields.rbegin(), fields.rend(), [](const Field& field) {
+            return field.tag == feature_id && std::holds_alternative<std::uint64_t>(field.body);
+        });
+        if (last == fields.rend()) {
+            return false;
+        }
+        last->body = id;
+        return true;
+    }
 };
 
 struct Layer {
@@ -50,19 +63,39 @@ struct Layer {
     void set_name(const std::string& name) {
         name_field()->body = name;
     }
+
+    // Whether there is such a feature, and it has an id.
+    bool set_id(std::size_t ordinal, std::uint64_t id) {
+        for (auto& item : items) {
+            Feature* feature = std::get_if<Feature>(&item);
+            if (feature != nullptr && ordinal-- == 0) {
+                return feature->set_id(id);
+            }
+        }
+        return false;
+    }
 };
 
 struct Tile {
     std::vector<std::variant<Field, Layer>> items;
 
-    std::vector<Layer*> layers() {
-        std::vector<Layer*> layers;
+    Layer* layer_named(const std::string& name) {
         for (auto& item : items) {
-            if (Layer* layer = std::get_if<Layer>(&item)) {
-                layers.push_back(layer);
+            Layer* layer = std::get_if<Layer>(&item);
+            if (layer != nullptr && layer->name() == name) {
+                return layer;
             }
         }
-        return layers;
+        return nullptr;
+    }
+
+    template <typename Passes>
+    void keep_layers(Passes passes) {
+        const auto goes = [&](auto& item) {
+            Layer* layer = std::get_if<Layer>(&item);
+            return layer != nullptr && !passes(layer->name());
+        };
+        items.erase(std::remove_if(items.begin(), items.end(), goes), items.end());
     }
 };
 
@@ -183,7 +216,7 @@ static std::string write_tile(const Tile& tile, std::size_t size) {
 
 static void edit(const std::string& in, const std::string& out) {
     Tile tile = read_tile(read_file(in));
-    carry_out(std::cin, std::cout, tile.layers());
+    Script(tile).carry_out(std::cin, std::cout);
     write_file(out, write_tile(tile, std::filesystem::file_size(in) + spare));
 }
 

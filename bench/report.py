@@ -34,6 +34,18 @@ class Listed:
         return None if None in (self.reading, self.both) else (self.both - self.reading) / self.reading
 
 
+@dataclass(frozen=True)
+class Kept:
+    """Milliseconds of an empty script, and of one that keeps some of a tile's layers and undoes that."""
+    tile: Tile
+    empty: float
+    both: float
+
+    @property
+    def ratio(self):
+        return divided(self.both, self.empty)
+
+
 def time(figures):
     return figures.milliseconds
 

@@ -5,18 +5,22 @@ OURS = "tileshell"
 
 JOB = "one rename"
 MANY = "1,000 renames and undos"
+KEPT = "one layer kept"
+IDS = "1,000 ids set"
 
 # Two measurements of the same growth differ by less.
 NOISE = 0.05
 
 
-def targets(results, lists):
+def targets(results, lists, kept):
     """Each target, what was measured, and the most that it may be."""
     small, large = ends(results, "map")
     crumbs = ends(results, "crumbs")[1].tile
     return [
         (f"{large.tile.name}, {JOB}: time to protozero's", time_to(large, "protozero"), 0.8),
         (f"{large.tile.name}, {JOB}: time to protobuf's", time_to(large, "protobuf"), 0.3),
+        (f"{large.tile.name}, {KEPT}: time to protozero's", time_to(of_job(results, large.tile, KEPT), "protozero"), 1.1),
+        (f"{kept.tile.name}, one kind kept, and undone: time to that of an empty script", kept.ratio, 2.5),
         (f"{large.tile.name}, in any job: peak memory to the tile", highest_peak(results, large.tile), 3.7),
         *((f"{result.tile.name}, {MANY}: time to protozero's", time_to(result, "protozero"), 2.5)
           for result in results if result.job == MANY and result.tile in [small.tile, *real(results)]),
@@ -34,6 +38,10 @@ def ends(results, kind):
     return group[0], group[-1]
 
 
+def of_job(results, tile, job):
+    return next(result for result in results if result.tile == tile and result.job == job)
+
+
 def real(results):
     """The tiles that were not generated."""
     return {result.tile for result in results if result.tile.kind is None}
@@ -49,9 +57,9 @@ def highest_peak(results, tile):
     return None if None in multiples else max(multiples)
 
 
-def verdicts(results, lists):
+def verdicts(results, lists, kept):
     rows = []
-    for name, measured, most in targets(results, lists):
+    for name, measured, most in targets(results, lists, kept):
         holds = measured is not None and measured <= most
         rows.append([name, shown(measured, 2), shown(most, 2), "yes" if holds else "no"])
     return table(["Target", "Measured", "At most", "Holds"], rows)

@@ -16,6 +16,9 @@ LARGE = 16 * MEBIBYTE
 # The kinds of tiles of groups, each at one size.
 GROUPS = {"nested groups": 16, "flat groups": 64}
 
+# The tile of alternating layers has three million of them.
+ALTERNATING = 15
+
 # The world's states at two places: zoom, column and row.
 REAL_TILES = ["1/0/0", "2/2/1"]
 
@@ -24,7 +27,7 @@ REAL_TILES = ["1/0/0", "2/2/1"]
 class Tile:
     name: str
     path: Path
-    # The layer that the jobs rename.
+    # The layer that the jobs name.
     layer: str
     # What is generated at several sizes has a kind.
     kind: str = None
@@ -37,6 +40,10 @@ class Tile:
     def is_large(self):
         return self.size > LARGE
 
+    @property
+    def is_smallest_map(self):
+        return self.kind == "map" and self.size <= SIZES[0] * MEBIBYTE
+
 
 def generated(kind, mebibytes, layer):
     path = BUILD / f"{kind}-{mebibytes}.pbf"
@@ -46,6 +53,10 @@ def generated(kind, mebibytes, layer):
 
 def smallest_map():
     return generated("map", SIZES[0], "roads")
+
+
+def alternating_layers():
+    return generated("alternating layers", ALTERNATING, "a")
 
 
 def generated_tiles():

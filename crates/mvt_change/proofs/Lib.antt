@@ -3,3 +3,15 @@ pub mod Lenses
 pub mod Turning
 pub mod Weighing
 pub mod Changed
+pub mod Keeping
+pub mod RoomLenses
+pub mod HeldSteps
+pub mod HeldChanged
+pub mod MadeSteps
+pub mod TurnedSteps
+pub mod TurnedRuns
+pub mod RunPieces
+pub mod Underway
+pub mod TileRuns
+pub mod LayerRuns
+pub mod FeatureRuns

@@ -75,7 +75,7 @@ fits_joined (step ∷ first) second document fits more = (fits.0, fits_joined fi
 pub fit_joined : JoinedFit
 fit_joined first second document = (joined_fits first second document, λ both. fits_joined first second document both.0 both.1)
 
-turn_joined : (first second : Change) (document : Document) → turn (first ++ second) document ≡ turn second (go first document) ++ turn first document
+pub turn_joined : (first second : Change) (document : Document) → turn (first ++ second) document ≡ turn second (go first document) ++ turn first document
 turn_joined [] second document = sym (append-nil (turn second document))
 turn_joined (step ∷ first) second document =
     ap (λ turned. turned ++ turn_step step document ∷ []) (turn_joined first second (go_step step document))

@@ -6,7 +6,7 @@ use Rattle.mvt_wire.specs.Plain.{Field, LayerItem, TileItem, Document}
 use Rattle.mvt_wire.specs.Wire.{field_bytes, layer_item_bytes, tile_item_bytes}
 use Rattle.mvt_wire.specs.Opens.{IsField, IsLayerItem, IsTileItem}
 use Rattle.mvt_wire.specs.Splicing.{part, splice, moved}
-use Rattle.mvt_change.specs.Lists.{CanSplice, CanMove}
+use Rattle.mvt_change.specs.Lists.{CanSplice, CanMove, HasPart}
 use Rattle.mvt_change.specs.Places.{items_at, fields_at, change_items, change_fields}
 
 -- which list of a document: that of the tile, of the layer at a position, or of the feature at a position of it
@@ -56,6 +56,13 @@ FitsStep (TileStep index taken put) document = CanSplice IsTileItem index taken 
 FitsStep (LayerStep layer index taken put) document = IsSomeAnd (items_at layer document) (CanSplice IsLayerItem index taken put)
 FitsStep (FeatureStep layer item index taken put) document = IsSomeAnd (fields_at layer item document) (CanSplice IsField index taken put)
 FitsStep (MoveStep place from to) document = FitsMove place from to document
+
+-- the list is there, and so are the items that are taken out or move
+abbrev pub Finds : Step → Document → Type 0
+Finds (TileStep index taken put) document = HasPart index taken document
+Finds (LayerStep layer index taken put) document = IsSomeAnd (items_at layer document) (HasPart index taken)
+Finds (FeatureStep layer item index taken put) document = IsSomeAnd (fields_at layer item document) (HasPart index taken)
+Finds (MoveStep place from to) document = FitsMove place from to document
 
 -- each step fits what the steps before it made
 abbrev pub Fits : Change → Document → Type 0

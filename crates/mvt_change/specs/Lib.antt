@@ -3,3 +3,10 @@ pub mod Places
 pub mod Changes
 pub mod ChangeStands
 pub mod Laws
+pub mod Room
+pub mod HeldPlaces
+pub mod HeldChanges
+pub mod Runs
+pub mod RunLaws
+pub mod LayerRuns
+pub mod FeatureRuns

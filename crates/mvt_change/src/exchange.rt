@@ -5,6 +5,9 @@ ghost use Rattle.std.specs.Option.{IsSomeAnd, option_and_then};
 ghost use Rattle.mvt_wire.specs.Stands.{document_of, field_of, layer_item_of, tile_item_of};
 ghost use Rattle.mvt_wire.specs.Splicing.{splice};
 ghost use Rattle.mvt_change.specs.Lists.{HasPart, change_at};
+ghost use Rattle.mvt_change.specs.Room.{KeepsDocument, KeepsLayerItem, KeepsList, KeepsTileItem};
+ghost use Rattle.mvt_change.specs.HeldPlaces.{change_held_at, change_held_fields, change_held_items, held_fields_at, held_fields_in, held_fields_in_at, held_items_at, held_items_in, in_held_feature, in_held_layer};
+ghost use Rattle.mvt_change.specs.HeldChanges.{TakesOut, exchanged};
 ghost use Rattle.mvt_change.specs.Places.{change_fields, change_items, fields_at, fields_in, fields_in_at, in_feature, in_layer, items_at, items_in};
 ghost use Rattle.mvt_change.specs.Changes.{taken_out};
 
@@ -27,6 +30,8 @@ pub(crate) fn exchange_in_layer(
     ensures put { map layer_item_of put.new.items ≡ (if is_ok result
         then taken_out index taken (items_at layer (document_of document.old))
         else map layer_item_of put.old.items) }
+    ensures kept { KeepsDocument (if is_ok result then change_held_items (exchanged index taken put.old) layer document.old else document.old) document.new }
+    ensures given { TakesOut index taken (is_ok result) (held_items_at layer document.old) put.old put.new }
 {
     let beside = document.items.size_beside(layer);
     let result = exchange_items(document.items.item_mut(layer), index, taken, put);
@@ -47,6 +52,8 @@ fn exchange_items(
     ensures put { map layer_item_of put.new.items ≡ (if is_ok result
         then taken_out index taken (items_in (tile_item_of item.old))
         else map layer_item_of put.old.items) }
+    ensures kept { KeepsTileItem (if is_ok result then in_held_layer (exchanged index taken put.old) item.old else item.old) item.new }
+    ensures given { TakesOut index taken (is_ok result) (held_items_in item.old) put.old put.new }
 {
     match item {
         TileItem::Layer(layer) => layer.items.exchange(index, taken, put),
@@ -71,6 +78,8 @@ pub(crate) fn exchange_in_feature(
     ensures put { map field_of put.new.items ≡ (if is_ok result
         then taken_out index taken (fields_at layer item (document_of document.old))
         else map field_of put.old.items) }
+    ensures kept { KeepsDocument (if is_ok result then change_held_fields (exchanged index taken put.old) layer item document.old else document.old) document.new }
+    ensures given { TakesOut index taken (is_ok result) (held_fields_at layer item document.old) put.old put.new }
 {
     let beside = document.items.size_beside(layer);
     let result = exchange_in_tile_item(document.items.item_mut(layer), item, index, taken, put);
@@ -92,6 +101,8 @@ fn exchange_in_tile_item(
     ensures put { map field_of put.new.items ≡ (if is_ok result
         then taken_out index taken (option_and_then (fields_in_at item) (items_in (tile_item_of holder.old)))
         else map field_of put.old.items) }
+    ensures kept { KeepsTileItem (if is_ok result then in_held_layer (change_held_at (in_held_feature (exchanged index taken put.old)) item) holder.old else holder.old) holder.new }
+    ensures given { TakesOut index taken (is_ok result) (option_and_then (held_fields_in_at item) (held_items_in holder.old)) put.old put.new }
 {
     match holder {
         TileItem::Layer(layer) => exchange_in_items(&mut layer.items, item, index, taken, put),
@@ -113,6 +124,8 @@ fn exchange_in_items(
     ensures put { map field_of put.new.items ≡ (if is_ok result
         then taken_out index taken (fields_in_at item (map layer_item_of items.old.items))
         else map field_of put.old.items) }
+    ensures kept { KeepsList KeepsLayerItem (if is_ok result then change_held_at (in_held_feature (exchanged index taken put.old)) item items.old else items.old) items.new }
+    ensures given { TakesOut index taken (is_ok result) (held_fields_in_at item items.old) put.old put.new }
 {
     let beside = items.size_beside(item);
     let result = exchange_fields(items.item_mut(item), index, taken, put);
@@ -133,6 +146,8 @@ fn exchange_fields(
     ensures put { map field_of put.new.items ≡ (if is_ok result
         then taken_out index taken (fields_in (layer_item_of item.old))
         else map field_of put.old.items) }
+    ensures kept { KeepsLayerItem (if is_ok result then in_held_feature (exchanged index taken put.old) item.old else item.old) item.new }
+    ensures given { TakesOut index taken (is_ok result) (held_fields_in item.old) put.old put.new }
 {
     match item {
         LayerItem::Feature(feature) => feature.fields.exchange(index, taken, put),

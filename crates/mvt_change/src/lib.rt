@@ -3,11 +3,16 @@
 
 mod change;
 mod exchange;
-mod flip;
+mod feature_run;
+mod flip_change;
 pub mod laws;
+mod layer_run;
 mod moves;
+mod run;
+mod steps;
+mod taking_back;
 mod weigh;
 
 pub use change::{Change, Place, Step};
-pub use flip::flip_step;
+pub use flip_change::flip;
 pub use weigh::weight;

@@ -1,11 +1,12 @@
 -- Which plain command a command of the program stands for.
+use Rattle.std.specs.Prelude.{map}
 use Rattle.mvt_command.specs.Command as plain
 use Rattle.mvt_command.specs.declared.command.LayerChoice.{LayerChoice}
 use Rattle.mvt_command.specs.declared.command.LayerChoice.TheVariants.{Ordinal, Name}
 use Rattle.mvt_command.specs.declared.command.FeatureChoice.{FeatureChoice}
 use Rattle.mvt_command.specs.declared.command.FeatureChoice.TheVariants as features
 use Rattle.mvt_command.specs.declared.command.Command.{Command}
-use Rattle.mvt_command.specs.declared.command.Command.TheVariants.{RenameLayer}
+use Rattle.mvt_command.specs.declared.command.Command.TheVariants.{RenameLayer, MoveLayer, DropLayer, KeepLayers, InsertFeature, MoveFeature, DropFeature, SetId, ClearId}
 
 -- the bytes of a name, without where they lie in memory
 abbrev pub layer_choice_of : LayerChoice → plain.LayerChoice
@@ -19,3 +20,11 @@ feature_choice_of (features.Id id) = plain.WithId id
 -- the command with its arguments
 abbrev pub command_of : Command → plain.Command
 command_of (RenameLayer layer name) = plain.RenameLayer (layer_choice_of layer) name.items
+command_of (MoveLayer layer index) = plain.MoveLayer (layer_choice_of layer) index
+command_of (DropLayer layer) = plain.DropLayer (layer_choice_of layer)
+command_of (KeepLayers names) = plain.KeepLayers (map (λ name. name.items) names.items)
+command_of (InsertFeature layer index geometry) = plain.InsertFeature (layer_choice_of layer) index geometry
+command_of (MoveFeature layer feature index) = plain.MoveFeature (layer_choice_of layer) (feature_choice_of feature) index
+command_of (DropFeature layer feature) = plain.DropFeature (layer_choice_of layer) (feature_choice_of feature)
+command_of (SetId layer feature id) = plain.SetId (layer_choice_of layer) (feature_choice_of feature) id
+command_of (ClearId layer feature) = plain.ClearId (layer_choice_of layer) (feature_choice_of feature)

@@ -1,5 +1,6 @@
 //! The commands that change a tile.
 
+use mvt_geometry::Geometry;
 use mvt_wire::Items;
 
 /// The layer that is meant.
@@ -20,8 +21,45 @@ pub enum FeatureChoice {
     Id(u64),
 }
 
-/// A change of the tile.
+/// A change of the tile. An index is the ordinal at which the layer or feature comes to stand.
 #[derive(Debug, Drop)]
 pub enum Command {
-    RenameLayer { layer: LayerChoice, name: Items<u8> },
+    RenameLayer {
+        layer: LayerChoice,
+        name: Items<u8>,
+    },
+    MoveLayer {
+        layer: LayerChoice,
+        index: u64,
+    },
+    DropLayer {
+        layer: LayerChoice,
+    },
+    /// The layers that have one of the names stay.
+    KeepLayers {
+        names: Items<Items<u8>>,
+    },
+    InsertFeature {
+        layer: LayerChoice,
+        index: u64,
+        geometry: Geometry,
+    },
+    MoveFeature {
+        layer: LayerChoice,
+        feature: FeatureChoice,
+        index: u64,
+    },
+    DropFeature {
+        layer: LayerChoice,
+        feature: FeatureChoice,
+    },
+    SetId {
+        layer: LayerChoice,
+        feature: FeatureChoice,
+        id: u64,
+    },
+    ClearId {
+        layer: LayerChoice,
+        feature: FeatureChoice,
+    },
 }

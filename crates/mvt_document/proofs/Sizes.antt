@@ -1,11 +1,12 @@
 -- The sizes of what is written one after the other.
-use Rattle.std.proofs.Common.{◌≡◌, ◌≤◌, ◌<◌, ◌+◌, ℕ, List, ◌++◌, length, length-append, get_or, take, drop, max, refl, sym, ap, ◌∙◌, take-append-drop, arith}
+use Rattle.std.proofs.Common.{◌≡◌, ◌≤◌, ◌<◌, ◌+◌, ℕ, Option, List, ◌++◌, length, length-append, get_or, take, drop, max, refl, sym, ap, ◌∙◌, take-append-drop, subst, arith}
 use Rattle.std.specs.List.{flat_map}
+use Rattle.std.specs.Option.{SomeIff}
 use Rattle.std.proofs.lemmas.List.{at_drop_more}
 use Rattle.std.proofs.lemmas.List.Folds.{length-flat_map-take}
 use Rattle.std.proofs.lemmas.List.Concat.{flat_map-append}
 use Rattle.mvt_document.specs.Wire.{spell, minimal_width, delimited}
-use Rattle.mvt_document.proofs.Spelling.{length-spell}
+use Rattle.mvt_document.proofs.Spelling.{length-spell, width_within_grows}
 
 -- a front and the item behind it are no longer than all items
 pub item_within : {T : Type 0} (f : T → List ℕ) (xs : List T) (i : ℕ) (x : T) → i < length xs → x ≡ get_or xs i x → length (flat_map f (take i xs)) + length (f x) ≤ length (flat_map f xs)
@@ -25,3 +26,12 @@ length-delimited width bytes = rw (length-append, length-spell) refl
 
 pub length-message : (value tag_width width : ℕ) (bytes : List ℕ) → length (spell value tag_width ++ delimited width bytes) ≡ tag_width + (max width (minimal_width (length bytes)) + length bytes)
 length-message value tag_width width bytes = rw (length-append, length-spell, length-delimited) refl
+
+-- a message with a longer content is no shorter
+pub length-message_grows : (value tag_width width : ℕ) (short long : List ℕ) → length short ≤ length long → length (spell value tag_width ++ delimited width short) ≤ length (spell value tag_width ++ delimited width long)
+length-message_grows value tag_width width short long less =
+    omega (arith, length-message value tag_width width short, length-message value tag_width width long, width_within_grows 9 (length short) (length long) less)
+
+-- what is told of a number within a limit is told of an equal one
+pub told_so : (limit : ℕ) (told : Option ℕ) (n m : ℕ) → n ≡ m → SomeIff told (n ≤ limit) n → SomeIff told (m ≤ limit) m
+told_so limit told n m same = subst (λ k. SomeIff told (k ≤ limit) k) same

@@ -80,6 +80,18 @@ width_within_least (suc m) v (suc (suc w)) some h =
     (λ _. omega arith)
     (λ _. omega (arith, width_within_least m (v / 128) (suc w) (omega arith) (rest_below v (suc w) h)))
 
+pub width_within_grows : (m v w : ℕ) → v ≤ w → width_within m v ≤ width_within m w
+unfolding width_within
+width_within_grows zero v w less = omega arith
+width_within_grows (suc m) v w less =
+    cond_both (ltb v 128) 1 (suc (width_within m (v / 128))) (λ n. n ≤ width_within (suc m) w)
+    (λ _. width_within_some (suc m) w)
+    (λ e.
+    let high : 128 ≤ v = ltb-false v 128 e in
+    cond_both (ltb w 128) 1 (suc (width_within m (w / 128))) (λ n. suc (width_within m (v / 128)) ≤ n)
+    (λ low. absurd (omega (arith, ltb-true w 128 low)))
+    (λ _. let rest : v / 128 ≤ w / 128 = omega arith in omega (arith, width_within_grows m (v / 128) (w / 128) rest)))
+
 pub minimal_width_some : (v : ℕ) → 1 ≤ minimal_width v
 minimal_width_some v = width_within_some 9 v
 

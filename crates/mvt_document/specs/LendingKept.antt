@@ -2,7 +2,7 @@
 use Rattle.std.specs.Prelude.{ℕ, Option}
 use Rattle.std.specs.Borrow.{Lends, LendsIf, Fml, RattleType, MutBor}
 use Rattle.mvt_document.specs.Held.{Held}
-use Rattle.mvt_document.specs.Lending.{with_item}
+use Rattle.mvt_document.specs.Lending.{with_item, held_in, vec_row}
 use Rattle.mvt_document.specs.contracts.message.Message.{the_row}
 use Rattle.mvt_document.specs.declared.measure.Measured.{Ghosts}
 
@@ -14,3 +14,7 @@ module _ (T : RattleType) (measured : Ghosts T.Denot) (list : MutBor (Held T.Den
   -- the same where r is a reference, and at `None` the list stays as it is
   abbrev pub LendsKeptIf : Option (MutBor T.Denot) → Fml
   LendsKeptIf r = LendsIf (the_row T measured) T list r (with_item list.now at) list.now
+
+-- once the borrow r ends, the message is what the vector is
+abbrev pub LendsVecKept : (T : RattleType) → Ghosts T.Denot → MutBor (Held T.Denot) → MutBor (vec_row T).Denot → Fml
+LendsVecKept T measured list r = Lends (the_row T measured) (vec_row T) list r held_in

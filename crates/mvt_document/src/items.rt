@@ -22,11 +22,11 @@ impl<T> Model for Items<T> {
 }
 
 impl<T> Items<T> {
-    ghost use Rattle.std.specs.Prelude.{Some, slice_get, take, ◌+◌, ◌<◌, ◌≤◌, ◌∷◌, [], ◌++◌, if◌then◌else◌, is_ok, IsOk, vec_len, vec_capacity};
+    ghost use Rattle.std.specs.Prelude.{Some, slice_get, take, reverse as reversed, ◌+◌, ◌<◌, ◌≤◌, ◌∷◌, [], ◌++◌, if◌then◌else◌, is_ok, IsOk, OnOk, OnErr, vec_len, vec_capacity};
     ghost use Rattle.mvt_document.specs.Splicing.{moved, part, splice};
     ghost use Rattle.std.specs.Borrow.{sem};
     ghost use Rattle.std.specs.Option.{option_copied_mut};
-    ghost use Rattle.mvt_document.specs.Lending.{LendsItem, LendsItemIf};
+    ghost use Rattle.mvt_document.specs.Lending.{LendsItem, LendsItemIf, LendsVec, held_in};
 
     /// The list of a vector's items, in the vector's own memory.
     pub fn from_vec(inner: Vec<T>) -> Self
@@ -49,6 +49,14 @@ impl<T> Items<T> {
         self.inner.as_slice()
     }
 
+    /// The vector that the items are in.
+    pub fn as_vec_mut(&mut self) -> &mut Vec<T>
+        ensures* writes_back { sem 𝓛 (LendsVec T.row self.entry result) }
+        ensures value { held_in result.now ≡ self.old }
+    {
+        &mut self.inner
+    }
+
     pub fn len(&self) -> usize
         ensures { result ≡ length self.now.items }
     {
@@ -68,6 +76,17 @@ impl<T> Items<T> {
         ensures value { slice_get self.old.items index ≡ Some result.now }
     {
         &mut self.inner[index]
+    }
+
+    /// Makes room for so many more items. An `Err` changes nothing.
+    pub fn reserve(&mut self, more: usize) -> Result<(), AllocError>
+        ensures items { self.new.items ≡ self.old.items }
+        ensures room { self.old.room ≤ self.new.room }
+        ensures ok { OnOk result (more ≤ self.new.room) }
+        ensures err { OnErr result (self.new.room ≡ self.old.room) }
+        ensures succeeds { more ≤ self.old.room → IsOk result }
+    {
+        self.inner.reserve(more)
     }
 
     /// Adds an item at the end. An `Err` changes nothing.
@@ -122,6 +141,14 @@ impl<T> Items<T> {
         ensures room { self.new.room ≡ self.old.room }
     {
         move_item(self.inner.as_mut_slice(), from, to);
+    }
+
+    /// Puts the items in the reverse order.
+    pub fn reverse(&mut self)
+        ensures items { self.new.items ≡ reversed self.old.items }
+        ensures room { self.new.room ≡ self.old.room }
+    {
+        self.inner.reverse();
     }
 
     /// Keeps so many items at the front.

@@ -15,7 +15,7 @@ mod varint;
 pub use body::Body;
 pub use document::{Document, Feature, Field, Layer, LayerItem, TileItem};
 pub use items::Items;
-pub use measure::{Measured, size_of_all};
+pub use measure::{Measured, message_size, size_beside_part, size_of_all, sum_within};
 pub use message::Message;
 pub use varint::{Varint, least_width, put_number, read_varint};
 

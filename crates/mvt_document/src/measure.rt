@@ -1,10 +1,11 @@
 //! How values of a document are measured.
 
-ghost use Rattle.std.specs.Prelude.{ℕ, ◌+◌, ◌≤◌, ◌++◌, List, length, max};
+ghost use Rattle.std.specs.Prelude.{ℕ, ◌+◌, ◌≤◌, List, [], ◌++◌, length, max};
 ghost use Rattle.std.specs.Option.{SomeIff};
 ghost use Rattle.std.specs.List.{flat_map};
 ghost use Rattle.mvt_document.specs.declared.TheConstants.{MAX_FILE};
 ghost use Rattle.mvt_document.specs.Wire.{spell, minimal_width};
+ghost use Rattle.mvt_document.specs.Splicing.{splice};
 
 use crate::MAX_FILE;
 use crate::varint::{Varint, least_width};
@@ -26,7 +27,7 @@ pub trait Measured {
 }
 
 /// The sum, where it is within the limit.
-pub(crate) fn sum_within(size: usize, more: usize, limit: usize) -> Option<usize>
+pub fn sum_within(size: usize, more: usize, limit: usize) -> Option<usize>
     ensures { SomeIff result (size + more ≤ limit) (size + more) }
 {
     let sum = size.checked_add(more)?;
@@ -47,6 +48,21 @@ pub fn size_of_all<T: Measured>(items: &[T], limit: usize) -> Option<usize>
     Some(size)
 }
 
+/// The size of the items beside so many from an index on, where it is within the limit.
+pub fn size_beside_part<T: Measured>(
+    items: &[T],
+    index: usize,
+    count: usize,
+    limit: usize,
+) -> Option<usize>
+    requires { index + count ≤ length items.now }
+    ensures { let size = length (flat_map T.bytes (splice index count [] items.now)) in SomeIff result (size ≤ limit) size }
+{
+    let front = size_of_all(&items[..index], limit)?;
+    let behind = size_of_all(&items[index + count..], limit)?;
+    sum_within(front, behind, limit)
+}
+
 /// The size of so many bytes behind their length, where it is within the limit.
 pub(crate) fn delimited_size(width: u8, length: usize, limit: usize) -> Option<usize>
     ensures { SomeIff result (max width (minimal_width length) + length ≤ limit) (max width (minimal_width length) + length) }
@@ -56,7 +72,7 @@ pub(crate) fn delimited_size(width: u8, length: usize, limit: usize) -> Option<u
 }
 
 /// The size of a tag and so many bytes behind it under one length, where it is within the limit.
-pub(crate) fn message_size(tag: Varint, width: u8, length: usize, limit: usize) -> Option<usize>
+pub fn message_size(tag: Varint, width: u8, length: usize, limit: usize) -> Option<usize>
     ensures { let size = tag.width + (max width (minimal_width length) + length) in SomeIff result (size ≤ limit) size }
 {
     sum_within(

@@ -9,7 +9,7 @@ ghost use Rattle.mvt_document.specs.declared.TheConstants.{MAX_FILE};
 use crate::MAX_FILE;
 use crate::exchange::move_item;
 use crate::items::Items;
-use crate::measure::{Measured, size_of_all, sum_within};
+use crate::measure::{Measured, size_beside_part, size_of_all, sum_within};
 use std::alloc::{AllocError, AllocFailed};
 use std::marker::Model;
 
@@ -39,7 +39,8 @@ impl<T: Measured> Message<T> {
     ghost use Rattle.std.specs.Borrow.{sem};
     ghost use Rattle.std.specs.Option.{option_copied_mut};
     ghost use Rattle.mvt_document.specs.Kept.{IsKept, bytes_beside};
-    ghost use Rattle.mvt_document.specs.LendingKept.{LendsKept, LendsKeptIf};
+    ghost use Rattle.mvt_document.specs.Lending.{held_in};
+    ghost use Rattle.mvt_document.specs.LendingKept.{LendsKept, LendsKeptIf, LendsVecKept};
 
     /// The message of a vector's items, in the vector's own memory.
     pub fn from_vec(inner: Vec<T>) -> Self
@@ -104,6 +105,19 @@ impl<T: Measured> Message<T> {
         Some(self.sum? - item.size()?)
     }
 
+    /// How many bytes the items beside so many from an index on take, where they are within the
+    /// limit. Where the size is known, those so many alone are measured.
+    pub fn size_beside_part(&self, index: usize, count: usize, limit: usize) -> Option<usize>
+        requires { index + count ≤ length self.now.items }
+        ensures { let size = length (flat_map T.bytes (splice index count [] self.now.items)) in SomeIff result (size ≤ limit) size }
+    {
+        let Some(sum) = self.sum else {
+            return size_beside_part(self.inner.as_slice(), index, count, limit);
+        };
+        let part = size_of_all(&self.inner[index..index + count], sum)?;
+        sum_within(sum - part, 0, limit)
+    }
+
     /// How many bytes the items take, where those beside this one take so many. What is not known is
     /// measured.
     fn size_with(&self, index: usize, beside: Option<usize>) -> Option<usize>
@@ -142,6 +156,30 @@ impl<T: Measured> Message<T> {
     {
         self.sum = None;
         &mut self.inner[index]
+    }
+
+    /// How many bytes the items take, where that is known.
+    pub fn known_size(&self) -> Option<usize>
+        ensures { IsKept T.bytes self.now.items result }
+    {
+        self.sum
+    }
+
+    /// The vector that the items are in. The size is no longer known: see `know_size`.
+    pub fn as_vec_mut(&mut self) -> &mut Vec<T>
+        ensures* writes_back { sem 𝓛 (LendsVecKept T.row T.Measured self.entry result) }
+        ensures value { held_in result.now ≡ self.old }
+    {
+        self.sum = None;
+        &mut self.inner
+    }
+
+    /// Knows the size again.
+    pub fn know_size(&mut self, known: Option<usize>)
+        requires { IsKept T.bytes self.old.items known }
+        ensures { self.new ≡ self.old }
+    {
+        self.sum = known;
     }
 
     /// Adds an item at the end. An `Err` changes nothing.

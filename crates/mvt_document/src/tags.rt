@@ -59,3 +59,12 @@ pub const FEATURE_TAG: u64 = 8 * FEATURES + LEN;
 
 /// The tag of a layer's name.
 pub const NAME_TAG: u64 = 8 * NAME + LEN;
+
+/// The tag of a feature's id.
+pub const ID_TAG: u64 = 8 * ID + VARINT;
+
+/// The tag of a feature's kind.
+pub const KIND_TAG: u64 = 8 * KIND + VARINT;
+
+/// The tag of a feature's geometry.
+pub const GEOMETRY_TAG: u64 = 8 * GEOMETRY + LEN;

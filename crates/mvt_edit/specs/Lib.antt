@@ -1,4 +1,4 @@
-pub mod Selection
-pub mod Meaning
-pub mod Former
-pub mod Laws
+pub mod Prepared
+pub mod Cuts
+pub mod Placing
+pub mod PutsLast

@@ -1,10 +1,14 @@
-//! What the commands make of a tile, and what carries them out.
+//! The changes that carry out commands.
 #![tactic(auto)]
 
-mod edit;
-pub mod laws;
-mod select;
+mod commands;
+mod cut;
+mod drops;
+mod insertion;
+mod keep;
+mod moves;
+mod put_last;
+mod steps;
 
-pub use edit::{Former, Refusal, apply, put_back};
-pub use mvt_command::{Command, FeatureChoice, LayerChoice};
-pub use select::{selected_feature, selected_layer};
+pub use commands::prepare;
+pub use mvt_meaning::{Command, FeatureChoice, LayerChoice, Refusal};

@@ -26,7 +26,8 @@ pub struct LayerView<'a> {
 }
 
 impl<'a> LayerView<'a> {
-    pub(crate) fn of(layer: &'a Layer) -> LayerView<'a>
+    /// The view of a layer.
+    pub fn of(layer: &'a Layer) -> LayerView<'a>
         ensures { layer_seen result ≡ layer_of layer.now }
     {
         LayerView { layer }
@@ -124,7 +125,8 @@ pub struct FeatureView<'a> {
 }
 
 impl<'a> FeatureView<'a> {
-    pub(crate) fn of(feature: &'a Feature) -> FeatureView<'a>
+    /// The view of a feature.
+    pub fn of(feature: &'a Feature) -> FeatureView<'a>
         ensures { feature_seen result ≡ feature_of feature.now }
     {
         FeatureView { feature }

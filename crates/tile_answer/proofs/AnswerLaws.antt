@@ -1,20 +1,22 @@
 -- What the laws of requests rest on.
-use Rattle.std.proofs.Common.{◌≡◌, ◌≢◌, ℕ, List, [], ◌++◌, length, Result, Ok, Err, codes, decimal, get_or, refl, ap, subst, arith}
+use Rattle.std.proofs.Common.{◌≡◌, ◌≢◌, ◌==◌, inl, inr, ℕ, List, [], ◌++◌, length, Result, Ok, Err, codes, decimal, get_or, refl, ap, subst, arith}
+use Rattle.std.proofs.lemmas.Bool.{cases_Bool}
 use Rattle.mvt_wire.specs.Plain.{Document}
 use Rattle.mvt_wire.specs.Wire.{bytes_of}
 use Rattle.mvt_command.specs.Command.{Command}
 use Rattle.mvt_command.proofs.Others.{Other}
-use Rattle.mvt_edit.specs.Meaning.{applied}
-use Rattle.mvt_edit.specs.declared.edit.Refusal.{Refusal}
-use Rattle.mvt_edit.specs.declared.edit.Refusal.TheVariants as edit
-use Rattle.mvt_edit.proofs.EditRefusals.{applied_other}
+use Rattle.mvt_meaning.specs.Meaning.{applied}
+use Rattle.mvt_meaning.specs.declared.refusal.Refusal.{Refusal}
+use Rattle.mvt_meaning.specs.declared.refusal.Refusal.TheVariants as edit
+use Rattle.mvt_meaning.proofs.Unwanting.{applied_other}
 use Rattle.tile_request.specs.Request.{Edit, Undo, Size, Lists}
 use Rattle.tile_listing.specs.Listing.{listed}
 use Rattle.tile_listing.specs.Told.{AreLinesToTell}
 use Rattle.tile_listing.proofs.Telling.{uncut-append, decimal_uncut, none_to_tell, one_to_tell}
 use Rattle.tile_listing.proofs.ListingLaws.{listings_are_lines, listings_have_no_want}
 use Rattle.tile_session.specs.History.{History, present_document, edited_to, edited, taken_back}
-use Rattle.tile_session.specs.declared.session.NothingToUndo.{NothingToUndo}
+use Rattle.tile_session.specs.declared.session.UndoError.{UndoError}
+use Rattle.tile_session.specs.declared.session.UndoError.TheVariants.{NothingToUndo, NoMemory}
 use Rattle.tile_reply.specs.Replies.{refusal_number, edit_number}
 use Rattle.tile_reply.specs.declared.refused.Refused.{Refused}
 use Rattle.tile_reply.specs.declared.refused.Refused.TheVariants as refused
@@ -27,9 +29,10 @@ edit_tells : (made : Result History Refusal) (told : Told) → told_by_edit made
 edit_tells (Ok history) told e = let none : [] ≡ told.lines = cc in subst AreLinesToTell none none_to_tell
 edit_tells (Err refusal) told e = absurd cc
 
-undo_tells : (made : Result History NothingToUndo) (told : Told) → told_by_undo made ≡ Ok told → AreLinesToTell told.lines
+undo_tells : (made : Result History UndoError) (told : Told) → told_by_undo made ≡ Ok told → AreLinesToTell told.lines
 undo_tells (Ok history) told e = let none : [] ≡ told.lines = cc in subst AreLinesToTell none none_to_tell
-undo_tells (Err nothing) told e = absurd cc
+undo_tells (Err NothingToUndo) told e = absurd cc
+undo_tells (Err NoMemory) told e = absurd cc
 
 size_to_tell : (document : Document) → AreLinesToTell (size_line document)
 size_to_tell document =
@@ -58,8 +61,10 @@ edit_is_other : (refusal : Refusal) → refusal ≢ edit.NoMemory → edit_numbe
 edit_is_other edit.NoLayer other e = omega arith
 edit_is_other edit.AmbiguousLayer other e = omega arith
 edit_is_other edit.NoFeature other e = omega arith
+edit_is_other edit.BadPlace other e = omega arith
 edit_is_other edit.AmbiguousFeature other e = omega arith
 edit_is_other edit.NameTaken other e = omega arith
+edit_is_other edit.OutOfRange other e = omega arith
 edit_is_other edit.TooLarge other e = omega arith
 edit_is_other edit.NoMemory other e = other refl
 
@@ -68,10 +73,19 @@ edit_has_no_want command history (Ok document) reason other e = absurd cc
 edit_has_no_want command history (Err refusal) reason other e =
     let same : refused.Edit refusal ≡ reason = cc in subst (λ (r : Refused). refusal_number r ≢ 60) same (edit_is_other refusal other)
 
-undo_has_no_want : (made : Result History NothingToUndo) (reason : Refused) → told_by_undo made ≡ Err reason → refusal_number reason ≢ 60
-undo_has_no_want (Ok history) reason e = absurd cc
-undo_has_no_want (Err nothing) reason e =
+undo_has_no_want : (made : Result History UndoError) (reason : Refused) → made ≢ Err NoMemory → told_by_undo made ≡ Err reason → refusal_number reason ≢ 60
+undo_has_no_want (Ok history) reason other e = absurd cc
+undo_has_no_want (Err NothingToUndo) reason other e =
     let same : refused.NothingToUndo ≡ reason = cc in subst (λ (r : Refused). refusal_number r ≢ 60) same (λ no. omega arith)
+undo_has_no_want (Err NoMemory) reason other e = absurd (other refl)
+
+-- to take a command back is never refused for want of memory
+undo_is_other : (history : History) → taken_back history ≢ Err NoMemory
+undo_is_other history e =
+    elim (cases_Bool (history.present == history.floor)) [
+      | inl at_floor ↦ absurd (let refused = rw at_floor at e in cc)
+      | inr not_at ↦ absurd (let done = rw not_at at e in cc)
+    ]
 
 look_has_no_want : (history : History) (shown : Result (List ℕ) Refusal) (reason : Refused) → shown ≢ Err edit.NoMemory → told_by_look history shown ≡ Err reason → refusal_number reason ≢ 60
 look_has_no_want history (Ok lines) reason other e = absurd cc
@@ -81,7 +95,7 @@ look_has_no_want history (Err refusal) reason other e =
 pub requests_have_no_want : RequestsHaveNoWant
 requests_have_no_want (Edit command) history reason e =
     edit_has_no_want command history (applied command (present_document history)) reason (applied_other command (present_document history)) e
-requests_have_no_want Undo history reason e = undo_has_no_want (taken_back history) reason e
+requests_have_no_want Undo history reason e = undo_has_no_want (taken_back history) reason (undo_is_other history) e
 requests_have_no_want Size history reason e = absurd cc
 requests_have_no_want (Lists what) history reason e =
     look_has_no_want history (listed what (present_document history)) reason (listings_have_no_want what (present_document history)) e

@@ -2,11 +2,13 @@
 use Rattle.std.specs.Prelude.{ℕ, List, [], ◌++◌, length, Result, Ok, Err, codes, decimal}
 use Rattle.mvt_wire.specs.Plain.{Document}
 use Rattle.mvt_wire.specs.Wire.{bytes_of}
-use Rattle.mvt_edit.specs.declared.edit.Refusal.{Refusal}
+use Rattle.mvt_meaning.specs.declared.refusal.Refusal.{Refusal}
+use Rattle.mvt_meaning.specs.declared.refusal.Refusal.TheVariants as edit
 use Rattle.tile_request.specs.Request.{Request, Edit, Undo, Size, Lists}
 use Rattle.tile_listing.specs.Listing.{listed}
 use Rattle.tile_session.specs.History.{History, present_document, edited, taken_back}
-use Rattle.tile_session.specs.declared.session.NothingToUndo.{NothingToUndo}
+use Rattle.tile_session.specs.declared.session.UndoError.{UndoError}
+use Rattle.tile_session.specs.declared.session.UndoError.TheVariants.{NothingToUndo, NoMemory}
 use Rattle.tile_reply.specs.declared.refused.Refused.{Refused}
 use Rattle.tile_reply.specs.declared.refused.Refused.TheVariants as refused
 
@@ -21,9 +23,10 @@ told_by_edit (Ok history) = Ok (record { lines = []; history = history })
 told_by_edit (Err refusal) = Err (refused.Edit refusal)
 
 -- and neither does an undo
-abbrev pub told_by_undo : Result History NothingToUndo → Result Told Refused
+abbrev pub told_by_undo : Result History UndoError → Result Told Refused
 told_by_undo (Ok history) = Ok (record { lines = []; history = history })
-told_by_undo (Err nothing) = Err refused.NothingToUndo
+told_by_undo (Err NothingToUndo) = Err refused.NothingToUndo
+told_by_undo (Err NoMemory) = Err (refused.Edit edit.NoMemory)
 
 -- a look tells its lines, and the history stays
 abbrev pub told_by_look : History → Result (List ℕ) Refusal → Result Told Refused

@@ -1,24 +1,17 @@
 -- How a session answers a request.
 use Rattle.std.specs.Prelude.{◌≡◌, ◌⊎◌, ℕ, Result, Ok, Err}
 use Rattle.mvt_wire.specs.Held.{Held}
-use Rattle.mvt_edit.specs.declared.edit.Refusal.TheVariants.{NoMemory}
-use Rattle.tile_request.specs.Request.{Request, Edit, Undo, Size, Lists}
+use Rattle.mvt_meaning.specs.declared.refusal.Refusal.TheVariants.{NoMemory}
+use Rattle.tile_request.specs.Request.{Request}
 use Rattle.tile_session.specs.History.{History}
 use Rattle.tile_session.specs.Session.{StandsFor}
-use Rattle.tile_session.specs.declared.session.Session.{Session}
+use Rattle.tile_session.specs.Standing.{Standing}
 use Rattle.tile_reply.specs.declared.refused.Refused.{Refused}
 use Rattle.tile_reply.specs.declared.refused.Refused.TheVariants as refused
 use Rattle.tile_answer.specs.Answering.{carried_out}
 
--- want of memory, which an undo never meets
-abbrev pub IsWant : Request → Refused → Type 0
-IsWant (Edit command) reason = reason ≡ refused.Edit NoMemory
-IsWant Undo reason = ⊥
-IsWant Size reason = reason ≡ refused.Edit NoMemory
-IsWant (Lists what) reason = reason ≡ refused.Edit NoMemory
-
 -- The request is carried out on the history as it is defined, or refused as it is defined.
 -- Want of memory, and no other refusal, may come in its place. After a refusal the history is as before.
-abbrev pub Answers : Request → History → Result (Held ℕ) Refused → Session → Type 0
+abbrev pub Answers : Request → History → Result (Held ℕ) Refused → Standing → Type 0
 Answers request history (Ok lines) new = (after : History) × (carried_out request history ≡ Ok (record { lines = lines.items; history = after })) × StandsFor new after
-Answers request history (Err reason) new = (IsWant request reason ⊎ (carried_out request history ≡ Err reason)) × StandsFor new history
+Answers request history (Err reason) new = ((reason ≡ refused.Edit NoMemory) ⊎ (carried_out request history ≡ Err reason)) × StandsFor new history

@@ -2,20 +2,20 @@
 
 ghost use Rattle.std.specs.Prelude.{◌≡◌, [], IfOk, IfErr, OnErr};
 ghost use Rattle.mvt_wire.specs.Stands.{document_of};
-ghost use Rattle.mvt_edit.specs.declared.edit.Refusal.TheVariants.{NoMemory};
+ghost use Rattle.mvt_meaning.specs.declared.refusal.Refusal.TheVariants.{NoMemory};
 ghost use Rattle.tile_request.specs.RequestStands.{request_of};
 ghost use Rattle.tile_session.specs.History.{History};
-ghost use Rattle.tile_session.specs.Session.{StandsFor, HoldsSame};
+ghost use Rattle.tile_session.specs.Session.{StandsFor};
 ghost use Rattle.tile_answer.specs.Answering.{size_line};
 ghost use Rattle.tile_answer.specs.Answers.{Answers};
 
-use mvt_edit::Refusal;
+use mvt_meaning::Refusal;
 use mvt_wire::{Document, Items, size};
 use std::alloc::Global;
 use tile_listing::listing;
 use tile_reply::Refused;
 use tile_request::Request;
-use tile_session::{NothingToUndo, Session};
+use tile_session::{Session, UndoError};
 
 /// Carries out a request, and gives the lines that it tells, each with its line feed.
 pub fn carry_out(
@@ -25,7 +25,7 @@ pub fn carry_out(
 ) -> Result<Items<u8>, Refused>
     ensures answer { (history : History) → StandsFor session.old history →
         Answers (request_of request.now) history result session.new }
-    ensures err { OnErr result (HoldsSame session.old session.new) }
+    ensures err { OnErr result (session.new ≡ session.old) }
 {
     match request {
         Request::Edit(command) => {
@@ -34,7 +34,8 @@ pub fn carry_out(
         }
         Request::Undo => match session.undo() {
             Ok(()) => Ok(no_lines(alloc)),
-            Err(NothingToUndo) => Err(Refused::NothingToUndo),
+            Err(UndoError::NothingToUndo) => Err(Refused::NothingToUndo),
+            Err(UndoError::NoMemory) => Err(Refused::Edit(Refusal::NoMemory)),
         },
         Request::Size => Ok(size_line(alloc, session.document())?),
         Request::List(what) => Ok(listing(alloc, session.document(), what)?),

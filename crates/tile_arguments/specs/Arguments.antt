@@ -35,6 +35,11 @@ is_number bytes = are_digits bytes && nat_lt (digits_value 10 bytes) (2 ^ 64)
 unfoldable pub number_of : List ℕ → Result ℕ ParseError
 number_of bytes = if is_number bytes then Ok (digits_value 10 bytes) else Err BadNumber
 
+-- the same of a bare word
+unfoldable pub number_in : Word → Result ℕ ParseError
+number_in (Bare digits) = number_of digits
+number_in (Quoted text) = Err BadNumber
+
 -- the number that the digits write, where it is at most so great
 unfoldable pub number_up_to : ℕ → List ℕ → Option ℕ
 number_up_to most bytes = if are_digits bytes && nat_le (digits_value 10 bytes) most then Some (digits_value 10 bytes) else None
@@ -80,6 +85,20 @@ text_in (Bare bytes) = option_and_then bytes_in (behind (codes "x:") bytes)
 -- else BadArguments
 unfoldable pub text_of : Word → Result (List ℕ) ParseError
 text_of word = ok_or (text_in word) BadArguments
+
+-- ---- several arguments
+
+-- what f reads of each, or the first refusal
+unfoldable pub each : {A B : Type 0} → (A → Result B ParseError) → List A → Result (List B) ParseError
+each f [] = Ok []
+each f (x ∷ xs) = do
+  y ← f x
+  ys ← each f xs
+  Ok (y ∷ ys)
+
+-- texts, one after the other
+unfoldable pub texts_of : List Word → Result (List (List ℕ)) ParseError
+texts_of words = each text_of words
 
 -- ---- layers and features
 
@@ -138,14 +157,6 @@ value_of (Quoted text) word = Err BadValue
 value_of (Bare name) word = ok_or (value_in name word) BadValue
 
 -- ---- geometries
-
--- what f reads of each, or the first refusal
-unfoldable pub each : {A B : Type 0} → (A → Result B ParseError) → List A → Result (List B) ParseError
-each f [] = Ok []
-each f (x ∷ xs) = do
-  y ← f x
-  ys ← each f xs
-  Ok (y ∷ ys)
 
 -- x and y, where both are there
 abbrev pub point_at : Option ℤ → Option ℤ → Option Point

@@ -10,6 +10,6 @@ mod values;
 
 pub use choices::{feature_choice, layer_choice};
 pub use geometries::new_geometry;
-pub use numbers::{distance, number};
-pub use texts::text_argument;
+pub use numbers::{distance, number, number_argument};
+pub use texts::{text_argument, text_arguments};
 pub use values::new_value;

@@ -3,7 +3,7 @@
 ghost use Rattle.std.specs.Prelude.{◌≡◌, ◌+◌, ◌*◌, ◌^◌, ◌<◌, ◌≤◌, neg_ℤ, pos, IfSome};
 ghost use Rattle.std.specs.Option.{SomeIff};
 ghost use Rattle.tile_words.specs.WordStands.{word_of};
-ghost use Rattle.tile_arguments.specs.Arguments.{number_of, number_up_to, signed_of, way_of, distance_of};
+ghost use Rattle.tile_arguments.specs.Arguments.{number_of, number_in, number_up_to, signed_of, way_of, distance_of};
 
 use crate::marks::behind;
 use tile_words::{ParseError, Word};
@@ -29,6 +29,17 @@ pub fn number(digits: &[u8]) -> Result<u64, ParseError>
         value = next;
     }
     Ok(value)
+}
+
+/// The number that a word says.
+#[tactic(auto, unfolding(crate::specs::Arguments::number_in))]
+pub fn number_argument(word: Word<'_>) -> Result<u64, ParseError>
+    ensures { result ≡ number_in (word_of word.entry) }
+{
+    match word {
+        Word::Bare(digits) => number(digits),
+        Word::Quoted(_) => Err(ParseError::BadNumber),
+    }
 }
 
 fn with_digit(value: u64, digit: u8) -> Option<u64>

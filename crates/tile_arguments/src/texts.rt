@@ -1,9 +1,9 @@
 //! Texts: quoted, or in hexadecimal digits.
 
-ghost use Rattle.std.specs.Prelude.{◌≡◌, IfOk, option_map};
+ghost use Rattle.std.specs.Prelude.{◌≡◌, IfOk, map, option_map};
 ghost use Rattle.tile_words.specs.Answers.{Gives};
 ghost use Rattle.tile_words.specs.WordStands.{word_of};
-ghost use Rattle.tile_arguments.specs.Arguments.{text_in, text_of, bytes_in};
+ghost use Rattle.tile_arguments.specs.Arguments.{text_in, text_of, texts_of, bytes_in};
 
 use crate::marks::behind;
 use hex::FromHexError;
@@ -17,6 +17,18 @@ pub fn text_argument(alloc: Global, word: Word<'_>) -> Result<Items<u8>, ParseEr
     ensures { Gives (λ text. text.items) result (text_of (word_of word.entry)) }
 {
     text_in(alloc, word)?.ok_or(ParseError::BadArguments)
+}
+
+/// The texts that words say.
+#[tactic(auto, unfolding(crate::specs::Arguments::texts_of))]
+pub fn text_arguments(alloc: Global, words: &[Word<'_>]) -> Result<Items<Items<u8>>, ParseError>
+    ensures { Gives (λ texts. map (λ text. text.items) texts.items) result (texts_of (map word_of words.now)) }
+{
+    let mut texts = Vec::with_capacity(alloc, words.len())?;
+    for word in words {
+        texts.push(text_argument(alloc, *word)?)?;
+    }
+    Ok(Items::from_vec(texts))
 }
 
 /// The text that a word says, where it is one.

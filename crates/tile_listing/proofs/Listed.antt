@@ -2,7 +2,7 @@
 use Rattle.std.proofs.Common.{◌≡◌, ℕ, List, [], ◌++◌, Ok, Err, refl, sym, ap, ◌∙◌}
 use Rattle.mvt_wire.specs.Plain.{Document, Feature, Layer}
 use Rattle.mvt_command.specs.Command.{FeatureChoice, LayerChoice}
-use Rattle.mvt_edit.specs.declared.edit.Refusal.{Refusal}
+use Rattle.mvt_meaning.specs.declared.refusal.Refusal.{Refusal}
 use Rattle.tile_request.specs.Request.{What, OneLayer, OneFeature}
 use Rattle.tile_listing.specs.Listing.{chosen_feature, chosen_layer, joined_lines, lines_of_feature, lines_of_layer, listed, shown}
 

@@ -5,12 +5,12 @@ use Rattle.std.proofs.lemmas.Bool.Decides.{nat_tests}
 use Rattle.mvt_wire.specs.Plain.{Layer}
 use Rattle.mvt_command.specs.Command.{FeatureChoice, FeatureAtOrdinal, WithId}
 use Rattle.mvt_view.specs.Views.{features, has_id, layers, ordinals_of, the_one}
-use Rattle.mvt_edit.specs.Meaning.{◌>>=◌}
-use Rattle.mvt_edit.specs.Selection.{selected, selected_feature}
-use Rattle.mvt_edit.specs.declared.edit.Refusal.{Refusal}
-use Rattle.mvt_edit.specs.declared.edit.Refusal.TheVariants.{NoFeature, AmbiguousFeature, NoLayer}
-use Rattle.mvt_edit.proofs.Positions.{positions_within}
-use Rattle.mvt_edit.proofs.Selecting.{selected_within}
+use Rattle.mvt_meaning.specs.Meaning.{◌>>=◌}
+use Rattle.mvt_meaning.specs.Selection.{selected, selected_feature}
+use Rattle.mvt_meaning.specs.declared.refusal.Refusal.{Refusal}
+use Rattle.mvt_meaning.specs.declared.refusal.Refusal.TheVariants.{NoFeature, AmbiguousFeature, NoLayer}
+use Rattle.mvt_meaning.proofs.Positions.{positions_within}
+use Rattle.mvt_meaning.proofs.Selecting.{selected_within}
 use Rattle.tile_listing.specs.Listing.{with_ordinal}
 use Rattle.tile_listing.specs.Laws.{SelectedFeatureIsThere, SelectedLayerIsThere}
 

@@ -2,8 +2,8 @@
 use Rattle.std.specs.Prelude.{◌≡◌, ◌≢◌, ℕ, List, Ok, Err}
 use Rattle.mvt_wire.specs.Plain.{Document, Feature, Layer}
 use Rattle.mvt_command.specs.Command.{FeatureChoice, LayerChoice}
-use Rattle.mvt_edit.specs.Selection.{selected, selected_feature}
-use Rattle.mvt_edit.specs.declared.edit.Refusal.TheVariants.{NoMemory}
+use Rattle.mvt_meaning.specs.Selection.{selected, selected_feature}
+use Rattle.mvt_meaning.specs.declared.refusal.Refusal.TheVariants.{NoMemory}
 use Rattle.tile_request.specs.Request.{What}
 use Rattle.tile_listing.specs.Listing.{chosen_feature, chosen_layer, listed}
 use Rattle.tile_listing.specs.Told.{AreLinesToTell}

@@ -10,10 +10,10 @@ use Rattle.mvt_geometry.specs.Shapes.{Geometry}
 use Rattle.mvt_command.specs.Command.{FeatureChoice, LayerChoice}
 use Rattle.mvt_view.specs.Views.{extent_of, features, id_of, keys, kind_of, layers, name_of, values, version_of}
 use Rattle.mvt_view.specs.Attributes.{attributes, values_in}
-use Rattle.mvt_edit.specs.Meaning.{◌>>=◌}
-use Rattle.mvt_edit.specs.Selection.{selected, selected_feature}
-use Rattle.mvt_edit.specs.declared.edit.Refusal.{Refusal}
-use Rattle.mvt_edit.specs.declared.edit.Refusal.TheVariants.{NoFeature, NoLayer, NoMemory}
+use Rattle.mvt_meaning.specs.Meaning.{◌>>=◌}
+use Rattle.mvt_meaning.specs.Selection.{selected, selected_feature}
+use Rattle.mvt_meaning.specs.declared.refusal.Refusal.{Refusal}
+use Rattle.mvt_meaning.specs.declared.refusal.Refusal.TheVariants.{NoFeature, NoLayer, NoMemory}
 use Rattle.mvt_shown.specs.Values.{value_in}
 use Rattle.mvt_shown.specs.Geometries.{geometry_in}
 use Rattle.tile_text.specs.Texts.{geometry_form, raw_form, text_form, value_form}

@@ -6,7 +6,7 @@ use Rattle.mvt_wire.specs.Plain.{Feature, Layer}
 use Rattle.mvt_view.specs.Seen.{feature_seen, layer_seen}
 use Rattle.mvt_view.specs.declared.views.FeatureView.{FeatureView}
 use Rattle.mvt_view.specs.declared.views.LayerView.{LayerView}
-use Rattle.mvt_edit.specs.declared.edit.Refusal.{Refusal}
+use Rattle.mvt_meaning.specs.declared.refusal.Refusal.{Refusal}
 
 -- a layer with its ordinal, or a refusal
 abbrev pub layer_found : Result (ℕ × LayerView) Refusal → Result (ℕ × Layer) Refusal

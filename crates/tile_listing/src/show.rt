@@ -12,7 +12,7 @@ use crate::feature::put_feature;
 use crate::layer::put_layer;
 use crate::tile::put_tile;
 use mvt_command::{FeatureChoice, LayerChoice};
-use mvt_edit::{Refusal, selected_feature, selected_layer};
+use mvt_meaning::{Refusal, selected_feature, selected_layer};
 use mvt_view::{FeatureView, LayerView, layer};
 use mvt_wire::{Document, Items};
 use std::alloc::Global;

@@ -4,8 +4,8 @@ use Rattle.std.specs.Borrow.{Bor}
 use Rattle.tile_lines.specs.Lines.{EndsWithALine}
 use Rattle.tile_words.specs.declared.parse_error.ParseError.{ParseError}
 use Rattle.tile_words.specs.declared.parse_error.ParseError.TheVariants as parse
-use Rattle.mvt_edit.specs.declared.edit.Refusal.{Refusal}
-use Rattle.mvt_edit.specs.declared.edit.Refusal.TheVariants as edit
+use Rattle.mvt_meaning.specs.declared.refusal.Refusal.{Refusal}
+use Rattle.mvt_meaning.specs.declared.refusal.Refusal.TheVariants as edit
 use Rattle.tile_reply.specs.declared.refused.Refused.{Refused}
 use Rattle.tile_reply.specs.declared.refused.Refused.TheVariants as refused
 
@@ -35,8 +35,10 @@ abbrev pub edit_number : Refusal → ℕ
 edit_number edit.NoLayer = 20
 edit_number edit.AmbiguousLayer = 21
 edit_number edit.NoFeature = 22
+edit_number edit.BadPlace = 24
 edit_number edit.AmbiguousFeature = 25
 edit_number edit.NameTaken = 40
+edit_number edit.OutOfRange = 42
 edit_number edit.TooLarge = 43
 edit_number edit.NoMemory = 60
 
@@ -44,8 +46,10 @@ abbrev pub edit_name : Refusal → List ℕ
 edit_name edit.NoLayer = codes "NoLayer"
 edit_name edit.AmbiguousLayer = codes "AmbiguousLayer"
 edit_name edit.NoFeature = codes "NoFeature"
+edit_name edit.BadPlace = codes "BadPlace"
 edit_name edit.AmbiguousFeature = codes "AmbiguousFeature"
 edit_name edit.NameTaken = codes "NameTaken"
+edit_name edit.OutOfRange = codes "OutOfRange"
 edit_name edit.TooLarge = codes "TooLarge"
 edit_name edit.NoMemory = codes "NoMemory"
 

@@ -4,7 +4,7 @@ ghost use Rattle.std.specs.Prelude.{◌≡◌};
 ghost use Rattle.tile_reply.specs.Replies.{refusal_number, refusal_name, parse_number, parse_name, edit_number, edit_name};
 ghost use Rattle.tile_reply.specs.declared.refused.Refused.TheVariants.{Edit};
 
-use mvt_edit::Refusal;
+use mvt_meaning::Refusal;
 use thiserror::Error;
 use tile_words::ParseError;
 
@@ -90,8 +90,10 @@ fn edit_number(refusal: Refusal) -> u8
         Refusal::NoLayer => 20,
         Refusal::AmbiguousLayer => 21,
         Refusal::NoFeature => 22,
+        Refusal::BadPlace => 24,
         Refusal::AmbiguousFeature => 25,
         Refusal::NameTaken => 40,
+        Refusal::OutOfRange => 42,
         Refusal::TooLarge => 43,
         Refusal::NoMemory => 60,
     }
@@ -104,8 +106,10 @@ fn edit_name(refusal: Refusal) -> &'static str
         Refusal::NoLayer => "NoLayer",
         Refusal::AmbiguousLayer => "AmbiguousLayer",
         Refusal::NoFeature => "NoFeature",
+        Refusal::BadPlace => "BadPlace",
         Refusal::AmbiguousFeature => "AmbiguousFeature",
         Refusal::NameTaken => "NameTaken",
+        Refusal::OutOfRange => "OutOfRange",
         Refusal::TooLarge => "TooLarge",
         Refusal::NoMemory => "NoMemory",
     }

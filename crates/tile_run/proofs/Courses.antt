@@ -5,10 +5,12 @@ use Rattle.mvt_wire.specs.TheConstants.{MAX_FILE}
 use Rattle.mvt_wire.specs.declared.Document as program
 use Rattle.mvt_wire.specs.Stands.{document_of}
 use Rattle.mvt_wire.specs.Wire.{bytes_of}
+use Rattle.mvt_wire.specs.Opens.{OpensAs}
+use Rattle.mvt_wire.specs.Settle.{settle}
 use Rattle.tile_device.specs.Seen.{Seen, Intake, Output, nothing_read, written}
 use Rattle.tile_device.proofs.Sending.{receives_nothing}
 use Rattle.tile_device.proofs.Supplying.{supplies_nothing}
-use Rattle.tile_run.specs.Course.{Course, Ends, IsWritten, StopsAtTile, start_of}
+use Rattle.tile_run.specs.Course.{Course, Ends, IsWritten, OpensAgain, StopsAtTile, start_of}
 use Rattle.tile_run.specs.Headline.{Devices, Runs}
 use Rattle.tile_session.specs.History.{History, present_document}
 use Rattle.tile_run.specs.Outcomes.{opening_outcome, script_outcome, writing_outcome}
@@ -180,22 +182,28 @@ module _ (options : Options) (t0 t1 s0 s1 r0 r1 o0 o1 : Seen) (before mid after 
   is_written : (out : Output) → IsWritten out (bytes_of (document_of edited)) → IsWritten out (bytes_of (present_document carried.ends.0.history))
   is_written out writes = subst (IsWritten out) file_is writes
 
-  pub runs_through : Writing edited o0 o1 after last (Ok tt) → editor.any_refused ≡ false → Runs options (seen t0 s0 r0 o0) (seen t1 s1 r1 o1) outcomes.Done
-  runs_through writing none = with_out outcomes.Done writing.0 writing.2 (record {
+  -- what was written is that of the document that stands
+  opens_again : OpensAs (bytes_of (document_of edited)) (settle (document_of edited)) → OpensAgain carried.ends.0
+  opens_again opens = subst (λ d. OpensAs (bytes_of d) (settle d)) (present carried.ends.0.history carried.ends.2.stands) opens
+
+  pub runs_through : Writing edited o0 o1 after last (Ok tt) → OpensAs (bytes_of (document_of edited)) (settle (document_of edited)) → editor.any_refused ≡ false → Runs options (seen t0 s0 r0 o0) (seen t1 s1 r1 o1) outcomes.Done
+  runs_through writing opens none = with_out outcomes.Done writing.0 writing.2 (record {
     document = document_of read;
     opened = opening.2;
     progress = carried.ends.0;
     carried = carried.ends.1;
     refused = sym carried.ends.2.refused ∙ none;
     out = is_written writing.0 writing.1;
+    opens = opens_again opens;
   })
 
-  pub runs_with_refusals : Writing edited o0 o1 after last (Ok tt) → editor.any_refused ≡ true → Runs options (seen t0 s0 r0 o0) (seen t1 s1 r1 o1) outcomes.SomeRefused
-  runs_with_refusals writing some = with_out outcomes.SomeRefused writing.0 writing.2 (record {
+  pub runs_with_refusals : Writing edited o0 o1 after last (Ok tt) → OpensAs (bytes_of (document_of edited)) (settle (document_of edited)) → editor.any_refused ≡ true → Runs options (seen t0 s0 r0 o0) (seen t1 s1 r1 o1) outcomes.SomeRefused
+  runs_with_refusals writing opens some = with_out outcomes.SomeRefused writing.0 writing.2 (record {
     document = document_of read;
     opened = opening.2;
     progress = carried.ends.0;
     carried = carried.ends.1;
     refused = sym carried.ends.2.refused ∙ some;
     out = is_written writing.0 writing.1;
+    opens = opens_again opens;
   })

@@ -12,9 +12,9 @@ use Rattle.tile_device.specs.Seen.{Seen, Intake, Output, Meets, Supplies, Receiv
 use Rattle.tile_device.specs.declared.device.Trouble.{Trouble}
 use Rattle.tile_device.specs.declared.device.Trouble.TheVariants.{Interrupted, Failed}
 use Rattle.tile_lines.specs.Lines.{lines_of, whole_lines}
-use Rattle.tile_run.specs.Course.{Course, retries_in, start_of, IsOpened, IsEdited, IsWritten, CarriesThrough, StopsBetween, StopsStrictly, OpensAsNothing, IsFaultOf, IsFaulty, lines_in}
+use Rattle.tile_run.specs.Course.{Course, OpensAgain, retries_in, start_of, IsOpened, IsEdited, IsWritten, CarriesThrough, StopsBetween, StopsStrictly, OpensAsNothing, IsFaultOf, IsFaulty, lines_in}
 use Rattle.tile_run.specs.DeviceLaws.{HaveLowCounts}
-use Rattle.tile_run.specs.Headline.{Devices, HasLowCounts, Serves, AllServe, interruptions_between, all_interruptions, TellsNoWant, outcome_of, tile_written, IsRunOf, Headline, RefusesTile, Runs}
+use Rattle.tile_run.specs.Headline.{Devices, HasLowCounts, Serves, AllServe, interruptions_between, all_interruptions, TellsNoWant, outcome_of, tile_written, IsRunOf, Headline, RefusesTile, Runs, WritesATile}
 use Rattle.tile_reply.specs.Replies.{HasNoWant}
 use Rattle.tile_run.specs.Run.{Progress, after_lines, is_over, ran, tile_of, Walk}
 use Rattle.tile_run.specs.declared.runs.TheConstants.{MAX_RETRIES, MAX_SCRIPT}
@@ -236,27 +236,38 @@ ends_refused strict progress on refused = rw on (rw refused refl)
 ends_strictly : (strict : Bool) (progress : Progress) → is_over strict progress ≡ true → outcomes.StrictStop ≡ outcome_of strict progress
 ends_strictly strict progress over = rw over refl
 
+-- the run of the script on the document, whose tile opens again where it is written
+record Comes (options : Options) (document : Document) (script : List ℕ) (before after : Devices) (outcome : Outcome) : Type 0 where
+  run : IsRunOf options document script before after outcome
+  opens : is_over options.strict (ran document options script) ≡ false → OpensAgain (ran document options script)
+
 is_edited : (options : Options) (before after : Devices) (any_refused : Bool) (outcome : Outcome) (r : Runs options before after outcome) (file script : List ℕ) (document : Document)
     → Premises before after file script → OpensAs file document
     → ((progress : Progress) → is_over options.strict progress ≡ false → progress.any_refused ≡ any_refused → outcome ≡ outcome_of options.strict progress)
-    → IsEdited options any_refused r.course → IsRunOf options document script before after outcome
+    → IsEdited options any_refused r.course → Comes options document script before after outcome
 is_edited options before after any_refused outcome r file script document premises opens ends edited =
-    comes_to options before after outcome r file script document edited.progress
-    (carried_through options before after outcome r file script document premises opens edited.document edited.opened edited.progress edited.carried)
-    (ends edited.progress edited.carried.goes_on edited.refused)
-    (grown before.replies after.replies r.course.replies edited.progress.replies premises.serve.replies r.replies edited.carried.replies)
-    (subst (Appends before.out.bytes after.out.bytes) (tile_is_written options.strict edited.progress edited.carried.goes_on)
-    (grown before.out after.out r.course.out (tile_of edited.progress) premises.serve.out r.out edited.out))
+    let made = carried_through options before after outcome r file script document premises opens edited.document edited.opened edited.progress edited.carried in
+    record {
+      run = comes_to options before after outcome r file script document edited.progress made
+          (ends edited.progress edited.carried.goes_on edited.refused)
+          (grown before.replies after.replies r.course.replies edited.progress.replies premises.serve.replies r.replies edited.carried.replies)
+          (subst (Appends before.out.bytes after.out.bytes) (tile_is_written options.strict edited.progress edited.carried.goes_on)
+          (grown before.out after.out r.course.out (tile_of edited.progress) premises.serve.out r.out edited.out));
+      opens = λ on. subst OpensAgain made edited.opens;
+    }
 
 is_stopped : (options : Options) (before after : Devices) (r : Runs options before after outcomes.StrictStop) (file script : List ℕ) (document : Document)
-    → Premises before after file script → OpensAs file document → StopsBetween options StopsStrictly r.course → IsRunOf options document script before after outcomes.StrictStop
+    → Premises before after file script → OpensAs file document → StopsBetween options StopsStrictly r.course → Comes options document script before after outcomes.StrictStop
 is_stopped options before after r file script document premises opens stopped =
-    comes_to options before after outcomes.StrictStop r file script document stopped.between.progress
-    (stopped_strictly options before after outcomes.StrictStop r file script document premises opens stopped.document stopped.opened stopped.between)
-    (ends_strictly options.strict stopped.between.progress stopped.between.over)
-    (grown before.replies after.replies r.course.replies stopped.between.progress.replies premises.serve.replies r.replies stopped.between.replies)
-    (subst (Appends before.out.bytes after.out.bytes) (no_tile_is_written options.strict stopped.between.progress stopped.between.over)
-    (grown before.out after.out r.course.out [] premises.serve.out r.out stopped.out))
+    let made = stopped_strictly options before after outcomes.StrictStop r file script document premises opens stopped.document stopped.opened stopped.between in
+    record {
+      run = comes_to options before after outcomes.StrictStop r file script document stopped.between.progress made
+          (ends_strictly options.strict stopped.between.progress stopped.between.over)
+          (grown before.replies after.replies r.course.replies stopped.between.progress.replies premises.serve.replies r.replies stopped.between.replies)
+          (subst (Appends before.out.bytes after.out.bytes) (no_tile_is_written options.strict stopped.between.progress stopped.between.over)
+          (grown before.out after.out r.course.out [] premises.serve.out r.out stopped.out));
+      opens = λ on. let no : true ≡ false = sym stopped.between.over ∙ ap (is_over options.strict) made ∙ on in absurd cc;
+    }
 
 not_faulty : (A : Type 0) (fault : TileFault) (old new : Seen) (intake : Intake) (file : List ℕ) (document : Document)
     → old.bytes ≡ Some file → Serves old new → Supplies old new intake → OpensAs file document → IsFaulty fault intake → A
@@ -272,14 +283,17 @@ not_cut : (A : Type 0) (trouble : Option Trouble) (size : ℕ) → trouble ≡ N
 not_cut A trouble size none within (inl some) = not_some A trouble none some
 not_cut A trouble size none within (inr long) = let no : ⊥ = omega (arith, within, long) in absurd no
 
-pub headline : (options : Options) (before after : Devices) (outcome : Outcome) → Runs options before after outcome → Headline options before after outcome
-headline options before after outcome r file script document file_is opens script_is within serve no_want not_memory =
+-- a run where no device and no growth fails
+comes : (options : Options) (before after : Devices) (outcome : Outcome) → Runs options before after outcome → (file script : List ℕ) (document : Document) → before.tile.bytes ≡ Some file → OpensAs file document
+    → before.script.bytes ≡ Some script → length script ≤ MAX_SCRIPT → AllServe before after → TellsNoWant before.replies.bytes after.replies.bytes → (outcome ≡ outcomes.NoMemory → ⊥)
+    → Comes options document script before after outcome
+comes options before after outcome r file script document file_is opens script_is within serve no_want not_memory =
     by_outcome outcome r not_memory
   where
     premises : Premises before after file script
     premises = record { file_is = file_is; script_is = script_is; within = within; serve = serve; no_want = no_want }
 
-    by_outcome : (outcome : Outcome) (r : Runs options before after outcome) → (outcome ≡ outcomes.NoMemory → ⊥) → IsRunOf options document script before after outcome
+    by_outcome : (outcome : Outcome) (r : Runs options before after outcome) → (outcome ≡ outcomes.NoMemory → ⊥) → Comes options document script before after outcome
     by_outcome outcomes.Done r not_memory = is_edited options before after false outcomes.Done r file script document premises opens (ends_done options.strict) r.ends
     by_outcome outcomes.SomeRefused r not_memory = is_edited options before after true outcomes.SomeRefused r file script document premises opens (ends_refused options.strict) r.ends
     by_outcome outcomes.StrictStop r not_memory = is_stopped options before after r file script document premises opens r.ends
@@ -291,6 +305,14 @@ headline options before after outcome r file script document file_is opens scrip
     by_outcome (outcomes.Device devices.Replies) r not_memory = not_some _ r.course.replies.trouble (untroubled options before after (outcomes.Device devices.Replies) r serve).replies r.ends.between.trouble
     by_outcome (outcomes.Device devices.Out) r not_memory = not_some _ r.course.out.trouble (untroubled options before after (outcomes.Device devices.Out) r serve).out r.ends.trouble
     by_outcome outcomes.NoMemory r not_memory = absurd (not_memory refl)
+
+pub headline : (options : Options) (before after : Devices) (outcome : Outcome) → Runs options before after outcome → Headline options before after outcome
+headline options before after outcome r file script document file_is opens script_is within serve no_want not_memory =
+    (comes options before after outcome r file script document file_is opens script_is within serve no_want not_memory).run
+
+pub writes_a_tile : (options : Options) (before after : Devices) (outcome : Outcome) → Runs options before after outcome → WritesATile options before after outcome
+writes_a_tile options before after outcome r file script document file_is opens script_is within serve no_want not_memory on =
+    (comes options before after outcome r file script document file_is opens script_is within serve no_want not_memory).opens on
 
 -- ---- a tile that opens as no document
 

@@ -16,7 +16,7 @@ use Rattle.tile_answer.proofs.AnswerLaws.{requests_tell_lines, requests_have_no_
 use Rattle.tile_reply.specs.Replies.{accepted_reply, refused_reply, refusal_number, refusal_name, HasNoWant}
 use Rattle.tile_run.specs.Run.{Progress, at_first, ran, settled_by, answered_by, after_line, is_over, after_lines}
 use Rattle.tile_run.specs.RunLaws.{RunsHaveNoWant}
-use Rattle.mvt_edit.specs.declared.edit.Refusal.TheVariants as edit
+use Rattle.mvt_meaning.specs.declared.refusal.Refusal.TheVariants as edit
 use Rattle.tile_words.specs.declared.parse_error.ParseError.{ParseError}
 use Rattle.tile_words.specs.declared.parse_error.ParseError.TheVariants as parse
 use Rattle.tile_reply.specs.declared.refused.Refused.{Refused}
@@ -59,8 +59,10 @@ name_uncut (refused.Parse parse.NoMemory) = refl
 name_uncut (refused.Edit edit.NoLayer) = refl
 name_uncut (refused.Edit edit.AmbiguousLayer) = refl
 name_uncut (refused.Edit edit.NoFeature) = refl
+name_uncut (refused.Edit edit.BadPlace) = refl
 name_uncut (refused.Edit edit.AmbiguousFeature) = refl
 name_uncut (refused.Edit edit.NameTaken) = refl
+name_uncut (refused.Edit edit.OutOfRange) = refl
 name_uncut (refused.Edit edit.TooLarge) = refl
 name_uncut (refused.Edit edit.NoMemory) = refl
 name_uncut refused.NothingToUndo = refl

@@ -3,7 +3,7 @@ use Rattle.std.proofs.Common.{◌≡◌, ◌≢◌, ℕ, List, [], ◌∷◌, �
 use Rattle.std.proofs.lemmas.List.{append_cancel_right}
 use Rattle.tile_lines.specs.Lines.{with_feed, EndsWithALine}
 use Rattle.tile_reply.specs.Replies.{accepted_reply, refused_reply, refusal_number, refusal_name}
-use Rattle.mvt_edit.specs.declared.edit.Refusal.TheVariants as edit
+use Rattle.mvt_meaning.specs.declared.refusal.Refusal.TheVariants as edit
 use Rattle.tile_words.specs.declared.parse_error.ParseError.TheVariants as parse
 use Rattle.tile_reply.specs.declared.refused.Refused.{Refused}
 use Rattle.tile_reply.specs.declared.refused.Refused.TheVariants as refused
@@ -62,8 +62,10 @@ name_ends_otherwise d (refused.Parse parse.NoMemory) e = omega arith
 name_ends_otherwise d (refused.Edit edit.NoLayer) e = omega arith
 name_ends_otherwise d (refused.Edit edit.AmbiguousLayer) e = omega arith
 name_ends_otherwise d (refused.Edit edit.NoFeature) e = omega arith
+name_ends_otherwise d (refused.Edit edit.BadPlace) e = omega arith
 name_ends_otherwise d (refused.Edit edit.AmbiguousFeature) e = omega arith
 name_ends_otherwise d (refused.Edit edit.NameTaken) e = omega arith
+name_ends_otherwise d (refused.Edit edit.OutOfRange) e = omega arith
 name_ends_otherwise d (refused.Edit edit.TooLarge) e = omega arith
 name_ends_otherwise d (refused.Edit edit.NoMemory) e = omega arith
 name_ends_otherwise d refused.NothingToUndo e = omega arith
@@ -89,8 +91,10 @@ other_ends_otherwise d (refused.Parse parse.NoMemory) other e = other refl
 other_ends_otherwise d (refused.Edit edit.NoLayer) other e = omega arith
 other_ends_otherwise d (refused.Edit edit.AmbiguousLayer) other e = omega arith
 other_ends_otherwise d (refused.Edit edit.NoFeature) other e = omega arith
+other_ends_otherwise d (refused.Edit edit.BadPlace) other e = omega arith
 other_ends_otherwise d (refused.Edit edit.AmbiguousFeature) other e = omega arith
 other_ends_otherwise d (refused.Edit edit.NameTaken) other e = omega arith
+other_ends_otherwise d (refused.Edit edit.OutOfRange) other e = omega arith
 other_ends_otherwise d (refused.Edit edit.TooLarge) other e = omega arith
 other_ends_otherwise d (refused.Edit edit.NoMemory) other e = other refl
 other_ends_otherwise d refused.NothingToUndo other e = omega arith

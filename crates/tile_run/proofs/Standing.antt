@@ -4,17 +4,18 @@ use Rattle.std.proofs.lemmas.Bool.{cases_Bool}
 use Rattle.mvt_wire.specs.Plain.{Document}
 use Rattle.mvt_command.specs.Command.{Command}
 use Rattle.tile_request.specs.Request.{Request, Edit, Undo, Size, Lists}
-use Rattle.mvt_edit.specs.Meaning.{applied}
+use Rattle.mvt_meaning.specs.Meaning.{applied}
 use Rattle.tile_script.specs.Line.{answer_to}
 use Rattle.tile_lines.specs.Lines.{lines_of}
 use Rattle.tile_session.specs.History.{History, IsSound, begun, after_all, present_document, with_command, undone, edited_to, edited, taken_back}
-use Rattle.tile_session.specs.declared.session.NothingToUndo.{NothingToUndo}
+use Rattle.tile_session.specs.declared.session.UndoError.{UndoError}
+use Rattle.tile_session.specs.declared.session.UndoError.TheVariants.{NothingToUndo, NoMemory}
 use Rattle.tile_answer.specs.Answering.{Told, told_by_edit, told_by_undo, carried_out}
 use Rattle.tile_answer.proofs.AnswerLaws.{looks_leave_history}
 use Rattle.tile_run.specs.Run.{Progress, at_first, ran, settled_by, answered_by, after_line, is_over, after_lines}
 use Rattle.tile_run.specs.RunLaws.{Makes, IsHistoryOf, StandingCommands}
 use Rattle.tile_run.specs.declared.outcome.Options.{Options}
-use Rattle.mvt_edit.specs.declared.edit.Refusal.{Refusal}
+use Rattle.mvt_meaning.specs.declared.refusal.Refusal.{Refusal}
 use Rattle.tile_words.specs.declared.parse_error.ParseError.{ParseError}
 use Rattle.tile_reply.specs.declared.refused.Refused.{Refused}
 use Rattle.tile_session.proofs.Histories.{after_accepted}
@@ -84,9 +85,10 @@ made_by_edit : (made : Result History Refusal) (told : Told) → told_by_edit ma
 made_by_edit (Ok history) told e = let same : history ≡ told.history = cc in ap Ok same
 made_by_edit (Err refusal) told e = absurd cc
 
-made_by_undo : (made : Result History NothingToUndo) (told : Told) → told_by_undo made ≡ Ok told → made ≡ Ok told.history
+made_by_undo : (made : Result History UndoError) (told : Told) → told_by_undo made ≡ Ok told → made ≡ Ok told.history
 made_by_undo (Ok history) told e = let same : history ≡ told.history = cc in ap Ok same
-made_by_undo (Err nothing) told e = absurd cc
+made_by_undo (Err NothingToUndo) told e = absurd cc
+made_by_undo (Err NoMemory) told e = absurd cc
 
 goes_after : (document : Document) (depth : ℕ) (request : Request) (history : History) (told : Told) → Goes document depth history → carried_out request history ≡ Ok told → Goes document depth told.history
 goes_after document depth (Edit command) history told goes e =

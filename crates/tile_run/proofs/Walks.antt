@@ -2,11 +2,10 @@
 use Rattle.std.proofs.Common.{◌≡◌, ℕ, List, Some, None, sym, ap, ◌∙◌, inl, inr}
 use Rattle.std.specs.Prelude.{Result, Ok, Err}
 use Rattle.mvt_wire.specs.Held.{Held}
-use Rattle.mvt_edit.specs.declared.edit.Refusal.TheVariants.{NoMemory}
-use Rattle.tile_request.specs.Request.{Request, Edit, Undo, Size, Lists}
+use Rattle.tile_request.specs.Request.{Request}
 use Rattle.tile_words.specs.Answers.{Refuses}
 use Rattle.tile_script.specs.Line.{answer_to, TakesMemory}
-use Rattle.tile_answer.specs.Answers.{IsWant, Answers}
+use Rattle.tile_answer.specs.Answers.{Answers}
 use Rattle.tile_run.specs.Run.{Progress, refused_for, settled_by, answered_by}
 use Rattle.tile_session.specs.Session.{StandsFor}
 use Rattle.tile_run.specs.Steps.{CarriesOut, answered}
@@ -25,12 +24,6 @@ carries_nothing session line p asks stands = record {
   stands = stands;
 }
 
-want_is : (request : Request) (reason : Refused) → IsWant request reason → reason ≡ refused.Edit NoMemory
-want_is (Edit command) reason e = e
-want_is Undo reason e = absurd e
-want_is Size reason e = e
-want_is (Lists what) reason e = e
-
 -- a request
 pub carries_request : (session : Session) (line : List ℕ) (request : Request) (p : Progress) (r : Result (Held ℕ) Refused)
     → answer_to line ≡ Ok (Some request) → Answers request p.history r session → CarriesOut session line (Some r) p
@@ -42,7 +35,7 @@ carries_request session line request p (Ok told) asks answers = record {
 carries_request session line request p (Err reason) asks answers = record {
   history = p.history;
   follows = elim answers.0 [
-    | inl e ↦ inr (requests_take_memory line request asks, ap (λ (why : Refused). answered p p.history (Some (Err why))) (want_is request reason e))
+    | inl e ↦ inr (requests_take_memory line request asks, ap (λ (why : Refused). answered p p.history (Some (Err why))) e)
     | inr e ↦ inl (ap (settled_by p) (sym e) ∙ ap (answered_by p) (sym asks))
   ];
   stands = answers.1;

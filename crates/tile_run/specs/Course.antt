@@ -3,6 +3,7 @@ use Rattle.std.specs.Prelude.{◌≡◌, ℕ, ◌+◌, ◌<◌, ◌≤◌, Bool,
 use Rattle.mvt_wire.specs.TheConstants.{MAX_FILE}
 use Rattle.mvt_wire.specs.Plain.{Document}
 use Rattle.mvt_wire.specs.Opens.{OpensAs, IsPlace}
+use Rattle.mvt_wire.specs.Settle.{settle}
 use Rattle.tile_device.specs.Seen.{Intake, Output, nothing_read, IsFront}
 use Rattle.tile_device.specs.declared.device.Trouble.TheVariants.{Interrupted}
 use Rattle.tile_lines.specs.Lines.{lines_of, whole_lines}
@@ -13,6 +14,7 @@ use Rattle.tile_run.specs.declared.outcome.Outcome.TheVariants as outcomes
 use Rattle.tile_run.specs.declared.outcome.DeviceName.TheVariants as devices
 use Rattle.tile_run.specs.declared.outcome.TileFault.{TileFault}
 use Rattle.tile_run.specs.declared.outcome.TileFault.TheVariants as faults
+use Rattle.tile_session.specs.History.{present_document}
 use Rattle.tile_run.specs.Run.{Progress, at_first, is_over, MayFollow, Walk, tile_of}
 
 -- what was read of each source and written to each sink
@@ -121,6 +123,10 @@ pub record StopsAtReplies (strict : Bool) (start : Progress) (script : Intake) (
 abbrev pub start_of : Options → Document → Progress
 start_of options document = at_first document options.depth
 
+-- the tile that stands opens again, as its document with each stored width raised to the width that was written
+abbrev pub OpensAgain : Progress → Type 0
+OpensAgain progress = OpensAs (tile_of progress) (settle (present_document progress.history))
+
 -- every line was carried out and replied to, and the tile was written
 pub record IsEdited (options : Options) (any_refused : Bool) (course : Course) : Type 0 where
   pub document : Document
@@ -129,6 +135,7 @@ pub record IsEdited (options : Options) (any_refused : Bool) (course : Course) :
   pub carried : CarriesThrough options.strict (start_of options document) course.script course.replies progress
   pub refused : progress.any_refused ≡ any_refused
   pub out : IsWritten course.out (tile_of progress)
+  pub opens : OpensAgain progress
 
 -- nothing but the tile was read, and nothing written
 pub record StopsAtTile (course : Course) : Type 0 where

@@ -1,5 +1,5 @@
 -- The headline: what a run does where no device and no growth fails it.
-use Rattle.std.specs.Prelude.{◌≡◌, ◌≢◌, ℕ, Bool, ◌+◌, ◌-◌, ◌^◌, ◌≤◌, List, [], ◌∷◌, ◌++◌, length, IsTrue, Some, None, if◌then◌else◌}
+use Rattle.std.specs.Prelude.{◌≡◌, ◌≢◌, ℕ, Bool, false, ◌+◌, ◌-◌, ◌^◌, ◌≤◌, List, [], ◌∷◌, ◌++◌, length, IsTrue, Some, None, if◌then◌else◌}
 use Rattle.std.specs.declared.option.Option.{Option}
 use Rattle.std.specs.Io.{appended_bytes}
 use Rattle.std.specs.Io.KnownBytes.{Appends}
@@ -14,7 +14,7 @@ use Rattle.tile_run.specs.declared.outcome.Outcome.{Outcome}
 use Rattle.tile_run.specs.declared.outcome.Outcome.TheVariants as outcomes
 use Rattle.tile_run.specs.declared.outcome.DeviceName.TheVariants as devices
 use Rattle.tile_run.specs.declared.outcome.TileFault.{TileFault}
-use Rattle.tile_run.specs.Course.{Course, Ends, IsPatient, OpensAsNothing, IsFaultOf}
+use Rattle.tile_run.specs.Course.{Course, Ends, IsPatient, OpensAgain, OpensAsNothing, IsFaultOf}
 use Rattle.tile_reply.specs.Replies.{HasNoWant}
 use Rattle.tile_lines.specs.Lines.{lines_of}
 use Rattle.tile_run.specs.Run.{Progress, after_lines, is_over, ran, tile_of}
@@ -92,6 +92,14 @@ Headline options before after outcome =
     → before.script.bytes ≡ Some script → length script ≤ MAX_SCRIPT
     → AllServe before after → TellsNoWant before.replies.bytes after.replies.bytes → outcome ≢ outcomes.NoMemory
     → IsRunOf options document script before after outcome
+
+-- where the tile is written, it opens again
+abbrev pub WritesATile : Options → Devices → Devices → Outcome → Type 0
+WritesATile options before after outcome =
+    (file script : List ℕ) (document : Document) → before.tile.bytes ≡ Some file → OpensAs file document
+    → before.script.bytes ≡ Some script → length script ≤ MAX_SCRIPT
+    → AllServe before after → TellsNoWant before.replies.bytes after.replies.bytes → outcome ≢ outcomes.NoMemory
+    → is_over options.strict (ran document options script) ≡ false → OpensAgain (ran document options script)
 
 -- for every tile that opens as no document: it is refused for what is wrong with it
 abbrev pub RefusesTile : Devices → Devices → Outcome → Type 0

@@ -3,7 +3,7 @@ use Rattle.std.specs.Prelude.{◌≡◌, ℕ, ◌+◌, ◌≤◌, Bool, true, fa
 use Rattle.mvt_wire.specs.Plain.{Document}
 use Rattle.mvt_command.specs.Command.{Command}
 use Rattle.tile_request.specs.Request.{Request, Edit, Undo}
-use Rattle.mvt_edit.specs.Meaning.{applied}
+use Rattle.mvt_meaning.specs.Meaning.{applied}
 use Rattle.tile_script.specs.Line.{answer_to}
 use Rattle.tile_lines.specs.Lines.{lines_of, HasNoLineFeed, with_feed, EndsWithALine}
 use Rattle.tile_session.specs.History.{History, IsSound, present_document}

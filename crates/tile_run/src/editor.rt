@@ -2,6 +2,7 @@
 
 ghost use Rattle.std.specs.Prelude.{◌≡◌, ℕ, ◌+◌, ◌^◌, ◌<◌, ◌≤◌, Bool, List, ◌++◌, false, length};
 ghost use Rattle.mvt_wire.specs.Plain.{Document as PlainDocument};
+ghost use Rattle.mvt_wire.specs.Opens.{IsDocument};
 ghost use Rattle.mvt_wire.specs.Stands.{document_of};
 ghost use Rattle.tile_device.specs.Seen.{Seen, Sends, Spends, source_at, sink_at};
 ghost use Rattle.tile_device.specs.Device.{trouble_of};
@@ -41,6 +42,7 @@ pub(crate) struct Editor {
 
 impl Editor {
     pub(crate) fn start(alloc: Global, document: Document, strict: bool) -> Self
+        requires { IsDocument (document_of document) }
         ensures { IsAt result strict (at_first (document_of document) 1) }
     {
         Editor {
@@ -52,8 +54,9 @@ impl Editor {
     }
 
     pub(crate) fn document(&self) -> &Document
-        ensures { (history : History) → StandsFor self.now.session history
+        ensures present { (history : History) → StandsFor self.now.session history
             → document_of result.now ≡ present_document history }
+        ensures valid { IsDocument (document_of result.now) }
     {
         self.session.document()
     }

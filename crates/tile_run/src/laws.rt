@@ -5,7 +5,7 @@ ghost use Rattle.tile_run.specs.DeviceLaws.{FailedDevicesAreNamed, WornOutRunsNa
 ghost use Rattle.tile_run.specs.RunLaws.{FrontsHaveFirstLines, FrontsStand, RepliesStand, RefusedLinesChangeNothing, SilentLinesChangeNothing, StrictRunsStop, AcceptedRunsAreAlike, StandingCommands, UndoInARun, UndoInAScript, WalksWithoutWantAreRuns, RunsAreWalks, RunsHaveNoWant, LookingChangesNothing};
 
 pub use tile_answer::laws::{looks_leave_history, requests_have_no_want, requests_tell_lines};
-pub use tile_session::laws::{history_fits, stays_sound, undo_at_once};
+pub use tile_session::laws::{history_fits, stays_sound, stays_valid, undo_at_once};
 
 /// After each front of whole lines the run has come to where it comes on that front alone. So the
 /// document, the history and the replies there are those of the front.

@@ -1,10 +1,12 @@
 //! The whole product: a tile and a script are read, the replies and the edited tile are written.
 
-ghost use Rattle.std.specs.Prelude.{◌≡◌, ◌+◌, ◌≤◌, length};
+ghost use Rattle.std.specs.Prelude.{◌≡◌, ◌+◌, ◌≤◌, length, OnOk};
+ghost use Rattle.mvt_wire.specs.Opens.{IsDocument, OpensAs};
+ghost use Rattle.mvt_wire.specs.Settle.{settle};
 ghost use Rattle.mvt_wire.specs.Stands.{document_of};
 ghost use Rattle.mvt_wire.specs.Wire.{bytes_of};
 ghost use Rattle.tile_device.specs.Seen.{Intake, Output, source_at, sink_at};
-ghost use Rattle.tile_run.specs.Headline.{Headline, RefusesTile, Runs, LeavesOut, LeavesReplies, devices_at};
+ghost use Rattle.tile_run.specs.Headline.{Headline, RefusesTile, Runs, WritesATile, LeavesOut, LeavesReplies, devices_at};
 ghost use Rattle.tile_run.specs.Steps.{Reads, Writes, OpensTile, WritesTile};
 
 use crate::editor::Editor;
@@ -33,6 +35,12 @@ pub fn run<R1: Source, R2: Source, W1: Sink, W2: Sink>(
 
     // Where no device fails and memory is not wanted: the script on the document.
     ensures headline { Headline options
+        (devices_at R1.Source R2.Source W1.Sink W2.Sink tile.old script.old replies.old out.old)
+        (devices_at R1.Source R2.Source W1.Sink W2.Sink tile.new script.new replies.new out.new)
+        result }
+
+    // What is written then opens again, as the document that stands.
+    ensures writes_a_tile { WritesATile options
         (devices_at R1.Source R2.Source W1.Sink W2.Sink tile.old script.old replies.old out.old)
         (devices_at R1.Source R2.Source W1.Sink W2.Sink tile.new script.new replies.new out.new)
         result }
@@ -115,6 +123,8 @@ fn write_tile<W: Sink>(
     ensures writes { (output : Output) × WritesTile (bytes_of (document_of document.now)) output result
         × Writes (sink_at W.Sink out.old) (sink_at W.Sink out.new) retries.old retries.new output }
     ensures no_memory { result ≡ Err Unwritten.NoMemory → out.new ≡ out.old }
+    ensures opens { IsDocument (document_of document.now) →
+        OnOk result (OpensAs (bytes_of (document_of document.now)) (settle (document_of document.now))) }
 {
     let Ok(file) = write_document(alloc, document) else {
         return Err(Unwritten::NoMemory);

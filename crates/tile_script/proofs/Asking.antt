@@ -2,14 +2,15 @@
 use Rattle.std.proofs.Common.{◌≡◌, ℕ, true, false, eqb, List, [], ◌∷◌, ◌++◌, Some, Ok, refl, ap, ◌∙◌}
 use Rattle.std.specs.Prelude.{codes}
 use Rattle.std.specs.Str.Parse.{digits_value}
-use Rattle.mvt_command.specs.Command.{AtOrdinal, Named, RenameLayer, FeatureAtOrdinal, WithId}
+use Rattle.mvt_command.specs.Command.{Command, AtOrdinal, Named, RenameLayer, FeatureAtOrdinal, WithId}
 use Rattle.tile_arguments.specs.Arguments.{is_number}
 use Rattle.tile_arguments.proofs.Meant.{text_quoted, layer_named, layer_at, feature_at, feature_with_id}
 use Rattle.tile_request.specs.Request.{Request, Edit, Undo, Size, Lists, Whole, OneLayer, OneFeature}
 use Rattle.tile_words.specs.Words.{Word, Bare, Quoted, words_of}
 use Rattle.tile_words.specs.Spelling.{SpellsWords}
 use Rattle.tile_words.proofs.Again.{words_only, behind_blanks, no_gap}
-use Rattle.tile_script.specs.Line.{TakesMemory, keyword_of, rename_layer_of, undo_of, size_request_of, list_of, asked_by, is_remark_behind, is_remark, request_in, answer_to, IsReadable}
+use Rattle.tile_script.specs.Commands.{command_word_of, rename_layer_of}
+use Rattle.tile_script.specs.Line.{TakesMemory, keyword_of, edit_of, undo_of, size_request_of, list_of, asked_by, is_remark_behind, is_remark, request_in, answer_to, IsReadable}
 use Rattle.tile_script.proofs.Silent.{answer_to-words}
 
 -- a line is no remark, where its first word is bare and begins with another byte
@@ -45,24 +46,27 @@ asks_size line readable s = asks_by line 115 (105 ∷ 122 ∷ 101 ∷ []) [] Siz
 
 -- ---- lines whose first word is `rename-layer`
 
-asks_rename : (line : List ℕ) (arguments : List Word) (request : Request) → IsReadable line → SpellsWords line (Bare (codes "rename-layer") ∷ arguments) → rename_layer_of arguments ≡ Ok request → answer_to line ≡ Ok (Some request)
-unfolding asked_by keyword_of
-asks_rename line arguments request readable s asked =
-    asks_by line 114 (101 ∷ 110 ∷ 97 ∷ 109 ∷ 101 ∷ 45 ∷ 108 ∷ 97 ∷ 121 ∷ 101 ∷ 114 ∷ []) arguments request readable refl s asked
+asks_rename : (line : List ℕ) (arguments : List Word) (command : Command) → IsReadable line → SpellsWords line (Bare (codes "rename-layer") ∷ arguments) → rename_layer_of arguments ≡ Ok command → answer_to line ≡ Ok (Some (Edit command))
+unfolding asked_by keyword_of command_word_of edit_of
+asks_rename line arguments command readable s e =
+    asks_by line 114 (101 ∷ 110 ∷ 97 ∷ 109 ∷ 101 ∷ 45 ∷ 108 ∷ 97 ∷ 121 ∷ 101 ∷ 114 ∷ []) arguments (Edit command) readable refl s asked
+  where
+    asked : asked_by (Bare (codes "rename-layer") ∷ arguments) ≡ Ok (Edit command)
+    asked = rw e refl
 
 pub asks_rename_named : (line old new : List ℕ) → IsReadable line → SpellsWords line (Bare (codes "rename-layer") ∷ Quoted old ∷ Quoted new ∷ []) → answer_to line ≡ Ok (Some (Edit (RenameLayer (Named old) new)))
 unfolding rename_layer_of
-asks_rename_named line old new readable s = asks_rename line (Quoted old ∷ Quoted new ∷ []) (Edit (RenameLayer (Named old) new)) readable s asked
+asks_rename_named line old new readable s = asks_rename line (Quoted old ∷ Quoted new ∷ []) (RenameLayer (Named old) new) readable s asked
   where
-    asked : rename_layer_of (Quoted old ∷ Quoted new ∷ []) ≡ Ok (Edit (RenameLayer (Named old) new))
+    asked : rename_layer_of (Quoted old ∷ Quoted new ∷ []) ≡ Ok (RenameLayer (Named old) new)
     asked = rw (layer_named old, text_quoted new) refl
 
 pub asks_rename_ordinal : (line digits new : List ℕ) → IsReadable line → is_number digits ≡ true → SpellsWords line (Bare (codes "rename-layer") ∷ Bare (codes "#" ++ digits) ∷ Quoted new ∷ []) → answer_to line ≡ Ok (Some (Edit (RenameLayer (AtOrdinal (digits_value 10 digits)) new)))
 unfolding rename_layer_of
 asks_rename_ordinal line digits new readable number s =
-    asks_rename line (Bare (codes "#" ++ digits) ∷ Quoted new ∷ []) (Edit (RenameLayer (AtOrdinal (digits_value 10 digits)) new)) readable s asked
+    asks_rename line (Bare (codes "#" ++ digits) ∷ Quoted new ∷ []) (RenameLayer (AtOrdinal (digits_value 10 digits)) new) readable s asked
   where
-    asked : rename_layer_of (Bare (codes "#" ++ digits) ∷ Quoted new ∷ []) ≡ Ok (Edit (RenameLayer (AtOrdinal (digits_value 10 digits)) new))
+    asked : rename_layer_of (Bare (codes "#" ++ digits) ∷ Quoted new ∷ []) ≡ Ok (RenameLayer (AtOrdinal (digits_value 10 digits)) new)
     asked = rw (layer_at digits number, text_quoted new) refl
 
 -- ---- lines whose first word is `list`

@@ -3,20 +3,97 @@ use Rattle.std.proofs.Common.{ℕ, not, List, [], ◌∷◌, length, Option, Som
 use Rattle.std.specs.Prelude.{nat_lt, ok_or}
 use Rattle.std.specs.Str.{is_utf8}
 use Rattle.tile_words.specs.Words.{Word, Bare, Quoted, words_of}
-use Rattle.tile_arguments.specs.Arguments.{text_of, layer_of, feature_of}
-use Rattle.tile_arguments.proofs.Refusals.{then_other, text_other, layer_other, feature_other}
-use Rattle.tile_script.specs.Line.{is_remark, rename_layer_of, undo_of, size_request_of, list_of, keyword_of, with_arguments, asked_by, request_in, answer_to}
+use Rattle.tile_arguments.specs.Arguments.{text_of, texts_of, number_in, layer_of, feature_of, geometry_of}
+use Rattle.tile_arguments.proofs.Refusals.{then_other, text_other, texts_other, number_in_other, layer_other, feature_other, geometry_other}
+use Rattle.tile_script.specs.Line.{is_remark, edit_of, undo_of, size_request_of, list_of, keyword_of, with_arguments, asked_by, request_in, answer_to}
+use Rattle.tile_script.specs.Commands.{chosen_of, rename_layer_of, move_layer_of, drop_layer_of, keep_layers_of, insert_feature_of, move_feature_of, drop_feature_of, set_id_of, clear_id_of, command_by}
+use Rattle.tile_script.specs.declared.keyword.CommandWord.{CommandWord}
+use Rattle.tile_script.specs.declared.keyword.CommandWord.TheVariants as words
 use Rattle.tile_script.specs.declared.keyword.Keyword.{Keyword}
 use Rattle.tile_script.specs.declared.keyword.Keyword.TheVariants as keywords
 use Rattle.tile_words.specs.declared.parse_error.ParseError.TheVariants as parse
 use Rattle.mvt_command.proofs.Others.{Other, either}
 
-rename_other : (arguments : List Word) → Other parse.NoMemory (rename_layer_of arguments)
+chosen_other : (layer feature : Word) → Other parse.NoMemory (chosen_of layer feature)
+unfolding chosen_of
+chosen_other layer feature = then_other (layer_of layer) _ (layer_other layer) (λ choice. then_other (feature_of feature) _ (feature_other feature) (λ chosen. tt))
+
+rename_layer_other : (arguments : List Word) → Other parse.NoMemory (rename_layer_of arguments)
 unfolding rename_layer_of
-rename_other [] = λ e. cc
-rename_other (layer ∷ []) = λ e. cc
-rename_other (layer ∷ name ∷ []) = then_other (layer_of layer) _ (layer_other layer) (λ choice. then_other (text_of name) _ (text_other name) (λ text. tt))
-rename_other (layer ∷ name ∷ more ∷ others) = λ e. cc
+rename_layer_other [] = λ e. cc
+rename_layer_other (layer ∷ []) = λ e. cc
+rename_layer_other (layer ∷ name ∷ []) = then_other (layer_of layer) _ (layer_other layer) (λ choice. then_other (text_of name) _ (text_other name) (λ text. tt))
+rename_layer_other (layer ∷ name ∷ more ∷ others) = λ e. cc
+
+move_layer_other : (arguments : List Word) → Other parse.NoMemory (move_layer_of arguments)
+unfolding move_layer_of
+move_layer_other [] = λ e. cc
+move_layer_other (layer ∷ []) = λ e. cc
+move_layer_other (layer ∷ index ∷ []) = then_other (layer_of layer) _ (layer_other layer) (λ choice. then_other (number_in index) _ (number_in_other index) (λ number. tt))
+move_layer_other (layer ∷ index ∷ more ∷ others) = λ e. cc
+
+drop_layer_other : (arguments : List Word) → Other parse.NoMemory (drop_layer_of arguments)
+unfolding drop_layer_of
+drop_layer_other [] = λ e. cc
+drop_layer_other (layer ∷ []) = then_other (layer_of layer) _ (layer_other layer) (λ choice. tt)
+drop_layer_other (layer ∷ more ∷ others) = λ e. cc
+
+keep_layers_other : (arguments : List Word) → Other parse.NoMemory (keep_layers_of arguments)
+unfolding keep_layers_of
+keep_layers_other [] = λ e. cc
+keep_layers_other (name ∷ more) = then_other (texts_of (name ∷ more)) _ (texts_other (name ∷ more)) (λ names. tt)
+
+insert_feature_other : (arguments : List Word) → Other parse.NoMemory (insert_feature_of arguments)
+unfolding insert_feature_of
+insert_feature_other [] = λ e. cc
+insert_feature_other (layer ∷ []) = λ e. cc
+insert_feature_other (layer ∷ index ∷ []) = λ e. cc
+insert_feature_other (layer ∷ index ∷ kind ∷ points) = then_other (layer_of layer) _ (layer_other layer) (λ choice. then_other (number_in index) _ (number_in_other index) (λ number. then_other (geometry_of (kind ∷ points)) _ (geometry_other (kind ∷ points)) (λ geometry. tt)))
+
+move_feature_other : (arguments : List Word) → Other parse.NoMemory (move_feature_of arguments)
+unfolding move_feature_of
+move_feature_other [] = λ e. cc
+move_feature_other (layer ∷ []) = λ e. cc
+move_feature_other (layer ∷ feature ∷ []) = λ e. cc
+move_feature_other (layer ∷ feature ∷ index ∷ []) = then_other (chosen_of layer feature) _ (chosen_other layer feature) (λ chosen. then_other (number_in index) _ (number_in_other index) (λ number. tt))
+move_feature_other (layer ∷ feature ∷ index ∷ more ∷ others) = λ e. cc
+
+drop_feature_other : (arguments : List Word) → Other parse.NoMemory (drop_feature_of arguments)
+unfolding drop_feature_of
+drop_feature_other [] = λ e. cc
+drop_feature_other (layer ∷ []) = λ e. cc
+drop_feature_other (layer ∷ feature ∷ []) = then_other (chosen_of layer feature) _ (chosen_other layer feature) (λ chosen. tt)
+drop_feature_other (layer ∷ feature ∷ more ∷ others) = λ e. cc
+
+set_id_other : (arguments : List Word) → Other parse.NoMemory (set_id_of arguments)
+unfolding set_id_of
+set_id_other [] = λ e. cc
+set_id_other (layer ∷ []) = λ e. cc
+set_id_other (layer ∷ feature ∷ []) = λ e. cc
+set_id_other (layer ∷ feature ∷ id ∷ []) = then_other (chosen_of layer feature) _ (chosen_other layer feature) (λ chosen. then_other (number_in id) _ (number_in_other id) (λ number. tt))
+set_id_other (layer ∷ feature ∷ id ∷ more ∷ others) = λ e. cc
+
+clear_id_other : (arguments : List Word) → Other parse.NoMemory (clear_id_of arguments)
+unfolding clear_id_of
+clear_id_other [] = λ e. cc
+clear_id_other (layer ∷ []) = λ e. cc
+clear_id_other (layer ∷ feature ∷ []) = then_other (chosen_of layer feature) _ (chosen_other layer feature) (λ chosen. tt)
+clear_id_other (layer ∷ feature ∷ more ∷ others) = λ e. cc
+
+command_other : (word : CommandWord) (arguments : List Word) → Other parse.NoMemory (command_by word arguments)
+command_other words.RenameLayer arguments = rename_layer_other arguments
+command_other words.MoveLayer arguments = move_layer_other arguments
+command_other words.DropLayer arguments = drop_layer_other arguments
+command_other words.KeepLayers arguments = keep_layers_other arguments
+command_other words.InsertFeature arguments = insert_feature_other arguments
+command_other words.MoveFeature arguments = move_feature_other arguments
+command_other words.DropFeature arguments = drop_feature_other arguments
+command_other words.SetId arguments = set_id_other arguments
+command_other words.ClearId arguments = clear_id_other arguments
+
+edit_other : (word : CommandWord) (arguments : List Word) → Other parse.NoMemory (edit_of word arguments)
+unfolding edit_of
+edit_other word arguments = then_other (command_by word arguments) _ (command_other word arguments) (λ command. tt)
 
 undo_other : (arguments : List Word) → Other parse.NoMemory (undo_of arguments)
 unfolding undo_of
@@ -37,7 +114,7 @@ list_other (layer ∷ feature ∷ more ∷ others) = λ e. cc
 
 arguments_other : (keyword : Option Keyword) (arguments : List Word) → Other parse.NoMemory (with_arguments keyword arguments)
 arguments_other None arguments = λ e. cc
-arguments_other (Some keywords.RenameLayer) arguments = rename_other arguments
+arguments_other (Some (keywords.Edit word)) arguments = edit_other word arguments
 arguments_other (Some keywords.Undo) arguments = undo_other arguments
 arguments_other (Some keywords.Size) arguments = size_other arguments
 arguments_other (Some keywords.List) arguments = list_other arguments

@@ -1,35 +1,31 @@
 -- What a line of a script asks for.
-use Rattle.std.specs.Prelude.{◌≡◌, ℕ, ◌≤◌, Bool, true, false, not, List, [], ◌∷◌, length, Option, Some, None, Result, Ok, Err, ◌==◌, nat_lt, if◌then◌else◌, codes, ok_or}
+use Rattle.std.specs.Prelude.{◌≡◌, ℕ, ◌≤◌, Bool, true, false, not, List, [], ◌∷◌, length, Option, Some, None, Result, Ok, Err, ◌==◌, nat_lt, if◌then◌else◌, codes, ok_or, option_map}
 use Rattle.std.specs.Str.{bytes_eq, is_utf8, IsUtf8}
-use Rattle.mvt_command.specs.Command.{RenameLayer}
-use Rattle.tile_arguments.specs.Arguments.{text_of, layer_of, feature_of}
+use Rattle.tile_arguments.specs.Arguments.{layer_of, feature_of}
 use Rattle.tile_request.specs.Request.{Request, Edit, Undo, Size, Lists, Whole, OneLayer, OneFeature}
 use Rattle.tile_words.specs.Words.{Word, Bare, Quoted, after_blanks, words_of}
 use Rattle.tile_words.specs.Answers.{◌>>=◌}
 use Rattle.tile_lines.specs.declared.TheConstants.{LINE_LIMIT}
+use Rattle.tile_script.specs.Commands.{command_word_of, command_by}
+use Rattle.tile_script.specs.declared.keyword.CommandWord.{CommandWord}
 use Rattle.tile_script.specs.declared.keyword.Keyword.{Keyword}
 use Rattle.tile_script.specs.declared.keyword.Keyword.TheVariants as keywords
 use Rattle.tile_words.specs.declared.parse_error.ParseError.{ParseError}
 use Rattle.tile_words.specs.declared.parse_error.ParseError.TheVariants.{LineTooLong, BadUtf8, BadWord, UnknownCommand, BadArguments}
 
--- the words that a request begins with
+-- the words that a request begins with: those of commands, and others
 unfoldable pub keyword_of : List ℕ → Option Keyword
 keyword_of name =
-    if bytes_eq name (codes "rename-layer") then Some keywords.RenameLayer
-    else (if bytes_eq name (codes "undo") then Some keywords.Undo
+    if bytes_eq name (codes "undo") then Some keywords.Undo
     else (if bytes_eq name (codes "size") then Some keywords.Size
     else (if bytes_eq name (codes "list") then Some keywords.List
-    else None)))
+    else option_map keywords.Edit (command_word_of name)))
 
--- two arguments: the layer, and its new name as a text
-unfoldable pub rename_layer_of : List Word → Result Request ParseError
-rename_layer_of [] = Err BadArguments
-rename_layer_of (layer ∷ []) = Err BadArguments
-rename_layer_of (layer ∷ name ∷ []) = do
-  choice ← layer_of layer
-  text ← text_of name
-  Ok (Edit (RenameLayer choice text))
-rename_layer_of (layer ∷ name ∷ more ∷ others) = Err BadArguments
+-- what the arguments of a command make of it
+unfoldable pub edit_of : CommandWord → List Word → Result Request ParseError
+edit_of word arguments = do
+  command ← command_by word arguments
+  Ok (Edit command)
 
 -- no argument
 unfoldable pub undo_of : List Word → Result Request ParseError
@@ -56,7 +52,7 @@ list_of (layer ∷ feature ∷ more ∷ others) = Err BadArguments
 -- what the arguments of a request make of it
 abbrev pub with_arguments : Option Keyword → List Word → Result Request ParseError
 with_arguments None arguments = Err UnknownCommand
-with_arguments (Some keywords.RenameLayer) arguments = rename_layer_of arguments
+with_arguments (Some (keywords.Edit word)) arguments = edit_of word arguments
 with_arguments (Some keywords.Undo) arguments = undo_of arguments
 with_arguments (Some keywords.Size) arguments = size_request_of arguments
 with_arguments (Some keywords.List) arguments = list_of arguments

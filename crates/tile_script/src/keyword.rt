@@ -1,11 +1,27 @@
 //! The words that a request begins with.
 
 ghost use Rattle.std.specs.Prelude.{◌≡◌};
+ghost use Rattle.tile_script.specs.Commands.{command_word_of};
 ghost use Rattle.tile_script.specs.Line.{keyword_of};
 
+/// The word of a command.
+#[derive(Clone, Copy, Debug, PartialEq, Eq)]
+pub enum CommandWord {
+    RenameLayer,
+    MoveLayer,
+    DropLayer,
+    KeepLayers,
+    InsertFeature,
+    MoveFeature,
+    DropFeature,
+    SetId,
+    ClearId,
+}
+
+/// The word of a request.
 #[derive(Clone, Copy, Debug, PartialEq, Eq)]
 pub enum Keyword {
-    RenameLayer,
+    Edit(CommandWord),
     Undo,
     Size,
     List,
@@ -16,14 +32,40 @@ pub enum Keyword {
 pub fn keyword_of(name: &[u8]) -> Option<Keyword>
     ensures { result ≡ keyword_of name.now }
 {
-    if name == b"rename-layer".as_slice() {
-        Some(Keyword::RenameLayer)
-    } else if name == b"undo".as_slice() {
+    if name == b"undo".as_slice() {
         Some(Keyword::Undo)
     } else if name == b"size".as_slice() {
         Some(Keyword::Size)
     } else if name == b"list".as_slice() {
         Some(Keyword::List)
+    } else {
+        command_word_of(name).map(Keyword::Edit)
+    }
+}
+
+/// The command that begins with this word.
+#[tactic(auto, unfolding(crate::specs::Commands::command_word_of))]
+fn command_word_of(name: &[u8]) -> Option<CommandWord>
+    ensures { result ≡ command_word_of name.now }
+{
+    if name == b"rename-layer".as_slice() {
+        Some(CommandWord::RenameLayer)
+    } else if name == b"move-layer".as_slice() {
+        Some(CommandWord::MoveLayer)
+    } else if name == b"drop-layer".as_slice() {
+        Some(CommandWord::DropLayer)
+    } else if name == b"keep".as_slice() {
+        Some(CommandWord::KeepLayers)
+    } else if name == b"insert".as_slice() {
+        Some(CommandWord::InsertFeature)
+    } else if name == b"move-feature".as_slice() {
+        Some(CommandWord::MoveFeature)
+    } else if name == b"drop-feature".as_slice() {
+        Some(CommandWord::DropFeature)
+    } else if name == b"set-id".as_slice() {
+        Some(CommandWord::SetId)
+    } else if name == b"clear-id".as_slice() {
+        Some(CommandWord::ClearId)
     } else {
         None
     }

@@ -1,6 +1,7 @@
 //! What the lines of a script ask for.
 #![tactic(auto)]
 
+mod commands;
 mod keyword;
 pub mod laws;
 mod parse;

@@ -2,14 +2,14 @@
 
 ghost use Rattle.std.specs.Prelude.{map};
 ghost use Rattle.tile_request.specs.RequestStands.{request_of};
-ghost use Rattle.tile_script.specs.Line.{rename_layer_of, undo_of, size_request_of, list_of, asked_by};
+ghost use Rattle.tile_script.specs.Line.{edit_of, undo_of, size_request_of, list_of, asked_by};
 ghost use Rattle.tile_words.specs.Answers.{Gives};
 ghost use Rattle.tile_words.specs.WordStands.{word_of};
 
-use crate::keyword::{Keyword, keyword_of};
-use mvt_command::Command;
+use crate::commands::command;
+use crate::keyword::{CommandWord, Keyword, keyword_of};
 use std::alloc::Global;
-use tile_arguments::{feature_choice, layer_choice, text_argument};
+use tile_arguments::{feature_choice, layer_choice};
 use tile_request::{Request, What};
 use tile_words::{ParseError, Word};
 
@@ -22,7 +22,7 @@ pub(crate) fn request(alloc: Global, words: &[Word<'_>]) -> Result<Request, Pars
         return Err(ParseError::UnknownCommand);
     };
     match keyword_of(name) {
-        Some(Keyword::RenameLayer) => rename_layer(alloc, arguments),
+        Some(Keyword::Edit(word)) => edit(alloc, word, arguments),
         Some(Keyword::Undo) => undo(arguments),
         Some(Keyword::Size) => size(arguments),
         Some(Keyword::List) => list(alloc, arguments),
@@ -30,16 +30,11 @@ pub(crate) fn request(alloc: Global, words: &[Word<'_>]) -> Result<Request, Pars
     }
 }
 
-#[tactic(auto, unfolding(crate::specs::Line::rename_layer_of))]
-fn rename_layer(alloc: Global, arguments: &[Word<'_>]) -> Result<Request, ParseError>
-    ensures { Gives request_of result (rename_layer_of (map word_of arguments.now)) }
+#[tactic(auto, unfolding(crate::specs::Line::edit_of))]
+fn edit(alloc: Global, word: CommandWord, arguments: &[Word<'_>]) -> Result<Request, ParseError>
+    ensures { Gives request_of result (edit_of word (map word_of arguments.now)) }
 {
-    let [layer, name] = arguments else {
-        return Err(ParseError::BadArguments);
-    };
-    let layer = layer_choice(alloc, *layer)?;
-    let name = text_argument(alloc, *name)?;
-    Ok(Request::Edit(Command::RenameLayer { layer, name }))
+    Ok(Request::Edit(command(alloc, word, arguments)?))
 }
 
 #[tactic(auto, unfolding(crate::specs::Line::undo_of))]

@@ -4,8 +4,8 @@ use Rattle.std.proofs.lemmas.Bool.Decides.{nat_tests}
 use Rattle.std.proofs.lemmas.List.{take_all, take_at}
 use Rattle.mvt_wire.specs.Plain.{Document}
 use Rattle.mvt_command.specs.Command.{Command}
-use Rattle.mvt_edit.specs.Meaning.{applied}
-use Rattle.tile_session.specs.History.{History, IsSound, after, after_all, document_at, present_document, with_command, undone, taken_back}
+use Rattle.mvt_meaning.specs.Meaning.{after, applied}
+use Rattle.tile_session.specs.History.{History, IsSound, after_all, document_at, present_document, with_command, undone, taken_back}
 
 after_all-append : (commands more : List Command) (document : Document) → after_all (commands ++ more) document ≡ after_all more (after_all commands document)
 after_all-append [] more document = refl

@@ -7,12 +7,12 @@ use Rattle.mvt_wire.specs.TheConstants.{MAX_FILE}
 use Rattle.mvt_wire.specs.Plain.{Document}
 use Rattle.mvt_wire.specs.Wire.{bytes_of}
 use Rattle.mvt_command.specs.Command.{Command}
-use Rattle.mvt_edit.specs.Meaning.{applied}
-use Rattle.tile_session.specs.History.{History, IsSound, after, after_all, begun, present_document, with_command, undone, edited_to, edited, taken_back}
+use Rattle.mvt_meaning.specs.Meaning.{after, applied}
+use Rattle.tile_session.specs.History.{History, IsSound, after_all, begun, present_document, with_command, undone, edited_to, edited, taken_back}
 use Rattle.tile_session.specs.Laws.{UndoAtOnce, StaysSound, HistoryFits}
-use Rattle.mvt_edit.specs.declared.edit.Refusal.{Refusal}
+use Rattle.mvt_meaning.specs.declared.refusal.Refusal.{Refusal}
+use Rattle.mvt_meaning.proofs.Lengths.{command_fits}
 use Rattle.tile_session.proofs.Histories.{point_before, sound_with_command, sound_undone, undo_taken_back}
-use Rattle.mvt_edit.proofs.EditLaws.{command_fits}
 
 -- ---- undo
 
@@ -62,7 +62,7 @@ after_fits document (Err refusal) fits made_fits = fits
 
 all_fit : (commands : List Command) (document : Document) → length (bytes_of document) ≤ MAX_FILE → length (bytes_of (after_all commands document)) ≤ MAX_FILE
 all_fit [] document fits = fits
-all_fit (command ∷ commands) document fits = all_fit commands (after command document) (after_fits document (applied command document) fits (command_fits command document))
+all_fit (command ∷ commands) document fits = all_fit commands (after command document) (after_fits document (applied command document) fits (λ new e. command_fits command document new fits e))
 
 pub history_fits : HistoryFits
 history_fits history fits point = all_fit (take point history.commands) history.start fits

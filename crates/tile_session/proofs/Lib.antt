@@ -1,3 +1,4 @@
 pub mod Histories
 pub mod HistoryLaws
 pub mod Sessions
+pub mod Validity

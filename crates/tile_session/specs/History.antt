@@ -1,11 +1,12 @@
 -- Which commands stand, and the document that they make of the tile read at the start.
 use Rattle.std.specs.Prelude.{ℕ, ◌+◌, ◌-◌, ◌≤◌, max, List, [], ◌∷◌, ◌++◌, length, take, Result, Ok, Err, ◌==◌, if◌then◌else◌}
-use Rattle.std.specs.Result.{result_unwrap_or}
 use Rattle.mvt_wire.specs.Plain.{Document}
+use Rattle.mvt_wire.specs.Opens.{IsDocument}
 use Rattle.mvt_command.specs.Command.{Command}
-use Rattle.mvt_edit.specs.Meaning.{applied}
-use Rattle.mvt_edit.specs.declared.edit.Refusal.{Refusal}
-use Rattle.tile_session.specs.declared.session.NothingToUndo.{NothingToUndo}
+use Rattle.mvt_meaning.specs.Meaning.{after, applied}
+use Rattle.mvt_meaning.specs.declared.refusal.Refusal.{Refusal}
+use Rattle.tile_session.specs.declared.session.UndoError.{UndoError}
+use Rattle.tile_session.specs.declared.session.UndoError.TheVariants.{NothingToUndo}
 
 -- The tile at the start, the commands so far, how many of them stand now, the least
 -- number to which undo goes back, and how many steps it goes back at most.
@@ -26,10 +27,6 @@ pub record IsSound (history : History) : Type 0 where
 abbrev pub begun : Document → ℕ → History
 begun start depth = record { start = start; commands = []; present = 0; floor = 0; depth = depth }
 
--- the document after an accepted command
-abbrev pub after : Command → Document → Document
-after command document = result_unwrap_or (applied command document) document
-
 -- the commands one after the other
 abbrev pub after_all : List Command → Document → Document
 after_all [] document = document
@@ -41,6 +38,10 @@ document_at point history = after_all (take point history.commands) history.star
 
 abbrev pub present_document : History → Document
 present_document history = document_at history.present history
+
+-- each tile of the history is a document
+abbrev pub HoldsDocuments : History → Type 0
+HoldsDocuments history = (point : ℕ) → IsDocument (document_at point history)
 
 -- The commands that were undone are forgotten, the new one stands, and undo goes back no further than depth.
 abbrev pub with_command : Command → History → History
@@ -61,10 +62,6 @@ undone history = record {
   depth = history.depth;
 }
 
--- the one value of this refusal
-abbrev pub nothing_to_undo : NothingToUndo
-nothing_to_undo = record {}
-
 -- the history after a command that makes this document, or that is refused so
 abbrev pub edited_to : Command → History → Result Document Refusal → Result History Refusal
 edited_to command history (Ok document) = Ok (with_command command history)
@@ -75,5 +72,5 @@ abbrev pub edited : Command → History → Result History Refusal
 edited command history = edited_to command history (applied command (present_document history))
 
 -- the history with its last command taken back, where undo may go back
-abbrev pub taken_back : History → Result History NothingToUndo
-taken_back history = if history.present == history.floor then Err nothing_to_undo else Ok (undone history)
+abbrev pub taken_back : History → Result History UndoError
+taken_back history = if history.present == history.floor then Err NothingToUndo else Ok (undone history)

@@ -1,3 +1,4 @@
 pub mod History
+pub mod Standing
 pub mod Session
 pub mod Laws

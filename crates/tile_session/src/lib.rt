@@ -4,4 +4,4 @@
 pub mod laws;
 mod session;
 
-pub use session::{NothingToUndo, Session};
+pub use session::{Session, UndoError};

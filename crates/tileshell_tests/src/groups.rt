@@ -1,7 +1,8 @@
 //! Groups: tiles that have them, and bytes that are none.
 
-use crate::memory::{Wanted, assert_runs, joined};
-use crate::tiles::{RENAME, ROADS, T0};
+use crate::memory::{Wanted, assert_runs};
+use mvt_tests::bytes::joined;
+use mvt_tests::tiles::{RENAME, ROADS, T0};
 use mvt_wire::{BodyRef, MAX_GROUPS, ReadError, field_at_front, read_document};
 use std::alloc::{AllocError, Global};
 use std::test::Fail;

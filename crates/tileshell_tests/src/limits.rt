@@ -1,7 +1,7 @@
 //! Lines and scripts at the limits of their lengths.
 
 use crate::memory::{Wanted, assert_edits, assert_runs};
-use crate::tiles::T0;
+use mvt_tests::tiles::T0;
 use std::alloc::{AllocError, Global};
 use std::test::Fail;
 use tileshell::{DeviceName, Outcome};

@@ -3,7 +3,7 @@
 ghost use Rattle.std.specs.Prelude.{◌≡◌};
 
 use crate::drip::{Calls, DripSink, DripSource};
-use std::alloc::{AllocError, Global};
+use std::alloc::Global;
 use std::process::Abort;
 use tileshell::{DeviceName, FromRead, FromWrite, Options, Outcome, edit, run};
 
@@ -125,11 +125,34 @@ pub fn assert_runs(rt: &(impl Abort + AllocGlobal), tile: &[u8], script: &[u8], 
     }
 }
 
-/// The parts one after the other.
-pub fn joined(alloc: Global, parts: &[&[u8]]) -> Result<Vec<u8>, AllocError> {
-    let mut all = Vec::new(alloc);
-    for part in parts {
-        all.extend_from_slice(part)?;
-    }
-    Ok(all)
+/// The script is accepted, with these replies, and gives this tile.
+pub fn assert_done(
+    rt: &(impl Abort + AllocGlobal),
+    tile: &[u8],
+    script: &[u8],
+    replies: &[u8],
+    edited: &[u8],
+) {
+    let want = Wanted {
+        outcome: Outcome::Done,
+        replies,
+        tile: edited,
+    };
+    assert_runs(rt, tile, script, want);
+}
+
+/// The script is refused in part, with these replies, and gives this tile.
+pub fn assert_some_refused(
+    rt: &(impl Abort + AllocGlobal),
+    tile: &[u8],
+    script: &[u8],
+    replies: &[u8],
+    edited: &[u8],
+) {
+    let want = Wanted {
+        outcome: Outcome::SomeRefused,
+        replies,
+        tile: edited,
+    };
+    assert_runs(rt, tile, script, want);
 }

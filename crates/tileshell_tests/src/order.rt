@@ -1,7 +1,8 @@
 //! The order in which a run reads, replies and passes replies on.
 
-use crate::memory::{joined, options};
-use crate::tiles::{RENAME, ROADS, T0};
+use crate::memory::options;
+use mvt_tests::bytes::joined;
+use mvt_tests::tiles::{RENAME, ROADS, T0};
 use std::alloc::{AllocError, Global};
 use std::cell::RefCell;
 use std::io::{self, Read, Write};

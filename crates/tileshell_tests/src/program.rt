@@ -1,7 +1,7 @@
 //! The program, from its words to its status, over files.
 
 use crate::console::Console;
-use crate::tiles::{RENAME, ROADS, T0};
+use mvt_tests::tiles::{RENAME, ROADS, T0};
 use std::process::Abort;
 use std::test::Fail;
 use std::{env, fs, io, process};

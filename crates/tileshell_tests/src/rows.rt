@@ -1,42 +1,10 @@
 //! Scripts on small tiles, with the replies and the tile that they give.
 
-use crate::memory::{Wanted, assert_runs, joined};
-use crate::tiles::{BEHIND_NAME, RENAME, ROADS, SAME_FEATURES, T0, TWO_FEATURES};
-use std::process::Abort;
+use crate::memory::{Wanted, assert_done, assert_runs, assert_some_refused};
+use mvt_tests::bytes::joined;
+use mvt_tests::tiles::{BEHIND_NAME, RENAME, ROADS, SAME_FEATURES, T0, TWO_FEATURES};
 use std::test::Fail;
 use tileshell::{Outcome, TileFault};
-
-/// The script is accepted, with these replies, and gives this tile.
-fn assert_done(
-    rt: &(impl Abort + AllocGlobal),
-    tile: &[u8],
-    script: &[u8],
-    replies: &[u8],
-    edited: &[u8],
-) {
-    let want = Wanted {
-        outcome: Outcome::Done,
-        replies,
-        tile: edited,
-    };
-    assert_runs(rt, tile, script, want);
-}
-
-/// The script is refused in part, with these replies, and gives this tile.
-fn assert_some_refused(
-    rt: &(impl Abort + AllocGlobal),
-    tile: &[u8],
-    script: &[u8],
-    replies: &[u8],
-    edited: &[u8],
-) {
-    let want = Wanted {
-        outcome: Outcome::SomeRefused,
-        replies,
-        tile: edited,
-    };
-    assert_runs(rt, tile, script, want);
-}
 
 #[test]
 fn an_empty_file_stays_empty(rt: HostRuntime) {

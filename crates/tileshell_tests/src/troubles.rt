@@ -3,7 +3,7 @@
 use crate::drip::{Calls, DripSink, DripSource};
 use crate::memory::{Drips, Ran, Wanted, options};
 use crate::std_devices::{Deaf, Slip, SlipReader, SlipWriter};
-use crate::tiles::{RENAME, ROADS, T0};
+use mvt_tests::tiles::{RENAME, ROADS, T0};
 use std::alloc::Global;
 use std::io::{BufWriter, ErrorKind};
 use std::process::Abort;

@@ -4,6 +4,10 @@ use Rattle.mvt_wire.specs.Splicing.{splice}
 use Rattle.mvt_change.specs.Places.{fields_in, in_feature}
 use Rattle.mvt_change.specs.Changes.{taken_out}
 use Rattle.mvt_change.proofs.Changed.{beside_set, found_in, set_or_keeps}
+use Rattle.mvt_change.specs.HeldPlaces.{in_held_feature}
+use Rattle.mvt_change.specs.HeldChanges.{exchanged}
+use Rattle.mvt_change.proofs.Keeping.{layer_item_order}
+use Rattle.mvt_change.proofs.HeldChanged.{changed_or_kept}
 use Rattle.mvt_change.proofs.exchange.exchange_in_items.Goals as goal
 
 pub remember-requires : goal.remember-requires
@@ -17,3 +21,7 @@ pub returns-clause-put : goal.returns-clause-put
 returns-clause-put c =
     c.exchange_fields-result.ensures.put
     ∙ ap (λ found. cond (is_ok c.exchange_fields-result.result) (taken_out c.args.index c.args.taken found) (map field_of c.args.put.now.items)) (found_in fields_in layer_item_of c.args.item c.args.items.now.items c.item_mut.result.now c.item_mut.ensures.value)
+
+pub returns-clause-kept : goal.returns-clause-kept
+returns-clause-kept c =
+    rw c.remember.ensures (changed_or_kept layer_item_order (is_ok c.exchange_fields-result.result) (in_held_feature (exchanged c.args.index c.args.taken c.args.put.now)) c.args.item c.args.items.now c.item_mut.result.now c.exchange_fields-result.new.item c.item_mut.ensures.value c.exchange_fields-result.ensures.kept)

@@ -1,4 +1,9 @@
-use Rattle.std.proofs.Common.{[]}
+use Rattle.std.proofs.Common.{[], length, inl, inr}
+use Rattle.std.proofs.lemmas.Bool.{cases_lt}
+use Rattle.mvt_wire.specs.TheConstants.{MAX_FILE}
+use Rattle.mvt_wire.specs.Stands.{document_of}
+use Rattle.mvt_wire.specs.Wire.{bytes_of}
+use Rattle.mvt_wire.proofs.Settling.{settled_file}
 use Rattle.tile_device.specs.Seen.{written}
 use Rattle.tile_run.proofs.Budgets.{writes_nothing}
 use Rattle.tile_run.proofs.Reading.{all_replies}
@@ -6,3 +11,11 @@ use Rattle.tile_run.proofs.runs.write_tile.Goals as goal
 
 pub returns-in_default-clause-writes : goal.returns-in_default-clause-writes
 returns-in_default-clause-writes g c = (written 0 [], all_replies 0 [], writes_nothing _ _)
+
+pub returns-clause-opens : goal.returns-clause-opens
+returns-clause-opens g c = λ valid.
+    let document = document_of c.args.document.now in
+    elim (cases_lt MAX_FILE (length (bytes_of document))) [
+      | inl longer ↦ absurd (let refused = c.in-Ok.ensures.too_large.1 longer in cc)
+      | inr within ↦ settled_file document valid within
+    ]

@@ -1,0 +1,10 @@
+use Rattle.std.proofs.Common.{is_ok, refl}
+use Rattle.mvt_change.specs.HeldPlaces.{change_held_at, in_held_feature}
+use Rattle.mvt_change.specs.HeldChanges.{exchanged}
+use Rattle.mvt_change.proofs.HeldChanged.{layer_or_kept}
+use Rattle.mvt_change.proofs.exchange.exchange_in_tile_item.Goals as goal
+
+pub returns-clause-kept : goal.returns-clause-kept
+returns-clause-kept c =
+    let layer = c.in-Layer.layer in
+    rw c.in-Layer.is (layer_or_kept (is_ok c.exchange_in_items.result) layer _ (change_held_at (in_held_feature (exchanged c.args.index c.args.taken c.args.put.now)) c.args.item layer.items) refl refl c.exchange_in_items.ensures.kept)

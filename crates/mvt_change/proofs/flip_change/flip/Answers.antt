@@ -1,0 +1,23 @@
+use Rattle.std.proofs.Common.{◌≡◌, List, ◌++◌, length, map, reverse, take, drop, ap, ◌∙◌}
+use Rattle.std.proofs.lemmas.List.{take_at, reverse-reverse}
+use Rattle.mvt_wire.specs.Held.{Held}
+use Rattle.mvt_wire.specs.Stands.{document_of}
+use Rattle.mvt_change.specs.declared.change.Step.{Step}
+use Rattle.mvt_change.specs.ChangeStands.{step_of}
+use Rattle.mvt_change.specs.Changes.{turn}
+use Rattle.mvt_change.proofs.RunPieces.{map-reverse}
+use Rattle.mvt_change.proofs.flip_change.flip.Goals as goal
+
+pub returns-clause-change : goal.returns-clause-change
+returns-clause-change c =
+    let vector = c.as_vec_mut.result.now in
+    let turned = c.flip_steps.new.steps in
+    let d = document_of c.args.document.now in
+    let written : take vector.len (turned ++ drop (length turned) vector.items) ≡ turned =
+    take_at turned (drop (length turned) vector.items) vector.len (c.flip_steps.auto.steps ∙ c.as_mut_slice.ensures.len) in
+    let items : Held Step → List Step = λ list. list.items in
+    ap (map step_of) (c.reverse.ensures.items ∙ ap reverse written)
+    ∙ map-reverse step_of turned
+    ∙ ap reverse c.in_ok-flip_steps.ensures.steps
+    ∙ reverse-reverse (turn (map step_of c.as_mut_slice.result.now) d)
+    ∙ ap (λ steps. turn (map step_of steps) d) (c.as_mut_slice.ensures.value ∙ ap items c.as_vec_mut.ensures.value)

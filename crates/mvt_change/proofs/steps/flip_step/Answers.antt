@@ -1,0 +1,53 @@
+use Rattle.std.proofs.Common.{◌≡◌, true, false, Result, Ok, Err, is_ok, IsErr, length, map, refl, sym, ap, ◌∙◌}
+use Rattle.std.proofs.lemmas.List.{length-map}
+use Rattle.mvt_wire.specs.Stands.{tile_item_of}
+use Rattle.mvt_change.specs.declared.change.Step.TheVariants.{InTile, InLayer, InFeature}
+use Rattle.mvt_change.specs.Changes.{TileStep}
+use Rattle.mvt_change.proofs.Changed.{map-part, map-splice}
+use Rattle.mvt_change.proofs.Keeping.{tile_item_order}
+use Rattle.mvt_change.proofs.HeldChanged.{exchanged_or_kept}
+use Rattle.mvt_change.proofs.steps.flip_step.Goals as goal
+
+pub returns-in_ok-exchange-in-InTile-clause-document : goal.returns-in_ok-exchange-in-InTile-clause-document
+returns-in_ok-exchange-in-InTile-clause-document c =
+    rw c.in-InTile.is (ap (map tile_item_of) c.in_ok-exchange-in-InTile.ensures.items ∙ map-splice tile_item_of c.in-InTile.index c.in-InTile.take c.in-InTile.put.items c.args.document.now.items.items)
+
+pub returns-in_ok-exchange-in-InTile-clause-step : goal.returns-in_ok-exchange-in-InTile-clause-step
+returns-in_ok-exchange-in-InTile-clause-step c =
+    let put = c.in-InTile.put.items in
+    rw c.in-InTile.is (
+    ap (λ n. TileStep c.in-InTile.index n (map tile_item_of c.exchange.new.put.items)) (c.len-given.ensures ∙ sym (length-map put tile_item_of))
+    ∙ ap (TileStep c.in-InTile.index (length (map tile_item_of put))) (ap (map tile_item_of) c.in_ok-exchange-in-InTile.ensures.put ∙ map-part tile_item_of c.in-InTile.index c.in-InTile.take c.args.document.now.items.items)
+    )
+
+-- ---- what is kept, and what leads back
+
+err_refuses : {T E : Type 0} (r : Result T E) → IsErr r → is_ok r ≡ false
+err_refuses (Ok x) err = absurd cc
+err_refuses (Err e) err = refl
+
+pub returns-in_err-exchange-in-InTile-clause-kept : goal.returns-in_err-exchange-in-InTile-clause-kept
+returns-in_err-exchange-in-InTile-clause-kept c =
+    let tile = c.in-InTile in
+    let kept = c.in_err-exchange-in-InTile.ensures in
+    rw (err_refuses c.from_residual.result c.from_residual.ensures.0) (exchanged_or_kept tile_item_order false tile.index tile.take tile.put c.args.document.now.items c.exchange.new.self kept.items kept.room)
+
+pub returns-in_ok-exchange-in-InTile-clause-kept : goal.returns-in_ok-exchange-in-InTile-clause-kept
+returns-in_ok-exchange-in-InTile-clause-kept c =
+    let tile = c.in-InTile in
+    rw c.in-InTile.is (exchanged_or_kept tile_item_order true tile.index tile.take tile.put c.args.document.now.items c.exchange.new.self c.in_ok-exchange-in-InTile.ensures.items c.in_ok-exchange-in-InTile.ensures.room)
+
+pub returns-in_ok-exchange-in-InTile-clause-turned : goal.returns-in_ok-exchange-in-InTile-clause-turned
+returns-in_ok-exchange-in-InTile-clause-turned c =
+    let done = c.in_ok-exchange-in-InTile.ensures in
+    rw (c.in-InTile.is, c.len-given.ensures) (c.exchange.new.put, refl {a = InTile c.in-InTile.index (length c.in-InTile.put.items) c.exchange.new.put}, record { items = done.put; room = done.put_room })
+
+pub returns-in_ok-exchange_in_layer-in-InLayer-clause-turned : goal.returns-in_ok-exchange_in_layer-in-InLayer-clause-turned
+returns-in_ok-exchange_in_layer-in-InLayer-clause-turned c =
+    let given = c.in_ok-exchange_in_layer-in-InLayer.ensures.given in
+    rw (c.in-InLayer.is, c.len-given-in-InLayer.ensures) (c.exchange_in_layer.new.put, refl {a = InLayer c.in-InLayer.layer c.in-InLayer.index (length c.in-InLayer.put.items) c.exchange_in_layer.new.put}, record { items = given.items; room = given.room })
+
+pub returns-in_ok-exchange_in_feature-in-InFeature-clause-turned : goal.returns-in_ok-exchange_in_feature-in-InFeature-clause-turned
+returns-in_ok-exchange_in_feature-in-InFeature-clause-turned c =
+    let given = c.in_ok-exchange_in_feature-in-InFeature.ensures.given in
+    rw (c.in-InFeature.is, c.len-given-in-InFeature.ensures) (c.exchange_in_feature.new.put, refl {a = InFeature c.in-InFeature.layer c.in-InFeature.item c.in-InFeature.index (length c.in-InFeature.put.items) c.exchange_in_feature.new.put}, record { items = given.items; room = given.room })

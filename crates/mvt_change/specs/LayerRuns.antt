@@ -1,0 +1,25 @@
+-- Steps on one layer's list, one after the other.
+use Rattle.std.specs.Prelude.{◌≡◌, ℕ, Bool, List, [], ◌∷◌, if◌then◌else◌}
+use Rattle.std.specs.List.{AllZip}
+use Rattle.mvt_wire.specs.Held.{Held}
+use Rattle.mvt_splices.specs.Splices.{Splice, turned_all}
+use Rattle.mvt_change.specs.declared.change.Step.{Step}
+use Rattle.mvt_change.specs.declared.change.Step.TheVariants.{InTile, InLayer, InFeature, Move}
+use Rattle.mvt_change.specs.HeldChanges.{exchanged}
+use Rattle.mvt_change.specs.Runs.{IsRoomierStep}
+
+-- a step on the list of the layer at this position, which moves nothing
+abbrev pub IsInLayer : ℕ → Step → Type 0
+IsInLayer layer (InTile index taken put) = ⊥
+IsInLayer layer (InLayer place index taken put) = place ≡ layer
+IsInLayer layer (InFeature place item index taken put) = ⊥
+IsInLayer layer (Move place from to) = ⊥
+
+-- what steps make of a list, with its room
+abbrev pub exchanged_all : {T : Type 0} → (Step → Splice T) → List Step → Held T → Held T
+exchanged_all splice_of [] list = list
+exchanged_all splice_of (step ∷ steps) list = exchanged_all splice_of steps (exchanged (splice_of step).index (splice_of step).taken (splice_of step).put list)
+
+-- the steps have more room; and where they were carried out on a list each is turned
+abbrev pub AreMade : {T : Type 0} → (Step → Splice T) → (Step → List T → Step) → Bool → List Step → List Step → List T → Type 0
+AreMade splice_of turned done steps new items = (roomy : List Step) × AllZip IsRoomierStep steps roomy × (new ≡ (if done then turned_all splice_of turned roomy items else roomy))

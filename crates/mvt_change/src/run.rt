@@ -1,0 +1,248 @@
+//! Steps on one list of a document, carried out in one pass.
+
+ghost use Rattle.std.specs.Prelude.{◌≡◌, ◌<◌, ◌≤◌, length, map, reverse, slice_range, is_ok, if◌then◌else◌, IsTrue, OnOk, OnErr};
+ghost use Rattle.std.specs.List.{AllByRecursion};
+ghost use Rattle.mvt_wire.specs.Stands.{document_of};
+ghost use Rattle.mvt_change.specs.ChangeStands.{step_of};
+ghost use Rattle.mvt_change.specs.Changes.{Fits, go, turn};
+ghost use Rattle.mvt_change.specs.Room.{KeepsDocument};
+ghost use Rattle.mvt_change.specs.Runs.{IsInTile, IsRun, LeadsBack, SharesList};
+
+use crate::change::Step;
+use crate::feature_run::run_in_feature;
+use crate::layer_run::run_in_layer;
+use crate::steps::flip_step;
+use mvt_splices::{Gap, Splices, splice_message};
+use mvt_wire::{Document, Field, LayerItem, TileItem};
+use std::alloc::{AllocError, Global};
+
+impl Splices<TileItem> for Step {
+    ghost use Rattle.mvt_change.specs.Runs.{tile_splice, turned_in_tile, IsRoomierStep};
+    ghost use Rattle.mvt_change.specs.RunLaws.{as_roomy as step_as_roomy, roomy_tile, turned_tile_put};
+
+    ghost splice_of = { tile_splice };
+
+    ghost turned = { turned_in_tile };
+
+    ghost roomier = { IsRoomierStep };
+
+    fn taken(&self) -> usize {
+        match self {
+            Step::InTile { take, .. } => *take,
+            _ => 0,
+        }
+    }
+
+    fn put(&self) -> &[TileItem] {
+        match self {
+            Step::InTile { put, .. } => put.as_slice(),
+            _ => &[],
+        }
+    }
+
+    fn reserve(&mut self) -> Result<(), AllocError> {
+        match self {
+            Step::InTile { take, put, .. } => put.reserve(take.saturating_sub(put.len())),
+            _ => Ok(()),
+        }
+    }
+
+    fn exchange(&mut self, gap: &mut Gap<TileItem>) {
+        if let Step::InTile { index, take, put } = self {
+            let given = put.len();
+            gap.exchange(*index, *take, put.as_vec_mut());
+            *take = given;
+        }
+    }
+
+    ghost roomy_splice = { roomy_tile };
+
+    ghost as_roomy = { step_as_roomy };
+
+    ghost turned_put = { turned_tile_put };
+}
+
+impl Splices<LayerItem> for Step {
+    ghost use Rattle.mvt_change.specs.Runs.{layer_splice, turned_in_layer, IsRoomierStep};
+    ghost use Rattle.mvt_change.specs.RunLaws.{as_roomy as step_as_roomy, roomy_layer, turned_layer_put};
+
+    ghost splice_of = { layer_splice };
+
+    ghost turned = { turned_in_layer };
+
+    ghost roomier = { IsRoomierStep };
+
+    fn taken(&self) -> usize {
+        match self {
+            Step::InLayer { take, .. } => *take,
+            _ => 0,
+        }
+    }
+
+    fn put(&self) -> &[LayerItem] {
+        match self {
+            Step::InLayer { put, .. } => put.as_slice(),
+            _ => &[],
+        }
+    }
+
+    fn reserve(&mut self) -> Result<(), AllocError> {
+        match self {
+            Step::InLayer { take, put, .. } => put.reserve(take.saturating_sub(put.len())),
+            _ => Ok(()),
+        }
+    }
+
+    fn exchange(&mut self, gap: &mut Gap<LayerItem>) {
+        if let Step::InLayer {
+            index,
+            take,
+            put,
+            ..
+        } = self
+        {
+            let given = put.len();
+            gap.exchange(*index, *take, put.as_vec_mut());
+            *take = given;
+        }
+    }
+
+    ghost roomy_splice = { roomy_layer };
+
+    ghost as_roomy = { step_as_roomy };
+
+    ghost turned_put = { turned_layer_put };
+}
+
+impl Splices<Field> for Step {
+    ghost use Rattle.mvt_change.specs.Runs.{feature_splice, turned_in_feature, IsRoomierStep};
+    ghost use Rattle.mvt_change.specs.RunLaws.{as_roomy as step_as_roomy, roomy_feature, turned_feature_put};
+
+    ghost splice_of = { feature_splice };
+
+    ghost turned = { turned_in_feature };
+
+    ghost roomier = { IsRoomierStep };
+
+    fn taken(&self) -> usize {
+        match self {
+            Step::InFeature { take, .. } => *take,
+            _ => 0,
+        }
+    }
+
+    fn put(&self) -> &[Field] {
+        match self {
+            Step::InFeature { put, .. } => put.as_slice(),
+            _ => &[],
+        }
+    }
+
+    fn reserve(&mut self) -> Result<(), AllocError> {
+        match self {
+            Step::InFeature { take, put, .. } => put.reserve(take.saturating_sub(put.len())),
+            _ => Ok(()),
+        }
+    }
+
+    fn exchange(&mut self, gap: &mut Gap<Field>) {
+        if let Step::InFeature {
+            index,
+            take,
+            put,
+            ..
+        } = self
+        {
+            let given = put.len();
+            gap.exchange(*index, *take, put.as_vec_mut());
+            *take = given;
+        }
+    }
+
+    ghost roomy_splice = { roomy_feature };
+
+    ghost as_roomy = { step_as_roomy };
+
+    ghost turned_put = { turned_feature_put };
+}
+
+/// Whether both steps exchange items of the same list.
+fn shares_list(first: &Step, other: &Step) -> bool
+    ensures { IsTrue result → SharesList first.now other.now }
+{
+    match (first, other) {
+        (Step::InTile { .. }, Step::InTile { .. }) => true,
+        (Step::InLayer { layer, .. }, Step::InLayer { layer: other, .. }) => layer == other,
+        (
+            Step::InFeature { layer, item, .. },
+            Step::InFeature {
+                layer: other_layer,
+                item: other_item,
+                ..
+            },
+        ) => layer == other_layer && item == other_item,
+        _ => false,
+    }
+}
+
+/// Where the steps end that exchange items of the same list as the one at this position.
+pub(crate) fn run_end(steps: &[Step], start: usize) -> usize
+    requires { start < length steps.now }
+    ensures some { start < result }
+    ensures within { result ≤ length steps.now }
+    ensures run { IsRun (slice_range steps.now start result) }
+{
+    let mut end = start + 1;
+    while end < steps.len() && shares_list(&steps[start], &steps[end]) {
+        end += 1;
+    }
+    end
+}
+
+/// Carries steps on one list out in one pass over it, or a step alone. Each becomes the step that
+/// leads back.
+pub(crate) fn flip_run(
+    alloc: Global,
+    document: &mut Document,
+    steps: &mut [Step],
+) -> Result<(), AllocError>
+    requires run { IsRun steps.old }
+    requires fits { Fits (map step_of steps.old) (document_of document.old) }
+    ensures document { document_of document.new ≡ (if is_ok result
+        then go (map step_of steps.old) (document_of document.old)
+        else document_of document.old) }
+    ensures turned { OnOk result (map step_of (reverse steps.new) ≡ turn (map step_of steps.old) (document_of document.old)) }
+    ensures back { OnOk result (LeadsBack (reverse steps.new) document.old document.new) }
+    ensures same { OnErr result (map step_of steps.new ≡ map step_of steps.old) }
+    ensures kept { OnErr result (KeepsDocument document.old document.new) }
+{
+    if steps.len() == 1 {
+        return flip_step(document, &mut steps[0]);
+    }
+    match steps[0] {
+        Step::InTile { .. } => run_in_tile(alloc, document, steps),
+        Step::InLayer { layer, .. } => run_in_layer(alloc, document, layer, steps),
+        Step::InFeature { layer, item, .. } => run_in_feature(alloc, document, layer, item, steps),
+        Step::Move { .. } => unreachable!(),
+    }
+}
+
+/// Carries steps on the tile's own list out in one pass over it, and makes each the step that leads
+/// back. Memory is asked for before the first item moves.
+pub(crate) fn run_in_tile(
+    alloc: Global,
+    document: &mut Document,
+    steps: &mut [Step],
+) -> Result<(), AllocError>
+    requires tile { AllByRecursion IsInTile steps.old }
+    requires fits { Fits (map step_of steps.old) (document_of document.old) }
+    ensures document { document_of document.new ≡ (if is_ok result
+        then go (map step_of steps.old) (document_of document.old)
+        else document_of document.old) }
+    ensures turned { OnOk result (map step_of (reverse steps.new) ≡ turn (map step_of steps.old) (document_of document.old)) }
+    ensures back { OnOk result (LeadsBack (reverse steps.new) document.old document.new) }
+    ensures same { OnErr result (map step_of steps.new ≡ map step_of steps.old) }
+    ensures kept { OnErr result (KeepsDocument document.old document.new) }
+{
+    splice_message(alloc, &mut document.items, steps)
+}

@@ -1,0 +1,65 @@
+//! A step carried out in place, and turned into the step that leads back.
+
+ghost use Rattle.std.specs.Prelude.{◌≡◌, is_ok, if◌then◌else◌, IsOk, OnOk};
+ghost use Rattle.mvt_wire.specs.Stands.{document_of};
+ghost use Rattle.mvt_change.specs.ChangeStands.{step_of};
+ghost use Rattle.mvt_change.specs.Changes.{Finds, go_step, turn_step};
+ghost use Rattle.mvt_change.specs.Room.{KeepsDocument};
+ghost use Rattle.mvt_change.specs.HeldChanges.{IsTurned, StepHasRoom, go_held_step};
+
+use crate::change::Step;
+use crate::exchange::{exchange_in_feature, exchange_in_layer};
+use crate::moves::move_at;
+use mvt_wire::Document;
+use std::alloc::AllocError;
+use std::mem;
+
+/// Carries the step out, and makes it the step that leads back: the items that it put stand in the
+/// document, and it has the ones that they took the places of. Where lists do not grow nothing has
+/// changed.
+pub(crate) fn flip_step(document: &mut Document, step: &mut Step) -> Result<(), AllocError>
+    requires { Finds (step_of step.old) (document_of document.old) }
+    ensures document { document_of document.new ≡ (if is_ok result
+        then go_step (step_of step.old) (document_of document.old)
+        else document_of document.old) }
+    ensures step { step_of step.new ≡ (if is_ok result
+        then turn_step (step_of step.old) (document_of document.old)
+        else step_of step.old) }
+    ensures kept { KeepsDocument (if is_ok result then go_held_step step.old document.old else document.old) document.new }
+    ensures turned { OnOk result (IsTurned step.old document.old step.new) }
+    ensures succeeds { StepHasRoom step.old document.old → IsOk result }
+{
+    match step {
+        Step::InTile { index, take, put } => {
+            let given = put.len();
+            document.items.exchange(*index, *take, put)?;
+            *take = given;
+        }
+        Step::InLayer {
+            layer,
+            index,
+            take,
+            put,
+        } => {
+            let given = put.len();
+            exchange_in_layer(document, *layer, *index, *take, put)?;
+            *take = given;
+        }
+        Step::InFeature {
+            layer,
+            item,
+            index,
+            take,
+            put,
+        } => {
+            let given = put.len();
+            exchange_in_feature(document, *layer, *item, *index, *take, put)?;
+            *take = given;
+        }
+        Step::Move { place, from, to } => {
+            move_at(document, *place, *from, *to);
+            mem::swap(from, to);
+        }
+    }
+    Ok(())
+}

@@ -1,0 +1,68 @@
+-- The runs of a list of the program are those of its plain values, and what goes has bytes.
+use Rattle.std.proofs.Common.{◌≡◌, ℕ, suc, ◌+◌, ◌*◌, ◌/◌, ◌≤◌, ◌==◌, Bool, true, false, cond, max, Option, None, is_some, List, [], ◌∷◌, ◌++◌, length, length-append, map, filter, refl, ap, inl, inr, arith}
+use Rattle.std.proofs.lemmas.Bool.{cases_Bool}
+use Rattle.std.specs.List.{flat_map}
+use Rattle.mvt_wire.specs.Wire.{spell, minimal_width, delimited, body_bytes, field_bytes, layer_item_bytes, tile_item_bytes}
+use Rattle.mvt_wire.specs.Shape.{IsSpelling}
+use Rattle.mvt_wire.specs.Stands.{body_of, field_of, layer_item_of, tile_item_of}
+use Rattle.mvt_wire.proofs.Spelling.{length-spell, spelling_some, minimal_width_some}
+use Rattle.mvt_wire.specs.declared.Body.{Body}
+use Rattle.mvt_wire.specs.declared.Body.TheVariants.{Number, Eight, Four, Bytes, Group}
+use Rattle.mvt_wire.specs.declared.Varint.{Varint}
+use Rattle.mvt_view.specs.Views.{value_of}
+use Rattle.mvt_wire.specs.declared.Field.{Field}
+use Rattle.mvt_wire.specs.declared.TileItem.{TileItem}
+use Rattle.mvt_wire.specs.declared.TileItem.TheVariants as in_tile
+use Rattle.mvt_meaning.specs.Meaning.{is_id}
+use Rattle.mvt_edit.specs.Cuts.{and_item, runs_from}
+use Rattle.mvt_edit.proofs.Kept.{goes}
+
+pub runs_seen : {A B : Type 0} (v : A → B) (test : B → Bool) (n : ℕ) (xs : List A) → runs_from (λ x. test (v x)) n xs ≡ runs_from test n (map v xs)
+runs_seen v test n [] = refl
+runs_seen v test n (x ∷ xs) =
+    let more = runs_seen v test (n + 1) xs in
+    elim (cases_Bool (test (v x))) [ inl out ↦ rw out (ap (and_item n) more) | inr stays ↦ rw stays more ]
+
+pub count_seen : {A B : Type 0} (v : A → B) (test : B → Bool) (xs : List A) → length (filter (λ x. test (v x)) xs) ≡ length (filter test (map v xs))
+count_seen v test [] = refl
+count_seen v test (x ∷ xs) =
+    let more = count_seen v test xs in
+    elim (cases_Bool (test (v x))) [ inl out ↦ rw out (ap suc more) | inr stays ↦ rw stays more ]
+
+-- where each item that goes has two bytes
+pub heavy : {A B : Type 0} (bytes : B → List ℕ) (v : A → B) (test : B → Bool) → ((x : A) → test (v x) ≡ true → 2 ≤ length (bytes (v x))) → (xs : List A) → 2 * length (filter test (map v xs)) ≤ length (flat_map bytes (filter test (map v xs)))
+heavy bytes v test has [] = omega arith
+heavy bytes v test has (x ∷ xs) =
+    let more = heavy bytes v test has xs in
+    elim (cases_Bool (test (v x))) [
+      | inl out ↦ rw out (omega (arith, has x out, length-append (bytes (v x)) (flat_map bytes (filter test (map v xs)))))
+      | inr stays ↦ rw stays more
+    ]
+
+tag_and_content : (value width least : ℕ) (content : List ℕ) → IsSpelling value width → 2 ≤ length (spell value width ++ delimited least content)
+tag_and_content value width least content spelled =
+    let room = max least (minimal_width (length content)) in
+    omega (arith, length-append (spell value width) (delimited least content), length-append (spell (length content) room) content, length-spell value width, spelling_some value width spelled, length-spell (length content) room, minimal_width_some (length content))
+
+pub layer_has_bytes : (names : List (List ℕ)) (item : TileItem) → goes names (tile_item_of item) ≡ true → 2 ≤ length (tile_item_bytes (tile_item_of item))
+layer_has_bytes names (in_tile.Layer layer) out = tag_and_content layer.tag.value layer.tag.width layer.width (flat_map layer_item_bytes (map layer_item_of layer.items.items)) layer.tag.spelled
+layer_has_bytes names (in_tile.Plain field) out = absurd cc
+
+number_has_bytes : (number : Varint) → 1 ≤ length (spell number.value number.width)
+number_has_bytes number = omega (arith, length-spell number.value number.width, spelling_some number.value number.width number.spelled)
+
+value_has_bytes : (body : Body) → is_some (value_of (body_of body)) ≡ true → 1 ≤ length (body_bytes (body_of body))
+value_has_bytes (Number number) some = number_has_bytes number
+value_has_bytes (Eight bytes) some = absurd cc
+value_has_bytes (Four bytes) some = absurd cc
+value_has_bytes (Bytes width bytes) some = absurd cc
+value_has_bytes (Group bytes) some = absurd cc
+
+some_of : {A : Type 0} (b : Bool) (o : Option A) → is_some (cond b o None) ≡ true → is_some o ≡ true
+some_of true o some = some
+some_of false o some = absurd cc
+
+pub id_has_bytes : (field : Field) → is_id (field_of field) ≡ true → 2 ≤ length (field_bytes (field_of field))
+id_has_bytes field id =
+    let body = value_has_bytes field.body (some_of (field.tag.value / 8 == 1) (value_of (body_of field.body)) id) in
+    omega (arith, body, number_has_bytes field.tag, length-append (spell field.tag.value field.tag.width) (body_bytes (body_of field.body)))

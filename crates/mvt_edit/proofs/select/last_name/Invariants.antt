@@ -1,9 +1,0 @@
-use Rattle.std.proofs.Common.{◌≡◌, map, drop}
-use Rattle.std.specs.List.{last_or}
-use Rattle.mvt_wire.specs.Stands.{layer_item_of}
-use Rattle.mvt_edit.specs.Meaning.{is_name, name_positions}
-use Rattle.mvt_edit.proofs.Positions.{positions_from}
-use Rattle.mvt_edit.proofs.select.last_name.Given as goal
-
-abbrev pub invariant-loop-position : goal.invariant-loop-position
-invariant-loop-position l = last_or l.last (positions_from is_name l.position (map layer_item_of (drop l.position l.items))) ≡ last_or l.initial.last (name_positions (map layer_item_of l.items))

@@ -1,0 +1,44 @@
+-- Items of a list that go, in runs of neighbours.
+use Rattle.std.specs.Prelude.{◌≡◌, ℕ, ◌+◌, ◌==◌, Bool, List, [], ◌∷◌, ◌++◌, length, filter, if◌then◌else◌}
+use Rattle.mvt_change.specs.Changes as plain
+use Rattle.mvt_change.specs.Changes.{Place, OfTheTile, OfTheLayer, OfTheFeature, Step, TileStep, LayerStep, FeatureStep}
+use Rattle.mvt_change.specs.ChangeStands.{change_of}
+use Rattle.mvt_edit.specs.declared.cut.Cut.{Cut}
+use Rattle.mvt_edit.specs.declared.cut.Run.{Run}
+
+-- ---- runs
+
+-- the runs with one item more that goes, before all of them; right before the first run it is part of that one
+abbrev pub and_item : ℕ → List Run → List Run
+and_item index [] = record { index = index; count = 1 } ∷ []
+and_item index (run ∷ runs) = if run.index == index + 1 then record { index = index; count = run.count + 1 } ∷ runs else record { index = index; count = 1 } ∷ run ∷ runs
+
+-- the runs of the items that go, where the first item of the list stands at this index
+abbrev pub runs_from : {A : Type 0} → (A → Bool) → ℕ → List A → List Run
+runs_from goes index [] = []
+runs_from goes index (x ∷ xs) = if goes x then and_item index (runs_from goes (index + 1) xs) else runs_from goes (index + 1) xs
+
+abbrev pub runs_of : {A : Type 0} → (A → Bool) → List A → List Run
+runs_of goes items = runs_from goes 0 items
+
+-- ---- steps
+
+-- the step that takes a run out of the list at a place
+abbrev pub step_out : Place → Run → Step
+step_out OfTheTile run = TileStep run.index run.count []
+step_out (OfTheLayer layer) run = LayerStep layer run.index run.count []
+step_out (OfTheFeature layer item) run = FeatureStep layer item run.index run.count []
+
+-- a step for each run, the last one first
+abbrev pub steps_out : Place → List Run → plain.Change
+steps_out place [] = []
+steps_out place (run ∷ runs) = steps_out place runs ++ step_out place run ∷ []
+
+-- the change takes the items out that go, and it is known how many they are
+pub record IsCut {A : Type 0} (place : Place) (goes : A → Bool) (items : List A) (cut : Cut) : Type 0 where
+  pub steps : change_of cut.change ≡ steps_out place (runs_of goes items)
+  pub counted : cut.gone ≡ length (filter goes items)
+
+-- what the code answers is what the test is
+abbrev pub Tells : {A : Type 0} → (A → Bool → Type 0) → (A → Bool) → Type 0
+Tells {A} answers test = (item : A) (answer : Bool) → answers item answer → answer ≡ test item

@@ -1,0 +1,10 @@
+-- Where a new item comes to have an ordinal.
+use Rattle.std.specs.Prelude.{◌≡◌, ℕ, ◌≤◌, Bool, List, [], ◌∷◌, length}
+use Rattle.mvt_wire.specs.Splicing.{splice}
+use Rattle.mvt_meaning.specs.Ordinals.{count, insert_nth}
+
+-- put in at this place, a new item has this ordinal among those that pass
+pub record IsPlaceFor {A : Type 0} (passes : A → Bool) (ordinal : ℕ) (items : List A) (place : ℕ) : Type 0 where
+  pub few : ordinal ≤ count passes items
+  pub within : place ≤ length items
+  pub inserts : (new : A) → insert_nth passes ordinal new items ≡ splice place 0 (new ∷ []) items

@@ -1,0 +1,25 @@
+-- The change that carries out a command.
+use Rattle.std.specs.Prelude.{◌≡◌, ◌⊎◌, ◌+◌, ◌*◌, ◌≤◌, length, Result, Ok, Err}
+use Rattle.mvt_wire.specs.Plain.{Document}
+use Rattle.mvt_change.specs.Changes as plain
+use Rattle.mvt_change.specs.Changes.{Fits, go, turn, weight}
+use Rattle.mvt_change.specs.ChangeStands.{change_of}
+use Rattle.mvt_change.specs.declared.change.Change.{Change}
+use Rattle.mvt_command.specs.Command.{Command}
+use Rattle.mvt_meaning.specs.Meaning.{applied}
+use Rattle.mvt_meaning.specs.Weights.{put_by, taken_by}
+use Rattle.mvt_meaning.specs.declared.refusal.Refusal.{Refusal}
+use Rattle.mvt_meaning.specs.declared.refusal.Refusal.TheVariants.{NoMemory}
+
+-- the change makes what the command means, and holds no more than the command puts in and takes out
+pub record IsPrepared (command : Command) (document : Document) (change : plain.Change) : Type 0 where
+  pub fits : Fits change document
+  pub means : applied command document ≡ Ok (go change document)
+  pub puts : weight change ≤ put_by command document
+  pub takes : weight (turn change document) ≤ taken_by command document
+  pub steps : 2 * length change ≤ 2 + taken_by command document + put_by command document
+
+-- The change of the command, or its refusal. Want of memory, and no other refusal, may come in place of either.
+abbrev pub Prepares : Command → Document → Result Change Refusal → Type 0
+Prepares command document (Ok change) = IsPrepared command document (change_of change)
+Prepares command document (Err refusal) = (refusal ≡ NoMemory) ⊎ (applied command document ≡ Err refusal)

@@ -1,0 +1,45 @@
+//! The change of a command.
+
+ghost use Rattle.mvt_wire.specs.Stands.{document_of};
+ghost use Rattle.mvt_command.specs.CommandStands.{command_of};
+ghost use Rattle.mvt_edit.specs.Prepared.{Prepares};
+
+use crate::drops::{drop_feature, drop_layer};
+use crate::insertion::insert_feature;
+use crate::keep::{clear_id, keep_layers};
+use crate::moves::{move_feature, move_layer};
+use crate::put_last::{rename_layer, set_id};
+use mvt_change::Change;
+use mvt_meaning::{Command, Refusal};
+use mvt_wire::Document;
+use std::alloc::Global;
+
+/// The change that carries the command out on this document.
+pub fn prepare(alloc: Global, document: &Document, command: &Command) -> Result<Change, Refusal>
+    ensures { Prepares (command_of command.now) (document_of document.now) result }
+{
+    match command {
+        Command::RenameLayer { layer, name } => rename_layer(
+            alloc,
+            document,
+            layer,
+            name.as_slice(),
+        ),
+        Command::MoveLayer { layer, index } => move_layer(alloc, document, layer, *index),
+        Command::DropLayer { layer } => drop_layer(alloc, document, layer),
+        Command::KeepLayers { names } => keep_layers(alloc, document, names.as_slice()),
+        Command::InsertFeature {
+            layer,
+            index,
+            geometry,
+        } => insert_feature(alloc, document, layer, *index, geometry),
+        Command::MoveFeature {
+            layer,
+            feature,
+            index,
+        } => move_feature(alloc, document, layer, feature, *index),
+        Command::DropFeature { layer, feature } => drop_feature(alloc, document, layer, feature),
+        Command::SetId { layer, feature, id } => set_id(alloc, document, layer, feature, *id),
+        Command::ClearId { layer, feature } => clear_id(alloc, document, layer, feature),
+    }
+}

@@ -1,0 +1,41 @@
+//! One item goes.
+
+ghost use Rattle.mvt_wire.specs.Stands.{document_of};
+ghost use Rattle.mvt_command.specs.Command.{DropLayer, DropFeature};
+ghost use Rattle.mvt_command.specs.CommandStands.{feature_choice_of, layer_choice_of};
+ghost use Rattle.mvt_edit.specs.Prepared.{Prepares};
+
+use crate::cut::item_out;
+use mvt_change::{Change, Place};
+use mvt_meaning::{FeatureChoice, LayerChoice, Refusal, find_feature, find_layer};
+use mvt_wire::Document;
+use std::alloc::Global;
+
+/// The layer goes.
+pub(crate) fn drop_layer(
+    alloc: Global,
+    document: &Document,
+    choice: &LayerChoice,
+) -> Result<Change, Refusal>
+    ensures { Prepares (DropLayer (layer_choice_of choice.now)) (document_of document.now) result }
+{
+    let found = find_layer(document, choice)?;
+    Ok(item_out(alloc, Place::Tile, found.position)?)
+}
+
+/// The feature goes.
+pub(crate) fn drop_feature(
+    alloc: Global,
+    document: &Document,
+    choice: &LayerChoice,
+    feature: &FeatureChoice,
+) -> Result<Change, Refusal>
+    ensures { Prepares (DropFeature (layer_choice_of choice.now) (feature_choice_of feature.now)) (document_of document.now) result }
+{
+    let holder = find_layer(document, choice)?;
+    let found = find_feature(holder.layer, feature)?;
+    let place = Place::Layer {
+        layer: holder.position,
+    };
+    Ok(item_out(alloc, place, found.position)?)
+}

@@ -1,0 +1,80 @@
+//! Items that do not pass go.
+
+ghost use Rattle.std.specs.Prelude.{◌≡◌, map, false};
+ghost use Rattle.std.specs.List.{list_any};
+ghost use Rattle.std.specs.Option.{option_copied, option_map_or};
+ghost use Rattle.std.specs.Str.{bytes_eq};
+ghost use Rattle.mvt_wire.specs.Stands.{document_of, field_of, tile_item_of};
+ghost use Rattle.mvt_command.specs.Command.{KeepLayers, ClearId};
+ghost use Rattle.mvt_command.specs.CommandStands.{feature_choice_of, layer_choice_of};
+ghost use Rattle.mvt_meaning.specs.Meaning.{is_id, is_kept};
+ghost use Rattle.mvt_edit.specs.Prepared.{Prepares};
+
+use crate::cut::cut_out;
+use mvt_change::{Change, Place};
+use mvt_meaning::{FeatureChoice, LayerChoice, Refusal, find_feature, find_layer};
+use mvt_view::{LayerView, layer_count};
+use mvt_wire::tags::ID;
+use mvt_wire::{Body, Document, Field, Items, TileItem};
+use std::alloc::Global;
+
+/// The layers stay that have one of the names. Each layer's name is looked for once.
+pub(crate) fn keep_layers(
+    alloc: Global,
+    document: &Document,
+    names: &[Items<u8>],
+) -> Result<Change, Refusal>
+    ensures { Prepares (KeepLayers (map (λ name. name.items) names.now)) (document_of document.now) result }
+{
+    let items = document.items.as_slice();
+    let cut = cut_out(alloc, Place::Tile, items, |item| !is_kept(item, names))?;
+    // Layers alone go, so none stays where as many go as there are.
+    if cut.gone == layer_count(document) {
+        return Err(Refusal::NoLayer);
+    }
+    Ok(cut.change)
+}
+
+fn is_kept(item: &TileItem, names: &[Items<u8>]) -> bool
+    ensures { result ≡ is_kept (map (λ name. name.items) names.now) (tile_item_of item.now) }
+{
+    match item {
+        TileItem::Layer(layer) => is_one_of(LayerView::of(layer).name(), names),
+        TileItem::Plain(_) => true,
+    }
+}
+
+/// There is a text, and it is one of the names.
+fn is_one_of(text: Option<&[u8]>, names: &[Items<u8>]) -> bool
+    ensures { result ≡ list_any (λ name. option_map_or (bytes_eq name) (option_copied text.entry) false) (map (λ name. name.items) names.now) }
+{
+    match text {
+        Some(text) => names.iter().any(|name| name.as_slice() == text),
+        None => false,
+    }
+}
+
+/// The feature loses each of its id fields.
+pub(crate) fn clear_id(
+    alloc: Global,
+    document: &Document,
+    choice: &LayerChoice,
+    feature: &FeatureChoice,
+) -> Result<Change, Refusal>
+    ensures { Prepares (ClearId (layer_choice_of choice.now) (feature_choice_of feature.now)) (document_of document.now) result }
+{
+    let holder = find_layer(document, choice)?;
+    let found = find_feature(holder.layer, feature)?;
+    let place = Place::Feature {
+        layer: holder.position,
+        item: found.position,
+    };
+    let cut = cut_out(alloc, place, found.feature.fields.as_slice(), is_id)?;
+    Ok(cut.change)
+}
+
+fn is_id(field: &Field) -> bool
+    ensures { result ≡ is_id (field_of field.now) }
+{
+    field.tag.value / 8 == ID && matches!(field.body, Body::Number(_))
+}

@@ -1,0 +1,50 @@
+//! One item comes to stand elsewhere among those of its kind.
+
+ghost use Rattle.mvt_wire.specs.Stands.{document_of};
+ghost use Rattle.mvt_command.specs.Command.{MoveLayer, MoveFeature};
+ghost use Rattle.mvt_command.specs.CommandStands.{feature_choice_of, layer_choice_of};
+ghost use Rattle.mvt_edit.specs.Prepared.{Prepares};
+
+use crate::steps::one_step;
+use mvt_change::{Change, Place, Step};
+use mvt_meaning::{
+    FeatureChoice, LayerChoice, Refusal, feature_at, find_feature, find_layer, layer_at,
+};
+use mvt_wire::Document;
+use std::alloc::Global;
+
+/// The layer comes to stand at this ordinal.
+pub(crate) fn move_layer(
+    alloc: Global,
+    document: &Document,
+    choice: &LayerChoice,
+    index: u64,
+) -> Result<Change, Refusal>
+    ensures { Prepares (MoveLayer (layer_choice_of choice.now) index) (document_of document.now) result }
+{
+    let from = find_layer(document, choice)?.position;
+    let items = document.items.as_slice();
+    let to = layer_at(items, index).ok_or(Refusal::BadPlace)?.position;
+    let place = Place::Tile;
+    Ok(one_step(alloc, Step::Move { place, from, to })?)
+}
+
+/// The feature comes to stand at this ordinal.
+pub(crate) fn move_feature(
+    alloc: Global,
+    document: &Document,
+    choice: &LayerChoice,
+    feature: &FeatureChoice,
+    index: u64,
+) -> Result<Change, Refusal>
+    ensures { Prepares (MoveFeature (layer_choice_of choice.now) (feature_choice_of feature.now) index) (document_of document.now) result }
+{
+    let found = find_layer(document, choice)?;
+    let from = find_feature(found.layer, feature)?.position;
+    let items = found.layer.items.as_slice();
+    let to = feature_at(items, index).ok_or(Refusal::BadPlace)?.position;
+    let place = Place::Layer {
+        layer: found.position,
+    };
+    Ok(one_step(alloc, Step::Move { place, from, to })?)
+}

@@ -1,0 +1,43 @@
+-- What the steps of an accepted command gave.
+use Rattle.std.proofs.Common.{◌≡◌, ℕ, ◌<◌, Bool, true, false, Result, Ok, Err, Some, List, [], ◌∷◌, length, slice_get, nat_lt, refl, ap, inl, inr, arith}
+use Rattle.std.proofs.lemmas.Bool.{cases_Bool}
+use Rattle.std.proofs.lemmas.Bool.Decides.{nat_tests}
+use Rattle.mvt_wire.specs.TheConstants.{MAX_FILE}
+use Rattle.mvt_wire.specs.Plain.{Layer, Document}
+use Rattle.mvt_wire.specs.Wire.{bytes_of}
+use Rattle.mvt_view.specs.Views.{features, has_id, layers, ordinals_of, the_one}
+use Rattle.mvt_command.specs.Command.{FeatureChoice, FeatureAtOrdinal, WithId}
+use Rattle.mvt_meaning.specs.Selection.{selected_feature, selected_in}
+use Rattle.mvt_meaning.specs.Meaning.{◌>>=◌, refuse_if, within_limit}
+use Rattle.mvt_meaning.specs.declared.refusal.Refusal.{Refusal}
+use Rattle.mvt_meaning.proofs.Positions.{positions_within}
+
+-- the step that was accepted first, and what came then
+pub accepted : {A B : Type 0} (first : Result A Refusal) (next : A → Result B Refusal) (made : B) → (first >>= next) ≡ Ok made → (x : A) × (first ≡ Ok x) × (next x ≡ Ok made)
+accepted (Err refusal) next made e = absurd cc
+accepted (Ok x) next made e = (x, refl, e)
+
+pub not_refused : (applies : Bool) (refusal : Refusal) (nothing : Unit {0}) → refuse_if applies refusal ≡ Ok nothing → applies ≡ false
+not_refused true refusal nothing e = absurd cc
+not_refused false refusal nothing e = refl
+
+pub within_is : (document made : Document) → within_limit document ≡ Ok made → document ≡ made
+within_is document made e =
+    elim (cases_Bool (nat_lt MAX_FILE (length (bytes_of document)))) [
+      | inl over ↦ absurd (let refused = rw over at e in cc)
+      | inr within ↦ (let same = rw within at e in cc)
+    ]
+
+one_first : {E : Type 0} (none several : E) (ordinals : List ℕ) (ordinal : ℕ) → the_one none several ordinals ≡ Ok ordinal → slice_get ordinals 0 ≡ Some ordinal
+one_first none several [] ordinal e = absurd cc
+one_first none several (x ∷ []) ordinal e = let same : x ≡ ordinal = cc in ap (λ y. Some y) same
+one_first none several (x ∷ y ∷ more) ordinal e = absurd cc
+
+-- a feature that is selected is one of the layer
+pub feature_within : (choice : FeatureChoice) (layer : Layer) (ordinal : ℕ) → selected_feature choice layer ≡ Ok ordinal → ordinal < length (features layer)
+feature_within (FeatureAtOrdinal n) layer ordinal e = grind (arith, nat_tests)
+feature_within (WithId id) layer ordinal e = let bounds = positions_within (has_id id) 0 (features layer) 0 ordinal (one_first _ _ (ordinals_of (has_id id) (features layer)) ordinal e) in omega arith
+
+-- which layer a feature is selected in
+pub feature_meant : (choice : FeatureChoice) (document : Document) (layer : Layer) (ordinal feature : ℕ) → slice_get (layers document) ordinal ≡ Some layer → selected_in choice ordinal document ≡ Ok feature → selected_feature choice layer ≡ Ok feature
+feature_meant choice document layer ordinal feature there e = rw there at e

@@ -1,0 +1,16 @@
+pub mod Accepted
+pub mod Around
+pub mod LastPut
+pub mod Parts
+pub mod Renaming
+pub mod LayerCommands
+pub mod NewFeature
+pub mod FeatureCommands
+pub mod Positions
+pub mod Selecting
+pub mod SelectionLemmas
+pub mod Named
+pub mod Lengths
+pub mod Found
+pub mod Finding
+pub mod Unwanting

@@ -1,0 +1,126 @@
+-- Positions of the items that pass, one item after the other.
+use Rattle.std.proofs.Common.{◌≡◌, ℕ, zero, suc, ◌+◌, ◌<◌, ◌≤◌, Bool, true, false, ◌&&◌, not, Option, Some, None, List, [], ◌∷◌, length, map, filter, slice_get, slice_set, refl, sym, ap, ◌∙◌, ◌⊎◌, inl, inr, arith}
+use Rattle.std.proofs.lemmas.Bool.{cases_Bool, or_parts, or_from, and_right, and_from, not_from_true, not_from_false}
+use Rattle.std.specs.List.{enumerate_from, list_any, last_or}
+use Rattle.mvt_meaning.specs.Ordinals.{change_last}
+
+-- the positions of the items that pass, where the first item stands at n
+abbrev pub positions_from : {A : Type 0} → (A → Bool) → ℕ → List A → List ℕ
+positions_from {A} passes n items = map (λ p. p.0) (filter (λ (p : ℕ × A). passes p.1) (enumerate_from n items))
+
+pub positions_pass : {A : Type 0} (passes : A → Bool) (n : ℕ) (x : A) (xs : List A) → passes x ≡ true → positions_from passes n (x ∷ xs) ≡ n ∷ positions_from passes (n + 1) xs
+positions_pass passes n x xs e = rw e refl
+
+pub positions_skip : {A : Type 0} (passes : A → Bool) (n : ℕ) (x : A) (xs : List A) → passes x ≡ false → positions_from passes n (x ∷ xs) ≡ positions_from passes (n + 1) xs
+positions_skip passes n x xs e = rw e refl
+
+first_or_later : (n i k len : ℕ) (rest : List ℕ) → slice_get (n ∷ rest) i ≡ Some k → ((j : ℕ) → slice_get rest j ≡ Some k → (n + 1 ≤ k) × (k < n + 1 + len)) → (n ≤ k) × (k < n + suc len)
+first_or_later n zero k len rest e later = let same : n ≡ k = cc in (omega arith, omega arith)
+first_or_later n (suc j) k len rest e later = let bounds = later j e in (omega arith, omega arith)
+
+-- they lie among the items
+pub positions_within : {A : Type 0} (passes : A → Bool) (n : ℕ) (xs : List A) (i k : ℕ) → slice_get (positions_from passes n xs) i ≡ Some k → (n ≤ k) × (k < n + length xs)
+positions_within passes n [] i k e = absurd cc
+positions_within passes n (x ∷ xs) i k e =
+    elim (cases_Bool (passes x)) [
+      | inl pass ↦ first_or_later n i k (length xs) (positions_from passes (n + 1) xs) (rw (positions_pass passes n x xs pass) at e) (λ j h. positions_within passes (n + 1) xs j k h)
+      | inr skip ↦ let bounds = positions_within passes (n + 1) xs i k (rw (positions_skip passes n x xs skip) at e) in (omega arith, omega arith)
+    ]
+
+pub no_positions : {A : Type 0} (passes : A → Bool) (n : ℕ) (xs : List A) → list_any passes xs ≡ false → positions_from passes n xs ≡ []
+no_positions passes n [] e = refl
+no_positions passes n (x ∷ xs) e =
+    let parts = or_parts (passes x) (list_any passes xs) e in
+    positions_skip passes n x xs parts.0 ∙ no_positions passes (n + 1) xs parts.1
+
+-- ---- the last position
+
+last_some : {A : Type 0} (x : A) (xs : List A) → last_or (Some x) xs ≡ None → ⊥
+last_some x [] e = cc
+last_some x (y ∷ xs) e = last_some y xs e
+
+last_found : {A : Type 0} (o : Option A) (xs : List A) (x : A) → last_or o xs ≡ Some x → (o ≡ Some x) ⊎ ((i : ℕ) × (slice_get xs i ≡ Some x))
+last_found o [] x e = inl e
+last_found o (y ∷ xs) x e =
+    elim (last_found (Some y) xs x e) [ inl here ↦ inr (0, here) | inr later ↦ inr (suc later.0, later.1) ]
+
+pub last_within : {A : Type 0} (passes : A → Bool) (n : ℕ) (xs : List A) (k : ℕ) → last_or None (positions_from passes n xs) ≡ Some k → (n ≤ k) × (k < n + length xs)
+last_within passes n xs k e =
+    elim (last_found None (positions_from passes n xs) k e) [
+      | inl none ↦ absurd cc
+      | inr found ↦ positions_within passes n xs found.0 k found.1
+    ]
+
+-- none passes where there is no last one
+pub no_last : {A : Type 0} (passes : A → Bool) (n : ℕ) (xs : List A) → last_or None (positions_from passes n xs) ≡ None → list_any passes xs ≡ false
+no_last passes n [] e = refl
+no_last passes n (x ∷ xs) e =
+    elim (cases_Bool (passes x)) [
+      | inl pass ↦ absurd (last_some n (positions_from passes (n + 1) xs) (rw (positions_pass passes n x xs pass) at e))
+      | inr skip ↦ or_from (passes x) (list_any passes xs) skip (no_last passes (n + 1) xs (rw (positions_skip passes n x xs skip) at e))
+    ]
+
+pub some_last : {A : Type 0} (passes : A → Bool) (n : ℕ) (xs : List A) (k : ℕ) → last_or None (positions_from passes n xs) ≡ Some k → list_any passes xs ≡ true
+some_last passes n xs k e =
+    elim (cases_Bool (list_any passes xs)) [
+      | inl some ↦ some
+      | inr none ↦ absurd (let at_none = rw (no_positions passes n xs none) at e in cc)
+    ]
+
+pub later_any : {A : Type 0} (passes : A → Bool) (x : A) (xs : List A) → list_any passes (x ∷ xs) ≡ true → passes x ≡ false → list_any passes xs ≡ true
+later_any passes x xs e skip = rw skip at e
+
+last_in : {A : Type 0} (passes : A → Bool) (n : ℕ) (xs : List A) (o : Option ℕ) → list_any passes xs ≡ true → last_or o (positions_from passes n xs) ≡ last_or None (positions_from passes n xs)
+last_in passes n [] o e = absurd cc
+last_in passes n (x ∷ xs) o e =
+    elim (cases_Bool (passes x)) [
+      | inl pass ↦ rw (positions_pass passes n x xs pass) refl
+      | inr skip ↦ rw (positions_skip passes n x xs skip) (last_in passes (n + 1) xs o (later_any passes x xs e skip))
+    ]
+
+pub last_later : {A : Type 0} (passes : A → Bool) (n : ℕ) (x : A) (xs : List A) → list_any passes xs ≡ true → last_or None (positions_from passes n (x ∷ xs)) ≡ last_or None (positions_from passes (n + 1) xs)
+last_later passes n x xs later =
+    elim (cases_Bool (passes x)) [
+      | inl pass ↦ rw (positions_pass passes n x xs pass) (last_in passes (n + 1) xs (Some n) later)
+      | inr skip ↦ rw (positions_skip passes n x xs skip) refl
+    ]
+
+pub last_here : {A : Type 0} (passes : A → Bool) (n k : ℕ) (x : A) (xs : List A) → list_any passes xs ≡ false → last_or None (positions_from passes n (x ∷ xs)) ≡ Some k → (passes x ≡ true) × (n ≡ k)
+last_here passes n k x xs none e =
+    let rest = no_positions passes (n + 1) xs none in
+    elim (cases_Bool (passes x)) [
+      | inl pass ↦ (pass, let at_end = rw (positions_pass passes n x xs pass, rest) at e in cc)
+      | inr skip ↦ absurd (let at_end = rw (positions_skip passes n x xs skip, rest) at e in cc)
+    ]
+
+-- ---- a change of the last item that passes
+
+pub change_later : {A : Type 0} (passes : A → Bool) (change : A → A) (x : A) (xs : List A) → list_any passes xs ≡ true → change_last passes change (x ∷ xs) ≡ x ∷ change_last passes change xs
+change_later passes change x xs later =
+    let no : (passes x && not (list_any passes xs)) ≡ false = and_right (passes x) (not (list_any passes xs)) (not_from_true (list_any passes xs) later) in rw no refl
+
+pub change_here : {A : Type 0} (passes : A → Bool) (change : A → A) (x : A) (xs : List A) → passes x ≡ true → list_any passes xs ≡ false → change_last passes change (x ∷ xs) ≡ change x ∷ xs
+change_here passes change x xs pass none =
+    let yes : (passes x && not (list_any passes xs)) ≡ true = and_from (passes x) (not (list_any passes xs)) pass (not_from_false (list_any passes xs) none) in rw yes refl
+
+set_later : {A : Type 0} (passes : A → Bool) (change : A → A) (x : A) (xs : List A) (n j k : ℕ) (z : A) → n + 1 ≤ k → k ≡ n + j → slice_get (x ∷ xs) j ≡ Some z → ((i : ℕ) → k ≡ n + 1 + i → slice_get xs i ≡ Some z → change_last passes change xs ≡ slice_set xs i (change z)) → x ∷ change_last passes change xs ≡ slice_set (x ∷ xs) j (change z)
+set_later passes change x xs n zero k z low at is more = absurd (omega arith)
+set_later passes change x xs n (suc i) k z low at is more = ap (λ ys. x ∷ ys) (more i (omega arith) is)
+
+set_here : {A : Type 0} (change : A → A) (x : A) (xs : List A) (n j : ℕ) (z : A) → n ≡ n + j → slice_get (x ∷ xs) j ≡ Some z → change x ∷ xs ≡ slice_set (x ∷ xs) j (change z)
+set_here change x xs n zero z at is = let same : x ≡ z = cc in ap (λ y. change y ∷ xs) same
+set_here change x xs n (suc i) z at is = absurd (omega arith)
+
+pub change_last_set : {A : Type 0} (passes : A → Bool) (change : A → A) (xs : List A) (n j k : ℕ) (z : A) → last_or None (positions_from passes n xs) ≡ Some k → k ≡ n + j → slice_get xs j ≡ Some z → change_last passes change xs ≡ slice_set xs j (change z)
+change_last_set passes change [] n j k z e at is = absurd cc
+change_last_set passes change (x ∷ xs) n j k z e at is =
+    elim (cases_Bool (list_any passes xs)) [
+      | inl later ↦ (
+          let there = sym (last_later passes n x xs later) ∙ e in
+          change_later passes change x xs later ∙ set_later passes change x xs n j k z (last_within passes (n + 1) xs k there).0 at is (λ i at is. change_last_set passes change xs (n + 1) i k z there at is)
+          )
+      | inr none ↦ (
+          let here = last_here passes n k x xs none e in
+          change_here passes change x xs here.0 none ∙ set_here change x xs n j z (here.1 ∙ at) is
+          )
+    ]

@@ -1,0 +1,12 @@
+use Rattle.std.proofs.Common.{◌≡◌, ◌≤◌, map, drop, slice_get, ◌-◌}
+use Rattle.mvt_wire.specs.Stands.{tile_item_of}
+use Rattle.mvt_meaning.specs.Selection.{is_layer, layer_positions}
+use Rattle.mvt_meaning.proofs.Positions.{positions_from}
+use Rattle.mvt_meaning.proofs.find.layer_at.Given as goal
+
+abbrev pub invariant-loop-position : goal.invariant-loop-position
+invariant-loop-position l = record {
+  within : l.current ≤ l.position;
+  before : l.current ≤ l.ordinal;
+  rest : slice_get (positions_from is_layer l.position (map tile_item_of (drop l.position l.items))) (l.ordinal - l.current) ≡ slice_get (layer_positions (map tile_item_of l.items)) l.ordinal;
+}

@@ -1,0 +1,73 @@
+-- What stays of a tile where one of its layers changes, and of a layer where one of its features does.
+-- Vector Tile Specification 2.1, sections 4.1 and 4.2.
+use Rattle.std.specs.Prelude.{◌≡◌, ◌≢◌, ℕ, ◌-◌, List, Option, Some, None, Ok, length, option_map, slice_get, take}
+use Rattle.std.specs.List.{filter_map, remove}
+use Rattle.mvt_wire.specs.Plain.{Field, Feature, LayerItem, Layer, TileItem, OfLayer, PlainInTile, Document}
+use Rattle.mvt_view.specs.Views.{layers, features, plain_fields}
+use Rattle.mvt_command.specs.Command.{LayerChoice, FeatureChoice}
+use Rattle.mvt_meaning.specs.Selection.{layer_positions, feature_positions, selected, selected_feature}
+
+-- ---- one layer of a tile
+
+-- a field of the tile that is no layer
+abbrev pub field_in : TileItem → Option Field
+field_in (OfLayer layer) = None
+field_in (PlainInTile field) = Some field
+
+-- the fields of a tile that are no layers, in order
+abbrev pub tile_fields : Document → List Field
+tile_fields document = filter_map field_in document
+
+-- all items of a tile but the layer of this ordinal, in order; none where there is no such layer
+abbrev pub without_layer : ℕ → Document → Option Document
+without_layer ordinal document = option_map (remove document) (slice_get (layer_positions document) ordinal)
+
+-- the layer of this ordinal alone differs
+pub record LayerAloneDiffers (ordinal : ℕ) (old new : Document) : Type 0 where
+  pub others : (other : ℕ) → other ≢ ordinal → slice_get (layers new) other ≡ slice_get (layers old) other
+  pub fields : tile_fields new ≡ tile_fields old
+  pub positions : layer_positions new ≡ layer_positions old
+
+-- The layer that is meant has become another in this way, with its tag and the stored width of its length. It alone differs.
+pub record ChangesLayer (choice : LayerChoice) (way : Layer → Layer → Type 0) (old new : Document) : Type 0 where
+  pub ordinal : ℕ
+  pub meant : selected choice old ≡ Ok ordinal
+  pub former : Layer
+  pub was : slice_get (layers old) ordinal ≡ Some former
+  pub present : Layer
+  pub is : slice_get (layers new) ordinal ≡ Some present
+  pub tag : present.tag ≡ former.tag
+  pub width : present.width ≡ former.width
+  pub changed : way former present
+  pub alone : LayerAloneDiffers ordinal old new
+
+-- ---- one feature of a layer
+
+-- all items of a layer but the feature of this ordinal, in order; none where there is no such feature
+abbrev pub without_feature : ℕ → Layer → Option (List LayerItem)
+without_feature ordinal layer = option_map (remove layer.items) (slice_get (feature_positions layer.items) ordinal)
+
+-- the feature of this ordinal alone differs
+pub record FeatureAloneDiffers (ordinal : ℕ) (old new : Layer) : Type 0 where
+  pub others : (other : ℕ) → other ≢ ordinal → slice_get (features new) other ≡ slice_get (features old) other
+  pub fields : plain_fields new.items ≡ plain_fields old.items
+  pub positions : feature_positions new.items ≡ feature_positions old.items
+
+-- The feature that is meant has become another in this way, with its tag and the stored width of its length. It alone differs.
+pub record ChangesFeature (choice : FeatureChoice) (way : Feature → Feature → Type 0) (old new : Layer) : Type 0 where
+  pub ordinal : ℕ
+  pub meant : selected_feature choice old ≡ Ok ordinal
+  pub former : Feature
+  pub was : slice_get (features old) ordinal ≡ Some former
+  pub present : Feature
+  pub is : slice_get (features new) ordinal ≡ Some present
+  pub tag : present.tag ≡ former.tag
+  pub width : present.width ≡ former.width
+  pub changed : way former present
+  pub alone : FeatureAloneDiffers ordinal old new
+
+-- ---- a list whose last item changes
+
+-- the list without its last item
+abbrev pub all_but_last : {A : Type 0} → List A → List A
+all_but_last items = take (length items - 1) items

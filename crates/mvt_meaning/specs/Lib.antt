@@ -1,0 +1,11 @@
+pub mod Ordinals
+pub mod Selection
+pub mod Found
+pub mod Meaning
+pub mod Kept
+pub mod LayerLaws
+pub mod FeatureLaws
+pub mod Weights
+pub mod Laws
+pub mod SizeLaws
+pub mod MemoryLaws

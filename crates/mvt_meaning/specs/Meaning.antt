@@ -1,0 +1,195 @@
+-- What a command makes of a document, and when it is refused. Vector Tile Specification 2.1, sections 4.1 to 4.3.
+use Rattle.std.specs.Prelude.{ℕ, ◌-◌, ◌^◌, ◌==◌, nat_lt, Bool, true, ◌&&◌, not, unsigned_abs, List, [], ◌∷◌, length, filter, slice_get, Option, None, Result, Ok, Err, is_some, if◌then◌else◌}
+use Rattle.std.specs.List.{list_any}
+use Rattle.std.specs.Option.{option_map_or}
+use Rattle.std.specs.Result.{result_unwrap_or}
+use Rattle.mvt_wire.specs.TheConstants.{MAX_FILE}
+use Rattle.mvt_wire.specs.Plain.{Number, Body, Spelled, Eight, Four, Delimited, Group, Field, LayerItem, OfFeature, PlainInLayer, TileItem, OfLayer, PlainInTile, Document}
+use Rattle.mvt_wire.specs.Wire.{bytes_of, minimal_width}
+use Rattle.mvt_geometry.specs.Shapes.{Geometry, number_of}
+use Rattle.mvt_geometry.specs.Integers.{encoded, joined, origin, repeats, ways}
+use Rattle.mvt_geometry.specs.declared.faults.EncodeError.{EncodeError}
+use Rattle.mvt_geometry.specs.declared.faults.EncodeError.TheVariants as encode_errors
+use Rattle.mvt_view.specs.Views.{content_in, features_in, is_named, layers, ordinals_of, value_in}
+use Rattle.mvt_change.specs.Places.{in_feature, in_layer}
+use Rattle.mvt_command.specs.Command.{Command, RenameLayer, MoveLayer, DropLayer, KeepLayers, InsertFeature, MoveFeature, DropFeature, SetId, ClearId}
+use Rattle.mvt_meaning.specs.Ordinals.{change_nth, without, move_nth, insert_nth, put_last}
+use Rattle.mvt_meaning.specs.Selection.{is_feature, is_layer, selected, selected_in}
+use Rattle.mvt_meaning.specs.declared.refusal.Refusal.{Refusal}
+use Rattle.mvt_meaning.specs.declared.refusal.Refusal.TheVariants.{BadPlace, NameTaken, NoLayer, NoMemory, OutOfRange, TooLarge}
+
+infixl 10 ◌>>=◌
+abbrev pub ◌>>=◌ : {A B : Type 0} → Result A Refusal → (A → Result B Refusal) → Result B Refusal
+(Ok x) >>= f = f x
+(Err e) >>= f = Err e
+
+-- ---- numbers and fields
+
+-- a number in its shortest spelling
+abbrev pub minimal : ℕ → Number
+minimal value = record { value = value; width = minimal_width value }
+
+-- a number that stays what it is keeps its spelling
+abbrev pub with_number : ℕ → Number → Number
+with_number value old = if old.value == value then old else minimal value
+
+-- a VARINT body with another number
+abbrev pub with_value : ℕ → Body → Body
+with_value value (Spelled number) = Spelled (with_number value number)
+with_value value (Eight eight) = Eight eight
+with_value value (Four four) = Four four
+with_value value (Delimited width bytes) = Delimited width bytes
+with_value value (Group group) = Group group
+
+-- a LEN body with another content, which keeps its stored width
+abbrev pub with_content : List ℕ → Body → Body
+with_content bytes (Spelled number) = Spelled number
+with_content bytes (Eight eight) = Eight eight
+with_content bytes (Four four) = Four four
+with_content bytes (Delimited width old) = Delimited width bytes
+with_content bytes (Group group) = Group group
+
+-- a field in its shortest spelling, behind this tag
+abbrev pub new_number : ℕ → ℕ → Field
+new_number tag value = record { tag = minimal tag; body = Spelled (minimal value) }
+
+abbrev pub new_content : ℕ → List ℕ → Field
+new_content tag bytes = record { tag = minimal tag; body = Delimited 1 bytes }
+
+-- ---- the name of a layer: field 1, LEN
+
+-- the content of an item of a layer that is a name field
+abbrev pub name_in : LayerItem → Option (List ℕ)
+name_in (OfFeature feature) = None
+name_in (PlainInLayer field) = content_in 1 field
+
+abbrev pub is_name : LayerItem → Bool
+is_name item = is_some (name_in item)
+
+abbrev pub with_text : List ℕ → LayerItem → LayerItem
+with_text bytes (OfFeature feature) = OfFeature feature
+with_text bytes (PlainInLayer field) = PlainInLayer (record { tag = field.tag; body = with_content bytes field.body })
+
+-- the last name field gets the name, or a name field comes at the end where there is none
+abbrev pub named_items : List ℕ → List LayerItem → List LayerItem
+named_items name items = put_last is_name (with_text name) (PlainInLayer (new_content 10 name)) items
+
+-- the name is that of a layer of another ordinal
+abbrev pub is_taken : List ℕ → ℕ → Document → Bool
+is_taken name ordinal document = list_any (λ other. not (other == ordinal)) (ordinals_of (is_named name) (layers document))
+
+-- an item of the tile that is no layer, or a layer that has one of the names
+abbrev pub is_kept : List (List ℕ) → TileItem → Bool
+is_kept names (OfLayer layer) = list_any (λ name. is_named name layer) names
+is_kept names (PlainInTile field) = true
+
+-- ---- the id of a feature: field 1, VARINT
+
+abbrev pub is_id : Field → Bool
+is_id field = is_some (value_in 1 field)
+
+abbrev pub with_id : ℕ → Field → Field
+with_id id field = record { tag = field.tag; body = with_value id field.body }
+
+-- the last id field gets the number, or an id field comes at the end where there is none
+abbrev pub identified : ℕ → List Field → List Field
+identified id fields = put_last is_id (with_id id) (new_number 8 id) fields
+
+abbrev pub without_id : List Field → List Field
+without_id fields = filter (λ field. not (is_id field)) fields
+
+-- ---- a new feature: its kind is field 3, VARINT, its geometry field 4, LEN
+
+abbrev pub new_feature : Geometry → LayerItem
+new_feature geometry = OfFeature (record {
+  tag = minimal 18;
+  width = 1;
+  fields = new_number 24 (number_of geometry.kind) ∷ new_content 34 (encoded geometry) ∷ [];
+})
+
+-- each way from a point to the next is from -(2^31 - 1) to 2^31 - 1, and no command is repeated 2^29 times
+abbrev pub is_in_range : Geometry → Bool
+is_in_range geometry =
+    not (list_any (λ way. nat_lt (2 ^ 31 - 1) (unsigned_abs way)) (ways origin (joined geometry.parts)))
+    && not (list_any (λ points. nat_lt (2 ^ 29 - 1) (repeats geometry.kind points)) geometry.parts)
+
+-- ---- places in a document
+
+abbrev pub layer_count : Document → ℕ
+layer_count document = length (layers document)
+
+-- the items of the layer of this ordinal
+abbrev pub items_of : ℕ → Document → List LayerItem
+items_of ordinal document = option_map_or (λ layer. layer.items) (slice_get (layers document) ordinal) []
+
+-- how many features that layer has
+abbrev pub feature_count : ℕ → Document → ℕ
+feature_count ordinal document = length (features_in (items_of ordinal document))
+
+-- the tile with the items of that layer changed
+abbrev pub change_layer : (List LayerItem → List LayerItem) → ℕ → Document → Document
+change_layer change ordinal document = change_nth is_layer (in_layer change) ordinal document
+
+-- the tile with the fields of the feature of an ordinal of that layer changed
+abbrev pub change_feature : (List Field → List Field) → ℕ → ℕ → Document → Document
+change_feature change ordinal feature document = change_layer (change_nth is_feature (in_feature change) feature) ordinal document
+
+-- ---- refusals
+
+-- this refusal where it applies
+abbrev pub refuse_if : Bool → Refusal → Result (Unit {0}) Refusal
+refuse_if applies refusal = if applies then Err refusal else Ok tt
+
+-- why a geometry has no bytes
+abbrev pub geometry_refusal : EncodeError → Refusal
+geometry_refusal encode_errors.OutOfRange = OutOfRange
+geometry_refusal encode_errors.NoMemory = NoMemory
+
+-- a tile that a file can hold
+abbrev pub within_limit : Document → Result Document Refusal
+within_limit document = if nat_lt MAX_FILE (length (bytes_of document)) then Err TooLarge else Ok document
+
+-- ---- commands
+
+-- what the command makes of the document, or the first of its refusals, in this order
+abbrev pub applied : Command → Document → Result Document Refusal
+applied (RenameLayer choice name) document = do
+  ordinal ← selected choice document
+  free ← refuse_if (is_taken name ordinal document) NameTaken
+  within_limit (change_layer (named_items name) ordinal document)
+applied (MoveLayer choice index) document = do
+  ordinal ← selected choice document
+  there ← refuse_if (not (nat_lt index (layer_count document))) BadPlace
+  Ok (move_nth is_layer ordinal index document)
+applied (DropLayer choice) document = do
+  ordinal ← selected choice document
+  Ok (without is_layer ordinal document)
+applied (KeepLayers names) document = do
+  some ← refuse_if (not (list_any (λ layer. is_kept names (OfLayer layer)) (layers document))) NoLayer
+  Ok (filter (is_kept names) document)
+applied (InsertFeature choice index geometry) document = do
+  ordinal ← selected choice document
+  there ← refuse_if (nat_lt (feature_count ordinal document) index) BadPlace
+  short ← refuse_if (not (is_in_range geometry)) OutOfRange
+  within_limit (change_layer (insert_nth is_feature index (new_feature geometry)) ordinal document)
+applied (MoveFeature choice feature index) document = do
+  ordinal ← selected choice document
+  moving ← selected_in feature ordinal document
+  there ← refuse_if (not (nat_lt index (feature_count ordinal document))) BadPlace
+  Ok (change_layer (move_nth is_feature moving index) ordinal document)
+applied (DropFeature choice feature) document = do
+  ordinal ← selected choice document
+  going ← selected_in feature ordinal document
+  Ok (change_layer (without is_feature going) ordinal document)
+applied (SetId choice feature id) document = do
+  ordinal ← selected choice document
+  meant ← selected_in feature ordinal document
+  within_limit (change_feature (identified id) ordinal meant document)
+applied (ClearId choice feature) document = do
+  ordinal ← selected choice document
+  meant ← selected_in feature ordinal document
+  Ok (change_feature without_id ordinal meant document)
+
+-- the document after the command; a refused one changes nothing
+abbrev pub after : Command → Document → Document
+after command document = result_unwrap_or (applied command document) document

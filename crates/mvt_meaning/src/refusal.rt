@@ -1,0 +1,83 @@
+//! Why a command is refused.
+
+ghost use Rattle.std.specs.Prelude.{◌≡◌};
+ghost use Rattle.mvt_meaning.specs.Meaning.{geometry_refusal};
+ghost use Rattle.mvt_meaning.specs.Selection.{feature_refusal, layer_refusal};
+ghost use Rattle.mvt_meaning.specs.declared.refusal.Refusal.TheVariants.{NoMemory};
+
+use mvt_geometry::EncodeError;
+use mvt_view::{FeatureError, LayerError};
+use std::alloc::{AllocError, AllocFailed};
+use thiserror::Error;
+
+/// Why a command was refused.
+#[derive(Clone, Copy, Debug, PartialEq, Eq, Error)]
+pub enum Refusal {
+    #[error("there is no such layer")]
+    NoLayer,
+    #[error("several layers have the name")]
+    AmbiguousLayer,
+    #[error("there is no such feature")]
+    NoFeature,
+    #[error("several features have the id")]
+    AmbiguousFeature,
+    #[error("the place is past the last")]
+    BadPlace,
+    #[error("another layer has the name")]
+    NameTaken,
+    #[error("the geometry is out of range")]
+    OutOfRange,
+    #[error("the tile would be too large")]
+    TooLarge,
+    #[error("out of memory")]
+    NoMemory,
+}
+
+impl From<AllocError> for Refusal {
+    ghost from_gives = { λ _ e. e ≡ NoMemory };
+
+    fn from(_e: AllocError) -> Refusal {
+        Refusal::NoMemory
+    }
+}
+
+impl<T: Drop> From<AllocFailed<T>> for Refusal {
+    ghost from_gives = { λ _ e. e ≡ NoMemory };
+
+    fn from(_e: AllocFailed<T>) -> Refusal {
+        Refusal::NoMemory
+    }
+}
+
+impl From<LayerError> for Refusal {
+    ghost from_gives = { λ error refusal. refusal ≡ layer_refusal error };
+
+    fn from(error: LayerError) -> Refusal {
+        match error {
+            LayerError::NoLayer => Refusal::NoLayer,
+            LayerError::AmbiguousLayer => Refusal::AmbiguousLayer,
+        }
+    }
+}
+
+impl From<FeatureError> for Refusal {
+    ghost from_gives = { λ error refusal. refusal ≡ feature_refusal error };
+
+    fn from(error: FeatureError) -> Refusal {
+        match error {
+            FeatureError::NoFeature => Refusal::NoFeature,
+            FeatureError::AmbiguousFeature => Refusal::AmbiguousFeature,
+        }
+    }
+}
+
+impl From<EncodeError> for Refusal {
+    ghost from_gives = { λ error refusal. refusal ≡ geometry_refusal error };
+
+    fn from(error: EncodeError) -> Refusal {
+        match error {
+            EncodeError::OutOfRange => Refusal::OutOfRange,
+            EncodeError::NoMemory => Refusal::NoMemory,
+        }
+    }
+}

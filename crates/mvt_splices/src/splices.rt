@@ -1,0 +1,47 @@
+//! Steps that exchange a part of a list.
+
+ghost use Rattle.std.specs.Prelude.{◌≡◌, ◌+◌, ◌≤◌, List, length, OnOk};
+ghost use Rattle.mvt_document.specs.Splicing.{part};
+ghost use Rattle.mvt_splices.specs.Splices.{Splice, IsRoomier, HasRoom, spliced};
+
+use crate::gap::Gap;
+use std::alloc::AllocError;
+
+/// A step that takes a part out of a list of such items, and puts items there.
+pub trait Splices<T> {
+    ghost splice_of: { Self → Splice T };
+
+    /// The step that leads back from what this one makes of a list.
+    ghost turned: { Self → List T → Self };
+
+    /// The same step with at least as much room.
+    ghost roomier: { Self → Self → Type 0 };
+
+    /// How many items it takes out.
+    fn taken(&self) -> usize
+        ensures { result ≡ (splice_of self.now).taken };
+
+    /// The items that it puts.
+    fn put(&self) -> &[T]
+        ensures { result.now ≡ (splice_of self.now).put.items };
+
+    /// Makes room for the items that it takes out.
+    fn reserve(&mut self) -> Result<(), AllocError>
+        ensures same { roomier self.old self.new }
+        ensures ok { OnOk result (HasRoom (splice_of self.new)) };
+
+    /// Carries the step out, and makes it the step that leads back.
+    fn exchange(&mut self, gap: &mut Gap<T>)
+        requires there { (splice_of self.old).index + (splice_of self.old).taken ≤ length gap.old.items }
+        requires room { length (splice_of self.old).put.items ≤ gap.old.room + (splice_of self.old).taken }
+        requires put_room { HasRoom (splice_of self.old) }
+        ensures items { gap.new.items ≡ spliced (splice_of self.old) gap.old.items }
+        ensures room { length gap.new.items + gap.new.room ≡ length gap.old.items + gap.old.room }
+        ensures turned { self.new ≡ turned self.old gap.old.items };
+
+    ghost roomy_splice: { (s t : Self) → roomier s t → IsRoomier (splice_of s) (splice_of t) };
+
+    ghost as_roomy: { (s : Self) → roomier s s };
+
+    ghost turned_put: { (s : Self) (items : List T) → (splice_of (turned s items)).put.items ≡ part (splice_of s).index (splice_of s).taken items };
+}

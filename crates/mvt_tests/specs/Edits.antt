@@ -1,0 +1,22 @@
+-- What contracts see of a document with a change that fits it.
+use Rattle.std.specs.Prelude.{◌≡◌}
+use Rattle.mvt_wire.specs.Plain.{Document}
+use Rattle.mvt_wire.specs.Opens.{IsDocument}
+use Rattle.mvt_change.specs.Changes.{Change, Fits, go}
+
+pub record Edit : Type 0 where
+  pub document : Document
+  pub change : Change
+
+pub record IsReady (edit : Edit) : Type 0 where
+  pub valid : IsDocument edit.document
+  pub fits : Fits edit.change edit.document
+
+-- an edit, and the document that its change makes
+pub record Series : Type 0 where
+  pub edit : Edit
+  pub made : Document
+
+pub record IsSeries (series : Series) : Type 0 where
+  pub ready : IsReady series.edit
+  pub made : go series.edit.change series.edit.document ≡ series.made

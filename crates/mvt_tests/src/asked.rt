@@ -1,0 +1,93 @@
+//! Commands that tests carry out.
+
+use mvt_edit::{Command, FeatureChoice, LayerChoice};
+use mvt_geometry::{Geometry, Kind, Part, Point};
+use mvt_wire::Items;
+use std::alloc::{AllocError, Global};
+
+/// The first layer.
+const FIRST: LayerChoice = LayerChoice::Ordinal(0);
+
+/// The first feature of a layer.
+const FIRST_FEATURE: FeatureChoice = FeatureChoice::Ordinal(0);
+
+fn text(alloc: Global, bytes: &[u8]) -> Result<Items<u8>, AllocError> {
+    Ok(Items::from_vec(Vec::from_slice(alloc, bytes)?))
+}
+
+/// The layer of one name gets the other.
+pub fn rename(alloc: Global, from: &[u8], to: &[u8]) -> Result<Command, AllocError> {
+    Ok(Command::RenameLayer {
+        layer: LayerChoice::Name(text(alloc, from)?),
+        name: text(alloc, to)?,
+    })
+}
+
+/// The layers stay that have this name.
+pub fn keep(alloc: Global, name: &[u8]) -> Result<Command, AllocError> {
+    let mut names = Vec::new(alloc);
+    names.push(text(alloc, name)?)?;
+    Ok(Command::KeepLayers {
+        names: Items::from_vec(names),
+    })
+}
+
+/// A ring of three points comes into the first layer.
+pub fn insert_polygon(alloc: Global, index: u64) -> Result<Option<Command>, AllocError> {
+    let ring = [(3, 6), (8, 12), (20, 34)];
+    let mut points = Vec::new(alloc);
+    for (x, y) in ring {
+        points.push(Point { x, y })?;
+    }
+    let mut parts = Vec::new(alloc);
+    parts.push(Part {
+        points: Items::from_vec(points),
+    })?;
+    let geometry = Geometry::new(Kind::Areas, Items::from_vec(parts)).ok();
+    Ok(geometry.map(|geometry| Command::InsertFeature {
+        layer: FIRST,
+        index,
+        geometry,
+    }))
+}
+
+pub fn move_layer(index: u64) -> Command {
+    Command::MoveLayer {
+        layer: FIRST,
+        index,
+    }
+}
+
+pub fn drop_layer() -> Command {
+    Command::DropLayer { layer: FIRST }
+}
+
+pub fn move_feature(index: u64) -> Command {
+    Command::MoveFeature {
+        layer: FIRST,
+        feature: FIRST_FEATURE,
+        index,
+    }
+}
+
+pub fn drop_feature() -> Command {
+    Command::DropFeature {
+        layer: FIRST,
+        feature: FIRST_FEATURE,
+    }
+}
+
+pub fn set_id(id: u64) -> Command {
+    Command::SetId {
+        layer: FIRST,
+        feature: FIRST_FEATURE,
+        id,
+    }
+}
+
+pub fn clear_id() -> Command {
+    Command::ClearId {
+        layer: FIRST,
+        feature: FIRST_FEATURE,
+    }
+}

@@ -1,0 +1,166 @@
+//! The commands that words ask for.
+
+ghost use Rattle.std.specs.Prelude.{map};
+ghost use Rattle.mvt_command.specs.CommandStands.{command_of, layer_choice_of, feature_choice_of};
+ghost use Rattle.tile_script.specs.Commands.{chosen_of, rename_layer_of, move_layer_of, drop_layer_of, keep_layers_of, insert_feature_of, move_feature_of, drop_feature_of, set_id_of, clear_id_of, command_by};
+ghost use Rattle.tile_words.specs.Answers.{Gives};
+ghost use Rattle.tile_words.specs.WordStands.{word_of};
+
+use crate::keyword::CommandWord;
+use mvt_command::{Command, FeatureChoice, LayerChoice};
+use std::alloc::Global;
+use tile_arguments::{
+    feature_choice, layer_choice, new_geometry, number_argument, text_argument, text_arguments,
+};
+use tile_words::{ParseError, Word};
+
+/// The command that begins with this word, with its arguments.
+pub(crate) fn command(
+    alloc: Global,
+    word: CommandWord,
+    arguments: &[Word<'_>],
+) -> Result<Command, ParseError>
+    ensures { Gives command_of result (command_by word (map word_of arguments.now)) }
+{
+    match word {
+        CommandWord::RenameLayer => rename_layer(alloc, arguments),
+        CommandWord::MoveLayer => move_layer(alloc, arguments),
+        CommandWord::DropLayer => drop_layer(alloc, arguments),
+        CommandWord::KeepLayers => keep_layers(alloc, arguments),
+        CommandWord::InsertFeature => insert_feature(alloc, arguments),
+        CommandWord::MoveFeature => move_feature(alloc, arguments),
+        CommandWord::DropFeature => drop_feature(alloc, arguments),
+        CommandWord::SetId => set_id(alloc, arguments),
+        CommandWord::ClearId => clear_id(alloc, arguments),
+    }
+}
+
+#[tactic(auto, unfolding(crate::specs::Commands::rename_layer_of))]
+fn rename_layer(alloc: Global, arguments: &[Word<'_>]) -> Result<Command, ParseError>
+    ensures { Gives command_of result (rename_layer_of (map word_of arguments.now)) }
+{
+    let [layer, name] = arguments else {
+        return Err(ParseError::BadArguments);
+    };
+    let layer = layer_choice(alloc, *layer)?;
+    let name = text_argument(alloc, *name)?;
+    Ok(Command::RenameLayer { layer, name })
+}
+
+#[tactic(auto, unfolding(crate::specs::Commands::move_layer_of))]
+fn move_layer(alloc: Global, arguments: &[Word<'_>]) -> Result<Command, ParseError>
+    ensures { Gives command_of result (move_layer_of (map word_of arguments.now)) }
+{
+    let [layer, index] = arguments else {
+        return Err(ParseError::BadArguments);
+    };
+    let layer = layer_choice(alloc, *layer)?;
+    let index = number_argument(*index)?;
+    Ok(Command::MoveLayer { layer, index })
+}
+
+#[tactic(auto, unfolding(crate::specs::Commands::drop_layer_of))]
+fn drop_layer(alloc: Global, arguments: &[Word<'_>]) -> Result<Command, ParseError>
+    ensures { Gives command_of result (drop_layer_of (map word_of arguments.now)) }
+{
+    let [layer] = arguments else {
+        return Err(ParseError::BadArguments);
+    };
+    let layer = layer_choice(alloc, *layer)?;
+    Ok(Command::DropLayer { layer })
+}
+
+#[tactic(auto, unfolding(crate::specs::Commands::keep_layers_of))]
+fn keep_layers(alloc: Global, arguments: &[Word<'_>]) -> Result<Command, ParseError>
+    ensures { Gives command_of result (keep_layers_of (map word_of arguments.now)) }
+{
+    if arguments.is_empty() {
+        return Err(ParseError::BadArguments);
+    }
+    let names = text_arguments(alloc, arguments)?;
+    Ok(Command::KeepLayers { names })
+}
+
+#[tactic(auto, unfolding(crate::specs::Commands::insert_feature_of))]
+fn insert_feature(alloc: Global, arguments: &[Word<'_>]) -> Result<Command, ParseError>
+    ensures { Gives command_of result (insert_feature_of (map word_of arguments.now)) }
+{
+    let [layer, index, geometry @ ..] = arguments else {
+        return Err(ParseError::BadArguments);
+    };
+    if geometry.is_empty() {
+        return Err(ParseError::BadArguments);
+    }
+    let layer = layer_choice(alloc, *layer)?;
+    let index = number_argument(*index)?;
+    let geometry = new_geometry(alloc, geometry)?;
+    Ok(Command::InsertFeature {
+        layer,
+        index,
+        geometry,
+    })
+}
+
+#[tactic(auto, unfolding(crate::specs::Commands::move_feature_of))]
+fn move_feature(alloc: Global, arguments: &[Word<'_>]) -> Result<Command, ParseError>
+    ensures { Gives command_of result (move_feature_of (map word_of arguments.now)) }
+{
+    let [layer, feature, index] = arguments else {
+        return Err(ParseError::BadArguments);
+    };
+    let (layer, feature) = chosen(alloc, *layer, *feature)?;
+    let index = number_argument(*index)?;
+    Ok(Command::MoveFeature {
+        layer,
+        feature,
+        index,
+    })
+}
+
+#[tactic(auto, unfolding(crate::specs::Commands::drop_feature_of))]
+fn drop_feature(alloc: Global, arguments: &[Word<'_>]) -> Result<Command, ParseError>
+    ensures { Gives command_of result (drop_feature_of (map word_of arguments.now)) }
+{
+    let [layer, feature] = arguments else {
+        return Err(ParseError::BadArguments);
+    };
+    let (layer, feature) = chosen(alloc, *layer, *feature)?;
+    Ok(Command::DropFeature { layer, feature })
+}
+
+#[tactic(auto, unfolding(crate::specs::Commands::set_id_of))]
+fn set_id(alloc: Global, arguments: &[Word<'_>]) -> Result<Command, ParseError>
+    ensures { Gives command_of result (set_id_of (map word_of arguments.now)) }
+{
+    let [layer, feature, id] = arguments else {
+        return Err(ParseError::BadArguments);
+    };
+    let (layer, feature) = chosen(alloc, *layer, *feature)?;
+    let id = number_argument(*id)?;
+    Ok(Command::SetId { layer, feature, id })
+}
+
+#[tactic(auto, unfolding(crate::specs::Commands::clear_id_of))]
+fn clear_id(alloc: Global, arguments: &[Word<'_>]) -> Result<Command, ParseError>
+    ensures { Gives command_of result (clear_id_of (map word_of arguments.now)) }
+{
+    let [layer, feature] = arguments else {
+        return Err(ParseError::BadArguments);
+    };
+    let (layer, feature) = chosen(alloc, *layer, *feature)?;
+    Ok(Command::ClearId { layer, feature })
+}
+
+/// A layer, and one of its features.
+#[tactic(auto, unfolding(crate::specs::Commands::chosen_of))]
+fn chosen(
+    alloc: Global,
+    layer: Word<'_>,
+    feature: Word<'_>,
+) -> Result<(LayerChoice, FeatureChoice), ParseError>
+    ensures { Gives (λ chosen. (layer_choice_of chosen.0, feature_choice_of chosen.1)) result (chosen_of (word_of layer.entry) (word_of feature.entry)) }
+{
+    let layer = layer_choice(alloc, layer)?;
+    let feature = feature_choice(feature)?;
+    Ok((layer, feature))
+}
