@@ -42,7 +42,7 @@ impl Splices<TileItem> for Step {
 
     fn reserve(&mut self) -> Result<(), AllocError> {
         match self {
-            Step::InTile { take, put, .. } => put.reserve(take.saturating_sub(put.len())),
+            Step::InTile { take, put, .. } => put.reserve_exact(take.saturating_sub(put.len())),
             _ => Ok(()),
         }
     }
@@ -88,7 +88,7 @@ impl Splices<LayerItem> for Step {
 
     fn reserve(&mut self) -> Result<(), AllocError> {
         match self {
-            Step::InLayer { take, put, .. } => put.reserve(take.saturating_sub(put.len())),
+            Step::InLayer { take, put, .. } => put.reserve_exact(take.saturating_sub(put.len())),
             _ => Ok(()),
         }
     }
@@ -140,7 +140,7 @@ impl Splices<Field> for Step {
 
     fn reserve(&mut self) -> Result<(), AllocError> {
         match self {
-            Step::InFeature { take, put, .. } => put.reserve(take.saturating_sub(put.len())),
+            Step::InFeature { take, put, .. } => put.reserve_exact(take.saturating_sub(put.len())),
             _ => Ok(()),
         }
     }

@@ -22,7 +22,7 @@ pub(crate) fn exchange<T>(
 {
     let given = put.len();
     list.reserve(given.saturating_sub(taken))?;
-    put.reserve(taken.saturating_sub(given))?;
+    put.reserve_exact(taken.saturating_sub(given))?;
     let common = given.min(taken);
     swap_part(list.as_mut_slice(), index, put.as_mut_slice(), common);
     if taken < given {

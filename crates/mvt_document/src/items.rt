@@ -22,7 +22,7 @@ impl<T> Model for Items<T> {
 }
 
 impl<T> Items<T> {
-    ghost use Rattle.std.specs.Prelude.{Some, slice_get, take, reverse as reversed, ◌+◌, ◌<◌, ◌≤◌, ◌∷◌, [], ◌++◌, if◌then◌else◌, is_ok, IsOk, OnOk, OnErr, vec_len, vec_capacity};
+    ghost use Rattle.std.specs.Prelude.{Some, slice_get, take, reverse as reversed, ◌+◌, ◌<◌, ◌≤◌, max, ◌∷◌, [], ◌++◌, if◌then◌else◌, is_ok, IsOk, OnOk, OnErr, vec_len, vec_capacity};
     ghost use Rattle.mvt_document.specs.Splicing.{moved, part, splice};
     ghost use Rattle.std.specs.Borrow.{sem};
     ghost use Rattle.std.specs.Option.{option_copied_mut};
@@ -78,15 +78,14 @@ impl<T> Items<T> {
         &mut self.inner[index]
     }
 
-    /// Makes room for so many more items. An `Err` changes nothing.
-    pub fn reserve(&mut self, more: usize) -> Result<(), AllocError>
+    /// Makes room for so many more items, and for no more than those. An `Err` changes nothing.
+    pub fn reserve_exact(&mut self, more: usize) -> Result<(), AllocError>
         ensures items { self.new.items ≡ self.old.items }
-        ensures room { self.old.room ≤ self.new.room }
-        ensures ok { OnOk result (more ≤ self.new.room) }
+        ensures ok { OnOk result (self.new.room ≡ max self.old.room more) }
         ensures err { OnErr result (self.new.room ≡ self.old.room) }
         ensures succeeds { more ≤ self.old.room → IsOk result }
     {
-        self.inner.reserve(more)
+        self.inner.reserve_exact(more)
     }
 
     /// Adds an item at the end. An `Err` changes nothing.
