@@ -1,6 +1,7 @@
 pub mod Splicing
 pub mod Lenses
 pub mod Turning
+pub mod JoinedChanges
 pub mod Weighing
 pub mod Changed
 pub mod Keeping

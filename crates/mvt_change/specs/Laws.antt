@@ -1,10 +1,11 @@
 -- Laws of changes.
-use Rattle.std.specs.Prelude.{◌≡◌, ◌↔◌, ◌≤◌, ◌++◌, length}
+use Rattle.std.specs.Prelude.{◌≡◌, ◌↔◌, ◌≤◌, List, ◌++◌, length}
 use Rattle.std.specs.List.{AllByRecursion}
 use Rattle.mvt_wire.specs.Plain.{Field, LayerItem, TileItem, Document}
 use Rattle.mvt_wire.specs.Wire.{field_bytes, layer_item_bytes, tile_item_bytes}
 use Rattle.mvt_wire.specs.Opens.{IsField, IsLayerItem, IsTileItem, IsDocument}
 use Rattle.mvt_change.specs.Changes.{Change, go, Fits, turn, weight, put_count}
+use Rattle.mvt_change.specs.Joining.{joined, go_along, FitAlong}
 
 -- A change that fits a document makes a document.
 abbrev pub ChangeMakesDocument : Type 0
@@ -29,6 +30,14 @@ JoinedGo = (first second : Change) (document : Document) → go (first ++ second
 -- They fit where each does.
 abbrev pub JoinedFit : Type 0
 JoinedFit = (first second : Change) (document : Document) → Fits (first ++ second) document ↔ (Fits first document × Fits second (go first document))
+
+-- So are those of a list.
+abbrev pub JoinedListGoes : Type 0
+JoinedListGoes = (changes : List Change) (document : Document) → go (joined changes) document ≡ go_along changes document
+
+-- They fit where each fits what those before it made.
+abbrev pub JoinedListFits : Type 0
+JoinedListFits = (changes : List Change) (document : Document) → Fits (joined changes) document ↔ FitAlong changes document
 
 -- Valid items have at least two bytes.
 abbrev pub FieldWeighs : Type 0

@@ -1,6 +1,7 @@
 pub mod Lists
 pub mod Places
 pub mod Changes
+pub mod Joining
 pub mod ChangeStands
 pub mod Laws
 pub mod Room

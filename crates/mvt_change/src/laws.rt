@@ -1,6 +1,6 @@
 //! Laws of changes. Each function does nothing: its contract is the law.
 
-ghost use Rattle.mvt_change.specs.Laws.{ChangeMakesDocument, TurnedFits, TurnedLeadsBack, TurnedTwice, JoinedGo, JoinedFit, FieldWeighs, LayerItemWeighs, TileItemWeighs, NothingPut};
+ghost use Rattle.mvt_change.specs.Laws.{ChangeMakesDocument, TurnedFits, TurnedLeadsBack, TurnedTwice, JoinedGo, JoinedFit, JoinedListGoes, JoinedListFits, FieldWeighs, LayerItemWeighs, TileItemWeighs, NothingPut};
 
 /// A change that fits a document makes a document, and what leads back fits that one.
 pub fn turned_fits()
@@ -18,6 +18,12 @@ pub fn turned_leads_back()
 pub fn joined()
     ensures made { JoinedGo }
     ensures fit { JoinedFit }
+{}
+
+/// So are those of a list, and they fit where each fits what those before it made.
+pub fn joined_list()
+    ensures made { JoinedListGoes }
+    ensures fit { JoinedListFits }
 {}
 
 /// Items have at least two bytes, so a change that weighs nothing puts nothing.

@@ -5,6 +5,7 @@ mod change;
 mod exchange;
 mod feature_run;
 mod flip_change;
+mod joining;
 pub mod laws;
 mod layer_run;
 mod moves;
@@ -15,4 +16,5 @@ mod weigh;
 
 pub use change::{Change, Place, Step};
 pub use flip_change::flip;
+pub use joining::join;
 pub use weigh::weight;
