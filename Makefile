@@ -10,11 +10,13 @@ all: toolchain
 	cp crates/tileshell_program/out/tileshell_program build/tileshell
 
 # Every proof, test, wrong body and stored run, from nothing; before them that each definition has its row in docs/, and
-# after them that a document, a layer and a feature cannot be copied.
+# after them that a document, a layer and a feature cannot be copied, and that calls to which a growth is refused leave
+# all as it was.
 check: toolchain
 	tools/definitions
 	rt ci
 	tools/no-copies
+	tools/refused-growths
 
 # Speed and memory beside other programs. TILESHELL=PATH measures a program that was built before.
 bench: $(if $(TILESHELL),,all)

@@ -1,0 +1,143 @@
+//! The trials: for each command one, and one for a change of several steps.
+
+use crate::fault::Fault;
+use crate::refused::{Refused, flip_twice, prepare};
+use mvt_edit::Command;
+use mvt_tests::asked::{
+    clear_id, drop_feature, drop_layer, insert_polygon, keep, move_feature, move_layer, rename,
+    set_id,
+};
+use mvt_tests::bytes::joined;
+use mvt_tests::edits::Edit;
+use mvt_tests::series::Series;
+use mvt_tests::tiles::{OTHER, T0, TWO_IDS};
+use std::alloc::{AllocError, Global};
+use std::fmt;
+
+/// A change that is prepared, flipped, and flipped again.
+#[derive(Clone, Copy, Debug, PartialEq, Eq)]
+pub enum Trial {
+    RenameLayer,
+    MoveLayer,
+    DropLayer,
+    KeepLayers,
+    InsertFeature,
+    MoveFeature,
+    DropFeature,
+    SetId,
+    ClearId,
+    /// The changes of seven steps of several commands, as one change.
+    Series,
+}
+
+const TRIALS: [Trial; 10] = [
+    Trial::RenameLayer,
+    Trial::MoveLayer,
+    Trial::DropLayer,
+    Trial::KeepLayers,
+    Trial::InsertFeature,
+    Trial::MoveFeature,
+    Trial::DropFeature,
+    Trial::SetId,
+    Trial::ClearId,
+    Trial::Series,
+];
+
+impl fmt::Display for Trial {
+    fn fmt<W: fmt::Write>(&self, f: &mut fmt::Formatter<W>) -> fmt::Result {
+        f.write_str(self.name())
+    }
+}
+
+pub fn trial_named(name: &str) -> Option<Trial> {
+    for trial in TRIALS {
+        if trial.name() == name {
+            return Some(trial);
+        }
+    }
+    None
+}
+
+impl Trial {
+    fn name(self) -> &'static str {
+        match self {
+            Trial::RenameLayer => "rename-layer",
+            Trial::MoveLayer => "move-layer",
+            Trial::DropLayer => "drop-layer",
+            Trial::KeepLayers => "keep",
+            Trial::InsertFeature => "insert",
+            Trial::MoveFeature => "move-feature",
+            Trial::DropFeature => "drop-feature",
+            Trial::SetId => "set-id",
+            Trial::ClearId => "clear-id",
+            Trial::Series => "series",
+        }
+    }
+
+    /// To which call a growth was refused. Where the trial does not look at that call, it begins
+    /// again.
+    pub fn run(self, alloc: Global) -> Result<Refused, Fault> {
+        match self.attempt(alloc) {
+            Err(Fault::NoMemory) => {
+                self.attempt(alloc)?;
+                Ok(Refused::Elsewhere)
+            }
+            ended => ended,
+        }
+    }
+
+    fn attempt(self, alloc: Global) -> Result<Refused, Fault> {
+        match self {
+            Trial::RenameLayer => there_and_back(alloc, &T0, rename(alloc, b"a", b"roads")?),
+            Trial::MoveLayer => there_and_back(alloc, &four_items(alloc)?, move_layer(1)),
+            Trial::DropLayer => there_and_back(alloc, &four_items(alloc)?, drop_layer()),
+            Trial::KeepLayers => there_and_back(alloc, &four_items(alloc)?, keep(alloc, b"a")?),
+            Trial::InsertFeature => there_and_back(alloc, &T0, polygon(alloc)?),
+            Trial::MoveFeature => there_and_back(alloc, TWO_IDS, move_feature(1)),
+            Trial::DropFeature => there_and_back(alloc, TWO_IDS, drop_feature()),
+            Trial::SetId => there_and_back(alloc, &T0, set_id(300)),
+            Trial::ClearId => there_and_back(alloc, &T0, clear_id()),
+            Trial::Series => flip_twice(alloc, &mut a_series(alloc)?),
+        }
+    }
+}
+
+/// The command is prepared on the tile, and carried out, and taken back.
+fn there_and_back(alloc: Global, tile: &[u8], command: Command) -> Result<Refused, Fault> {
+    let mut edit = Edit::read(alloc, tile)?;
+    let prepared = prepare(alloc, &mut edit, &command)?;
+    Ok(prepared.or(flip_twice(alloc, &mut edit)?))
+}
+
+/// A ring comes in behind the first feature.
+fn polygon(alloc: Global) -> Result<Command, Fault> {
+    insert_polygon(alloc, 1)?.ok_or(Fault::NoCommand)
+}
+
+/// A layer "a", a field that is no layer, and two layers "b".
+fn four_items(alloc: Global) -> Result<Vec<u8>, AllocError> {
+    joined(alloc, &[&T0, b"\x80\x01\x07".as_slice(), OTHER, OTHER])
+}
+
+/// A layer "a" with two features, and three layers "b".
+fn four_layers(alloc: Global) -> Result<Vec<u8>, AllocError> {
+    joined(alloc, &[TWO_IDS, OTHER, OTHER, OTHER])
+}
+
+/// One change drops a feature, sets an id, and moves the layer between the others. Then it names the
+/// layer, drops the others in two steps, and inserts a feature.
+fn a_series(alloc: Global) -> Result<Edit, Fault> {
+    let series = Series::read(alloc, &four_layers(alloc)?)?
+        .then(alloc, &drop_feature())?
+        .then(alloc, &set_id(300))?
+        .then(alloc, &move_layer(1))?
+        .then(alloc, &rename(alloc, b"a", b"roads")?)?
+        .then(alloc, &keep(alloc, b"roads")?)?
+        .then(alloc, &polygon(alloc)?)?;
+    let edit = series.into_edit();
+    if edit.change().steps.len() == 7 {
+        Ok(edit)
+    } else {
+        Err(Fault::WrongSteps)
+    }
+}
