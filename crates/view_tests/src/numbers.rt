@@ -1,7 +1,7 @@
 //! The numbers of a feature's tags and geometry, and its tags in pairs.
 
-use crate::bytes::joined;
-use crate::tiles::T0;
+use mvt_tests::bytes::joined;
+use mvt_tests::tiles::T0;
 use mvt_view::{Numbers, Pair, PairsError, layer, pairs};
 use mvt_wire::{Document, read_document};
 use std::alloc::{AllocError, Global};

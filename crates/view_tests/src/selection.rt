@@ -1,7 +1,7 @@
 //! Which layer is meant, and which feature of a layer.
 
-use crate::tiles::T0;
 use mvt_meaning::{FeatureChoice, LayerChoice, Refusal, selected_feature, selected_layer};
+use mvt_tests::tiles::T0;
 use mvt_view::layer;
 use mvt_wire::{Items, read_document};
 use std::alloc::{AllocError, Global};

@@ -1,14 +1,14 @@
 //! The changes of commands: what they weigh, their steps, and the way back.
 
-use crate::asked::{
+use mvt_change::Step;
+use mvt_edit::Command;
+use mvt_tests::asked::{
     clear_id, drop_feature, drop_layer, insert_polygon, keep, move_feature, move_layer, rename,
     set_id,
 };
-use crate::bytes::joined;
-use crate::edits::Edit;
-use crate::tiles::{OTHER, T0, TWO_IDS};
-use mvt_change::Step;
-use mvt_edit::Command;
+use mvt_tests::bytes::joined;
+use mvt_tests::edits::Edit;
+use mvt_tests::tiles::{OTHER, T0, TWO_IDS};
 use std::alloc::{AllocError, Global};
 use std::process::Abort;
 use std::test::Fail;

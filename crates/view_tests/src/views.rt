@@ -1,7 +1,7 @@
 //! Views of layers and features.
 
-use crate::bytes::joined;
-use crate::tiles::T0;
+use mvt_tests::bytes::joined;
+use mvt_tests::tiles::T0;
 use mvt_view::{FeatureError, LayerError, feature_by_id, layer, layer_count, layer_named, layers};
 use mvt_wire::{Document, read_document};
 use std::alloc::Global;

@@ -1,0 +1,68 @@
+-- What the laws of undo and of a tile's length rest on.
+use Rattle.std.proofs.Common.{◌≡◌, ◌+◌, ◌-◌, ◌<◌, ◌≤◌, ◌==◌, false, None, Result, Ok, Err, List, [], ◌∷◌, length, length-take-le, take, refl, ap, arith}
+use Rattle.std.proofs.lemmas.Bool.Decides.{nat_tests}
+use Rattle.std.proofs.lemmas.List.{take_at}
+use Rattle.std.specs.Result.{result_unwrap_or}
+use Rattle.mvt_wire.specs.TheConstants.{MAX_FILE}
+use Rattle.mvt_wire.specs.Plain.{Document}
+use Rattle.mvt_wire.specs.Wire.{bytes_of}
+use Rattle.mvt_command.specs.Command.{Command}
+use Rattle.mvt_meaning.specs.Meaning.{after, applied}
+use Rattle.mvt_meaning.specs.declared.refusal.Refusal.{Refusal}
+use Rattle.mvt_meaning.proofs.Lengths.{command_fits}
+use Rattle.mvt_history.specs.History.{History, IsSound, after_all, after_steps, document_at, present_document, standing_document, commands_in, at_point, with_step, with_command, edited_to, undone, ended, closed}
+use Rattle.mvt_history.specs.Laws.{HistoryFits, UndoAtOnce, StepUndoesWhole}
+
+-- ---- undo
+
+-- the point at which the step came
+pub point_before : (step : List Command) (history : History) → history.present ≤ length history.steps → document_at history.present (with_step step history) ≡ present_document history
+point_before step history within =
+    ap (λ steps. after_steps steps history.start) (take_at (take history.present history.steps) (step ∷ []) history.present (length-take-le history.present history.steps within))
+
+step_undone : (step : List Command) (history : History) → IsSound history → (back : History) × (undone (with_step step history) ≡ Ok back) × (standing_document back ≡ present_document history)
+step_undone step history sound =
+    let after = with_step step history in
+    let some = sound.some_depth in
+    let above = sound.above_floor in
+    let floor : after.floor < after.present = omega arith in
+    let apart : (after.present == after.floor) ≡ false = grind (arith, nat_tests) in
+    let point : history.present + 1 - 1 ≡ history.present = omega arith in
+    (at_point (after.present - 1) after, rw apart refl, rw point (point_before step history sound.within_steps))
+
+edited_alone : (command : Command) (history after : History) (made : Result Document Refusal) → history.group ≡ None → edited_to command history made ≡ Ok after → with_step (command ∷ []) history ≡ after
+edited_alone command history after (Ok document) alone e = let done : edited_to command history (Ok document) ≡ Ok (with_step (command ∷ []) history) = ap (λ group. Ok (with_command command group history)) alone in cc
+edited_alone command history after (Err refusal) alone e = absurd cc
+
+standing_alone : (history : History) → history.group ≡ None → standing_document history ≡ present_document history
+standing_alone history alone = ap (λ group. after_all (commands_in group) (present_document history)) alone
+
+pub undo_at_once : UndoAtOnce
+undo_at_once command history after sound alone e =
+    rw (standing_alone history alone) (rw (← edited_alone command history after (applied command (standing_document history)) alone e) (step_undone (command ∷ []) history sound))
+
+pub step_undoes_whole : StepUndoesWhole
+step_undoes_whole command commands history after sound opened e =
+    let done : closed history ≡ Ok (with_step (command ∷ commands) history) = ap (λ group. ended group history) opened in
+    let same : with_step (command ∷ commands) history ≡ after = cc in
+    rw (← same) (step_undone (command ∷ commands) history sound)
+
+-- ---- the limit
+
+after_fits : (document : Document) (made : Result Document Refusal) → length (bytes_of document) ≤ MAX_FILE → ((after : Document) → made ≡ Ok after → length (bytes_of after) ≤ MAX_FILE) → length (bytes_of (result_unwrap_or made document)) ≤ MAX_FILE
+after_fits document (Ok after) fits made_fits = made_fits after refl
+after_fits document (Err refusal) fits made_fits = fits
+
+all_fit : (commands : List Command) (document : Document) → length (bytes_of document) ≤ MAX_FILE → length (bytes_of (after_all commands document)) ≤ MAX_FILE
+all_fit [] document fits = fits
+all_fit (command ∷ commands) document fits = all_fit commands (after command document) (after_fits document (applied command document) fits (λ new e. command_fits command document new fits e))
+
+steps_fit : (steps : List (List Command)) (document : Document) → length (bytes_of document) ≤ MAX_FILE → length (bytes_of (after_steps steps document)) ≤ MAX_FILE
+steps_fit [] document fits = fits
+steps_fit (step ∷ steps) document fits = steps_fit steps (after_all step document) (all_fit step document fits)
+
+pub history_fits : HistoryFits
+history_fits history fits = (
+  λ point. steps_fit (take point history.steps) history.start fits,
+  all_fit (commands_in history.group) (present_document history) (steps_fit (take history.present history.steps) history.start fits),
+)

@@ -1,0 +1,266 @@
+-- What a session stands for, and that it is held, after a command, the end of a step, and its being cancelled.
+use Rattle.std.proofs.Common.{◌≡◌, ℕ, ◌+◌, ◌-◌, ◌<◌, ◌≤◌, true, false, is_some, ◌==◌, OnErr, inl, Option, Some, None, option_map, Vec, Global, Result, Ok, Err, List, [], ◌∷◌, ◌++◌, length, map, reverse, take, drop, refl, sym, ap, subst, ◌∙◌, arith}
+use Rattle.std.proofs.lemmas.List.{length-map, length-reverse, reverse-append, take_all}
+use Rattle.std.proofs.lemmas.Bool.Decides.{nat_tests}
+use Rattle.std.specs.Result.{IsErrAnd}
+use Rattle.mvt_wire.specs.Plain.{Document}
+use Rattle.mvt_wire.specs.Opens.{IsDocument}
+use Rattle.mvt_document.specs.declared.document.Document.{Document as HeldDocument}
+use Rattle.mvt_command.specs.Command.{Command}
+use Rattle.mvt_meaning.specs.Meaning.{after, applied}
+use Rattle.mvt_meaning.specs.declared.refusal.Refusal.{Refusal}
+use Rattle.mvt_change.specs.declared.change.Change.{Change as HeldChange}
+use Rattle.mvt_change.specs.ChangeStands.{change_of}
+use Rattle.mvt_change.specs.Changes.{Change, Fits, go, turn}
+use Rattle.mvt_change.specs.Joining.{joined, go_along, FitAlong}
+use Rattle.mvt_change.proofs.Turning.{change_makes, turned_back, turned_fits}
+use Rattle.mvt_change.proofs.JoinedChanges.{go_joined_list, fit_joined_list}
+use Rattle.mvt_change.proofs.RunPieces.{map-reverse}
+use Rattle.mvt_edit.specs.Prepared.{IsPrepared}
+use Rattle.mvt_history.specs.Marks.{between, counted_from}
+use Rattle.mvt_history.specs.declared.marks.Mark.{Mark as HeldMark}
+use Rattle.mvt_history.specs.History.{History, after_all, present_document, standing_document, commands_in, with_group, with_step, with_command, edited_to, edited, ended, closed, cancelled}
+use Rattle.mvt_history.specs.declared.error.HistoryError.{HistoryError}
+use Rattle.mvt_history.specs.declared.error.HistoryError.TheVariants.{NoGroup, NoMemory}
+use Rattle.mvt_history.specs.Reached.{LeadsBack, LeadOut}
+use Rattle.mvt_history.specs.Standing.{Standing, changes_in, closed_document}
+use Rattle.mvt_history.specs.Held.{mark_of, from_last, standing_of, IsHeld}
+use Rattle.mvt_history.specs.Session.{StandsFor, AnswersWithMemory, StopsWithin}
+use Rattle.mvt_history.proofs.Joined.{after_accepted, prepared_leads_back, lead_out_more, lead_out_stopped, between_commands, lead_out_along, lead_out_joined}
+use Rattle.mvt_history.proofs.Following.{all_joined}
+use Rattle.mvt_history.proofs.Keeping.{fit_taken, fit_dropped, along_dropped, along_makes, IsKept, kept_held, kept_stands, with_open, open_held, open_stands}
+
+-- ---- as the code keeps it
+
+pub from_last_more : (changes : List HeldChange) (change : HeldChange) → from_last (changes ++ change ∷ []) ≡ change_of change ∷ from_last changes
+from_last_more changes change = ap (map change_of) (reverse-append changes (change ∷ []))
+
+pub length_from_last : (changes : List HeldChange) → length (from_last changes) ≡ length changes
+length_from_last changes = length-map (reverse changes) change_of ∙ length-reverse changes
+
+pub is_kept : (old new : HeldDocument) (undo undo_new redo redo_new : List HeldChange) (depth room : ℕ) (marks marks_new : List HeldMark) (pending pending_new : Option (List HeldChange)) (change : Change) → room ≡ depth → from_last undo_new ≡ take room (change ∷ from_last undo) → redo_new ≡ [] → map (counted_from (length undo + 1 - room)) (map mark_of marks_new) ≡ between (length undo + 1 - room) (length undo) (map mark_of marks) → pending_new ≡ None → IsKept (standing_of old undo redo depth marks pending) (standing_of new undo_new redo_new depth marks_new pending_new) change
+is_kept old new undo undo_new redo redo_new depth room marks marks_new pending pending_new change full next none stay closed =
+    let long : length undo ≡ length (from_last undo) = sym (length_from_last undo) in
+    let gone : length undo + 1 - room ≡ length (from_last undo) + 1 - depth = omega (arith, long, full) in
+    record {
+      undo = next ∙ ap (λ n. take n (change ∷ from_last undo)) full;
+      redo = ap from_last none;
+      depth = refl;
+      marks = ap (λ n. map (counted_from n) (map mark_of marks_new)) (sym gone) ∙ stay ∙ ap (λ n. between n (length undo) (map mark_of marks)) gone ∙ ap (λ n. between (length (from_last undo) + 1 - depth) n (map mark_of marks)) long;
+      pending = ap (option_map from_last) closed;
+    }
+
+pub all_taken : (changes : List HeldChange) → take (length changes) (from_last changes) ≡ from_last changes
+all_taken changes = take_all (length changes) (from_last changes) (omega (arith, length_from_last changes))
+
+pub joined_from : (changes : List HeldChange) (change : Change) → change ≡ joined (reverse (map change_of changes)) → change ≡ joined (from_last changes)
+joined_from changes change e = e ∙ ap joined (sym (map-reverse change_of changes))
+
+pub same_from_last : (changes others : List HeldChange) → map change_of changes ≡ map change_of others → from_last changes ≡ from_last others
+same_from_last changes others e = map-reverse change_of changes ∙ ap reverse e ∙ sym (map-reverse change_of others)
+
+pub no_items : {A : Type 0} (items : List A) (count : ℕ) → count ≡ length items → true ≡ (count == 0) → items ≡ []
+no_items [] count long none = refl
+no_items (item ∷ items) count long none = let is : (count == 0) ≡ true = sym none in let zero : count ≡ 0 = grind (arith, nat_tests, is) in absurd (omega (arith, long, zero))
+
+pub some_items : {A : Type 0} (items : List A) (count : ℕ) → count ≡ length items → false ≡ (count == 0) → 1 ≤ length items
+some_items [] count long some = let is : (count == 0) ≡ false = sym some in let more : 1 ≤ count = grind (arith, nat_tests, is) in absurd (omega (arith, long, more))
+some_items (item ∷ items) count long some = omega arith
+
+-- the changes of an open step, as they are seen
+pub seen_open : (pending : Option (Vec HeldChange Global)) (changes : Vec HeldChange Global) → pending ≡ Some changes → option_map from_last (option_map (λ pending. pending.items) pending) ≡ Some (from_last changes.items)
+seen_open pending changes e = ap (λ pending. option_map from_last (option_map (λ (pending : Vec HeldChange Global). pending.items) pending)) e
+
+-- and where none is open
+pub seen_none : (pending : Option (Vec HeldChange Global)) → ((changes : Vec HeldChange Global) → pending ≡ Some changes → ⊥) → option_map (λ pending. pending.items) pending ≡ None
+seen_none None left = refl
+seen_none (Some changes) left = absurd (left changes refl)
+
+-- ---- want of memory
+
+pub wanted_memory : (asked : Result History HistoryError) (history : History) (answer : Result (Unit {0}) HistoryError) (session : Standing) → IsErrAnd answer (λ error. error ≡ NoMemory) → StandsFor session history → AnswersWithMemory asked history answer session
+wanted_memory asked history (Ok done) session wanted stands = absurd wanted
+wanted_memory asked history (Err error) session wanted stands = (inl wanted, stands)
+
+pub on_error : (answer : Result (Unit {0}) HistoryError) {P : Type 0} → P → OnErr answer P
+on_error (Ok done) says = tt
+on_error (Err error) says = says
+
+-- ---- which step is open
+
+pub group_none : (group : Option (List Command)) (document : Document) (pending : Option (List Change)) → pending ≡ None → LeadOut group document pending → group ≡ None
+group_none None document pending is out = refl
+group_none (Some commands) document None is out = absurd out
+group_none (Some commands) document (Some changes) is out = absurd cc
+
+pub group_some : (group : Option (List Command)) (document : Document) (changes : List Change) → LeadOut group document (Some changes) → (commands : List Command) × (group ≡ Some commands) × LeadOut (Some commands) document (Some changes)
+group_some None document changes out = absurd out
+group_some (Some commands) document changes out = (commands, refl, out)
+
+stands_closed : (history : History) (session : Standing) → session.pending ≡ None → StandsFor session history → history.group ≡ None
+stands_closed history session is stands = group_none history.group (present_document history) session.pending is stands.pending_leads
+
+stands_open : (history : History) (session : Standing) (changes : List Change) → session.pending ≡ Some changes → StandsFor session history → (commands : List Command) × (history.group ≡ Some commands) × LeadOut (Some commands) (present_document history) (Some changes)
+stands_open history session changes is stands = group_some history.group (present_document history) changes (subst (LeadOut history.group (present_document history)) is stands.pending_leads)
+
+standing_open : (history : History) (session : Standing) (group : Option (List Command)) → history.group ≡ group → StandsFor session history → session.document ≡ after_all (commands_in group) (present_document history)
+standing_open history session group is stands = stands.document ∙ ap (λ g. after_all (commands_in g) (present_document history)) is
+
+closed_from : (session : Standing) (pending : Option (List Change)) → session.pending ≡ pending → go_along (changes_in pending) session.document ≡ closed_document session
+closed_from session pending is = ap (λ p. go_along (changes_in p) session.document) (sym is)
+
+pending_fits : (undo_room redo_room : ℕ) (session : Standing) (pending : Option (List Change)) → session.pending ≡ pending → IsHeld undo_room redo_room session → FitAlong (changes_in pending) session.document
+pending_fits undo_room redo_room session pending is held = subst (λ p. FitAlong (changes_in p) session.document) is held.ready.pending_fit
+
+-- ---- a command that is a step
+
+pub command_alone_held : (undo_room redo_room : ℕ) (before after : Standing) (change : Change) → IsKept before after (turn change before.document) → before.pending ≡ None → IsHeld undo_room redo_room before → Fits change before.document → after.document ≡ go change before.document → IsHeld undo_room redo_room after
+command_alone_held undo_room redo_room before after change kept is held fits made =
+    let old = before.document in
+    let valid = held.ready.valid in
+    let leads : go (turn change old) after.document ≡ closed_document before = ap (go (turn change old)) made ∙ turned_back change old fits ∙ closed_from before None is in
+    kept_held undo_room redo_room before after (turn change old) kept held
+    (subst IsDocument (sym made) (change_makes change old valid fits))
+    (subst (Fits (turn change old)) (sym made) (turned_fits change old valid fits))
+    leads
+
+edited_so : (command : Command) (history : History) (session : Standing) (group : Option (List Command)) (new : Document) → history.group ≡ group → StandsFor session history → applied command session.document ≡ Ok new → edited command history ≡ Ok (with_command command group history)
+edited_so command history session group new is stands means =
+    ap (edited_to command history) (ap (applied command) (sym stands.document) ∙ means) ∙ ap (λ g. Ok (with_command command g history)) is
+
+pub command_alone : (command : Command) (history : History) (before after : Standing) (change : Change) → IsKept before after (turn change before.document) → before.pending ≡ None → IsDocument before.document → IsPrepared command before.document change → after.document ≡ go change before.document → StandsFor before history → (next : History) × (edited command history ≡ Ok next) × StandsFor after next
+command_alone command history before next change kept is valid prepared made stands =
+    let old = before.document in
+    let alone = stands_closed history before is stands in
+    let here : old ≡ present_document history = standing_open history before None alone stands in
+    let accepted : after command old ≡ go change old = after_accepted command old (go change old) prepared.means in
+    let document : next.document ≡ after_all (command ∷ []) (present_document history) = made ∙ sym accepted ∙ ap (after command) here in
+    let back = subst (λ d. LeadsBack (command ∷ []) d (turn change old)) here (prepared_leads_back command old change valid prepared) in (
+      with_step (command ∷ []) history,
+      edited_so command history before None (go change old) alone stands prepared.means,
+      kept_stands (command ∷ []) history before next (turn change old) kept stands document back,
+    )
+
+-- ---- a command of the open step
+
+pub command_within_held : (undo_room redo_room : ℕ) (session : Standing) (changes : List Change) (change : Change) → session.pending ≡ Some changes → IsHeld undo_room redo_room session → Fits change session.document → IsHeld undo_room redo_room (with_open (go change session.document) (Some (turn change session.document ∷ changes)) session)
+command_within_held undo_room redo_room session changes change is held fits =
+    let old = session.document in
+    let valid = held.ready.valid in
+    let back = turned_back change old fits in
+    open_held undo_room redo_room session (go change old) (Some (turn change old ∷ changes)) held
+    (change_makes change old valid fits)
+    (turned_fits change old valid fits, subst (FitAlong changes) (sym back) (pending_fits undo_room redo_room session (Some changes) is held))
+    (ap (go_along changes) back ∙ closed_from session (Some changes) is)
+
+pub command_within : (command : Command) (history : History) (session : Standing) (changes : List Change) (change : Change) → session.pending ≡ Some changes → IsDocument session.document → IsPrepared command session.document change → StandsFor session history → (next : History) × (edited command history ≡ Ok next) × StandsFor (with_open (go change session.document) (Some (turn change session.document ∷ changes)) session) next
+command_within command history session changes change is valid prepared stands =
+    let old = session.document in
+    let found = stands_open history session changes is stands in
+    let commands = found.0 in
+    let present = present_document history in
+    let here : old ≡ after_all commands present = standing_open history session (Some commands) found.1 stands in
+    let accepted : after command old ≡ go change old = after_accepted command old (go change old) prepared.means in
+    let document : go change old ≡ after_all (commands ++ command ∷ []) present =
+    sym accepted ∙ ap (after command) here ∙ sym (all_joined commands (command ∷ []) present) in
+    let back = subst (λ d. LeadsBack (command ∷ []) d (turn change old)) here (prepared_leads_back command old change valid prepared) in
+    let more = commands ++ command ∷ [] in (
+      with_group (Some more) history,
+      edited_so command history session (Some commands) (go change old) found.1 stands prepared.means,
+      open_stands (Some more) history session (go change old) (Some (turn change old ∷ changes)) stands document (lead_out_more commands command present changes (turn change old) found.2 back),
+    )
+
+refused_so : (command : Command) (history : History) (made : Result Document Refusal) (refusal : Refusal) → made ≡ Err refusal → edited_to command history made ≡ Err refusal
+refused_so command history made refusal e = rw e refl
+
+pub command_refused : (command : Command) (history : History) (session : Standing) (refusal : Refusal) → StandsFor session history → applied command session.document ≡ Err refusal → edited command history ≡ Err refusal
+command_refused command history session refusal stands e = refused_so command history (applied command (standing_document history)) refusal (ap (applied command) (sym stands.document) ∙ e)
+
+-- ---- the end of a step
+
+empty_step : (commands : List Command) (document : Document) → LeadOut (Some commands) document (Some []) → commands ≡ []
+empty_step [] document out = refl
+empty_step (command ∷ commands) document out = absurd (omega (arith, out.0))
+
+pub empty_ended_held : (undo_room redo_room : ℕ) (session : Standing) → session.pending ≡ Some [] → IsHeld undo_room redo_room session → IsHeld undo_room redo_room (with_open session.document None session)
+empty_ended_held undo_room redo_room session is held = open_held undo_room redo_room session session.document None held held.ready.valid tt (closed_from session (Some []) is)
+
+pub empty_ended : (history : History) (session : Standing) → session.pending ≡ Some [] → StandsFor session history → (next : History) × (closed history ≡ Ok next) × StandsFor (with_open session.document None session) next
+empty_ended history session is stands =
+    let found = stands_open history session [] is stands in
+    let none : history.group ≡ Some [] = found.1 ∙ ap (λ commands. Some commands) (empty_step found.0 (present_document history) found.2) in (
+      with_group None history,
+      ap (λ group. ended group history) none,
+      open_stands None history session session.document None stands (standing_open history session (Some []) none stands) tt,
+    )
+
+pub ended_held : (undo_room redo_room : ℕ) (before after : Standing) (changes : List Change) → IsKept before after (joined changes) → before.pending ≡ Some changes → after.document ≡ before.document → IsHeld undo_room redo_room before → IsHeld undo_room redo_room after
+ended_held undo_room redo_room before after changes kept is same held =
+    let old = before.document in
+    let fit = (fit_joined_list changes old).1 (pending_fits undo_room redo_room before (Some changes) is held) in
+    let leads : go (joined changes) after.document ≡ closed_document before = ap (go (joined changes)) same ∙ go_joined_list changes old ∙ closed_from before (Some changes) is in
+    kept_held undo_room redo_room before after (joined changes) kept held (subst IsDocument (sym same) held.ready.valid) (subst (Fits (joined changes)) (sym same) fit) leads
+
+ended_some : (commands : List Command) (history : History) → 1 ≤ length commands → ended (Some commands) history ≡ Ok (with_step commands history)
+ended_some [] history some = absurd (omega (arith, some))
+ended_some (command ∷ commands) history some = refl
+
+pub step_ended : (history : History) (before after : Standing) (changes : List Change) → IsKept before after (joined changes) → before.pending ≡ Some changes → 1 ≤ length changes → after.document ≡ before.document → StandsFor before history → (next : History) × (closed history ≡ Ok next) × StandsFor after next
+step_ended history before after changes kept is some same stands =
+    let found = stands_open history before changes is stands in
+    let commands = found.0 in
+    let present = present_document history in (
+      with_step commands history,
+      ap (λ group. ended group history) found.1 ∙ ended_some commands history (omega (arith, some, found.2.0)),
+      kept_stands commands history before after (joined changes) kept stands (same ∙ standing_open history before (Some commands) found.1 stands) (lead_out_joined commands present changes found.2),
+    )
+
+pub not_ended : (history : History) (session : Standing) → session.pending ≡ None → StandsFor session history → closed history ≡ Err NoGroup
+not_ended history session is stands = ap (λ group. ended group history) (stands_closed history session is stands)
+
+-- ---- a step that is cancelled
+
+pub stopped_held : (undo_room redo_room : ℕ) (session : Standing) (changes : List Change) (taken : ℕ) → session.pending ≡ Some changes → IsHeld undo_room redo_room session → IsHeld undo_room redo_room (with_open (go_along (take taken changes) session.document) (Some (drop taken changes)) session)
+stopped_held undo_room redo_room session changes taken is held =
+    let old = session.document in
+    let fit = pending_fits undo_room redo_room session (Some changes) is held in
+    open_held undo_room redo_room session (go_along (take taken changes) old) (Some (drop taken changes)) held
+    (along_makes (take taken changes) old held.ready.valid (fit_taken taken changes old fit))
+    (fit_dropped taken changes old fit)
+    (along_dropped taken changes old ∙ closed_from session (Some changes) is)
+
+pub cancelled_held : (undo_room redo_room : ℕ) (session : Standing) (changes : List Change) → session.pending ≡ Some changes → IsHeld undo_room redo_room session → IsHeld undo_room redo_room (with_open (go_along changes session.document) None session)
+cancelled_held undo_room redo_room session changes is held =
+    let fit = pending_fits undo_room redo_room session (Some changes) is held in
+    open_held undo_room redo_room session (go_along changes session.document) None held (along_makes changes session.document held.ready.valid fit) tt (closed_from session (Some changes) is)
+
+pub step_stopped : (history : History) (session : Standing) (changes : List Change) (taken : ℕ) → session.pending ≡ Some changes → taken < length changes → StandsFor session history → StopsWithin history taken (with_open (go_along (take taken changes) session.document) (Some (drop taken changes)) session)
+step_stopped history session changes taken is some stands =
+    let found = stands_open history session changes is stands in
+    let commands = found.0 in
+    let present = present_document history in
+    let within : taken < length commands = omega (arith, some, found.2.0) in
+    let left = take (length commands - taken) commands in
+    let document : go_along (take taken changes) session.document ≡ after_all left present =
+    ap (go_along (take taken changes)) (standing_open history session (Some commands) found.1 stands) ∙ between_commands commands present changes taken found.2 (omega (arith, within)) in
+    record {
+      commands = commands;
+      is_open = found.1;
+      some_left = within;
+      stands = open_stands (Some left) history session (go_along (take taken changes) session.document) (Some (drop taken changes)) stands document (lead_out_stopped commands present changes taken found.2 (omega (arith, within)));
+    }
+
+pub step_cancelled : (history : History) (session : Standing) (changes : List Change) → session.pending ≡ Some changes → StandsFor session history → (next : History) × (cancelled history ≡ Ok next) × StandsFor (with_open (go_along changes session.document) None session) next
+step_cancelled history session changes is stands =
+    let found = stands_open history session changes is stands in
+    let commands = found.0 in
+    let opened : is_some history.group ≡ true = ap is_some found.1 in
+    let document : go_along changes session.document ≡ present_document history =
+    ap (go_along changes) (standing_open history session (Some commands) found.1 stands) ∙ lead_out_along (Some commands) (present_document history) (Some changes) found.2 in (
+      with_group None history,
+      rw opened refl,
+      open_stands None history session (go_along changes session.document) None stands document tt,
+    )
+
+pub not_cancelled : (history : History) (session : Standing) → session.pending ≡ None → StandsFor session history → cancelled history ≡ Err NoGroup
+not_cancelled history session is stands = let none : is_some history.group ≡ is_some {T = List Command} None = ap is_some (stands_closed history session is stands) in rw none refl

@@ -1,0 +1,157 @@
+-- Which steps of commands stand, and the document that they make of the tile at the start.
+use Rattle.std.specs.Prelude.{ℕ, ◌+◌, ◌-◌, ◌≤◌, max, List, [], ◌∷◌, ◌++◌, length, take, Option, Some, None, Result, Ok, Err, ◌==◌, ◌||◌, nat_lt, is_some, if◌then◌else◌}
+use Rattle.std.specs.List.{AllByRecursion}
+use Rattle.mvt_wire.specs.Plain.{Document}
+use Rattle.mvt_command.specs.Command.{Command}
+use Rattle.mvt_meaning.specs.Meaning.{after, applied}
+use Rattle.mvt_meaning.specs.declared.refusal.Refusal.{Refusal}
+use Rattle.mvt_history.specs.Marks.{Mark, InOrder, point_of, bound, unbound, between}
+use Rattle.mvt_history.specs.declared.TheConstants.{MAX_MARKS}
+use Rattle.mvt_history.specs.declared.error.HistoryError.{HistoryError}
+use Rattle.mvt_history.specs.declared.error.HistoryError.TheVariants.{NothingToUndo, NothingToRedo, NoMark, TooManyMarks, GroupOpen, NoGroup}
+
+-- The tile at the start; the steps, each of one or more commands, with those that were undone;
+-- how many of them stand, which is the present point; the least point to which undo goes back;
+-- how many steps it goes back at most; the marks; and the commands of the open step.
+pub record History : Type 0 where
+  pub start : Document
+  pub steps : List (List Command)
+  pub present : ℕ
+  pub floor : ℕ
+  pub depth : ℕ
+  pub marks : List Mark
+  pub group : Option (List Command)
+
+abbrev pub begun : Document → ℕ → History
+begun start depth = record { start = start; steps = []; present = 0; floor = 0; depth = depth; marks = []; group = None }
+
+-- ---- documents
+
+-- the commands one after the other
+abbrev pub after_all : List Command → Document → Document
+after_all [] document = document
+after_all (command ∷ commands) document = after_all commands (after command document)
+
+-- the steps one after the other
+abbrev pub after_steps : List (List Command) → Document → Document
+after_steps [] document = document
+after_steps (step ∷ steps) document = after_steps steps (after_all step document)
+
+-- the document in which the first so many steps stand
+abbrev pub document_at : ℕ → History → Document
+document_at point history = after_steps (take point history.steps) history.start
+
+-- the one of the present point
+abbrev pub present_document : History → Document
+present_document history = document_at history.present history
+
+-- the commands of the open step, or none
+abbrev pub commands_in : Option (List Command) → List Command
+commands_in None = []
+commands_in (Some commands) = commands
+
+-- the document as it stands: the open step's commands come last
+abbrev pub standing_document : History → Document
+standing_document history = after_all (commands_in history.group) (present_document history)
+
+-- ---- how its numbers and marks lie to one another
+
+abbrev pub IsWithin : ℕ → ℕ → Mark → Type 0
+IsWithin low high mark = (low ≤ mark.point) × (mark.point ≤ high)
+
+pub record IsSound (history : History) : Type 0 where
+  pub some_depth : 1 ≤ history.depth
+  pub above_floor : history.floor ≤ history.present
+  pub within_steps : history.present ≤ length history.steps
+  pub within_depth : length history.steps ≤ history.floor + history.depth
+  pub in_order : InOrder history.marks
+  pub few_marks : length history.marks ≤ MAX_MARKS
+  pub in_reach : AllByRecursion (IsWithin history.floor (length history.steps)) history.marks
+
+-- ---- what a request makes of it
+
+-- the history at another point
+abbrev pub at_point : ℕ → History → History
+at_point point history = record { start = history.start; steps = history.steps; present = point; floor = history.floor; depth = history.depth; marks = history.marks; group = history.group }
+
+abbrev pub with_marks : List Mark → History → History
+with_marks marks history = record { start = history.start; steps = history.steps; present = history.present; floor = history.floor; depth = history.depth; marks = marks; group = history.group }
+
+abbrev pub with_group : Option (List Command) → History → History
+with_group group history = record { start = history.start; steps = history.steps; present = history.present; floor = history.floor; depth = history.depth; marks = history.marks; group = group }
+
+-- The steps that were undone are forgotten and the new one stands; undo goes back no further than
+-- depth; marks of points that are gone go too. No step is open.
+abbrev pub with_step : List Command → History → History
+with_step step history =
+    let floor = max history.floor (history.present + 1 - history.depth) in
+    record {
+      start = history.start;
+      steps = take history.present history.steps ++ step ∷ [];
+      present = history.present + 1;
+      floor = floor;
+      depth = history.depth;
+      marks = between floor history.present history.marks;
+      group = None;
+    }
+
+-- a command alone is a step; in an open step it is the last of that
+abbrev pub with_command : Command → Option (List Command) → History → History
+with_command command None history = with_step (command ∷ []) history
+with_command command (Some commands) history = with_group (Some (commands ++ command ∷ [])) history
+
+-- the history after a command that makes this document, or that is refused so
+abbrev pub edited_to : Command → History → Result Document Refusal → Result History Refusal
+edited_to command history (Ok document) = Ok (with_command command history.group history)
+edited_to command history (Err refusal) = Err refusal
+
+abbrev pub edited : Command → History → Result History Refusal
+edited command history = edited_to command history (applied command (standing_document history))
+
+-- while a step is open, this is refused before all else
+abbrev pub unless_open : Option (List Command) → Result History HistoryError → Result History HistoryError
+unless_open None answer = answer
+unless_open (Some commands) answer = Err GroupOpen
+
+-- the last step that stands is taken back
+abbrev pub undone : History → Result History HistoryError
+undone history = unless_open history.group (if history.present == history.floor then Err NothingToUndo else Ok (at_point (history.present - 1) history))
+
+-- the step that was undone last stands again
+abbrev pub redone : History → Result History HistoryError
+redone history = unless_open history.group (if history.present == length history.steps then Err NothingToRedo else Ok (at_point (history.present + 1) history))
+
+-- the name marks the present point; there may be so many names
+abbrev pub marked : List ℕ → History → Result History HistoryError
+marked name history = unless_open history.group (if is_some (point_of name history.marks) || nat_lt (length history.marks) MAX_MARKS then Ok (with_marks (bound name history.present history.marks) history) else Err TooManyMarks)
+
+-- the name marks nothing from now on
+abbrev pub unmarked : List ℕ → History → Result History HistoryError
+unmarked name history = unless_open history.group (if is_some (point_of name history.marks) then Ok (with_marks (unbound name history.marks) history) else Err NoMark)
+
+-- the history at this point, if there is one
+abbrev pub gone_to : Option ℕ → History → Result History HistoryError
+gone_to None history = Err NoMark
+gone_to (Some point) history = Ok (at_point point history)
+
+-- the marked point is the present one
+abbrev pub gone_back : List ℕ → History → Result History HistoryError
+gone_back name history = unless_open history.group (gone_to (point_of name history.marks) history)
+
+-- a step of no commands is open
+abbrev pub opened : History → Result History HistoryError
+opened history = unless_open history.group (Ok (with_group (Some []) history))
+
+-- the history when a step of these commands ends; without one it is as if no step had been opened
+abbrev pub ended : Option (List Command) → History → Result History HistoryError
+ended None history = Err NoGroup
+ended (Some []) history = Ok (with_group None history)
+ended (Some (command ∷ commands)) history = Ok (with_step (command ∷ commands) history)
+
+-- the open step stands as one
+abbrev pub closed : History → Result History HistoryError
+closed history = ended history.group history
+
+-- the open step's commands are taken back
+abbrev pub cancelled : History → Result History HistoryError
+cancelled history = if is_some history.group then Ok (with_group None history) else Err NoGroup

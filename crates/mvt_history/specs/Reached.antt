@@ -1,0 +1,60 @@
+-- Where the changes that are kept lead, and how much they hold.
+use Rattle.std.specs.Prelude.{◌≡◌, ℕ, zero, suc, ◌+◌, ◌≤◌, List, [], ◌∷◌, map, length, get_or, take, Option, Some, None}
+use Rattle.mvt_wire.specs.Plain.{Document}
+use Rattle.mvt_change.specs.Changes.{Change, Fits, go, turn, weight}
+use Rattle.mvt_command.specs.Command.{Command}
+use Rattle.mvt_meaning.specs.Meaning.{after}
+use Rattle.mvt_meaning.specs.Weights.{put_by, taken_by}
+use Rattle.mvt_history.specs.History.{after_all, after_steps}
+
+-- ---- what commands take out and put in, each on the document that it meets
+
+abbrev pub all_taken_by : List Command → Document → ℕ
+all_taken_by [] document = 0
+all_taken_by (command ∷ commands) document = taken_by command document + all_taken_by commands (after command document)
+
+abbrev pub all_put_by : List Command → Document → ℕ
+all_put_by [] document = 0
+all_put_by (command ∷ commands) document = put_by command document + all_put_by commands (after command document)
+
+-- ---- one change
+
+-- The change leads from the document after the step to the one before it. It holds no more than the step took out, and
+-- what it becomes no more than the step put in.
+pub record LeadsBack (step : List Command) (before : Document) (change : Change) : Type 0 where
+  pub fits : Fits change (after_all step before)
+  pub leads : go change (after_all step before) ≡ before
+  pub holds : weight change ≤ all_taken_by step before
+  pub becomes : weight (turn change (after_all step before)) ≤ all_put_by step before
+
+-- The change leads from the document before the step to the one after it. It holds no more than the step put in, and
+-- what it becomes no more than the step took out.
+pub record LeadsOn (step : List Command) (before : Document) (change : Change) : Type 0 where
+  pub fits : Fits change before
+  pub leads : go change before ≡ after_all step before
+  pub holds : weight change ≤ all_put_by step before
+  pub becomes : weight (turn change before) ≤ all_taken_by step before
+
+-- ---- lists of changes, the next one first
+
+-- each leads back over one step, from this point on down
+abbrev pub LeadBack : List (List Command) → Document → ℕ → List Change → Type 0
+LeadBack steps start point [] = Unit {0}
+LeadBack steps start zero (change ∷ changes) = ⊥
+LeadBack steps start (suc point) (change ∷ changes) = LeadsBack (get_or steps point []) (after_steps (take point steps) start) change × LeadBack steps start point changes
+
+-- each leads on over one step, from this point on up
+abbrev pub LeadOn : List (List Command) → Document → ℕ → List Change → Type 0
+LeadOn steps start point [] = Unit {0}
+LeadOn steps start point (change ∷ changes) = LeadsOn (get_or steps point []) (after_steps (take point steps) start) change × LeadOn steps start (suc point) changes
+
+-- each command as a step of its own
+abbrev pub singles : List Command → List (List Command)
+singles commands = map (λ command. command ∷ []) commands
+
+-- they lead out of an open step of these commands, a command each, to this document; where none is open there are none
+abbrev pub LeadOut : Option (List Command) → Document → Option (List Change) → Type 0
+LeadOut None document None = Unit {0}
+LeadOut None document (Some changes) = ⊥
+LeadOut (Some commands) document None = ⊥
+LeadOut (Some commands) document (Some changes) = (length changes ≡ length commands) × LeadBack (singles commands) document (length commands) changes

@@ -1,0 +1,59 @@
+-- Requests one after the other.
+use Rattle.std.specs.Prelude.{◌≡◌, ℕ, zero, suc, List, [], ◌∷◌, Result, Ok, Err}
+use Rattle.mvt_command.specs.Command.{Command}
+use Rattle.mvt_history.specs.History.{History, edited, undone, redone, marked, unmarked, gone_back, opened, closed, cancelled}
+use Rattle.mvt_history.specs.declared.error.HistoryError.{HistoryError}
+
+pub data Request : Type 0 where
+  Edit : (command : Command) → Request
+  Undo : Request
+  Redo : Request
+  SetMark : (name : List ℕ) → Request
+  TakeMark : (name : List ℕ) → Request
+  GoBack : (name : List ℕ) → Request
+  Begin : Request
+  End : Request
+  Cancel : Request
+
+-- the history that is answered, or the one before where it is refused
+abbrev pub or_before : {E : Type 0} → History → Result History E → History
+or_before before (Ok after) = after
+or_before before (Err error) = before
+
+-- the history after a request; one that is refused changes nothing
+abbrev pub asked : Request → History → History
+asked (Edit command) history = or_before history (edited command history)
+asked Undo history = or_before history (undone history)
+asked Redo history = or_before history (redone history)
+asked (SetMark name) history = or_before history (marked name history)
+asked (TakeMark name) history = or_before history (unmarked name history)
+asked (GoBack name) history = or_before history (gone_back name history)
+asked Begin history = or_before history (opened history)
+asked End history = or_before history (closed history)
+asked Cancel history = or_before history (cancelled history)
+
+abbrev pub asked_all : List Request → History → History
+asked_all [] history = history
+asked_all (request ∷ requests) history = asked_all requests (asked request history)
+
+-- the request does not set the mark of this name
+abbrev pub SetsOther : List ℕ → Request → Type 0
+SetsOther name (Edit command) = Unit {0}
+SetsOther name Undo = Unit {0}
+SetsOther name Redo = Unit {0}
+SetsOther name (SetMark other) = ¬ (other ≡ name)
+SetsOther name (TakeMark other) = Unit {0}
+SetsOther name (GoBack other) = Unit {0}
+SetsOther name Begin = Unit {0}
+SetsOther name End = Unit {0}
+SetsOther name Cancel = Unit {0}
+
+-- what is answered to a further request, where the one before was accepted
+abbrev pub and_then : Result History HistoryError → (History → Result History HistoryError) → Result History HistoryError
+and_then (Ok after) more = more after
+and_then (Err error) more = Err error
+
+-- the same request so many times, each of them accepted
+abbrev pub then_times : ℕ → (History → Result History HistoryError) → History → Result History HistoryError
+then_times zero ask history = Ok history
+then_times (suc count) ask history = and_then (ask history) (then_times count ask)

@@ -1,0 +1,109 @@
+-- What a session answers, and the history that it holds.
+use Rattle.std.specs.Prelude.{◌≡◌, ℕ, ◌+◌, ◌-◌, ◌<◌, ◌≤◌, ℤ, pos, ◌-ℤ◌, ◌⊎◌, List, map, length, take, Option, Some, None, Result, Ok, Err}
+use Rattle.mvt_wire.specs.TheConstants.{MAX_FILE}
+use Rattle.mvt_wire.specs.Wire.{bytes_of}
+use Rattle.mvt_command.specs.Command.{Command}
+use Rattle.mvt_meaning.specs.declared.refusal.Refusal.{Refusal}
+use Rattle.mvt_meaning.specs.declared.refusal.Refusal.TheVariants as edit
+use Rattle.mvt_history.specs.Marks.{Mark, counted_from, point_of}
+use Rattle.mvt_history.specs.History.{History, IsSound, standing_document, present_document, at_point, with_group, edited, gone_back, cancelled}
+use Rattle.mvt_history.specs.Reached.{LeadBack, LeadOn, LeadOut}
+use Rattle.mvt_history.specs.Standing.{Standing}
+use Rattle.mvt_document.specs.declared.document.Document as held
+use Rattle.mvt_wire.specs.Stands.{document_of}
+use Rattle.std.specs.Borrow.{Bor}
+use Rattle.mvt_history.specs.declared.error.HistoryError.{HistoryError}
+use Rattle.mvt_history.specs.declared.error.StartError.{StartError}
+use Rattle.mvt_history.specs.declared.error.StartError.TheVariants as start
+use Rattle.mvt_history.specs.declared.error.StartError.TheVariants.{TooLarge}
+use Rattle.mvt_history.specs.declared.error.HistoryError.TheVariants.{NothingToUndo, NothingToRedo, NoMark, TooManyMarks, Stopped, GroupOpen, NoGroup, NoMemory}
+
+-- ---- which history a session holds
+
+pub record StandsFor (session : Standing) (history : History) : Type 0 where
+  pub sound : IsSound history
+  pub fits_in_file : length (bytes_of history.start) ≤ MAX_FILE
+  pub depth : session.depth ≡ history.depth
+  pub document : session.document ≡ standing_document history
+  pub undo_reaches : history.floor + length session.undo ≡ history.present
+  pub redo_reaches : history.present + length session.redo ≡ length history.steps
+  pub undo_leads : LeadBack history.steps history.start history.present session.undo
+  pub redo_leads : LeadOn history.steps history.start history.present session.redo
+  pub pending_leads : LeadOut history.group (present_document history) session.pending
+  pub marks : history.marks ≡ map (counted_from history.floor) session.marks
+
+-- ---- answers
+
+-- The history is what was asked for, or it is refused so and as before.
+abbrev pub Answers : Result History HistoryError → History → Result (Unit {0}) HistoryError → Standing → Type 0
+Answers asked history (Ok done) new = (after : History) × (asked ≡ Ok after) × StandsFor new after
+Answers asked history (Err error) new = (asked ≡ Err error) × StandsFor new history
+
+-- The same, where want of memory, and no other refusal, may come in place of either.
+abbrev pub AnswersWithMemory : Result History HistoryError → History → Result (Unit {0}) HistoryError → Standing → Type 0
+AnswersWithMemory asked history (Ok done) new = (after : History) × (asked ≡ Ok after) × StandsFor new after
+AnswersWithMemory asked history (Err error) new = ((error ≡ NoMemory) ⊎ (asked ≡ Err error)) × StandsFor new history
+
+-- The same of a command.
+abbrev pub AnswersCommand : Command → History → Result (Unit {0}) Refusal → Standing → Type 0
+AnswersCommand command history (Ok done) new = (after : History) × (edited command history ≡ Ok after) × StandsFor new after
+AnswersCommand command history (Err refusal) new = ((refusal ≡ edit.NoMemory) ⊎ (edited command history ≡ Err refusal)) × StandsFor new history
+
+-- ---- requests that may stop halfway
+
+-- so many steps were made from one point towards another, and more are left
+abbrev pub IsOnTheWay : ℕ → ℕ → ℕ → ℕ → Type 0
+IsOnTheWay from to taken at = ((at + taken ≡ from) × (to < at)) ⊎ ((from + taken ≡ at) × (at < to))
+
+-- the history stands so many steps nearer to the mark, and not at it
+pub record StopsAt (name : List ℕ) (history : History) (taken : ℕ) (new : Standing) : Type 0 where
+  pub is_closed : history.group ≡ None
+  pub to : ℕ
+  pub marked : point_of name history.marks ≡ Some to
+  pub at : ℕ
+  pub on_the_way : IsOnTheWay history.present to taken at
+  pub stands : StandsFor new (at_point at history)
+
+-- The history is at the marked point, or it is refused so and as before, or want of memory stopped it on the way.
+abbrev pub AnswersBack : List ℕ → History → Result (Unit {0}) HistoryError → Standing → Type 0
+AnswersBack name history (Ok done) new = (after : History) × (gone_back name history ≡ Ok after) × StandsFor new after
+AnswersBack name history (Err error) new = ((gone_back name history ≡ Err error) × StandsFor new history) ⊎ ((taken : ℕ) × (error ≡ Stopped taken) × StopsAt name history taken new)
+
+-- so many commands of the open step were taken back, the last ones, and others are left
+pub record StopsWithin (history : History) (taken : ℕ) (new : Standing) : Type 0 where
+  pub commands : List Command
+  pub is_open : history.group ≡ Some commands
+  pub some_left : taken < length commands
+  pub stands : StandsFor new (with_group (Some (take (length commands - taken) commands)) history)
+
+-- No step is open any more, or it is refused so and as before, or want of memory stopped it within the step.
+abbrev pub AnswersCancel : History → Result (Unit {0}) HistoryError → Standing → Type 0
+AnswersCancel history (Ok done) new = (after : History) × (cancelled history ≡ Ok after) × StandsFor new after
+AnswersCancel history (Err error) new = ((cancelled history ≡ Err error) × StandsFor new history) ⊎ ((taken : ℕ) × (error ≡ Stopped taken) × StopsWithin history taken new)
+
+-- the error says that a request was stopped halfway
+abbrev pub IsStop : HistoryError → Type 0
+IsStop (Stopped taken) = Unit {0}
+IsStop NothingToUndo = ⊥
+IsStop NothingToRedo = ⊥
+IsStop NoMark = ⊥
+IsStop TooManyMarks = ⊥
+IsStop GroupOpen = ⊥
+IsStop NoGroup = ⊥
+IsStop NoMemory = ⊥
+
+-- ---- start
+
+-- the document comes back as it was; it is too large where no file can hold it
+abbrev pub NotStarted : held.Document → StartError → Type 0
+NotStarted document (TooLarge refused) = (refused ≡ document) × (MAX_FILE < length (bytes_of (document_of document)))
+NotStarted document (start.NoMemory refused) = refused ≡ document
+
+-- ---- marks
+
+-- what is told of a mark: its name, and its point less the present one
+abbrev pub SeesMark : ℕ → Option (Bor (List ℕ) × ℤ) → Option Mark → Type 0
+SeesMark present None None = Unit {0}
+SeesMark present None (Some mark) = ⊥
+SeesMark present (Some told) None = ⊥
+SeesMark present (Some told) (Some mark) = (told.0.now ≡ mark.name) × (told.1 ≡ pos mark.point -ℤ pos present)

@@ -1,0 +1,17 @@
+//! A document that commands edit, with undo and redo, marks, and steps of several commands.
+#![tactic(auto)]
+
+mod error;
+pub mod laws;
+mod marks;
+mod session;
+mod steps;
+
+pub use error::{HistoryError, StartError};
+pub use session::Session;
+
+/// How many steps undo goes back at most.
+pub const MAX_DEPTH: u32 = 10_000;
+
+/// How many names are marked at most.
+pub const MAX_MARKS: usize = 256;

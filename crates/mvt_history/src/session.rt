@@ -1,0 +1,300 @@
+//! A document, and what undo, redo and the open step keep beside it.
+
+#[cfg(test)]
+mod fields;
+
+ghost use Rattle.std.specs.Prelude.{◌≡◌, ◌≤◌, ◌⊎◌, if◌then◌else◌, is_some, Ok, Err, OnErr, IfOk, IfErr, length, option_map, slice_get};
+ghost use Rattle.mvt_history.specs.declared.error.HistoryError.TheVariants.{GroupOpen};
+ghost use Rattle.mvt_wire.specs.Stands.{document_of};
+ghost use Rattle.mvt_wire.specs.Opens.{IsDocument};
+ghost use Rattle.mvt_command.specs.CommandStands.{command_of};
+ghost use Rattle.mvt_history.specs.declared.TheConstants.{MAX_DEPTH};
+ghost use Rattle.mvt_history.specs.History.{History, begun, closed, marked, opened, redone, standing_document, undone, unmarked};
+ghost use Rattle.mvt_history.specs.Session.{Answers, AnswersBack, AnswersCancel, AnswersCommand, AnswersWithMemory, IsStop, NotStarted, SeesMark, StandsFor};
+
+use crate::MAX_MARKS;
+use crate::error::{HistoryError, StartError};
+use crate::marks::{Mark, bind, find_point, unbind};
+use crate::steps::{keep, step, take_back, walk};
+use circular_buffer::HeapCircularBuffer;
+use mvt_change::{Change, flip, join};
+use mvt_edit::{Command, Refusal, prepare};
+use mvt_wire::{Document, size};
+use std::alloc::{AllocError, Global};
+use std::marker::Model;
+
+/// A document that commands edit. A step is one command, or several that are closed together; undo
+/// and redo go by steps. For each step that undo or redo reaches the session keeps the change that
+/// leads there, and never a second document.
+#[derive(Drop)]
+pub struct Session {
+    alloc: Global,
+    document: Document,
+    undo: HeapCircularBuffer<Change>,
+    redo: HeapCircularBuffer<Change>,
+    depth: u32,
+    marks: Vec<Mark>,
+    pending: Option<Vec<Change>>,
+}
+
+impl Model for Session {
+    ghost use Rattle.std.specs.Prelude.{option_map};
+    ghost use Rattle.mvt_history.specs.Standing.{Standing};
+    ghost use Rattle.mvt_history.specs.Held.{IsHeld, standing_of};
+
+    ghost Value = { Standing };
+
+    ghost view = { λ s. standing_of s.document s.undo.items s.redo.items s.depth s.marks.items (option_map (λ pending. pending.items) s.pending) };
+
+    ghost invariant = { λ s. IsHeld s.undo.capacity s.redo.capacity (standing_of s.document s.undo.items s.redo.items s.depth s.marks.items (option_map (λ pending. pending.items) s.pending)) };
+}
+
+impl Session {
+    /// A session of a document that no command has edited, in which undo goes back so many steps at
+    /// most. An error hands the document back: it is too large for a file, or there is no memory.
+    pub fn start(alloc: Global, document: Document, depth: u32) -> Result<Session, StartError>
+        requires valid { IsDocument (document_of document) }
+        requires depth { (1 ≤ depth) × (depth ≤ MAX_DEPTH) }
+        ensures ok { IfOk result (λ session. StandsFor session (begun (document_of document) depth)) }
+        ensures err { IfErr result (NotStarted document) }
+    {
+        if size(&document).is_none() {
+            return Err(StartError::TooLarge(document));
+        }
+        let Ok(undo) = HeapCircularBuffer::with_capacity(alloc, depth as usize) else {
+            return Err(StartError::NoMemory(document));
+        };
+        let Ok(redo) = HeapCircularBuffer::with_capacity(alloc, depth as usize) else {
+            return Err(StartError::NoMemory(document));
+        };
+        Ok(Session {
+            alloc,
+            document,
+            undo,
+            redo,
+            depth,
+            marks: Vec::new(alloc),
+            pending: None,
+        })
+    }
+
+    /// The document as it stands now.
+    pub fn document(&self) -> &Document
+        ensures standing { document_of result.now ≡ self.now.document }
+        ensures present { (history : History) → StandsFor self.now history → document_of result.now ≡ standing_document history }
+        ensures valid { IsDocument (document_of result.now) }
+    {
+        &self.document
+    }
+
+    /// How many steps undo can go back.
+    pub fn undo_len(&self) -> usize
+        ensures { result ≡ length self.now.undo }
+    {
+        self.undo.len()
+    }
+
+    /// How many steps redo can go on.
+    pub fn redo_len(&self) -> usize
+        ensures { result ≡ length self.now.redo }
+    {
+        self.redo.len()
+    }
+
+    /// How many steps undo goes back at most.
+    pub fn depth(&self) -> u32
+        ensures { result ≡ self.now.depth }
+    {
+        self.depth
+    }
+
+    /// How many names are marked.
+    pub fn mark_count(&self) -> usize
+        ensures { result ≡ length self.now.marks }
+    {
+        self.marks.len()
+    }
+
+    /// The mark with the name of this place in the order of their bytes, and its point less the
+    /// present one: below 0 where undo leads there.
+    pub fn mark_at(&self, index: usize) -> Option<(&[u8], i64)>
+        ensures { SeesMark (length self.now.undo) result (slice_get self.now.marks index) }
+    {
+        let mark = self.marks.get(index)?;
+        Some((
+            mark.name.as_slice(),
+            i64::from(mark.point) - self.undo.len() as i64,
+        ))
+    }
+
+    /// How many commands the open step has, if one is open.
+    pub fn open_len(&self) -> Option<usize>
+        ensures { result ≡ option_map length self.now.pending }
+    {
+        let pending = self.pending.as_ref()?;
+        Some(pending.len())
+    }
+
+    /// Refuses where a step is open.
+    fn closed(&self) -> Result<(), HistoryError>
+        ensures { result ≡ (if is_some self.now.pending then Err GroupOpen else Ok tt) }
+    {
+        if self.pending.is_some() {
+            return Err(HistoryError::GroupOpen);
+        }
+        Ok(())
+    }
+
+    /// Carries a command out. Where a step is open it joins that; otherwise it is a step, and what
+    /// was undone is forgotten.
+    pub fn command(&mut self, command: &Command) -> Result<(), Refusal>
+        ensures answer { (history : History) → StandsFor self.old history → AnswersCommand (command_of command.now) history result self.new }
+        ensures err { OnErr result (self.new ≡ self.old) }
+    {
+        let mut change = prepare(self.alloc, &self.document, command)?;
+        if let Some(pending) = &mut self.pending {
+            pending.reserve(1)?;
+            flip(self.alloc, &mut self.document, &mut change)?;
+            pending.push_reserved(change);
+        } else {
+            flip(self.alloc, &mut self.document, &mut change)?;
+            keep(&mut self.undo, &mut self.redo, &mut self.marks, change);
+        }
+        Ok(())
+    }
+
+    /// Takes the last step back.
+    pub fn undo(&mut self) -> Result<(), HistoryError>
+        ensures answer { (history : History) → StandsFor self.old history → AnswersWithMemory (undone history) history result self.new }
+        ensures err { OnErr result (self.new ≡ self.old) }
+    {
+        self.closed()?;
+        if self.undo.is_empty() {
+            return Err(HistoryError::NothingToUndo);
+        }
+        step(
+            self.alloc,
+            &mut self.document,
+            &mut self.undo,
+            &mut self.redo,
+        )?;
+        Ok(())
+    }
+
+    /// Has the step stand again that was taken back last.
+    pub fn redo(&mut self) -> Result<(), HistoryError>
+        ensures answer { (history : History) → StandsFor self.old history → AnswersWithMemory (redone history) history result self.new }
+        ensures err { OnErr result (self.new ≡ self.old) }
+    {
+        self.closed()?;
+        if self.redo.is_empty() {
+            return Err(HistoryError::NothingToRedo);
+        }
+        step(
+            self.alloc,
+            &mut self.document,
+            &mut self.redo,
+            &mut self.undo,
+        )?;
+        Ok(())
+    }
+
+    /// Has the name mark the present point, and no other.
+    pub fn mark(&mut self, name: &[u8]) -> Result<(), HistoryError>
+        ensures answer { (history : History) → StandsFor self.old history → AnswersWithMemory (marked name.now history) history result self.new }
+        ensures err { OnErr result (self.new ≡ self.old) }
+    {
+        self.closed()?;
+        if self.marks.len() == MAX_MARKS && find_point(self.marks.as_slice(), name).is_none() {
+            return Err(HistoryError::TooManyMarks);
+        }
+        bind(self.alloc, &mut self.marks, name, self.undo.len() as u32)?;
+        Ok(())
+    }
+
+    /// Has the name mark nothing.
+    pub fn unmark(&mut self, name: &[u8]) -> Result<(), HistoryError>
+        ensures answer { (history : History) → StandsFor self.old history → Answers (unmarked name.now history) history result self.new }
+        ensures err { OnErr result (self.new ≡ self.old) }
+    {
+        self.closed()?;
+        unbind(&mut self.marks, name).ok_or(HistoryError::NoMark)
+    }
+
+    /// Goes to the marked point, by as many undos or redos. Where there is no memory for one of
+    /// them, those before it stand, and the error says how many they are.
+    pub fn back(&mut self, name: &[u8]) -> Result<(), HistoryError>
+        ensures answer { (history : History) → StandsFor self.old history → AnswersBack name.now history result self.new }
+        ensures err { IfErr result (λ error. (self.new ≡ self.old) ⊎ IsStop error) }
+    {
+        self.closed()?;
+        let Some(point) = find_point(self.marks.as_slice(), name) else {
+            return Err(HistoryError::NoMark);
+        };
+        let point = point as usize;
+        let present = self.undo.len();
+        let walked = if point < present {
+            walk(
+                self.alloc,
+                &mut self.document,
+                &mut self.undo,
+                &mut self.redo,
+                present - point,
+            )
+        } else {
+            walk(
+                self.alloc,
+                &mut self.document,
+                &mut self.redo,
+                &mut self.undo,
+                point - present,
+            )
+        };
+        walked.map_err(|taken| HistoryError::Stopped { taken })
+    }
+
+    /// Opens a step: the commands from now on are one.
+    pub fn begin(&mut self) -> Result<(), HistoryError>
+        ensures answer { (history : History) → StandsFor self.old history → Answers (opened history) history result self.new }
+        ensures err { OnErr result (self.new ≡ self.old) }
+    {
+        self.closed()?;
+        self.pending = Some(Vec::new(self.alloc));
+        Ok(())
+    }
+
+    /// Ends the open step. One without a command leaves all as it was before it.
+    pub fn end(&mut self) -> Result<(), HistoryError>
+        ensures answer { (history : History) → StandsFor self.old history → AnswersWithMemory (closed history) history result self.new }
+        ensures err { OnErr result (self.new ≡ self.old) }
+    {
+        let Some(pending) = &mut self.pending else {
+            return Err(HistoryError::NoGroup);
+        };
+        if pending.is_empty() {
+            self.pending = None;
+            return Ok(());
+        }
+        let change = join(self.alloc, pending)?;
+        self.pending = None;
+        keep(&mut self.undo, &mut self.redo, &mut self.marks, change);
+        Ok(())
+    }
+
+    /// Takes the commands of the open step back, and closes it. Where there is no memory for one of
+    /// them, it stays open with that one and those before it, and the error says how many were taken
+    /// back.
+    pub fn cancel(&mut self) -> Result<(), HistoryError>
+        ensures answer { (history : History) → StandsFor self.old history → AnswersCancel history result self.new }
+        ensures err { IfErr result (λ error. (self.new ≡ self.old) ⊎ IsStop error) }
+    {
+        let Some(pending) = &mut self.pending else {
+            return Err(HistoryError::NoGroup);
+        };
+        if let Err(taken) = take_back(self.alloc, &mut self.document, pending) {
+            return Err(HistoryError::Stopped { taken });
+        }
+        self.pending = None;
+        Ok(())
+    }
+}
