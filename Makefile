@@ -10,8 +10,8 @@ all: toolchain
 	cp crates/tileshell_program/out/tileshell_program build/tileshell
 
 # Every proof, test, wrong body and stored run, from nothing; before them that each definition has its row in docs/, and
-# after them that a document, a layer and a feature cannot be copied, and that calls to which a growth is refused leave
-# all as it was.
+# after them that a document, a layer and a feature cannot be copied, and that calls and scripts to which a growth is
+# refused leave and answer what they should.
 check: toolchain
 	tools/definitions
 	rt ci

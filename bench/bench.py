@@ -8,10 +8,11 @@ from pathlib import Path
 
 import peers
 from measure import (COUNTED_MILLISECONDS, RUNS, RUNS_OF_LARGE, Program, costliest, count_instructions, measure,
-                     measure_alone, run_once)
+                     measure_alone, run_once, script_of)
 from report import Kept, Listed, Result, comparison, endings, growth, instructions, memory, put_section, shown, table, time
-from targets import IDS, JOB, KEPT, MANY, OURS, verdicts
-from tiles import LARGE, MEBIBYTE, alternating_layers, generated_tiles, real_tiles, smallest_map
+from sessions import sessions, stepped
+from targets import IDS, JOB, KEPT, MANY, OURS, session_targets, targets, verdicts
+from tiles import LARGE, MEBIBYTE, alternating_layers, generated_tiles, real_tiles, smallest_map, smallest_maps
 
 RESULTS = peers.HERE / "RESULTS.md"
 
@@ -45,6 +46,8 @@ LONG_SECONDS = 300
 READING = "undo\n"
 LISTING = 'list "{layer}"\n' + READING
 
+SESSIONS = "Renames, and undos and redos over them, tileshell alone"
+
 RUNS_MEASURED = f"medians of {RUNS} runs in turns, and of {RUNS_OF_LARGE} on tiles of more than {LARGE // MEBIBYTE} MiB"
 
 DASHES = """\
@@ -68,12 +71,6 @@ def processor():
         if line.startswith("model name"):
             return line.split(":")[1].strip()
     return "an unknown processor"
-
-
-def script_of(lines, tile):
-    path = peers.BUILD / "script"
-    path.write_text(lines.format(layer=tile.layer))
-    return path
 
 
 def jobs_of(tile):
@@ -175,17 +172,18 @@ def listing(lists):
     return table(["Tile", "Reading", "Reading and listing", "Listing / reading"], rows)
 
 
-def section(results, lists, kept, names):
+def section(results, lists, kept, steps, names):
     """The tables of all results."""
     without_floor = [name for name in names if name != "cat"]
     parts = [
-        ("Targets", verdicts(results, lists, kept)),
+        ("Targets", verdicts([*targets(results, lists, kept), *session_targets(steps)])),
         (f"Wall time in milliseconds, {RUNS_MEASURED}", comparison(results, names, time, 1)),
         ("Peak memory, as a multiple of the tile", memory(results, names)),
         ("Millions of instructions", comparison(results, without_floor, instructions, 1e6)),
         ("Growth of time from the smallest to the largest tile, as an exponent", growth(results, names)),
         ("One layer listed: wall time in milliseconds, tileshell alone", listing(lists)),
         ("Layers of two names in turns: wall time in milliseconds, tileshell alone", alternation(kept)),
+        (SESSIONS, sessions(steps)),
         ("Not done", endings(results)),
     ]
     return "\n\n".join([*(f"### {heading}\n\n{text}" for heading, text in parts), DASHES])
@@ -206,7 +204,9 @@ def all_jobs(run):
     results = results_of(run, tiles, "valgrind" not in missing)
     lists = listed(run[0], [tile for tile in tiles if tile.kind == "map"])
     kept = alternated(run[0])
-    parts = [conditions(load_before, missing), section(results, lists, kept, [program.name for program in run])]
+    steps = stepped(run[0], counted_maps(tiles)[:2])
+    names = [program.name for program in run]
+    parts = [conditions(load_before, missing), section(results, lists, kept, steps, names)]
     parts.append(long_script(run[0], counted_maps(tiles)[0]))
     if "valgrind" not in missing:
         parts.append(costs(run[0], counted_maps(tiles)[-1]))
@@ -214,23 +214,36 @@ def all_jobs(run):
 
 
 def long_script_alone(run):
-    """The same of one job and of the first program."""
+    return long_script(run[0], smallest_map())
+
+
+def sessions_alone(run):
+    steps = stepped(run[0], smallest_maps())
+    return f"### Targets\n\n{verdicts(session_targets(steps))}\n\n### {SESSIONS}\n\n{sessions(steps)}"
+
+
+# The jobs that can be measured alone, of the first program.
+ALONE = {"long-script": long_script_alone, "sessions": sessions_alone}
+
+
+def one_job(run, job):
+    """What is measured by one job, as text, and when and where it was."""
     peers.check_needed(["g++"])
     peers.build_measure()
     load_before = load()
-    table_of_it = long_script(run[0], smallest_map())
-    return conditions(load_before, {}) + "\n\n" + table_of_it
+    found = ALONE[job](run)
+    return conditions(load_before, {}) + "\n\n" + found
 
 
 def main():
     parser = argparse.ArgumentParser(description=__doc__)
     parser.add_argument("tileshell", type=Path)
     parser.add_argument("--title", default="Today", help="the section of RESULTS.md that is written")
-    parser.add_argument("--long-script", action="store_true", help="the job `long script` alone, for which g++ is enough")
+    parser.add_argument("--only", choices=ALONE, help="one job alone, for which g++ is enough")
     arguments = parser.parse_args()
 
     run = programs(arguments.tileshell.resolve())
-    text = long_script_alone(run) if arguments.long_script else all_jobs(run)
+    text = one_job(run, arguments.only) if arguments.only else all_jobs(run)
     print(text)
     put_section(RESULTS, arguments.title, text)
 

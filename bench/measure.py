@@ -79,6 +79,12 @@ class Figures:
     instructions: int = None
 
 
+def script_of(lines, tile):
+    path = BUILD / "script"
+    path.write_text(lines.format(layer=tile.layer))
+    return path
+
+
 def run_once(program, tile, script, seconds):
     words = [BUILD / "measure", seconds, script, program.replies, *program.command(tile.path)]
     result = subprocess.run([str(word) for word in words], capture_output=True, text=True, check=True)

@@ -46,6 +46,46 @@ class Kept:
         return divided(self.both, self.empty)
 
 
+@dataclass(frozen=True)
+class Stepped:
+    """What an empty script took on a tile, what many renames, and what these with undos and redos over them."""
+    tile: Tile
+    # How many steps undo goes back at most.
+    depth: int
+    # How many renames there were, and how many undos and redos behind them.
+    renames: int
+    moves: int
+    # The figures of each; none where a run did not do its job.
+    empty: object
+    renamed: object
+    moved: object
+
+    @property
+    def is_done(self):
+        return None not in (self.empty, self.renamed, self.moved)
+
+    @property
+    def kibibytes(self):
+        return (peak(self.moved) - peak(self.empty)) / 1024 if self.is_done else None
+
+    @property
+    def bytes_a_step(self):
+        return 1024 * self.kibibytes / min(self.depth, self.renames) if self.is_done else None
+
+    @property
+    def rename_time(self):
+        """In microseconds, as all of these."""
+        return 1000 * (time(self.renamed) - time(self.empty)) / self.renames if self.is_done else None
+
+    @property
+    def move_time(self):
+        return 1000 * (time(self.moved) - time(self.renamed)) / self.moves if self.is_done else None
+
+    @property
+    def ratio(self):
+        return divided(self.move_time, self.rename_time)
+
+
 def time(figures):
     return figures.milliseconds
 

@@ -12,6 +12,19 @@ IDS = "1,000 ids set"
 NOISE = 0.05
 
 
+def session_targets(steps):
+    """The same of sessions: memory goes with the steps and not with the tile, and an undo takes no longer than its command."""
+    deep = [each for each in steps if each.depth == max(each.depth for each in steps)]
+    small, large = deep[0], deep[-1]
+    return [
+        (f"{small.tile.name}, renames at depth {small.depth:,}: bytes for each step kept", small.bytes_a_step, 1024),
+        (f"{small.tile.name} to {large.tile.name}, renames at depth {small.depth:,}: memory to memory",
+         divided(large.kibibytes, small.kibibytes), 1.1),
+        *((f"{each.tile.name}, depth {each.depth:,}: time of an undo or redo to that of a rename", each.ratio, 1)
+          for each in steps),
+    ]
+
+
 def targets(results, lists, kept):
     """Each target, what was measured, and the most that it may be."""
     small, large = ends(results, "map")
@@ -57,9 +70,9 @@ def highest_peak(results, tile):
     return None if None in multiples else max(multiples)
 
 
-def verdicts(results, lists, kept):
+def verdicts(all_targets):
     rows = []
-    for name, measured, most in targets(results, lists, kept):
+    for name, measured, most in all_targets:
         holds = measured is not None and measured <= most
         rows.append([name, shown(measured, 2), shown(most, 2), "yes" if holds else "no"])
     return table(["Target", "Measured", "At most", "Holds"], rows)

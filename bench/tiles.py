@@ -55,6 +55,11 @@ def smallest_map():
     return generated("map", SIZES[0], "roads")
 
 
+def smallest_maps():
+    """The two of them."""
+    return [generated("map", size, "roads") for size in SIZES[:2]]
+
+
 def alternating_layers():
     return generated("alternating layers", ALTERNATING, "a")
 

@@ -7,48 +7,106 @@ use mvt_tests::asked::{
     set_id,
 };
 use mvt_tests::bytes::joined;
-use mvt_tests::edits::Edit;
+use mvt_tests::edits::{Edit, Seen};
 use mvt_tests::tiles::{OTHER, T0, TWO_IDS};
 use std::alloc::{AllocError, Global};
 use std::process::Abort;
 use std::test::Fail;
 
+/// A field that is no layer.
+const FIELD: &[u8] = b"\x80\x01\x07";
+
+/// A layer without a name.
+const NAMELESS: &[u8] = b"\x1a\x00";
+
+/// How many layers stay, and how many go, where a change has many steps.
+const PAIRS: usize = 5_000;
+
 /// The tile and the change of a command, which is not carried out yet.
-fn prepared(alloc: Global, tile: &[u8], command: &Command) -> Result<Edit, Fail> {
+fn prepared(alloc: Global, tile: &[u8], command: Command) -> Result<Edit, Fail> {
     let mut edit = Edit::read(alloc, tile)?;
-    edit.prepare(alloc, command)?;
+    edit.prepare(alloc, &command)?;
     Ok(edit)
 }
 
 /// `T0`, a field that is no layer, and `T0` under another name.
 fn two_layers(alloc: Global) -> Result<Vec<u8>, AllocError> {
-    joined(alloc, &[&T0, b"\x80\x01\x07".as_slice(), OTHER])
+    joined(alloc, &[&T0, FIELD, OTHER])
 }
 
 /// The change brings so much, and what leads back so much.
 fn assert_weighs(
     rt: &(impl Abort + AllocGlobal),
     tile: &[u8],
-    command: &Command,
+    command: Command,
     weight: u64,
     turned: u64,
 ) -> Result<(), Fail> {
     let mut edit = prepared(rt.alloc(), tile, command)?;
-    assert_eq!(rt; edit.weight(), Some(weight), "of {command:?}");
+    assert_eq!(rt; edit.weight(), Some(weight));
     edit.flip(rt.alloc())?;
-    assert_eq!(rt; edit.weight(), Some(turned), "back from {command:?}");
+    assert_eq!(rt; edit.weight(), Some(turned));
     Ok(())
 }
 
 #[test]
-fn a_change_weighs_what_it_puts(rt: HostRuntime) -> Result<(), Fail> {
+fn a_name_weighs_what_a_layer_is_named(rt: HostRuntime) -> Result<(), Fail> {
     let roads = rename(rt.alloc(), b"a", b"roads")?;
-    assert_weighs(&rt, &T0, &roads, 7, 3)?;
-    assert_weighs(&rt, &T0, &drop_feature(), 0, 15)?;
+    assert_weighs(&rt, &T0, roads, 7, 3)
+}
+
+#[test]
+fn a_dropped_feature_weighs_on_the_way_back(rt: HostRuntime) -> Result<(), Fail> {
+    assert_weighs(&rt, &T0, drop_feature(), 0, 15)
+}
+
+#[test]
+fn an_inserted_feature_weighs_on_the_way_there(rt: HostRuntime) -> Result<(), Fail> {
     let polygon = insert_polygon(rt.alloc(), 1)?.expect(&rt, "a ring");
-    assert_weighs(&rt, &T0, &polygon, 15, 0)?;
+    assert_weighs(&rt, &T0, polygon, 15, 0)
+}
+
+#[test]
+fn a_move_weighs_nothing(rt: HostRuntime) -> Result<(), Fail> {
     let two = two_layers(rt.alloc())?;
-    assert_weighs(&rt, &two, &move_layer(1), 0, 0)
+    assert_weighs(&rt, &two, move_layer(1), 0, 0)
+}
+
+/// Carries the change out, and sees what it made.
+fn flipped(alloc: Global, edit: &mut Edit) -> Result<Seen, Fail> {
+    edit.flip(alloc)?;
+    Ok(edit.seen(alloc)?)
+}
+
+/// The tile is this one, and has its size.
+fn assert_tile(rt: &impl Abort, seen: &Seen, tile: &[u8]) {
+    assert!(rt; seen.tile.as_slice() == tile);
+    assert_eq!(rt; seen.size, Some(tile.len() as u64));
+}
+
+/// Carried out, the change makes what was seen earlier.
+fn assert_makes(
+    rt: &(impl Abort + AllocGlobal),
+    edit: &mut Edit,
+    earlier: &Seen,
+) -> Result<(), Fail> {
+    let now = flipped(rt.alloc(), edit)?;
+    assert!(rt; now == *earlier);
+    Ok(())
+}
+
+/// The change makes another tile, whose size is known, and then what was seen before it, the tile
+/// and the change, and then the same as the first time.
+fn assert_leads_back(
+    rt: &(impl Abort + AllocGlobal),
+    edit: &mut Edit,
+    before: &Seen,
+) -> Result<(), Fail> {
+    let after = flipped(rt.alloc(), edit)?;
+    assert!(rt; after.tile != before.tile);
+    assert_tile(rt, &after, &after.tile);
+    assert_makes(rt, edit, before)?;
+    assert_makes(rt, edit, &after)
 }
 
 /// Flipped twice, the tile and the change of the command are as they were. Flipped once, the tile
@@ -56,39 +114,74 @@ fn a_change_weighs_what_it_puts(rt: HostRuntime) -> Result<(), Fail> {
 fn assert_comes_back(
     rt: &(impl Abort + AllocGlobal),
     tile: &[u8],
-    command: &Command,
+    command: Command,
 ) -> Result<(), Fail> {
     let mut edit = prepared(rt.alloc(), tile, command)?;
     let before = edit.seen(rt.alloc())?;
-    assert_eq!(rt; before.tile.as_slice(), tile);
-    edit.flip(rt.alloc())?;
-    let after = edit.seen(rt.alloc())?;
-    assert!(rt; after.tile != before.tile, "by {command:?}");
-    assert_eq!(rt; after.size, Some(after.tile.len() as u64), "by {command:?}");
-    edit.flip(rt.alloc())?;
-    assert_eq!(rt; edit.seen(rt.alloc())?, before, "by {command:?}");
-    edit.flip(rt.alloc())?;
-    assert_eq!(rt; edit.seen(rt.alloc())?, after, "by {command:?}");
-    Ok(())
+    assert_tile(rt, &before, tile);
+    assert_leads_back(rt, &mut edit, &before)
 }
 
 #[test]
-fn a_change_that_is_flipped_twice_is_as_it_was(rt: HostRuntime) -> Result<(), Fail> {
-    let two = two_layers(rt.alloc())?;
+fn a_name_comes_back(rt: HostRuntime) -> Result<(), Fail> {
     let roads = rename(rt.alloc(), b"a", b"roads")?;
-    assert_comes_back(&rt, &T0, &roads)?;
+    assert_comes_back(&rt, &T0, roads)
+}
+
+#[test]
+fn an_inserted_feature_comes_back(rt: HostRuntime) -> Result<(), Fail> {
     let polygon = insert_polygon(rt.alloc(), 1)?.expect(&rt, "a ring");
-    assert_comes_back(&rt, &T0, &polygon)?;
-    assert_comes_back(&rt, &two, &keep(rt.alloc(), b"b")?)?;
-    for command in [drop_feature(), clear_id(), set_id(300)] {
-        assert_comes_back(&rt, &T0, &command)?;
-    }
-    for command in [move_layer(1), drop_layer()] {
-        assert_comes_back(&rt, &two, &command)?;
-    }
-    for command in [move_feature(1), drop_feature()] {
-        assert_comes_back(&rt, TWO_IDS, &command)?;
-    }
+    assert_comes_back(&rt, &T0, polygon)
+}
+
+#[test]
+fn the_only_feature_comes_back(rt: HostRuntime) -> Result<(), Fail> {
+    assert_comes_back(&rt, &T0, drop_feature())
+}
+
+#[test]
+fn the_first_of_two_features_comes_back(rt: HostRuntime) -> Result<(), Fail> {
+    assert_comes_back(&rt, TWO_IDS, drop_feature())
+}
+
+#[test]
+fn a_feature_moves_back(rt: HostRuntime) -> Result<(), Fail> {
+    assert_comes_back(&rt, TWO_IDS, move_feature(1))
+}
+
+#[test]
+fn a_cleared_id_comes_back(rt: HostRuntime) -> Result<(), Fail> {
+    assert_comes_back(&rt, &T0, clear_id())
+}
+
+#[test]
+fn an_id_that_was_set_anew_comes_back(rt: HostRuntime) -> Result<(), Fail> {
+    assert_comes_back(&rt, &T0, set_id(300))
+}
+
+#[test]
+fn a_layer_moves_back(rt: HostRuntime) -> Result<(), Fail> {
+    let two = two_layers(rt.alloc())?;
+    assert_comes_back(&rt, &two, move_layer(1))
+}
+
+#[test]
+fn a_dropped_layer_comes_back(rt: HostRuntime) -> Result<(), Fail> {
+    let two = two_layers(rt.alloc())?;
+    assert_comes_back(&rt, &two, drop_layer())
+}
+
+#[test]
+fn layers_that_are_not_kept_come_back(rt: HostRuntime) -> Result<(), Fail> {
+    let two = two_layers(rt.alloc())?;
+    let second = keep(rt.alloc(), b"b")?;
+    assert_comes_back(&rt, &two, second)
+}
+
+/// Carried out, the change leaves this tile.
+fn assert_leaves(rt: &(impl Abort + AllocGlobal), mut edit: Edit, tile: &[u8]) -> Result<(), Fail> {
+    let after = flipped(rt.alloc(), &mut edit)?;
+    assert_tile(rt, &after, tile);
     Ok(())
 }
 
@@ -104,51 +197,88 @@ fn steps(alloc: Global, edit: &Edit) -> Result<Vec<(usize, usize, usize)>, Fail>
     Ok(found)
 }
 
+fn assert_steps(
+    rt: &(impl Abort + AllocGlobal),
+    edit: &Edit,
+    wanted: &[(usize, usize, usize)],
+) -> Result<(), Fail> {
+    let found = steps(rt.alloc(), edit)?;
+    assert_eq!(rt; found.as_slice(), wanted);
+    Ok(())
+}
+
+/// What leaves only the layers named "a": two, one and three neighbours go.
+fn scattered(alloc: Global) -> Result<Edit, Fail> {
+    let front = joined(alloc, &[FIELD, OTHER, NAMELESS, &T0, OTHER])?;
+    let tile = joined(
+        alloc,
+        &[front.as_slice(), FIELD, OTHER, OTHER, NAMELESS, &T0],
+    )?;
+    prepared(alloc, &tile, keep(alloc, b"a")?)
+}
+
 #[test]
 fn neighbours_go_in_one_step(rt: HostRuntime) -> Result<(), Fail> {
-    let field = b"\x80\x01\x07".as_slice();
-    let nameless = b"\x1a\x00".as_slice();
-    let tile = joined(
-        rt.alloc(),
-        &[
-            field, OTHER, nameless, &T0, OTHER, field, OTHER, OTHER, nameless, &T0,
-        ],
-    )?;
-    let mut edit = prepared(rt.alloc(), &tile, &keep(rt.alloc(), b"a")?)?;
-    assert_eq!(rt;
-        steps(rt.alloc(), &edit)?.as_slice(),
-        [(6, 3, 0), (4, 1, 0), (1, 2, 0)].as_slice()
-    );
+    let edit = scattered(rt.alloc())?;
+    assert_steps(&rt, &edit, &[(6, 3, 0), (4, 1, 0), (1, 2, 0)])
+}
+
+#[test]
+fn neighbours_come_back_in_one_step(rt: HostRuntime) -> Result<(), Fail> {
+    let mut edit = scattered(rt.alloc())?;
     edit.flip(rt.alloc())?;
-    assert_eq!(rt;
-        steps(rt.alloc(), &edit)?.as_slice(),
-        [(1, 0, 2), (4, 0, 1), (6, 0, 3)].as_slice()
-    );
-    let kept = joined(rt.alloc(), &[field, &T0, field, &T0])?;
-    assert_eq!(rt; edit.seen(rt.alloc())?.tile, kept);
+    assert_steps(&rt, &edit, &[(1, 0, 2), (4, 0, 1), (6, 0, 3)])
+}
+
+#[test]
+fn what_is_kept_stands_in_its_order(rt: HostRuntime) -> Result<(), Fail> {
+    let kept = joined(rt.alloc(), &[FIELD, &T0, FIELD, &T0])?;
+    assert_leaves(&rt, scattered(rt.alloc())?, &kept)
+}
+
+/// The part so many times.
+fn repeated(alloc: Global, part: &[u8], count: usize) -> Result<Vec<u8>, AllocError> {
+    let mut all = Vec::new(alloc);
+    for _ in 0..count {
+        all.extend_from_slice(part)?;
+    }
+    Ok(all)
+}
+
+/// What takes each second of `2 * PAIRS` layers.
+fn many_steps(alloc: Global) -> Result<Edit, Fail> {
+    let pair = joined(alloc, &[&T0, OTHER])?;
+    let tile = repeated(alloc, &pair, PAIRS)?;
+    prepared(alloc, &tile, keep(alloc, b"a")?)
+}
+
+#[test]
+fn each_layer_between_others_is_a_step(rt: HostRuntime) -> Result<(), Fail> {
+    let edit = many_steps(rt.alloc())?;
+    assert_eq!(rt; edit.document().items.len(), 2 * PAIRS);
+    assert_eq!(rt; edit.change().steps.len(), PAIRS);
     Ok(())
 }
 
 #[test]
-fn many_steps_on_one_list_go_there_and_back(rt: HostRuntime) -> Result<(), Fail> {
-    let pairs = 5_000;
-    let mut tile = Vec::new(rt.alloc());
-    let mut kept = Vec::new(rt.alloc());
-    for _ in 0..pairs {
-        tile.extend_from_slice(&T0)?;
-        tile.extend_from_slice(OTHER)?;
-        kept.extend_from_slice(&T0)?;
-    }
-    let mut edit = prepared(rt.alloc(), &tile, &keep(rt.alloc(), b"a")?)?;
-    let before = edit.seen(rt.alloc())?;
-    assert_eq!(rt; edit.document().items.len(), 2 * pairs);
-    assert_eq!(rt; edit.change().steps.len(), pairs);
+fn many_steps_leave_what_is_kept(rt: HostRuntime) -> Result<(), Fail> {
+    let kept = repeated(rt.alloc(), &T0, PAIRS)?;
+    assert_leaves(&rt, many_steps(rt.alloc())?, &kept)
+}
+
+/// They took 5,000 layers of 32 bytes out.
+#[test]
+fn many_steps_weigh_what_they_took_out(rt: HostRuntime) -> Result<(), Fail> {
+    let mut edit = many_steps(rt.alloc())?;
     edit.flip(rt.alloc())?;
-    let after = edit.seen(rt.alloc())?;
-    assert!(rt; after.tile == kept);
-    assert_eq!(rt; after.size, Some(kept.len() as u64));
-    assert_eq!(rt; edit.weight(), Some(kept.len() as u64));
-    edit.flip(rt.alloc())?;
-    assert!(rt; edit.seen(rt.alloc())? == before);
+    assert_eq!(rt; edit.weight(), Some(160_000));
     Ok(())
+}
+
+#[test]
+fn many_steps_come_back(rt: HostRuntime) -> Result<(), Fail> {
+    let mut edit = many_steps(rt.alloc())?;
+    let before = edit.seen(rt.alloc())?;
+    edit.flip(rt.alloc())?;
+    assert_makes(&rt, &mut edit, &before)
 }

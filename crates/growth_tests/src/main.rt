@@ -1,14 +1,17 @@
-//! Changes that are prepared and carried out while one growth is refused.
+//! Changes that are prepared and carried out, and scripts that are run, while one growth is refused.
 //!
-//! A line of standard input names a trial, and how many growths are to be made before it. The answer
-//! says to which call of the trial a growth was refused. `tools/refused-growths` has each growth of
-//! each trial refused in turn.
+//! A line of standard input names a trial, and how many growths are to be made before it. Of a change
+//! the answer says to which call of the trial a growth was refused, and of a script what was replied
+//! and which tile it gave. `tools/refused-growths` has each growth of each trial refused in turn.
 #![tactic(auto)]
 
 mod fault;
 mod refused;
+mod script;
+mod scripts;
 mod trial;
 
+use crate::script::script_named;
 use crate::trial::{Trial, trial_named};
 use std::alloc::{AllocError, Global};
 use std::io;
@@ -16,7 +19,7 @@ use std::io::Read;
 use std::process::ExitCode;
 
 /// Standard input has no more bytes than this.
-const ROOM: usize = 256;
+const ROOM: usize = 1024;
 
 /// The status where no trial found a fault.
 const NO_FAULT: u8 = 0;
@@ -55,11 +58,28 @@ fn status<R: Input + Print + Eprint + AllocGlobal>(rt: &R) -> io::Result<u8> {
 
 /// Runs the trial that the line asks for.
 fn line_status<R: Print + Eprint + AllocGlobal>(rt: &R, line: &str) -> io::Result<u8> {
-    let Some((trial, growths)) = asked(line) else {
-        eprintln!(rt; "growth_tests: no trial: {line}")?;
-        return Ok(NO_TRIAL);
+    let Some((name, growths)) = asked(line) else {
+        return no_trial(rt, line);
+    };
+    if let Some(trial) = trial_named(name) {
+        grow(rt.alloc(), growths)?;
+        return trial_status(rt, trial);
+    }
+    let Some(script) = script_named(name) else {
+        return no_trial(rt, line);
     };
     grow(rt.alloc(), growths)?;
+    script.run(rt)?;
+    Ok(NO_FAULT)
+}
+
+fn no_trial<R: Eprint>(rt: &R, line: &str) -> io::Result<u8> {
+    eprintln!(rt; "growth_tests: no trial: {line}")?;
+    Ok(NO_TRIAL)
+}
+
+/// Runs the trial of a change, and tells to which call a growth was refused.
+fn trial_status<R: Print + Eprint + AllocGlobal>(rt: &R, trial: Trial) -> io::Result<u8> {
     match trial.run(rt.alloc()) {
         Ok(refused) => {
             println!(rt; "{trial}: {refused}")?;
@@ -85,10 +105,10 @@ fn read_all<'a>(input: &mut (impl Read), room: &'a mut [u8]) -> io::Result<&'a [
     Ok(&room[..length])
 }
 
-/// The trial, and the number of growths before it.
-fn asked(line: &str) -> Option<(Trial, u64)> {
+/// The name of the trial, and the number of growths before it.
+fn asked(line: &str) -> Option<(&str, u64)> {
     let (name, growths) = line.split_once(' ')?;
-    Some((trial_named(name)?, growths.parse().ok()?))
+    Some((name, growths.parse().ok()?))
 }
 
 /// Makes so many growths.

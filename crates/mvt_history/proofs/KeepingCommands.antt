@@ -234,7 +234,7 @@ cancelled_held undo_room redo_room session changes is held =
     let fit = pending_fits undo_room redo_room session (Some changes) is held in
     open_held undo_room redo_room session (go_along changes session.document) None held (along_makes changes session.document held.ready.valid fit) tt (closed_from session (Some changes) is)
 
-pub step_stopped : (history : History) (session : Standing) (changes : List Change) (taken : ℕ) → session.pending ≡ Some changes → taken < length changes → StandsFor session history → StopsWithin history taken (with_open (go_along (take taken changes) session.document) (Some (drop taken changes)) session)
+pub step_stopped : (history : History) (session : Standing) (changes : List Change) (taken : ℕ) → session.pending ≡ Some changes → taken < length changes → StandsFor session history → (between : History) × StopsWithin history taken between × StandsFor (with_open (go_along (take taken changes) session.document) (Some (drop taken changes)) session) between
 step_stopped history session changes taken is some stands =
     let found = stands_open history session changes is stands in
     let commands = found.0 in
@@ -242,13 +242,11 @@ step_stopped history session changes taken is some stands =
     let within : taken < length commands = omega (arith, some, found.2.0) in
     let left = take (length commands - taken) commands in
     let document : go_along (take taken changes) session.document ≡ after_all left present =
-    ap (go_along (take taken changes)) (standing_open history session (Some commands) found.1 stands) ∙ between_commands commands present changes taken found.2 (omega (arith, within)) in
-    record {
-      commands = commands;
-      is_open = found.1;
-      some_left = within;
-      stands = open_stands (Some left) history session (go_along (take taken changes) session.document) (Some (drop taken changes)) stands document (lead_out_stopped commands present changes taken found.2 (omega (arith, within)));
-    }
+    ap (go_along (take taken changes)) (standing_open history session (Some commands) found.1 stands) ∙ between_commands commands present changes taken found.2 (omega (arith, within)) in (
+      with_group (Some left) history,
+      record { commands = commands; is_open = found.1; some_left = within; stands = refl },
+      open_stands (Some left) history session (go_along (take taken changes) session.document) (Some (drop taken changes)) stands document (lead_out_stopped commands present changes taken found.2 (omega (arith, within))),
+    )
 
 pub step_cancelled : (history : History) (session : Standing) (changes : List Change) → session.pending ≡ Some changes → StandsFor session history → (next : History) × (cancelled history ≡ Ok next) × StandsFor (with_open (go_along changes session.document) None session) next
 step_cancelled history session changes is stands =

@@ -199,29 +199,35 @@ back_by_redos name point session history closed ready found behind within stands
     let gone = redone_stands (point - length session.undo) session history closed ready (omega arith) stands in
     (at_point (history.floor + point) history, goes_back name point session history closed found stands, rw there at gone)
 
-pub stops_at_undo : (name : List ℕ) (point taken : ℕ) (session : Standing) (history : History) → session.pending ≡ None → IsReady session → point_of name session.marks ≡ Some point → point < length session.undo → taken < length session.undo - point → StandsFor session history → StopsAt name history taken (undone_to (walked taken (undo_walk session)) session)
+pub stops_at_undo : (name : List ℕ) (point taken : ℕ) (session : Standing) (history : History) → session.pending ≡ None → IsReady session → point_of name session.marks ≡ Some point → point < length session.undo → taken < length session.undo - point → StandsFor session history → (between : History) × StopsAt name history taken between × StandsFor (undone_to (walked taken (undo_walk session)) session) between
 stops_at_undo name point taken session history closed ready found before some_left stands =
-    let back = stands.undo_reaches in
-    record {
-      is_closed = is_closed session history closed stands;
-      to = history.floor + point;
-      marked = marked_there name point session history found stands;
-      at = history.present - taken;
-      on_the_way = inl (omega arith, omega arith);
-      stands = undone_stands taken session history closed ready (omega arith) stands;
-    }
+    let back = stands.undo_reaches in (
+      at_point (history.present - taken) history,
+      record {
+        is_closed = is_closed session history closed stands;
+        to = history.floor + point;
+        marked = marked_there name point session history found stands;
+        at = history.present - taken;
+        on_the_way = inl (omega arith, omega arith);
+        stands = refl;
+      },
+      undone_stands taken session history closed ready (omega arith) stands,
+    )
 
-pub stops_at_redo : (name : List ℕ) (point taken : ℕ) (session : Standing) (history : History) → session.pending ≡ None → IsReady session → point_of name session.marks ≡ Some point → point ≤ length session.undo + length session.redo → taken < point - length session.undo → StandsFor session history → StopsAt name history taken (redone_to (walked taken (redo_walk session)) session)
+pub stops_at_redo : (name : List ℕ) (point taken : ℕ) (session : Standing) (history : History) → session.pending ≡ None → IsReady session → point_of name session.marks ≡ Some point → point ≤ length session.undo + length session.redo → taken < point - length session.undo → StandsFor session history → (between : History) × StopsAt name history taken between × StandsFor (redone_to (walked taken (redo_walk session)) session) between
 stops_at_redo name point taken session history closed ready found within some_left stands =
-    let back = stands.undo_reaches in
-    record {
-      is_closed = is_closed session history closed stands;
-      to = history.floor + point;
-      marked = marked_there name point session history found stands;
-      at = history.present + taken;
-      on_the_way = inr (refl, omega arith);
-      stands = redone_stands taken session history closed ready (omega arith) stands;
-    }
+    let back = stands.undo_reaches in (
+      at_point (history.present + taken) history,
+      record {
+        is_closed = is_closed session history closed stands;
+        to = history.floor + point;
+        marked = marked_there name point session history found stands;
+        at = history.present + taken;
+        on_the_way = inr (refl, omega arith);
+        stands = refl;
+      },
+      redone_stands taken session history closed ready (omega arith) stands,
+    )
 
 -- what is answered after a walk that ended, or was stopped
 pub undos_answer : (name : List ℕ) (point : ℕ) (session : Standing) (history : History) (walk : Walk) (ended : Result (Unit {0}) ℕ) (answer : Result (Unit {0}) HistoryError) → MatchResult ended (λ done. answer ≡ Ok done) (λ taken. answer ≡ Err (Stopped taken)) → session.pending ≡ None → IsReady session → point_of name session.marks ≡ Some point → point < length session.undo → OnOk ended (walk ≡ walked (length session.undo - point) (undo_walk session)) → IfErr ended (λ taken. (taken < length session.undo - point) × (walk ≡ walked taken (undo_walk session))) → StandsFor session history → AnswersBack name history answer (undone_to walk session)
@@ -229,14 +235,14 @@ undos_answer name point session history walk (Ok done) answer is closed ready fo
     rw is (subst (λ walk. (after : History) × (gone_back name history ≡ Ok after) × StandsFor (undone_to walk session) after) (sym ok) (back_by_undos name point session history closed ready found before stands))
 undos_answer name point session history walk (Err taken) answer is closed ready found before ok err stands =
     let stopped = stops_at_undo name point taken session history closed ready found before err.0 stands in
-    rw is (inr (taken, refl, subst (λ walk. StopsAt name history taken (undone_to walk session)) (sym err.1) stopped))
+    rw is (inr (taken, stopped.0, refl, stopped.1, subst (λ walk. StandsFor (undone_to walk session) stopped.0) (sym err.1) stopped.2))
 
 pub redos_answer : (name : List ℕ) (point : ℕ) (session : Standing) (history : History) (walk : Walk) (ended : Result (Unit {0}) ℕ) (answer : Result (Unit {0}) HistoryError) → MatchResult ended (λ done. answer ≡ Ok done) (λ taken. answer ≡ Err (Stopped taken)) → session.pending ≡ None → IsReady session → point_of name session.marks ≡ Some point → length session.undo ≤ point → point ≤ length session.undo + length session.redo → OnOk ended (walk ≡ walked (point - length session.undo) (redo_walk session)) → IfErr ended (λ taken. (taken < point - length session.undo) × (walk ≡ walked taken (redo_walk session))) → StandsFor session history → AnswersBack name history answer (redone_to walk session)
 redos_answer name point session history walk (Ok done) answer is closed ready found behind within ok err stands =
     rw is (subst (λ walk. (after : History) × (gone_back name history ≡ Ok after) × StandsFor (redone_to walk session) after) (sym ok) (back_by_redos name point session history closed ready found behind within stands))
 redos_answer name point session history walk (Err taken) answer is closed ready found behind within ok err stands =
     let stopped = stops_at_redo name point taken session history closed ready found within err.0 stands in
-    rw is (inr (taken, refl, subst (λ walk. StopsAt name history taken (redone_to walk session)) (sym err.1) stopped))
+    rw is (inr (taken, stopped.0, refl, stopped.1, subst (λ walk. StandsFor (redone_to walk session) stopped.0) (sym err.1) stopped.2))
 
 -- what `map_err` gives
 pub stopped_from : (ended : Result (Unit {0}) ℕ) (answer : Result (Unit {0}) HistoryError) (Gives : ℕ → HistoryError → Type 0) → ((taken : ℕ) (error : HistoryError) → Gives taken error → error ≡ Stopped taken) → MatchResult ended (λ done. answer ≡ Ok done) (λ taken. IsErrAnd answer (Gives taken)) → MatchResult ended (λ done. answer ≡ Ok done) (λ taken. answer ≡ Err (Stopped taken))

@@ -55,31 +55,31 @@ AnswersCommand command history (Err refusal) new = ((refusal ≡ edit.NoMemory) 
 abbrev pub IsOnTheWay : ℕ → ℕ → ℕ → ℕ → Type 0
 IsOnTheWay from to taken at = ((at + taken ≡ from) × (to < at)) ⊎ ((from + taken ≡ at) × (at < to))
 
--- the history stands so many steps nearer to the mark, and not at it
-pub record StopsAt (name : List ℕ) (history : History) (taken : ℕ) (new : Standing) : Type 0 where
+-- the second history stands so many steps nearer to the mark than the first, and not at it
+pub record StopsAt (name : List ℕ) (history : History) (taken : ℕ) (between : History) : Type 0 where
   pub is_closed : history.group ≡ None
   pub to : ℕ
   pub marked : point_of name history.marks ≡ Some to
   pub at : ℕ
   pub on_the_way : IsOnTheWay history.present to taken at
-  pub stands : StandsFor new (at_point at history)
+  pub stands : between ≡ at_point at history
 
 -- The history is at the marked point, or it is refused so and as before, or want of memory stopped it on the way.
 abbrev pub AnswersBack : List ℕ → History → Result (Unit {0}) HistoryError → Standing → Type 0
 AnswersBack name history (Ok done) new = (after : History) × (gone_back name history ≡ Ok after) × StandsFor new after
-AnswersBack name history (Err error) new = ((gone_back name history ≡ Err error) × StandsFor new history) ⊎ ((taken : ℕ) × (error ≡ Stopped taken) × StopsAt name history taken new)
+AnswersBack name history (Err error) new = ((gone_back name history ≡ Err error) × StandsFor new history) ⊎ ((taken : ℕ) × (between : History) × (error ≡ Stopped taken) × StopsAt name history taken between × StandsFor new between)
 
--- so many commands of the open step were taken back, the last ones, and others are left
-pub record StopsWithin (history : History) (taken : ℕ) (new : Standing) : Type 0 where
+-- so many commands of the open step, the last ones, are taken back in the second history, and others are left
+pub record StopsWithin (history : History) (taken : ℕ) (between : History) : Type 0 where
   pub commands : List Command
   pub is_open : history.group ≡ Some commands
   pub some_left : taken < length commands
-  pub stands : StandsFor new (with_group (Some (take (length commands - taken) commands)) history)
+  pub stands : between ≡ with_group (Some (take (length commands - taken) commands)) history
 
 -- No step is open any more, or it is refused so and as before, or want of memory stopped it within the step.
 abbrev pub AnswersCancel : History → Result (Unit {0}) HistoryError → Standing → Type 0
 AnswersCancel history (Ok done) new = (after : History) × (cancelled history ≡ Ok after) × StandsFor new after
-AnswersCancel history (Err error) new = ((cancelled history ≡ Err error) × StandsFor new history) ⊎ ((taken : ℕ) × (error ≡ Stopped taken) × StopsWithin history taken new)
+AnswersCancel history (Err error) new = ((cancelled history ≡ Err error) × StandsFor new history) ⊎ ((taken : ℕ) × (between : History) × (error ≡ Stopped taken) × StopsWithin history taken between × StandsFor new between)
 
 -- the error says that a request was stopped halfway
 abbrev pub IsStop : HistoryError → Type 0

@@ -1,6 +1,10 @@
 -- What the laws of requests rest on.
-use Rattle.std.proofs.Common.{◌≡◌, ◌≢◌, ◌==◌, inl, inr, ℕ, List, [], ◌++◌, length, Result, Ok, Err, codes, decimal, get_or, refl, ap, subst, arith}
-use Rattle.std.proofs.lemmas.Bool.{cases_Bool}
+use Rattle.std.proofs.Common.{◌≡◌, ◌≢◌, ◌-◌, inl, inr, ℕ, suc, Bool, true, false, ℤ, pos, negsuc, List, [], ◌∷◌, ◌++◌, length, Option, Some, None, Result, Ok, Err, codes, decimal, get_or, refl, sym, ap, subst, ◌∙◌, arith}
+use Rattle.std.specs.Prelude.{◌-ℤ◌, if◌then◌else◌}
+use Rattle.std.specs.Fmt.{signed_decimal}
+use Rattle.std.proofs.lemmas.Grind.{flat_map-append}
+use Rattle.std.proofs.lemmas.List.Elements.{All-append}
+use Rattle.std.specs.List.{flat_map}
 use Rattle.mvt_wire.specs.Plain.{Document}
 use Rattle.mvt_wire.specs.Wire.{bytes_of}
 use Rattle.mvt_command.specs.Command.{Command}
@@ -9,18 +13,22 @@ use Rattle.mvt_meaning.specs.Meaning.{applied}
 use Rattle.mvt_meaning.specs.declared.refusal.Refusal.{Refusal}
 use Rattle.mvt_meaning.specs.declared.refusal.Refusal.TheVariants as edit
 use Rattle.mvt_meaning.proofs.Unwanting.{applied_other}
-use Rattle.tile_request.specs.Request.{Edit, Undo, Size, Lists}
+use Rattle.tile_lines.specs.Lines.{HasNoLineFeed, with_feed}
+use Rattle.tile_text.specs.Texts.{text_form}
+use Rattle.tile_text.proofs.Feeds.{text_form_feedless}
+use Rattle.tile_request.specs.Request.{Edit, Undo, Redo, SetMark, TakeMark, GoBack, Begin, End, Cancel, ListMarks, TellHistory, Size, Lists}
 use Rattle.tile_listing.specs.Listing.{listed}
-use Rattle.tile_listing.specs.Told.{AreLinesToTell}
+use Rattle.tile_listing.specs.Told.{MayBeTold, AreLinesToTell}
 use Rattle.tile_listing.proofs.Telling.{uncut-append, decimal_uncut, none_to_tell, one_to_tell}
 use Rattle.tile_listing.proofs.ListingLaws.{listings_are_lines, listings_have_no_want}
-use Rattle.tile_session.specs.History.{History, present_document, edited_to, edited, taken_back}
-use Rattle.tile_session.specs.declared.session.UndoError.{UndoError}
-use Rattle.tile_session.specs.declared.session.UndoError.TheVariants.{NothingToUndo, NoMemory}
-use Rattle.tile_reply.specs.Replies.{refusal_number, edit_number}
+use Rattle.mvt_history.specs.Marks.{Mark}
+use Rattle.mvt_history.specs.History.{History, standing_document, unless_open, gone_to, ended, edited_to, edited, undone, redone, marked, unmarked, gone_back, opened, closed, cancelled}
+use Rattle.mvt_history.specs.declared.error.HistoryError.{HistoryError}
+use Rattle.mvt_history.specs.declared.error.HistoryError.TheVariants as history_errors
+use Rattle.tile_reply.specs.Replies.{IsWant}
 use Rattle.tile_reply.specs.declared.refused.Refused.{Refused}
 use Rattle.tile_reply.specs.declared.refused.Refused.TheVariants as refused
-use Rattle.tile_answer.specs.Answering.{Told, told_by_edit, told_by_undo, told_by_look, size_line}
+use Rattle.tile_answer.specs.Answering.{Told, told_by_edit, told_by_move, told_by_look, mark_line, mark_lines, reach_line, open_line, open_count, history_lines, size_line}
 use Rattle.tile_answer.specs.Laws.{RequestsTellLines, RequestsHaveNoWant, LooksLeaveHistory}
 
 -- ---- lines
@@ -29,10 +37,16 @@ edit_tells : (made : Result History Refusal) (told : Told) → told_by_edit made
 edit_tells (Ok history) told e = let none : [] ≡ told.lines = cc in subst AreLinesToTell none none_to_tell
 edit_tells (Err refusal) told e = absurd cc
 
-undo_tells : (made : Result History UndoError) (told : Told) → told_by_undo made ≡ Ok told → AreLinesToTell told.lines
-undo_tells (Ok history) told e = let none : [] ≡ told.lines = cc in subst AreLinesToTell none none_to_tell
-undo_tells (Err NothingToUndo) told e = absurd cc
-undo_tells (Err NoMemory) told e = absurd cc
+move_tells : (made : Result History HistoryError) (told : Told) → told_by_move made ≡ Ok told → AreLinesToTell told.lines
+move_tells (Ok history) told e = let none : [] ≡ told.lines = cc in subst AreLinesToTell none none_to_tell
+move_tells (Err error) told e = absurd cc
+
+both_to_tell : (first second : List ℕ) → AreLinesToTell first → AreLinesToTell second → AreLinesToTell (first ++ second)
+both_to_tell first second before behind = record {
+  lines = before.lines ++ behind.lines;
+  spelled = ap (λ text. text ++ second) before.spelled ∙ ap (λ text. flat_map with_feed before.lines ++ text) behind.spelled ∙ sym (flat_map-append with_feed before.lines behind.lines);
+  each = All-append MayBeTold before.lines behind.lines before.each behind.each;
+}
 
 size_to_tell : (document : Document) → AreLinesToTell (size_line document)
 size_to_tell document =
@@ -42,63 +56,164 @@ size_to_tell document =
       other = λ rest e. let apart : ◌≡◌ {A = ℕ} 115 108 = ap (λ (bytes : List ℕ). get_or bytes 0 0) e in omega arith;
     })
 
+signed_uncut : (number : ℤ) → HasNoLineFeed (signed_decimal number)
+signed_uncut (pos number) = decimal_uncut number
+signed_uncut (negsuc number) = (refl, decimal_uncut (suc number))
+
+mark_to_tell : (present : ℕ) (mark : Mark) → AreLinesToTell (mark_line present mark)
+mark_to_tell present mark =
+    let offset = signed_decimal (pos mark.point -ℤ pos present) in
+    let named = uncut-append (codes "mark ") (text_form mark.name) (refl, (refl, (refl, (refl, (refl, tt))))) (text_form_feedless mark.name) in
+    let spaced = uncut-append (codes "mark " ++ text_form mark.name) (codes " ") named (refl, tt) in
+    one_to_tell (codes "mark " ++ text_form mark.name ++ codes " " ++ offset) (record {
+      uncut = uncut-append (codes "mark " ++ text_form mark.name ++ codes " ") offset spaced (signed_uncut (pos mark.point -ℤ pos present));
+      other = λ rest e. let apart : ◌≡◌ {A = ℕ} 109 108 = ap (λ (bytes : List ℕ). get_or bytes 0 0) e in omega arith;
+    })
+
+marks_to_tell : (present : ℕ) (marks : List Mark) → AreLinesToTell (flat_map (mark_line present) marks)
+marks_to_tell present [] = none_to_tell
+marks_to_tell present (mark ∷ marks) = both_to_tell (mark_line present mark) (flat_map (mark_line present) marks) (mark_to_tell present mark) (marks_to_tell present marks)
+
+reach_to_tell : (undo redo depth : ℕ) → AreLinesToTell (reach_line undo redo depth)
+reach_to_tell undo redo depth =
+    let first = uncut-append (codes "undo ") (decimal undo) (refl, (refl, (refl, (refl, (refl, tt))))) (decimal_uncut undo) in
+    let second = uncut-append (codes "undo " ++ decimal undo) (codes " redo ") first (refl, (refl, (refl, (refl, (refl, (refl, tt)))))) in
+    let third = uncut-append (codes "undo " ++ decimal undo ++ codes " redo ") (decimal redo) second (decimal_uncut redo) in
+    let fourth = uncut-append (codes "undo " ++ decimal undo ++ codes " redo " ++ decimal redo) (codes " depth ") third (refl, (refl, (refl, (refl, (refl, (refl, (refl, tt))))))) in
+    one_to_tell (codes "undo " ++ decimal undo ++ codes " redo " ++ decimal redo ++ codes " depth " ++ decimal depth) (record {
+      uncut = uncut-append (codes "undo " ++ decimal undo ++ codes " redo " ++ decimal redo ++ codes " depth ") (decimal depth) fourth (decimal_uncut depth);
+      other = λ rest e. let apart : ◌≡◌ {A = ℕ} 117 108 = ap (λ (bytes : List ℕ). get_or bytes 0 0) e in omega arith;
+    })
+
+step_to_tell : (commands : Option ℕ) → AreLinesToTell (open_line commands)
+step_to_tell None = none_to_tell
+step_to_tell (Some commands) =
+    one_to_tell (codes "open " ++ decimal commands) (record {
+      uncut = uncut-append (codes "open ") (decimal commands) (refl, (refl, (refl, (refl, (refl, tt))))) (decimal_uncut commands);
+      other = λ rest e. let apart : ◌≡◌ {A = ℕ} 111 108 = ap (λ (bytes : List ℕ). get_or bytes 0 0) e in omega arith;
+    })
+
+history_to_tell : (history : History) → AreLinesToTell (history_lines history)
+history_to_tell history =
+    both_to_tell (reach_line (history.present - history.floor) (length history.steps - history.present) history.depth) (open_line (open_count history.group))
+    (reach_to_tell (history.present - history.floor) (length history.steps - history.present) history.depth) (step_to_tell (open_count history.group))
+
 look_tells : (history : History) (shown : Result (List ℕ) Refusal) (told : Told) → ((lines : List ℕ) → shown ≡ Ok lines → AreLinesToTell lines) → told_by_look history shown ≡ Ok told → AreLinesToTell told.lines
 look_tells history (Ok lines) told each e = let same : lines ≡ told.lines = cc in subst AreLinesToTell same (each lines refl)
 look_tells history (Err refusal) told each e = absurd cc
 
+-- lines that are always told
+tells_these : (history : History) (lines : List ℕ) (told : Told) → AreLinesToTell lines → told_by_look history (Ok lines) ≡ Ok told → AreLinesToTell told.lines
+tells_these history lines told may e = look_tells history (Ok lines) told (λ others is. let same : lines ≡ others = cc in subst AreLinesToTell same may) e
+
 pub requests_tell_lines : RequestsTellLines
 requests_tell_lines (Edit command) history told e = edit_tells (edited command history) told e
-requests_tell_lines Undo history told e = undo_tells (taken_back history) told e
-requests_tell_lines Size history told e =
-    look_tells history (Ok (size_line (present_document history))) told
-    (λ lines is. let same : size_line (present_document history) ≡ lines = cc in subst AreLinesToTell same (size_to_tell (present_document history))) e
+requests_tell_lines Undo history told e = move_tells (undone history) told e
+requests_tell_lines Redo history told e = move_tells (redone history) told e
+requests_tell_lines (SetMark name) history told e = move_tells (marked name history) told e
+requests_tell_lines (TakeMark name) history told e = move_tells (unmarked name history) told e
+requests_tell_lines (GoBack name) history told e = move_tells (gone_back name history) told e
+requests_tell_lines Begin history told e = move_tells (opened history) told e
+requests_tell_lines End history told e = move_tells (closed history) told e
+requests_tell_lines Cancel history told e = move_tells (cancelled history) told e
+requests_tell_lines ListMarks history told e = tells_these history (mark_lines history) told (marks_to_tell history.present history.marks) e
+requests_tell_lines TellHistory history told e = tells_these history (history_lines history) told (history_to_tell history) e
+requests_tell_lines Size history told e = tells_these history (size_line (standing_document history)) told (size_to_tell (standing_document history)) e
 requests_tell_lines (Lists what) history told e =
-    look_tells history (listed what (present_document history)) told (listings_are_lines what (present_document history)) e
+    look_tells history (listed what (standing_document history)) told (listings_are_lines what (standing_document history)) e
 
 -- ---- refusals
 
-edit_is_other : (refusal : Refusal) → refusal ≢ edit.NoMemory → edit_number refusal ≢ 60
-edit_is_other edit.NoLayer other e = omega arith
-edit_is_other edit.AmbiguousLayer other e = omega arith
-edit_is_other edit.NoFeature other e = omega arith
-edit_is_other edit.BadPlace other e = omega arith
-edit_is_other edit.AmbiguousFeature other e = omega arith
-edit_is_other edit.NameTaken other e = omega arith
-edit_is_other edit.OutOfRange other e = omega arith
-edit_is_other edit.TooLarge other e = omega arith
-edit_is_other edit.NoMemory other e = other refl
+edit_is_other : (refusal : Refusal) → refusal ≢ edit.NoMemory → ¬ (IsWant (refused.Edit refusal))
+edit_is_other edit.NoLayer other want = elim want [ inl e ↦ omega arith | inr e ↦ omega arith ]
+edit_is_other edit.AmbiguousLayer other want = elim want [ inl e ↦ omega arith | inr e ↦ omega arith ]
+edit_is_other edit.NoFeature other want = elim want [ inl e ↦ omega arith | inr e ↦ omega arith ]
+edit_is_other edit.BadPlace other want = elim want [ inl e ↦ omega arith | inr e ↦ omega arith ]
+edit_is_other edit.AmbiguousFeature other want = elim want [ inl e ↦ omega arith | inr e ↦ omega arith ]
+edit_is_other edit.NameTaken other want = elim want [ inl e ↦ omega arith | inr e ↦ omega arith ]
+edit_is_other edit.OutOfRange other want = elim want [ inl e ↦ omega arith | inr e ↦ omega arith ]
+edit_is_other edit.TooLarge other want = elim want [ inl e ↦ omega arith | inr e ↦ omega arith ]
+edit_is_other edit.NoMemory other want = other refl
 
-edit_has_no_want : (command : Command) (history : History) (made : Result Document Refusal) (reason : Refused) → Other edit.NoMemory made → told_by_edit (edited_to command history made) ≡ Err reason → refusal_number reason ≢ 60
+-- neither want of memory nor a stop
+abbrev IsOther : HistoryError → Type 0
+IsOther error = ¬ (IsWant (refused.History error))
+
+edit_has_no_want : (command : Command) (history : History) (made : Result Document Refusal) (reason : Refused) → Other edit.NoMemory made → told_by_edit (edited_to command history made) ≡ Err reason → ¬ (IsWant reason)
 edit_has_no_want command history (Ok document) reason other e = absurd cc
 edit_has_no_want command history (Err refusal) reason other e =
-    let same : refused.Edit refusal ≡ reason = cc in subst (λ (r : Refused). refusal_number r ≢ 60) same (edit_is_other refusal other)
+    let same : refused.Edit refusal ≡ reason = cc in subst (λ (r : Refused). ¬ (IsWant r)) same (edit_is_other refusal other)
 
-undo_has_no_want : (made : Result History UndoError) (reason : Refused) → made ≢ Err NoMemory → told_by_undo made ≡ Err reason → refusal_number reason ≢ 60
-undo_has_no_want (Ok history) reason other e = absurd cc
-undo_has_no_want (Err NothingToUndo) reason other e =
-    let same : refused.NothingToUndo ≡ reason = cc in subst (λ (r : Refused). refusal_number r ≢ 60) same (λ no. omega arith)
-undo_has_no_want (Err NoMemory) reason other e = absurd (other refl)
+-- a request is refused for other reasons alone
+abbrev RefusesOther : Result History HistoryError → Type 0
+RefusesOther (Ok history) = Unit {0}
+RefusesOther (Err error) = IsOther error
 
--- to take a command back is never refused for want of memory
-undo_is_other : (history : History) → taken_back history ≢ Err NoMemory
-undo_is_other history e =
-    elim (cases_Bool (history.present == history.floor)) [
-      | inl at_floor ↦ absurd (let refused = rw at_floor at e in cc)
-      | inr not_at ↦ absurd (let done = rw not_at at e in cc)
-    ]
+move_has_no_want : (made : Result History HistoryError) (reason : Refused) → RefusesOther made → told_by_move made ≡ Err reason → ¬ (IsWant reason)
+move_has_no_want (Ok history) reason other e = absurd cc
+move_has_no_want (Err error) reason other e =
+    let same : refused.History error ≡ reason = cc in subst (λ (r : Refused). ¬ (IsWant r)) same other
 
-look_has_no_want : (history : History) (shown : Result (List ℕ) Refusal) (reason : Refused) → shown ≢ Err edit.NoMemory → told_by_look history shown ≡ Err reason → refusal_number reason ≢ 60
+other_either : (q : Bool) (error : HistoryError) (history : History) → IsOther error → RefusesOther (if q then Err error else Ok history)
+other_either true error history other = other
+other_either false error history other = tt
+
+either_other : (q : Bool) (error : HistoryError) (history : History) → IsOther error → RefusesOther (if q then Ok history else Err error)
+either_other true error history other = tt
+either_other false error history other = other
+
+nothing_to_undo : IsOther history_errors.NothingToUndo
+nothing_to_undo want = elim want [ inl e ↦ omega arith | inr e ↦ omega arith ]
+
+nothing_to_redo : IsOther history_errors.NothingToRedo
+nothing_to_redo want = elim want [ inl e ↦ omega arith | inr e ↦ omega arith ]
+
+no_mark : IsOther history_errors.NoMark
+no_mark want = elim want [ inl e ↦ omega arith | inr e ↦ omega arith ]
+
+too_many_marks : IsOther history_errors.TooManyMarks
+too_many_marks want = elim want [ inl e ↦ omega arith | inr e ↦ omega arith ]
+
+group_open : IsOther history_errors.GroupOpen
+group_open want = elim want [ inl e ↦ omega arith | inr e ↦ omega arith ]
+
+no_group : IsOther history_errors.NoGroup
+no_group want = elim want [ inl e ↦ omega arith | inr e ↦ omega arith ]
+
+unless_open_other : (group : Option (List Command)) (answer : Result History HistoryError) → RefusesOther answer → RefusesOther (unless_open group answer)
+unless_open_other None answer other = other
+unless_open_other (Some commands) answer other = group_open
+
+gone_to_other : (point : Option ℕ) (history : History) → RefusesOther (gone_to point history)
+gone_to_other None history = no_mark
+gone_to_other (Some point) history = tt
+
+ended_other : (group : Option (List Command)) (history : History) → RefusesOther (ended group history)
+ended_other None history = no_group
+ended_other (Some []) history = tt
+ended_other (Some (command ∷ commands)) history = tt
+
+look_has_no_want : (history : History) (shown : Result (List ℕ) Refusal) (reason : Refused) → shown ≢ Err edit.NoMemory → told_by_look history shown ≡ Err reason → ¬ (IsWant reason)
 look_has_no_want history (Ok lines) reason other e = absurd cc
 look_has_no_want history (Err refusal) reason other e =
-    let same : refused.Edit refusal ≡ reason = cc in subst (λ (r : Refused). refusal_number r ≢ 60) same (edit_is_other refusal (λ want. other (ap Err want)))
+    let same : refused.Edit refusal ≡ reason = cc in subst (λ (r : Refused). ¬ (IsWant r)) same (edit_is_other refusal (λ want. other (ap Err want)))
 
 pub requests_have_no_want : RequestsHaveNoWant
 requests_have_no_want (Edit command) history reason e =
-    edit_has_no_want command history (applied command (present_document history)) reason (applied_other command (present_document history)) e
-requests_have_no_want Undo history reason e = undo_has_no_want (taken_back history) reason (undo_is_other history) e
+    edit_has_no_want command history (applied command (standing_document history)) reason (applied_other command (standing_document history)) e
+requests_have_no_want Undo history reason e = move_has_no_want (undone history) reason (unless_open_other history.group _ (other_either _ _ _ nothing_to_undo)) e
+requests_have_no_want Redo history reason e = move_has_no_want (redone history) reason (unless_open_other history.group _ (other_either _ _ _ nothing_to_redo)) e
+requests_have_no_want (SetMark name) history reason e = move_has_no_want (marked name history) reason (unless_open_other history.group _ (either_other _ _ _ too_many_marks)) e
+requests_have_no_want (TakeMark name) history reason e = move_has_no_want (unmarked name history) reason (unless_open_other history.group _ (either_other _ _ _ no_mark)) e
+requests_have_no_want (GoBack name) history reason e = move_has_no_want (gone_back name history) reason (unless_open_other history.group _ (gone_to_other _ history)) e
+requests_have_no_want Begin history reason e = move_has_no_want (opened history) reason (unless_open_other history.group _ tt) e
+requests_have_no_want End history reason e = move_has_no_want (closed history) reason (ended_other history.group history) e
+requests_have_no_want Cancel history reason e = move_has_no_want (cancelled history) reason (either_other _ _ _ no_group) e
+requests_have_no_want ListMarks history reason e = absurd cc
+requests_have_no_want TellHistory history reason e = absurd cc
 requests_have_no_want Size history reason e = absurd cc
 requests_have_no_want (Lists what) history reason e =
-    look_has_no_want history (listed what (present_document history)) reason (listings_have_no_want what (present_document history)) e
+    look_has_no_want history (listed what (standing_document history)) reason (listings_have_no_want what (standing_document history)) e
 
 -- ---- looks
 
@@ -109,5 +224,14 @@ look_leaves history (Err refusal) told e = absurd cc
 pub looks_leave_history : LooksLeaveHistory
 looks_leave_history (Edit command) history told looks e = absurd looks
 looks_leave_history Undo history told looks e = absurd looks
-looks_leave_history Size history told looks e = look_leaves history (Ok (size_line (present_document history))) told e
-looks_leave_history (Lists what) history told looks e = look_leaves history (listed what (present_document history)) told e
+looks_leave_history Redo history told looks e = absurd looks
+looks_leave_history (SetMark name) history told looks e = absurd looks
+looks_leave_history (TakeMark name) history told looks e = absurd looks
+looks_leave_history (GoBack name) history told looks e = absurd looks
+looks_leave_history Begin history told looks e = absurd looks
+looks_leave_history End history told looks e = absurd looks
+looks_leave_history Cancel history told looks e = absurd looks
+looks_leave_history ListMarks history told looks e = look_leaves history (Ok (mark_lines history)) told e
+looks_leave_history TellHistory history told looks e = look_leaves history (Ok (history_lines history)) told e
+looks_leave_history Size history told looks e = look_leaves history (Ok (size_line (standing_document history))) told e
+looks_leave_history (Lists what) history told looks e = look_leaves history (listed what (standing_document history)) told e

@@ -1,1 +1,3 @@
 pub mod AnswerLaws
+pub mod Stopping
+pub mod Telling

@@ -1,17 +1,56 @@
 -- How a session answers a request.
 use Rattle.std.specs.Prelude.{◌≡◌, ◌⊎◌, ℕ, Result, Ok, Err}
 use Rattle.mvt_wire.specs.Held.{Held}
-use Rattle.mvt_meaning.specs.declared.refusal.Refusal.TheVariants.{NoMemory}
-use Rattle.tile_request.specs.Request.{Request}
-use Rattle.tile_session.specs.History.{History}
-use Rattle.tile_session.specs.Session.{StandsFor}
-use Rattle.tile_session.specs.Standing.{Standing}
+use Rattle.tile_request.specs.Request.{Request, Edit, Undo, Redo, SetMark, TakeMark, GoBack, Begin, End, Cancel, ListMarks, TellHistory, Size, Lists}
+use Rattle.mvt_history.specs.History.{History}
+use Rattle.mvt_history.specs.Session.{StandsFor, StopsAt, StopsWithin}
+use Rattle.mvt_history.specs.Standing.{Standing}
+use Rattle.mvt_history.specs.declared.error.HistoryError.TheVariants.{Stopped}
+use Rattle.tile_reply.specs.Replies.{refusal_number}
 use Rattle.tile_reply.specs.declared.refused.Refused.{Refused}
 use Rattle.tile_reply.specs.declared.refused.Refused.TheVariants as refused
 use Rattle.tile_answer.specs.Answering.{carried_out}
 
--- The request is carried out on the history as it is defined, or refused as it is defined.
--- Want of memory, and no other refusal, may come in its place. After a refusal the history is as before.
+-- The request may be refused for want of memory: not one that takes none, nor one that is stopped in that case.
+abbrev pub MayWant : Request → Type 0
+MayWant (Edit command) = Unit {0}
+MayWant Undo = Unit {0}
+MayWant Redo = Unit {0}
+MayWant (SetMark name) = Unit {0}
+MayWant (TakeMark name) = ⊥
+MayWant (GoBack name) = ⊥
+MayWant Begin = ⊥
+MayWant End = Unit {0}
+MayWant Cancel = ⊥
+MayWant ListMarks = Unit {0}
+MayWant TellHistory = Unit {0}
+MayWant Size = Unit {0}
+MayWant (Lists what) = Unit {0}
+
+-- The request may be stopped with so many steps, or commands of the open step, taken, and the second history stands then.
+abbrev pub MayStop : Request → History → ℕ → History → Type 0
+MayStop (Edit command) history taken between = ⊥
+MayStop Undo history taken between = ⊥
+MayStop Redo history taken between = ⊥
+MayStop (SetMark name) history taken between = ⊥
+MayStop (TakeMark name) history taken between = ⊥
+MayStop (GoBack name) history taken between = StopsAt name history taken between
+MayStop Begin history taken between = ⊥
+MayStop End history taken between = ⊥
+MayStop Cancel history taken between = StopsWithin history taken between
+MayStop ListMarks history taken between = ⊥
+MayStop TellHistory history taken between = ⊥
+MayStop Size history taken between = ⊥
+MayStop (Lists what) history taken between = ⊥
+
+-- it is refused as it is defined, or, where it may be, for want of memory
+abbrev pub IsRefused : Request → History → Refused → Type 0
+IsRefused request history reason = (MayWant request × (refusal_number reason ≡ 60)) ⊎ (carried_out request history ≡ Err reason)
+
+-- The request is carried out on the history as it is defined, or it is refused, and the history is as before, or it was
+-- stopped.
 abbrev pub Answers : Request → History → Result (Held ℕ) Refused → Standing → Type 0
 Answers request history (Ok lines) new = (after : History) × (carried_out request history ≡ Ok (record { lines = lines.items; history = after })) × StandsFor new after
-Answers request history (Err reason) new = ((reason ≡ refused.Edit NoMemory) ⊎ (carried_out request history ≡ Err reason)) × StandsFor new history
+Answers request history (Err reason) new =
+    (IsRefused request history reason × StandsFor new history)
+    ⊎ ((taken : ℕ) × (between : History) × (reason ≡ refused.History (Stopped taken)) × MayStop request history taken between × StandsFor new between)

@@ -1,9 +1,9 @@
 -- Laws of what requests tell.
-use Rattle.std.specs.Prelude.{◌≡◌, ◌≢◌, Ok, Err}
-use Rattle.tile_request.specs.Request.{Request, Edit, Undo, Size, Lists}
+use Rattle.std.specs.Prelude.{◌≡◌, Ok, Err}
+use Rattle.tile_request.specs.Request.{Request, Edit, Undo, Redo, SetMark, TakeMark, GoBack, Begin, End, Cancel, ListMarks, TellHistory, Size, Lists}
 use Rattle.tile_listing.specs.Told.{AreLinesToTell}
-use Rattle.tile_session.specs.History.{History}
-use Rattle.tile_reply.specs.Replies.{refusal_number}
+use Rattle.mvt_history.specs.History.{History}
+use Rattle.tile_reply.specs.Replies.{IsWant}
 use Rattle.tile_reply.specs.declared.refused.Refused.{Refused}
 use Rattle.tile_answer.specs.Answering.{Told, carried_out}
 
@@ -11,14 +11,23 @@ use Rattle.tile_answer.specs.Answering.{Told, carried_out}
 abbrev pub RequestsTellLines : Type 0
 RequestsTellLines = (request : Request) (history : History) (told : Told) → carried_out request history ≡ Ok told → AreLinesToTell told.lines
 
--- No request is refused with the number of want of memory by its definition.
+-- No request is refused for want of memory by its definition, or stopped.
 abbrev pub RequestsHaveNoWant : Type 0
-RequestsHaveNoWant = (request : Request) (history : History) (reason : Refused) → carried_out request history ≡ Err reason → refusal_number reason ≢ 60
+RequestsHaveNoWant = (request : Request) (history : History) (reason : Refused) → carried_out request history ≡ Err reason → ¬ (IsWant reason)
 
 -- a request that only looks
 abbrev pub Looks : Request → Type 0
 Looks (Edit command) = ⊥
 Looks Undo = ⊥
+Looks Redo = ⊥
+Looks (SetMark name) = ⊥
+Looks (TakeMark name) = ⊥
+Looks (GoBack name) = ⊥
+Looks Begin = ⊥
+Looks End = ⊥
+Looks Cancel = ⊥
+Looks ListMarks = Unit {0}
+Looks TellHistory = Unit {0}
 Looks Size = Unit {0}
 Looks (Lists what) = Unit {0}
 

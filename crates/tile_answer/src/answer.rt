@@ -1,21 +1,19 @@
 //! A request, carried out in a session.
 
-ghost use Rattle.std.specs.Prelude.{◌≡◌, [], IfOk, IfErr, OnErr};
-ghost use Rattle.mvt_wire.specs.Stands.{document_of};
-ghost use Rattle.mvt_meaning.specs.declared.refusal.Refusal.TheVariants.{NoMemory};
+ghost use Rattle.std.specs.Prelude.{◌≡◌, ◌⊎◌, [], IfErr};
+ghost use Rattle.mvt_history.specs.History.{History};
+ghost use Rattle.mvt_history.specs.Session.{StandsFor};
 ghost use Rattle.tile_request.specs.RequestStands.{request_of};
-ghost use Rattle.tile_session.specs.History.{History};
-ghost use Rattle.tile_session.specs.Session.{StandsFor};
-ghost use Rattle.tile_answer.specs.Answering.{size_line};
+ghost use Rattle.tile_reply.specs.Replies.{refusal_number};
 ghost use Rattle.tile_answer.specs.Answers.{Answers};
 
-use mvt_meaning::Refusal;
-use mvt_wire::{Document, Items, size};
+use crate::told::{history_lines, mark_lines, size_line};
+use mvt_history::Session;
+use mvt_wire::Items;
 use std::alloc::Global;
 use tile_listing::listing;
 use tile_reply::Refused;
 use tile_request::Request;
-use tile_session::{Session, UndoError};
 
 /// Carries out a request, and gives the lines that it tells, each with its line feed.
 pub fn carry_out(
@@ -25,38 +23,28 @@ pub fn carry_out(
 ) -> Result<Items<u8>, Refused>
     ensures answer { (history : History) → StandsFor session.old history →
         Answers (request_of request.now) history result session.new }
-    ensures err { OnErr result (session.new ≡ session.old) }
+    ensures err { IfErr result (λ reason. (session.new ≡ session.old) ⊎ (refusal_number reason ≡ 54)) }
 {
     match request {
-        Request::Edit(command) => {
-            session.command(command)?;
-            Ok(no_lines(alloc))
-        }
-        Request::Undo => match session.undo() {
-            Ok(()) => Ok(no_lines(alloc)),
-            Err(UndoError::NothingToUndo) => Err(Refused::NothingToUndo),
-            Err(UndoError::NoMemory) => Err(Refused::Edit(Refusal::NoMemory)),
-        },
-        Request::Size => Ok(size_line(alloc, session.document())?),
-        Request::List(what) => Ok(listing(alloc, session.document(), what)?),
+        Request::Edit(command) => session.command(command)?,
+        Request::Undo => session.undo()?,
+        Request::Redo => session.redo()?,
+        Request::Mark(name) => session.mark(name.as_slice())?,
+        Request::Unmark(name) => session.unmark(name.as_slice())?,
+        Request::Back(name) => session.back(name.as_slice())?,
+        Request::Begin => session.begin()?,
+        Request::End => session.end()?,
+        Request::Cancel => session.cancel()?,
+        Request::Marks => return Ok(mark_lines(alloc, session)?),
+        Request::History => return Ok(history_lines(alloc, session)?),
+        Request::Size => return Ok(size_line(alloc, session.document())?),
+        Request::List(what) => return Ok(listing(alloc, session.document(), what)?),
     }
+    Ok(no_lines(alloc))
 }
 
 fn no_lines(alloc: Global) -> Items<u8>
     ensures { result.items ≡ [] }
 {
     Items::from_vec(Vec::new(alloc))
-}
-
-/// The line that tells how many bytes the document has. Where they are more than a file can hold,
-/// which no tile of a run has, they are not counted, and memory is wanted.
-fn size_line(alloc: Global, document: &Document) -> Result<Items<u8>, Refusal>
-    ensures line { IfOk result (λ line. line.items ≡ size_line (document_of document.now)) }
-    ensures want { IfErr result (λ refusal. refusal ≡ NoMemory) }
-{
-    let Some(size) = size(document) else {
-        return Err(Refusal::NoMemory);
-    };
-    let line = format!(in alloc; "size {size}\n")?;
-    Ok(Items::from_vec(line.into_bytes()))
 }

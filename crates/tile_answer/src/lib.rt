@@ -3,5 +3,6 @@
 
 mod answer;
 pub mod laws;
+mod told;
 
 pub use answer::carry_out;

@@ -1,11 +1,13 @@
 -- What is written in reply to a line.
-use Rattle.std.specs.Prelude.{◌≢◌, ℕ, List, ◌++◌, Result, Ok, Err, codes, decimal}
+use Rattle.std.specs.Prelude.{◌≡◌, ◌≢◌, ◌⊎◌, ℕ, List, [], ◌++◌, Option, Some, None, Result, Ok, Err, codes, decimal}
 use Rattle.std.specs.Borrow.{Bor}
 use Rattle.tile_lines.specs.Lines.{EndsWithALine}
 use Rattle.tile_words.specs.declared.parse_error.ParseError.{ParseError}
 use Rattle.tile_words.specs.declared.parse_error.ParseError.TheVariants as parse
 use Rattle.mvt_meaning.specs.declared.refusal.Refusal.{Refusal}
 use Rattle.mvt_meaning.specs.declared.refusal.Refusal.TheVariants as edit
+use Rattle.mvt_history.specs.declared.error.HistoryError.{HistoryError}
+use Rattle.mvt_history.specs.declared.error.HistoryError.TheVariants as history
 use Rattle.tile_reply.specs.declared.refused.Refused.{Refused}
 use Rattle.tile_reply.specs.declared.refused.Refused.TheVariants as refused
 
@@ -53,24 +55,68 @@ edit_name edit.OutOfRange = codes "OutOfRange"
 edit_name edit.TooLarge = codes "TooLarge"
 edit_name edit.NoMemory = codes "NoMemory"
 
+abbrev pub history_number : HistoryError → ℕ
+history_number history.NothingToUndo = 50
+history_number history.NothingToRedo = 51
+history_number history.NoMark = 52
+history_number history.TooManyMarks = 53
+history_number (history.Stopped taken) = 54
+history_number history.GroupOpen = 55
+history_number history.NoGroup = 56
+history_number history.NoMemory = 60
+
+abbrev pub history_name : HistoryError → List ℕ
+history_name history.NothingToUndo = codes "NothingToUndo"
+history_name history.NothingToRedo = codes "NothingToRedo"
+history_name history.NoMark = codes "NoMark"
+history_name history.TooManyMarks = codes "TooManyMarks"
+history_name (history.Stopped taken) = codes "Stopped"
+history_name history.GroupOpen = codes "GroupOpen"
+history_name history.NoGroup = codes "NoGroup"
+history_name history.NoMemory = codes "NoMemory"
+
 abbrev pub refusal_number : Refused → ℕ
 refusal_number (refused.Parse error) = parse_number error
 refusal_number (refused.Edit refusal) = edit_number refusal
-refusal_number refused.NothingToUndo = 50
+refusal_number (refused.History error) = history_number error
 
 abbrev pub refusal_name : Refused → List ℕ
 refusal_name (refused.Parse error) = parse_name error
 refusal_name (refused.Edit refusal) = edit_name refusal
-refusal_name refused.NothingToUndo = codes "NothingToUndo"
+refusal_name (refused.History error) = history_name error
+
+-- how many steps, or commands of the open step, were taken before a request was stopped
+abbrev pub taken_before : HistoryError → Option ℕ
+taken_before history.NothingToUndo = None
+taken_before history.NothingToRedo = None
+taken_before history.NoMark = None
+taken_before history.TooManyMarks = None
+taken_before (history.Stopped taken) = Some taken
+taken_before history.GroupOpen = None
+taken_before history.NoGroup = None
+taken_before history.NoMemory = None
+
+abbrev pub taken_in : Refused → Option ℕ
+taken_in (refused.Parse error) = None
+taken_in (refused.Edit refusal) = None
+taken_in (refused.History error) = taken_before error
 
 -- to a request that is accepted: what it tells, and then that it is accepted
 abbrev pub accepted_reply : List ℕ → List ℕ
 accepted_reply lines = lines ++ codes "ok\n"
 
+-- which line was refused, and why
+abbrev pub refused_front : ℕ → Refused → List ℕ
+refused_front line reason = codes "line " ++ decimal line ++ codes " refused " ++ decimal (refusal_number reason) ++ codes " " ++ refusal_name reason
+
+-- of a request that was stopped: how far it came
+abbrev pub stop_told : Option ℕ → List ℕ
+stop_told None = []
+stop_told (Some taken) = codes " taken " ++ decimal taken
+
 -- to the line of this number, where it is refused
 abbrev pub refused_reply : ℕ → Refused → List ℕ
-refused_reply line reason =
-    codes "line " ++ decimal line ++ codes " refused " ++ decimal (refusal_number reason) ++ codes " " ++ refusal_name reason ++ codes "\n"
+refused_reply line reason = refused_front line reason ++ stop_told (taken_in reason) ++ codes "\n"
 
 -- what was answered to a line, with the bytes that it tells
 abbrev pub answer_seen : Result (Bor (List ℕ)) Refused → Result (List ℕ) Refused
@@ -82,10 +128,10 @@ abbrev pub reply_to : ℕ → Result (List ℕ) Refused → List ℕ
 reply_to line (Ok lines) = accepted_reply lines
 reply_to line (Err reason) = refused_reply line reason
 
--- the reply to a line that memory was refused to
-abbrev pub want_of_memory : ℕ → List ℕ
-want_of_memory line = refused_reply line (refused.Parse parse.NoMemory)
+-- memory was refused to the line, or to a part of what it asks for
+abbrev pub IsWant : Refused → Type 0
+IsWant reason = (refusal_number reason ≡ 60) ⊎ (refusal_number reason ≡ 54)
 
 -- No reply to a line says so: none does at the front, nor behind a line feed.
 abbrev pub HasNoWant : List ℕ → Type 0
-HasNoWant replies = (line : ℕ) (front rest : List ℕ) → EndsWithALine front → replies ≢ front ++ want_of_memory line ++ rest
+HasNoWant replies = (line : ℕ) (reason : Refused) (front rest : List ℕ) → EndsWithALine front → IsWant reason → replies ≢ front ++ refused_reply line reason ++ rest

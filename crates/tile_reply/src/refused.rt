@@ -1,9 +1,10 @@
 //! Why a line was refused, in the words of a reply.
 
 ghost use Rattle.std.specs.Prelude.{◌≡◌};
-ghost use Rattle.tile_reply.specs.Replies.{refusal_number, refusal_name, parse_number, parse_name, edit_number, edit_name};
-ghost use Rattle.tile_reply.specs.declared.refused.Refused.TheVariants.{Edit};
+ghost use Rattle.tile_reply.specs.Replies.{refusal_number, refusal_name, parse_number, parse_name, edit_number, edit_name, history_number, history_name, taken_in};
+ghost use Rattle.tile_reply.specs.declared.refused.Refused.TheVariants.{Edit, History};
 
+use mvt_history::HistoryError;
 use mvt_meaning::Refusal;
 use thiserror::Error;
 use tile_words::ParseError;
@@ -15,8 +16,8 @@ pub enum Refused {
     Parse(ParseError),
     #[error("{0}")]
     Edit(Refusal),
-    #[error("there is nothing to undo")]
-    NothingToUndo,
+    #[error("{0}")]
+    History(HistoryError),
 }
 
 impl From<Refusal> for Refused {
@@ -24,6 +25,14 @@ impl From<Refusal> for Refused {
 
     fn from(refusal: Refusal) -> Refused {
         Refused::Edit(refusal)
+    }
+}
+
+impl From<HistoryError> for Refused {
+    ghost from_gives = { λ error refused. refused ≡ History error };
+
+    fn from(error: HistoryError) -> Refused {
+        Refused::History(error)
     }
 }
 
@@ -35,7 +44,7 @@ impl Refused {
         match self {
             Refused::Parse(error) => parse_number(error),
             Refused::Edit(refusal) => edit_number(refusal),
-            Refused::NothingToUndo => 50,
+            Refused::History(error) => history_number(error),
         }
     }
 
@@ -46,7 +55,18 @@ impl Refused {
         match self {
             Refused::Parse(error) => parse_name(error),
             Refused::Edit(refusal) => edit_name(refusal),
-            Refused::NothingToUndo => "NothingToUndo",
+            Refused::History(error) => history_name(error),
+        }
+    }
+
+    /// How many steps, or commands of the open step, were taken before want of memory stopped the
+    /// request.
+    pub fn taken(self) -> Option<usize>
+        ensures { result ≡ taken_in self }
+    {
+        match self {
+            Refused::History(HistoryError::Stopped { taken }) => Some(taken),
+            _ => None,
         }
     }
 }
@@ -112,5 +132,35 @@ fn edit_name(refusal: Refusal) -> &'static str
         Refusal::OutOfRange => "OutOfRange",
         Refusal::TooLarge => "TooLarge",
         Refusal::NoMemory => "NoMemory",
+    }
+}
+
+fn history_number(error: HistoryError) -> u8
+    ensures { result ≡ history_number error }
+{
+    match error {
+        HistoryError::NothingToUndo => 50,
+        HistoryError::NothingToRedo => 51,
+        HistoryError::NoMark => 52,
+        HistoryError::TooManyMarks => 53,
+        HistoryError::Stopped { .. } => 54,
+        HistoryError::GroupOpen => 55,
+        HistoryError::NoGroup => 56,
+        HistoryError::NoMemory => 60,
+    }
+}
+
+fn history_name(error: HistoryError) -> &'static str
+    ensures { result.now ≡ history_name error }
+{
+    match error {
+        HistoryError::NothingToUndo => "NothingToUndo",
+        HistoryError::NothingToRedo => "NothingToRedo",
+        HistoryError::NoMark => "NoMark",
+        HistoryError::TooManyMarks => "TooManyMarks",
+        HistoryError::Stopped { .. } => "Stopped",
+        HistoryError::GroupOpen => "GroupOpen",
+        HistoryError::NoGroup => "NoGroup",
+        HistoryError::NoMemory => "NoMemory",
     }
 }

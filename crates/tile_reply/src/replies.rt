@@ -1,10 +1,10 @@
 //! The replies to the lines of a script.
 
-ghost use Rattle.std.specs.Prelude.{◌≡◌, ◌-◌};
+ghost use Rattle.std.specs.Prelude.{◌≡◌, ◌-◌, ◌++◌, codes};
 ghost use Rattle.std.specs.List.{flat_map};
 ghost use Rattle.tile_device.specs.Device.{trouble_of};
 ghost use Rattle.tile_device.specs.Seen.{Sends, Spends, sink_at};
-ghost use Rattle.tile_reply.specs.Replies.{refused_reply, reply_to, answer_seen};
+ghost use Rattle.tile_reply.specs.Replies.{answer_seen, refused_front, refused_reply, reply_to, stop_told};
 
 use crate::refused::Refused;
 use itoa::Buffer;
@@ -53,6 +53,21 @@ fn write_refusal<W: Sink>(
         (refused_reply line reason) (retries.old - retries.new) result }
     ensures spends { Spends retries.old retries.new (trouble_of result) }
 {
+    write_reason(replies, line, reason, retries)?;
+    write_end(replies, reason.taken(), retries)
+}
+
+/// Writes which line was refused, and why.
+fn write_reason<W: Sink>(
+    replies: &mut W,
+    line: u64,
+    reason: Refused,
+    retries: &mut Retries,
+) -> Result<(), Trouble>
+    ensures sends { Sends (sink_at W.Sink replies.old) (sink_at W.Sink replies.new)
+        (refused_front line reason) (retries.old - retries.new) result }
+    ensures spends { Spends retries.old retries.new (trouble_of result) }
+{
     let mut line_digits = Buffer::new();
     let mut number_digits = Buffer::new();
     let line = line_digits.format(line);
@@ -66,10 +81,27 @@ fn write_refusal<W: Sink>(
             number.as_bytes(),
             b" ",
             reason.name().as_bytes(),
-            b"\n",
         ],
         retries,
     )
+}
+
+/// Writes how far a request came that was stopped, and the end of the line.
+fn write_end<W: Sink>(
+    replies: &mut W,
+    taken: Option<usize>,
+    retries: &mut Retries,
+) -> Result<(), Trouble>
+    ensures sends { Sends (sink_at W.Sink replies.old) (sink_at W.Sink replies.new)
+        (stop_told taken ++ codes "\n") (retries.old - retries.new) result }
+    ensures spends { Spends retries.old retries.new (trouble_of result) }
+{
+    let Some(taken) = taken else {
+        return write_all(replies, b"\n", retries);
+    };
+    let mut digits = Buffer::new();
+    let taken = digits.format(taken);
+    write_pieces(replies, &[b" taken ", taken.as_bytes(), b"\n"], retries)
 }
 
 /// Writes the pieces one after the other.

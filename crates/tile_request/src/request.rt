@@ -1,6 +1,7 @@
 //! What a line of a script can ask for.
 
 use mvt_command::{Command, FeatureChoice, LayerChoice};
+use mvt_wire::Items;
 
 /// What a listing shows.
 #[derive(Debug, Drop)]
@@ -18,6 +19,23 @@ pub enum What {
 pub enum Request {
     Edit(Command),
     Undo,
+    Redo,
+    /// Has the name mark the present point.
+    Mark(Items<u8>),
+    /// Has the name mark nothing.
+    Unmark(Items<u8>),
+    /// Goes to the point that the name marks.
+    Back(Items<u8>),
+    /// Opens a step: the commands from now on are one.
+    Begin,
+    /// Ends the open step.
+    End,
+    /// Takes the commands of the open step back, and closes it.
+    Cancel,
+    /// The marks, and how far each is from the present point.
+    Marks,
+    /// How far undo and redo reach.
+    History,
     /// The length of the tile in bytes.
     Size,
     List(What),

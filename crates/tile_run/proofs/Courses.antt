@@ -12,10 +12,9 @@ use Rattle.tile_device.proofs.Sending.{receives_nothing}
 use Rattle.tile_device.proofs.Supplying.{supplies_nothing}
 use Rattle.tile_run.specs.Course.{Course, Ends, IsWritten, OpensAgain, StopsAtTile, start_of}
 use Rattle.tile_run.specs.Headline.{Devices, Runs}
-use Rattle.tile_session.specs.History.{History, present_document}
+use Rattle.mvt_history.specs.History.{History, standing_document}
 use Rattle.tile_run.specs.Outcomes.{opening_outcome, script_outcome, writing_outcome}
-use Rattle.tile_run.specs.Run.{at_first}
-use Rattle.tile_session.specs.Session.{StandsFor}
+use Rattle.mvt_history.specs.Session.{StandsFor}
 use Rattle.tile_run.specs.Steps.{Reads, Writes, OpensTile, CarriesOutScript, WritesTile}
 use Rattle.tile_run.specs.declared.editor.Editor.{Editor}
 use Rattle.tile_run.specs.declared.outcome.Options.{Options}
@@ -50,44 +49,50 @@ opening_ends options unopened.Device tile opens = (opens, stops_at_tile tile)
 opening_ends options (unopened.Refused fault) tile opens = (opens.0, opens.1, stops_at_tile tile)
 opening_ends options unopened.NoMemory tile opens = record { untroubled = opens; replied = inl (refl, all_replies 0 []); out = all_replies 0 [] }
 
+-- a run that reads and writes nothing else
+runs_at_tile : (options : Options) (t0 t1 s r o : Seen) (before after : ℕ) (tile : Intake) (outcome : Outcome) → before ≡ MAX_RETRIES → length tile.bytes ≤ MAX_FILE + 1
+    → Reads t0 t1 before after tile → Ends options outcome (at_tile tile) → Runs options (seen t0 s r o) (seen t1 s r o) outcome
+runs_at_tile options t0 t1 s r o before after tile outcome all within reads ends = record {
+  course = at_tile tile;
+  ends = ends;
+  patient = record {
+    within = omega (arith, all, reads.spent);
+    tile = λ e. let none = reads.last e in omega (arith, all, reads.spent, none);
+    script = λ e. absurd cc;
+    replies = λ e. absurd cc;
+    out = λ e. absurd cc;
+  };
+  tile = reads.supplies;
+  script = supplies_nothing s;
+  replies = receives_nothing r;
+  out = receives_nothing o;
+  tile_within = within;
+  script_within = omega arith;
+}
+
 pub runs_to_tile : (options : Options) (t0 t1 s r o : Seen) (before after : ℕ) (stop : Unopened) (outcome : Outcome) → before ≡ MAX_RETRIES
     → Opening t0 t1 before after (Err stop) → outcome ≡ opening_outcome stop → Runs options (seen t0 s r o) (seen t1 s r o) outcome
 runs_to_tile options t0 t1 s r o before after stop outcome all opening is =
     let tile = opening.0 in
-    let reads = opening.3 in
-    record {
-      course = at_tile tile;
-      ends = subst (λ (t : Outcome). Ends options t (at_tile tile)) (sym is) (opening_ends options stop tile opening.2);
-      patient = record {
-        within = omega (arith, all, reads.spent);
-        tile = λ e. let none = reads.last e in omega (arith, all, reads.spent, none);
-        script = λ e. absurd cc;
-        replies = λ e. absurd cc;
-        out = λ e. absurd cc;
-      };
-      tile = reads.supplies;
-      script = supplies_nothing s;
-      replies = receives_nothing r;
-      out = receives_nothing o;
-      tile_within = opening.1;
-      script_within = omega arith;
-    }
+    let ends = subst (λ (t : Outcome). Ends options t (at_tile tile)) (sym is) (opening_ends options stop tile opening.2) in
+    runs_at_tile options t0 t1 s r o before after tile outcome all opening.1 opening.3 ends
+
+-- the tile opened, and memory was refused to what the session keeps
+pub runs_to_start : (options : Options) (t0 t1 s r o : Seen) (before after : ℕ) (document : program.Document) → before ≡ MAX_RETRIES
+    → Opening t0 t1 before after (Ok document) → Runs options (seen t0 s r o) (seen t1 s r o) outcomes.NoMemory
+runs_to_start options t0 t1 s r o before after document all opening =
+    runs_at_tile options t0 t1 s r o before after opening.0 outcomes.NoMemory all opening.1 opening.3
+    (record { untroubled = opening.2.untroubled; replied = inl (refl, all_replies 0 []); out = all_replies 0 [] })
 
 -- ---- with the script or its replies
 
 -- what carrying out the script of a tile that opened takes
 abbrev pub CarryingOut : Options → program.Document → Seen → Seen → Seen → Seen → ℕ → ℕ → Editor → Result (Unit {0}) ScriptStop → Type 0
-CarryingOut options document s0 s1 r0 r1 before after editor result = CarriesOutScript options.strict (at_first (document_of document) 1) s0 s1 r0 r1 before after editor result
-
--- it begins at the depth of the options
-from_start : (options : Options) (document : program.Document) (s0 s1 r0 r1 : Seen) (before after : ℕ) (editor : Editor) (result : Result (Unit {0}) ScriptStop) → options.depth ≡ 1
-    → CarryingOut options document s0 s1 r0 r1 before after editor result → CarriesOutScript options.strict (start_of options (document_of document)) s0 s1 r0 r1 before after editor result
-from_start options document s0 s1 r0 r1 before after editor result one carries =
-    subst (λ (depth : ℕ). CarriesOutScript options.strict (at_first (document_of document) depth) s0 s1 r0 r1 before after editor result) (sym one) carries
+CarryingOut options document s0 s1 r0 r1 before after editor result = CarriesOutScript options.strict (start_of options (document_of document)) s0 s1 r0 r1 before after editor result
 
 script_ends : (options : Options) (stop : ScriptStop) (t0 t1 s0 s1 r0 r1 : Seen) (before mid after : ℕ) (document : program.Document) (editor : Editor)
     → (opening : Opening t0 t1 before mid (Ok document))
-    → (c : CarriesOutScript options.strict (start_of options (document_of document)) s0 s1 r0 r1 mid after editor (Err stop))
+    → (c : CarryingOut options document s0 s1 r0 r1 mid after editor (Err stop))
     → Ends options (script_outcome stop) (record { tile = opening.0; script = c.script; replies = c.replies; out = written 0 [] })
 script_ends options script_stops.Script t0 t1 s0 s1 r0 r1 before mid after document editor opening c = record { document = document_of document; opened = opening.2; between = c.ends; out = all_replies 0 [] }
 script_ends options script_stops.Replies t0 t1 s0 s1 r0 r1 before mid after document editor opening c = record { document = document_of document; opened = opening.2; between = c.ends; out = all_replies 0 [] }
@@ -95,12 +100,11 @@ script_ends options script_stops.Strict t0 t1 s0 s1 r0 r1 before mid after docum
 script_ends options script_stops.NoMemory t0 t1 s0 s1 r0 r1 before mid after document editor opening c = record { untroubled = opening.2.untroubled; replied = inl c.ends; out = all_replies 0 [] }
 
 pub runs_to_script : (options : Options) (t0 t1 s0 s1 r0 r1 o : Seen) (before mid after : ℕ) (document : program.Document) (editor : Editor) (stop : ScriptStop) (outcome : Outcome)
-    → options.depth ≡ 1 → before ≡ MAX_RETRIES → Opening t0 t1 before mid (Ok document) → CarryingOut options document s0 s1 r0 r1 mid after editor (Err stop)
+    → before ≡ MAX_RETRIES → Opening t0 t1 before mid (Ok document) → CarryingOut options document s0 s1 r0 r1 mid after editor (Err stop)
     → outcome ≡ script_outcome stop → Runs options (seen t0 s0 r0 o) (seen t1 s1 r1 o) outcome
-runs_to_script options t0 t1 s0 s1 r0 r1 o before mid after document editor stop outcome one all opening carries is =
+runs_to_script options t0 t1 s0 s1 r0 r1 o before mid after document editor stop outcome all opening c is =
     let tile = opening.0 in
     let reads = opening.3 in
-    let c = from_start options document s0 s1 r0 r1 mid after editor (Err stop) one carries in
     let course : Course = record { tile = tile; script = c.script; replies = c.replies; out = written 0 [] } in
     record {
       course = course;
@@ -126,15 +130,12 @@ runs_to_script options t0 t1 s0 s1 r0 r1 o before mid after document editor stop
 abbrev pub Writing : program.Document → Seen → Seen → ℕ → ℕ → Result (Unit {0}) Unwritten → Type 0
 Writing document o0 o1 before after result = (out : Output) × WritesTile (bytes_of (document_of document)) out result × Writes o0 o1 before after out
 
--- the document is the present one of the history of the session
+-- the document is the standing one of the history of the session
 abbrev pub IsPresent : Editor → program.Document → Type 0
-IsPresent editor document = (history : History) → StandsFor editor.session history → document_of document ≡ present_document history
+IsPresent editor document = (history : History) → StandsFor editor.session history → document_of document ≡ standing_document history
 
-module _ (options : Options) (t0 t1 s0 s1 r0 r1 o0 o1 : Seen) (before mid after last : ℕ) (read edited : program.Document) (editor : Editor) (one : options.depth ≡ 1) (all : before ≡ MAX_RETRIES)
-    (opening : Opening t0 t1 before mid (Ok read)) (carries : CarryingOut options read s0 s1 r0 r1 mid after editor (Ok tt)) (present : IsPresent editor edited) where
-  abbrev carried : CarriesOutScript options.strict (start_of options (document_of read)) s0 s1 r0 r1 mid after editor (Ok tt)
-  carried = from_start options read s0 s1 r0 r1 mid after editor (Ok tt) one carries
-
+module _ (options : Options) (t0 t1 s0 s1 r0 r1 o0 o1 : Seen) (before mid after last : ℕ) (read edited : program.Document) (editor : Editor) (all : before ≡ MAX_RETRIES)
+    (opening : Opening t0 t1 before mid (Ok read)) (carried : CarryingOut options read s0 s1 r0 r1 mid after editor (Ok tt)) (present : IsPresent editor edited) where
   abbrev course_with : Output → Course
   course_with out = record { tile = opening.0; script = carried.script; replies = carried.replies; out = out }
 
@@ -157,7 +158,7 @@ module _ (options : Options) (t0 t1 s0 s1 r0 r1 o0 o1 : Seen) (before mid after 
     script_within = carried.within;
   }
 
-  file_is : bytes_of (document_of edited) ≡ bytes_of (present_document carried.ends.0.history)
+  file_is : bytes_of (document_of edited) ≡ bytes_of (standing_document carried.ends.0.history)
   file_is = ap bytes_of (present carried.ends.0.history carried.ends.2.stands)
 
   out_ends : (stop : Unwritten) (out : Output) → WritesTile {A = Unit {0}} (bytes_of (document_of edited)) out (Err stop) → Ends options (writing_outcome stop) (course_with out)
@@ -179,7 +180,7 @@ module _ (options : Options) (t0 t1 s0 s1 r0 r1 o0 o1 : Seen) (before mid after 
   runs_to_out stop outcome writing is =
       subst (λ (t : Outcome). Runs options (seen t0 s0 r0 o0) (seen t1 s1 r1 o1) t) (sym is) (with_out (writing_outcome stop) writing.0 writing.2 (out_ends stop writing.0 writing.1))
 
-  is_written : (out : Output) → IsWritten out (bytes_of (document_of edited)) → IsWritten out (bytes_of (present_document carried.ends.0.history))
+  is_written : (out : Output) → IsWritten out (bytes_of (document_of edited)) → IsWritten out (bytes_of (standing_document carried.ends.0.history))
   is_written out writes = subst (IsWritten out) file_is writes
 
   -- what was written is that of the document that stands

@@ -2,6 +2,7 @@ pub mod Overs
 pub mod Fronts
 pub mod ReplyEnds
 pub mod Replying
+pub mod LineRequests
 pub mod Standing
 pub mod UndoLines
 pub mod NoWant

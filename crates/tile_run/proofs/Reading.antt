@@ -40,9 +40,9 @@ not_over : (strict : Bool) → (strict && false) ≡ false
 not_over true = refl
 not_over false = refl
 
-pub so_far_none : (strict : Bool) (document : Document) (s r : Seen) (left : ℕ) (editor : Editor) (cutter : Holding) → cutter ≡ nothing_held
-    → IsAt editor strict (at_first document 1) → SoFar strict (at_first document 1) s s r r left left MAX_SCRIPT editor cutter
-so_far_none strict document s r left editor cutter empty at = record {
+pub so_far_none : (strict : Bool) (document : Document) (depth : ℕ) (s r : Seen) (left : ℕ) (editor : Editor) (cutter : Holding) → cutter ≡ nothing_held
+    → IsAt editor strict (at_first document depth) → SoFar strict (at_first document depth) s s r r left left MAX_SCRIPT editor cutter
+so_far_none strict document depth s r left editor cutter empty at = record {
   bytes = [];
   counted = omega arith;
   given = empty;
@@ -51,7 +51,7 @@ so_far_none strict document s r left editor cutter empty at = record {
   allowed = left;
   share = omega arith;
   comes = record {
-    comes = record { progress = at_first document 1; walk = refl; over = not_over strict; retries = 0; writes = writes_nothing r left };
+    comes = record { progress = at_first document depth; walk = refl; over = not_over strict; retries = 0; writes = writes_nothing r left };
     at = at;
   };
 }

@@ -1,9 +1,15 @@
 -- How replies end, and which are different.
-use Rattle.std.proofs.Common.{◌≡◌, ◌≢◌, ℕ, List, [], ◌∷◌, ◌++◌, codes, decimal, refl, sym, ap, ◌∙◌, inl, inr, append_assoc, append-nil, arith}
+use Rattle.std.proofs.Common.{◌≡◌, ◌≢◌, ℕ, zero, suc, ◌/◌, ◌%◌, ◌==◌, Bool, true, false, ◌&&◌, ◌||◌, List, [], ◌∷◌, ◌++◌, codes, decimal, refl, sym, ap, ◌∙◌, inl, inr, append_assoc, append-nil, arith}
+use Rattle.std.specs.Prelude.{nat_lt, if◌then◌else◌}
+use Rattle.std.specs.Char.{is_ascii_digit}
+use Rattle.std.specs.Fmt.{digits, digits_onto, digit_glyph}
+use Rattle.std.proofs.lemmas.Bool.{cases_Bool}
+use Rattle.std.proofs.lemmas.Bool.Decides.{nat_tests}
 use Rattle.std.proofs.lemmas.List.{append_cancel_right}
 use Rattle.tile_lines.specs.Lines.{with_feed, EndsWithALine}
-use Rattle.tile_reply.specs.Replies.{accepted_reply, refused_reply, refusal_number, refusal_name}
+use Rattle.tile_reply.specs.Replies.{accepted_reply, refused_front, refused_reply, refusal_number, refusal_name, stop_told, taken_in, IsWant}
 use Rattle.mvt_meaning.specs.declared.refusal.Refusal.TheVariants as edit
+use Rattle.mvt_history.specs.declared.error.HistoryError.TheVariants as history
 use Rattle.tile_words.specs.declared.parse_error.ParseError.TheVariants as parse
 use Rattle.tile_reply.specs.declared.refused.Refused.{Refused}
 use Rattle.tile_reply.specs.declared.refused.Refused.TheVariants as refused
@@ -21,12 +27,13 @@ ends-append front more (inr before) (inr (text, whole)) = inr (front ++ text, ap
 
 -- ---- replies
 
--- the reply to a refused line, without its line feed
+-- the reply to a refused line up to the name of the refusal
 abbrev pub before_name : ℕ → Refused → List ℕ
 before_name line reason = codes "line " ++ decimal line ++ codes " refused " ++ decimal (refusal_number reason) ++ codes " "
 
+-- the reply without its line feed
 abbrev pub refused_text : ℕ → Refused → List ℕ
-refused_text line reason = before_name line reason ++ refusal_name reason
+refused_text line reason = refused_front line reason ++ stop_told (taken_in reason)
 
 pub refused_ends : (line : ℕ) (reason : Refused) → EndsWithALine (refused_reply line reason)
 refused_ends line reason = inr (refused_text line reason, refl)
@@ -38,72 +45,159 @@ accepted_text lines = sym (append_assoc lines (codes "ok") (10 ∷ []))
 pub accepted_ends : (lines : List ℕ) → EndsWithALine (accepted_reply lines)
 accepted_ends lines = inr (lines ++ codes "ok", accepted_text lines)
 
+-- each refusal with the number of want of memory is replied to alike
+pub want_reply : (line : ℕ) (reason : Refused) → refusal_number reason ≡ 60 → refused_reply line reason ≡ refused_reply line (refused.Parse parse.NoMemory)
+want_reply line (refused.Parse parse.BadUtf8) e = absurd (omega arith)
+want_reply line (refused.Parse parse.BadWord) e = absurd (omega arith)
+want_reply line (refused.Parse parse.UnknownCommand) e = absurd (omega arith)
+want_reply line (refused.Parse parse.BadArguments) e = absurd (omega arith)
+want_reply line (refused.Parse parse.BadNumber) e = absurd (omega arith)
+want_reply line (refused.Parse parse.BadValue) e = absurd (omega arith)
+want_reply line (refused.Parse parse.BadGeometryText) e = absurd (omega arith)
+want_reply line (refused.Parse parse.LineTooLong) e = absurd (omega arith)
+want_reply line (refused.Parse parse.NoMemory) e = refl
+want_reply line (refused.Edit edit.NoLayer) e = absurd (omega arith)
+want_reply line (refused.Edit edit.AmbiguousLayer) e = absurd (omega arith)
+want_reply line (refused.Edit edit.NoFeature) e = absurd (omega arith)
+want_reply line (refused.Edit edit.BadPlace) e = absurd (omega arith)
+want_reply line (refused.Edit edit.AmbiguousFeature) e = absurd (omega arith)
+want_reply line (refused.Edit edit.NameTaken) e = absurd (omega arith)
+want_reply line (refused.Edit edit.OutOfRange) e = absurd (omega arith)
+want_reply line (refused.Edit edit.TooLarge) e = absurd (omega arith)
+want_reply line (refused.Edit edit.NoMemory) e = refl
+want_reply line (refused.History history.NothingToUndo) e = absurd (omega arith)
+want_reply line (refused.History history.NothingToRedo) e = absurd (omega arith)
+want_reply line (refused.History history.NoMark) e = absurd (omega arith)
+want_reply line (refused.History history.TooManyMarks) e = absurd (omega arith)
+want_reply line (refused.History (history.Stopped taken)) e = absurd (omega arith)
+want_reply line (refused.History history.GroupOpen) e = absurd (omega arith)
+want_reply line (refused.History history.NoGroup) e = absurd (omega arith)
+want_reply line (refused.History history.NoMemory) e = refl
+
 -- ---- the last bytes of replies
 
--- the last byte of a text, or this one where it has none
-abbrev last_byte : ℕ → List ℕ → ℕ
-last_byte d [] = d
-last_byte d (b ∷ text) = last_byte b text
+-- the last two bytes of a text that are no digits, where these are those before it
+abbrev last_two : ℕ × ℕ → List ℕ → ℕ × ℕ
+last_two ends [] = ends
+last_two ends (b ∷ text) = last_two (if is_ascii_digit b then ends else (ends.1, b)) text
 
-last_byte-append : (d : ℕ) (text more : List ℕ) → last_byte d (text ++ more) ≡ last_byte (last_byte d text) more
-last_byte-append d [] more = refl
-last_byte-append d (b ∷ text) more = last_byte-append b text more
+last_two-append : (ends : ℕ × ℕ) (text more : List ℕ) → last_two ends (text ++ more) ≡ last_two (last_two ends text) more
+last_two-append ends [] more = refl
+last_two-append ends (b ∷ text) more = last_two-append (if is_ascii_digit b then ends else (ends.1, b)) text more
 
-name_ends_otherwise : (d : ℕ) (reason : Refused) → last_byte d (refusal_name reason) ≢ 107
-name_ends_otherwise d (refused.Parse parse.BadUtf8) e = omega arith
-name_ends_otherwise d (refused.Parse parse.BadWord) e = omega arith
-name_ends_otherwise d (refused.Parse parse.UnknownCommand) e = omega arith
-name_ends_otherwise d (refused.Parse parse.BadArguments) e = omega arith
-name_ends_otherwise d (refused.Parse parse.BadNumber) e = omega arith
-name_ends_otherwise d (refused.Parse parse.BadValue) e = omega arith
-name_ends_otherwise d (refused.Parse parse.BadGeometryText) e = omega arith
-name_ends_otherwise d (refused.Parse parse.LineTooLong) e = omega arith
-name_ends_otherwise d (refused.Parse parse.NoMemory) e = omega arith
-name_ends_otherwise d (refused.Edit edit.NoLayer) e = omega arith
-name_ends_otherwise d (refused.Edit edit.AmbiguousLayer) e = omega arith
-name_ends_otherwise d (refused.Edit edit.NoFeature) e = omega arith
-name_ends_otherwise d (refused.Edit edit.BadPlace) e = omega arith
-name_ends_otherwise d (refused.Edit edit.AmbiguousFeature) e = omega arith
-name_ends_otherwise d (refused.Edit edit.NameTaken) e = omega arith
-name_ends_otherwise d (refused.Edit edit.OutOfRange) e = omega arith
-name_ends_otherwise d (refused.Edit edit.TooLarge) e = omega arith
-name_ends_otherwise d (refused.Edit edit.NoMemory) e = omega arith
-name_ends_otherwise d refused.NothingToUndo e = omega arith
+-- a number changes nothing of them
+glyph_is_digit : (n : ℕ) → is_ascii_digit (digit_glyph false (n % 10)) ≡ true
+glyph_is_digit n =
+    let low : nat_lt (n % 10) 10 ≡ true = grind (arith, nat_tests) in
+    rw low (grind (arith, nat_tests))
 
--- the k of `ok` ends the name of no refusal
+last_two-digit : (ends : ℕ × ℕ) (b : ℕ) (text : List ℕ) → is_ascii_digit b ≡ true → last_two ends (b ∷ text) ≡ last_two ends text
+last_two-digit ends b text digit = rw digit refl
+
+one_of : (q : Bool) (ends : ℕ × ℕ) (xs ys : List ℕ) → last_two ends xs ≡ ends → last_two ends ys ≡ ends → last_two ends (if q then xs else ys) ≡ ends
+one_of true ends xs ys first second = first
+one_of false ends xs ys first second = second
+
+last_two-digits : (ends : ℕ × ℕ) (k n : ℕ) (behind : List ℕ) → last_two ends behind ≡ ends → last_two ends (digits_onto k 10 false n behind) ≡ ends
+last_two-digits ends zero n behind same = same
+last_two-digits ends (suc k) n behind same =
+    let more : last_two ends (digit_glyph false (n % 10) ∷ behind) ≡ ends = last_two-digit ends (digit_glyph false (n % 10)) behind (glyph_is_digit n) ∙ same in
+    one_of (n / 10 == 0) ends _ _ more (last_two-digits ends k (n / 10) (digit_glyph false (n % 10) ∷ behind) more)
+
+last_two-decimal : (ends : ℕ × ℕ) (n : ℕ) → last_two ends (decimal n) ≡ ends
+unfolding digits
+last_two-decimal ends n = last_two-digits ends 64 n [] refl
+
+-- those of the reply to a refused line
+abbrev ends_of : ℕ × ℕ → Refused → ℕ × ℕ
+ends_of ends reason = last_two (last_two ends (refusal_name reason)) (stop_told (taken_in reason))
+
+refused_last : (line : ℕ) (reason : Refused) → last_two (0, 0) (refused_text line reason) ≡ ends_of (last_two (0, 0) (before_name line reason)) reason
+refused_last line reason =
+    last_two-append (0, 0) (refused_front line reason) (stop_told (taken_in reason))
+    ∙ ap (λ (ends : ℕ × ℕ). last_two ends (stop_told (taken_in reason))) (last_two-append (0, 0) (before_name line reason) (refusal_name reason))
+
+-- the number is that of a want of memory
+abbrev pub wants : ℕ → Bool
+wants number = (number == 60) || (number == 54)
+
+-- the text ends with the y of `NoMemory`, or with a number
+abbrev ends_wanting : ℕ × ℕ → Bool
+ends_wanting ends = (ends.1 == 121) || (ends.1 == 32)
+
+-- the text ends with `ok`
+abbrev ends_with_ok : ℕ × ℕ → Bool
+ends_with_ok ends = (ends.0 == 111) && (ends.1 == 107)
+
+-- so the text tells whether memory was refused
+ends_tell : (ends : ℕ × ℕ) (reason : Refused) → (ends_wanting (ends_of ends reason) ≡ wants (refusal_number reason)) × (ends_with_ok (ends_of ends reason) ≡ false)
+ends_tell ends (refused.Parse parse.BadUtf8) = (refl, refl)
+ends_tell ends (refused.Parse parse.BadWord) = (refl, refl)
+ends_tell ends (refused.Parse parse.UnknownCommand) = (refl, refl)
+ends_tell ends (refused.Parse parse.BadArguments) = (refl, refl)
+ends_tell ends (refused.Parse parse.BadNumber) = (refl, refl)
+ends_tell ends (refused.Parse parse.BadValue) = (refl, refl)
+ends_tell ends (refused.Parse parse.BadGeometryText) = (refl, refl)
+ends_tell ends (refused.Parse parse.LineTooLong) = (refl, refl)
+ends_tell ends (refused.Parse parse.NoMemory) = (refl, refl)
+ends_tell ends (refused.Edit edit.NoLayer) = (refl, refl)
+ends_tell ends (refused.Edit edit.AmbiguousLayer) = (refl, refl)
+ends_tell ends (refused.Edit edit.NoFeature) = (refl, refl)
+ends_tell ends (refused.Edit edit.BadPlace) = (refl, refl)
+ends_tell ends (refused.Edit edit.AmbiguousFeature) = (refl, refl)
+ends_tell ends (refused.Edit edit.NameTaken) = (refl, refl)
+ends_tell ends (refused.Edit edit.OutOfRange) = (refl, refl)
+ends_tell ends (refused.Edit edit.TooLarge) = (refl, refl)
+ends_tell ends (refused.Edit edit.NoMemory) = (refl, refl)
+ends_tell ends (refused.History history.NothingToUndo) = (refl, refl)
+ends_tell ends (refused.History history.NothingToRedo) = (refl, refl)
+ends_tell ends (refused.History history.NoMark) = (refl, refl)
+ends_tell ends (refused.History history.TooManyMarks) = (refl, refl)
+ends_tell ends (refused.History (history.Stopped taken)) =
+    let same = last_two-decimal (110, 32) taken in
+    (ap ends_wanting same, ap ends_with_ok same)
+ends_tell ends (refused.History history.GroupOpen) = (refl, refl)
+ends_tell ends (refused.History history.NoGroup) = (refl, refl)
+ends_tell ends (refused.History history.NoMemory) = (refl, refl)
+
+-- the reply to an accepted line is that to no refused one
 pub accepted_is_not_refused : (lines : List ℕ) (line : ℕ) (reason : Refused) → accepted_reply lines ≢ refused_reply line reason
 accepted_is_not_refused lines line reason e =
     let same : lines ++ codes "ok" ≡ refused_text line reason = append_cancel_right (lines ++ codes "ok") (refused_text line reason) (10 ∷ []) (sym (accepted_text lines) ∙ e) in
-    name_ends_otherwise (last_byte 0 (before_name line reason)) reason
-    (sym (last_byte-append 0 (before_name line reason) (refusal_name reason)) ∙ sym (ap (last_byte 0) same) ∙ last_byte-append 0 lines (codes "ok"))
+    let ends : last_two (last_two (0, 0) lines) (codes "ok") ≡ ends_of (last_two (0, 0) (before_name line reason)) reason =
+    sym (last_two-append (0, 0) lines (codes "ok")) ∙ ap (last_two (0, 0)) same ∙ refused_last line reason in
+    let no : true ≡ false = ap ends_with_ok ends ∙ (ends_tell (last_two (0, 0) (before_name line reason)) reason).1 in
+    absurd cc
 
--- the y of `NoMemory` ends the name of no other refusal
-other_ends_otherwise : (d : ℕ) (reason : Refused) → refusal_number reason ≢ 60 → last_byte d (refusal_name reason) ≢ 121
-other_ends_otherwise d (refused.Parse parse.BadUtf8) other e = omega arith
-other_ends_otherwise d (refused.Parse parse.BadWord) other e = omega arith
-other_ends_otherwise d (refused.Parse parse.UnknownCommand) other e = omega arith
-other_ends_otherwise d (refused.Parse parse.BadArguments) other e = omega arith
-other_ends_otherwise d (refused.Parse parse.BadNumber) other e = omega arith
-other_ends_otherwise d (refused.Parse parse.BadValue) other e = omega arith
-other_ends_otherwise d (refused.Parse parse.BadGeometryText) other e = omega arith
-other_ends_otherwise d (refused.Parse parse.LineTooLong) other e = omega arith
-other_ends_otherwise d (refused.Parse parse.NoMemory) other e = other refl
-other_ends_otherwise d (refused.Edit edit.NoLayer) other e = omega arith
-other_ends_otherwise d (refused.Edit edit.AmbiguousLayer) other e = omega arith
-other_ends_otherwise d (refused.Edit edit.NoFeature) other e = omega arith
-other_ends_otherwise d (refused.Edit edit.BadPlace) other e = omega arith
-other_ends_otherwise d (refused.Edit edit.AmbiguousFeature) other e = omega arith
-other_ends_otherwise d (refused.Edit edit.NameTaken) other e = omega arith
-other_ends_otherwise d (refused.Edit edit.OutOfRange) other e = omega arith
-other_ends_otherwise d (refused.Edit edit.TooLarge) other e = omega arith
-other_ends_otherwise d (refused.Edit edit.NoMemory) other e = other refl
-other_ends_otherwise d refused.NothingToUndo other e = omega arith
+-- ---- want of memory
 
--- the text of a want of memory
-abbrev pub want_text : ℕ → List ℕ
-want_text line = refused_text line (refused.Parse parse.NoMemory)
+wants_is : (reason : Refused) → IsWant reason → wants (refusal_number reason) ≡ true
+wants_is reason (inl e) = ap wants e
+wants_is reason (inr e) = ap wants e
 
-pub other_is_no_want : (line other_line : ℕ) (reason : Refused) → refusal_number reason ≢ 60 → refused_text line reason ≢ want_text other_line
-other_is_no_want line other_line reason other e =
-    other_ends_otherwise (last_byte 0 (before_name line reason)) reason other
-    (sym (last_byte-append 0 (before_name line reason) (refusal_name reason)) ∙ ap (last_byte 0) e ∙ last_byte-append 0 (before_name other_line (refused.Parse parse.NoMemory)) (codes "NoMemory"))
+pub wants_not : (reason : Refused) → wants (refusal_number reason) ≡ false → ¬ (IsWant reason)
+wants_not reason other want = let no : true ≡ false = sym (wants_is reason want) ∙ other in absurd cc
+
+wants_other : (reason : Refused) → ¬ (IsWant reason) → wants (refusal_number reason) ≡ false
+wants_other reason other =
+    elim (cases_Bool (wants (refusal_number reason))) [
+      | inl wanting ↦ absurd (other (is_want reason wanting))
+      | inr not ↦ not
+    ]
+  where
+    is_want : (reason : Refused) → wants (refusal_number reason) ≡ true → IsWant reason
+    is_want reason wanting =
+        elim (cases_Bool (refusal_number reason == 60)) [
+          | inl whole ↦ inl (grind (arith, nat_tests))
+          | inr other ↦ inr (grind (arith, nat_tests))
+        ]
+
+-- the text of a refusal that is no want of memory is that of no want
+pub other_is_no_want : (line other_line : ℕ) (reason wanting : Refused) → ¬ (IsWant reason) → IsWant wanting → refused_text line reason ≢ refused_text other_line wanting
+other_is_no_want line other_line reason wanting other want e =
+    let first = ends_tell (last_two (0, 0) (before_name line reason)) reason in
+    let second = ends_tell (last_two (0, 0) (before_name other_line wanting)) wanting in
+    let same : wants (refusal_number reason) ≡ wants (refusal_number wanting) =
+    sym first.0 ∙ ap ends_wanting (sym (refused_last line reason) ∙ ap (last_two (0, 0)) e ∙ refused_last other_line wanting) ∙ second.0 in
+    let no : false ≡ true = sym (wants_other reason other) ∙ same ∙ wants_is wanting want in
+    absurd cc

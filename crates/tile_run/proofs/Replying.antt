@@ -6,11 +6,12 @@ use Rattle.tile_request.specs.Request.{Request}
 use Rattle.tile_script.specs.Line.{answer_to}
 use Rattle.tile_lines.specs.Lines.{lines_of, with_feed, EndsWithALine}
 use Rattle.mvt_wire.specs.Wire.{bytes_of}
-use Rattle.tile_session.specs.History.{History, present_document}
+use Rattle.mvt_history.specs.History.{History, standing_document}
 use Rattle.tile_answer.specs.Answering.{Told, carried_out}
 use Rattle.tile_answer.proofs.AnswerLaws.{looks_leave_history}
-use Rattle.tile_reply.specs.Replies.{accepted_reply, refused_reply, want_of_memory, HasNoWant}
+use Rattle.tile_reply.specs.Replies.{accepted_reply, refused_reply, IsWant, HasNoWant}
 use Rattle.tile_run.specs.Run.{Progress, ran, tile_of, settled_by, answered_by, after_line, is_over, after_lines, MayFollow, Walk}
+use Rattle.mvt_history.specs.declared.error.HistoryError.TheVariants.{Stopped}
 use Rattle.tile_run.specs.RunLaws.{RepliesStand, RefusedLinesChangeNothing, SilentLinesChangeNothing, StrictRunsStop, AcceptedRunsAreAlike, WalksWithoutWantAreRuns, RunsAreWalks, LookingChangesNothing}
 use Rattle.tile_words.specs.declared.parse_error.ParseError.{ParseError}
 use Rattle.tile_words.specs.declared.parse_error.ParseError.TheVariants as parse
@@ -96,7 +97,7 @@ silent_lines p line e = answer_silent p (answer_to line) e
 
 -- a request that looks is counted and replied to
 settled_looks : (p : Progress) (result : Result Told Refused) → ((told : Told) → result ≡ Ok told → told.history ≡ p.history) → ((settled_by p result).history ≡ p.history) × (tile_of (settled_by p result) ≡ tile_of p) × ((settled_by p result).lines ≡ p.lines + 1)
-settled_looks p (Ok told) stays = let same = stays told refl in (same, ap (λ (history : History). bytes_of (present_document history)) same, refl)
+settled_looks p (Ok told) stays = let same = stays told refl in (same, ap (λ (history : History). bytes_of (standing_document history)) same, refl)
 settled_looks p (Err reason) stays = (refl, refl, refl)
 
 pub looking_lines : LookingChangesNothing
@@ -134,9 +135,14 @@ runs_are_alike p (line ∷ lines) accepted =
 
 -- ---- walks
 
+-- the reply to a line that is refused
+refusal_adds : (p q : Progress) (reason : Refused) → q.replies ≡ p.replies ++ refused_reply (p.lines + 1) reason → Adds p q
+refusal_adds p q reason is = record { reply = refused_reply (p.lines + 1) reason; is = is; ends = refused_ends (p.lines + 1) reason }
+
 follow_adds : (p : Progress) (line : List ℕ) (q : Progress) → MayFollow p line q → Adds p q
 follow_adds p line q (inl e) = subst (Adds p) (sym e) (answer_adds p (answer_to line))
-follow_adds p line q (inr (takes, e)) = subst (Adds p) (sym e) (record { reply = want_of_memory (p.lines + 1); is = refl; ends = refused_ends (p.lines + 1) (refused.Parse parse.NoMemory) })
+follow_adds p line q (inr (inl (takes, e))) = refusal_adds p q (refused.Parse parse.NoMemory) (ap (λ (r : Progress). r.replies) e)
+follow_adds p line q (inr (inr stop)) = refusal_adds p q (refused.History (Stopped stop.taken)) (ap (λ (r : Progress). r.replies) stop.stopped)
 
 walk_adds : (strict : Bool) (p : Progress) (lines : List (List ℕ)) (q : Progress) → Walk strict p lines q → Adds p q
 walk_adds strict p [] q walk = adds_none p q (ap (λ (r : Progress). r.replies) walk)
@@ -155,10 +161,10 @@ unfolding adds_both
 cut p next q added e first others = append_cancel_left p.replies added (first.reply ++ others.reply) (sym e ∙ (adds_both p next q first others).is)
 
 no_want_behind : (front rest : List ℕ) → EndsWithALine front → HasNoWant (front ++ rest) → HasNoWant rest
-no_want_behind front rest whole none line before behind ends e =
-    none line (front ++ before) behind (ends-append front before whole ends) (
-    ap (λ (xs : List ℕ). front ++ xs) e ∙ sym (append_assoc front (before ++ want_of_memory line) behind)
-    ∙ ap (λ (xs : List ℕ). xs ++ behind) (sym (append_assoc front before (want_of_memory line)))
+no_want_behind front rest whole none line reason before behind ends want e =
+    none line reason (front ++ before) behind (ends-append front before whole ends) want (
+    ap (λ (xs : List ℕ). front ++ xs) e ∙ sym (append_assoc front (before ++ refused_reply line reason) behind)
+    ∙ ap (λ (xs : List ℕ). xs ++ behind) (sym (append_assoc front before (refused_reply line reason)))
     )
 
 pub runs_are_walks : RunsAreWalks
@@ -169,13 +175,19 @@ runs_are_walks strict p (line ∷ lines) =
       | inr on ↦ rw on (after_line p line, inl refl, runs_are_walks strict (after_line p line) lines)
     ]
 
+-- a reply that says that memory was refused would be at the front of what was added
+wanted : (p next q : Progress) (added : List ℕ) (reason : Refused) → IsWant reason → next.replies ≡ p.replies ++ refused_reply (p.lines + 1) reason → Adds next q → q.replies ≡ p.replies ++ added → HasNoWant added → ⊥
+unfolding refusal_adds
+wanted p next q added reason want is others e none =
+    none (p.lines + 1) reason [] others.reply (inl refl) want (cut p next q added e (refusal_adds p next reason is) others)
+
 -- no reply says that memory was refused, so it was not at this line
 follows_as_run : (p next q : Progress) (line added : List ℕ) → MayFollow p line next → Adds next q → q.replies ≡ p.replies ++ added → HasNoWant added → next ≡ after_line p line
 follows_as_run p next q line added (inl follows) others e none = follows
-follows_as_run p next q line added (inr (takes, follows)) others e none =
-    let ends = refused_ends (p.lines + 1) (refused.Parse parse.NoMemory) in
-    let first : Adds p next = record { reply = want_of_memory (p.lines + 1); is = ap (λ (r : Progress). r.replies) follows; ends = ends } in
-    absurd (none (p.lines + 1) [] others.reply (inl refl) (cut p next q added e first others))
+follows_as_run p next q line added (inr (inl (takes, follows))) others e none =
+    absurd (wanted p next q added (refused.Parse parse.NoMemory) (inl refl) (ap (λ (r : Progress). r.replies) follows) others e none)
+follows_as_run p next q line added (inr (inr stop)) others e none =
+    absurd (wanted p next q added (refused.History (Stopped stop.taken)) (inr refl) (ap (λ (r : Progress). r.replies) stop.stopped) others e none)
 
 pub walks_are_runs : WalksWithoutWantAreRuns
 walks_are_runs strict p q [] added walk e none = walk

@@ -6,14 +6,14 @@ use Rattle.mvt_wire.specs.Held.{Held}
 use Rattle.tile_device.specs.Device.{trouble_of}
 use Rattle.tile_device.specs.Seen.{Seen, Sends, Spends, written}
 use Rattle.tile_device.specs.declared.device.Trouble.{Trouble}
-use Rattle.tile_session.specs.History.{History}
+use Rattle.mvt_history.specs.History.{History}
 use Rattle.tile_reply.specs.Replies.{reply_to}
 use Rattle.tile_run.specs.Run.{Progress, is_over, MayFollow, Walk}
-use Rattle.tile_session.specs.Session.{StandsFor}
+use Rattle.mvt_history.specs.Session.{StandsFor}
 use Rattle.tile_run.specs.Steps.{Writes, answered, told_in, CarriesOut, IsAt, Advances, Falters, Comes, ComesTo, IsCutShort}
 use Rattle.tile_run.specs.declared.editor.Editor.{Editor}
 use Rattle.tile_reply.specs.declared.refused.Refused.{Refused}
-use Rattle.tile_session.specs.declared.session.Session.{Session}
+use Rattle.mvt_history.specs.declared.session.Session.{Session}
 use Rattle.tile_run.proofs.Budgets.{writes_nothing, writes_more, sent_all, sent_front}
 use Rattle.tile_run.proofs.Overs.{walk-append, walk_over_any}
 

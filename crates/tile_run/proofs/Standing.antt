@@ -1,139 +1,202 @@
--- What holds of the history after any lines.
-use Rattle.std.proofs.Common.{◌≡◌, ℕ, zero, suc, ◌+◌, ◌≤◌, ◌==◌, Bool, List, [], ◌∷◌, ◌++◌, take, Option, Some, None, Result, Ok, Err, refl, sym, ap, subst, ◌∙◌, inl, inr}
+-- After any script the tile is the one at the start with the standing commands carried out in order.
+use Rattle.std.proofs.Common.{◌≡◌, ℕ, zero, suc, ◌+◌, ◌-◌, ◌==◌, ◌||◌, nat_lt, is_some, if◌then◌else◌, Bool, List, [], ◌∷◌, ◌++◌, length, take, Option, Some, None, Result, Ok, Err, IfOk, refl, sym, ap, subst, ◌∙◌, inl, inr}
+use Rattle.std.specs.List.{flat_map}
 use Rattle.std.proofs.lemmas.Bool.{cases_Bool}
+use Rattle.std.proofs.lemmas.List.{append-nil}
+use Rattle.std.proofs.lemmas.Grind.{flat_map-append}
 use Rattle.mvt_wire.specs.Plain.{Document}
 use Rattle.mvt_command.specs.Command.{Command}
-use Rattle.tile_request.specs.Request.{Request, Edit, Undo, Size, Lists}
 use Rattle.mvt_meaning.specs.Meaning.{applied}
-use Rattle.tile_script.specs.Line.{answer_to}
-use Rattle.tile_lines.specs.Lines.{lines_of}
-use Rattle.tile_session.specs.History.{History, IsSound, begun, after_all, present_document, with_command, undone, edited_to, edited, taken_back}
-use Rattle.tile_session.specs.declared.session.UndoError.{UndoError}
-use Rattle.tile_session.specs.declared.session.UndoError.TheVariants.{NothingToUndo, NoMemory}
-use Rattle.tile_answer.specs.Answering.{Told, told_by_edit, told_by_undo, carried_out}
-use Rattle.tile_answer.proofs.AnswerLaws.{looks_leave_history}
-use Rattle.tile_run.specs.Run.{Progress, at_first, ran, settled_by, answered_by, after_line, is_over, after_lines}
-use Rattle.tile_run.specs.RunLaws.{Makes, IsHistoryOf, StandingCommands}
-use Rattle.tile_run.specs.declared.outcome.Options.{Options}
 use Rattle.mvt_meaning.specs.declared.refusal.Refusal.{Refusal}
-use Rattle.tile_words.specs.declared.parse_error.ParseError.{ParseError}
-use Rattle.tile_reply.specs.declared.refused.Refused.{Refused}
-use Rattle.tile_session.proofs.Histories.{after_accepted}
-use Rattle.tile_session.proofs.HistoryLaws.{stays_sound}
+use Rattle.mvt_history.specs.Marks.{Mark, point_of, bound, unbound}
+use Rattle.mvt_history.specs.History.{History, IsSound, begun, after_all, after_steps, present_document, commands_in, standing_document, at_point, with_marks, with_group, with_step, with_command, edited_to, edited, unless_open, undone, redone, marked, unmarked, gone_to, gone_back, opened, ended, closed, cancelled}
+use Rattle.mvt_history.specs.Requests.{Request, Edit, Undo, Redo, SetMark, TakeMark, GoBack, Begin, End, Cancel, or_before, asked}
+use Rattle.mvt_history.specs.declared.TheConstants.{MAX_MARKS}
+use Rattle.mvt_history.specs.declared.error.HistoryError.{HistoryError}
+use Rattle.mvt_history.specs.declared.error.HistoryError.TheVariants.{NothingToUndo, NothingToRedo, NoMark, TooManyMarks, NoGroup}
+use Rattle.mvt_history.proofs.Joined.{after_accepted}
+use Rattle.tile_lines.specs.Lines.{lines_of}
+use Rattle.tile_run.specs.Run.{at_first, ran}
+use Rattle.tile_run.specs.RunLaws.{Makes, standing_commands, IsHistoryOf, StandingCommands}
+use Rattle.tile_run.proofs.LineRequests.{kept_by_lines, sound_ran}
 
--- a first part of the commands
-makes_first : (n : ℕ) (document : Document) (commands : List Command) (made : Document) → Makes document commands made → Makes document (take n commands) (after_all (take n commands) document)
-makes_first zero document commands made makes = refl
-makes_first (suc n) document [] made makes = refl
-makes_first (suc n) document (command ∷ commands) made (next, accepted, makes) = (
-  next,
-  accepted,
-  subst (λ (d : Document). Makes next (take n commands) (after_all (take n commands) d)) (sym (after_accepted command document next accepted)) (makes_first n next commands made makes),
-)
+-- ---- commands that are all accepted
 
--- one more command
-makes_more : (document : Document) (commands : List Command) (made : Document) (command : Command) (new : Document) → Makes document commands made → applied command made ≡ Ok new → Makes document (commands ++ command ∷ []) new
-makes_more document [] made command new makes accepted = (new, ap (applied command) (sym makes) ∙ accepted, refl)
-makes_more document (earlier ∷ commands) made command new (next, first, makes) accepted = (next, first, makes_more next commands made command new makes accepted)
+-- what they make
+makes_all : (document : Document) (commands : List Command) (made : Document) → Makes document commands made → made ≡ after_all commands document
+makes_all document [] made makes = makes
+makes_all document (command ∷ commands) made (next, accepted, makes) =
+    makes_all next commands made makes ∙ ap (after_all commands) (sym (after_accepted command document next accepted))
 
--- what all commands so far have made, also those that were taken back
-record Goes (document : Document) (depth : ℕ) (history : History) : Type 0 where
-  start : history.start ≡ document
-  steps : history.depth ≡ depth
-  sound : IsSound history
-  made : Document
-  makes : Makes document history.commands made
+makes_joined : (document : Document) (commands more : List Command) (between made : Document) → Makes document commands between → Makes between more made → Makes document (commands ++ more) made
+makes_joined document [] more between made first second = subst (λ d. Makes d more made) first second
+makes_joined document (command ∷ commands) more between made (next, accepted, first) second = (next, accepted, makes_joined next commands more between made first second)
 
-makes_present : (document : Document) (depth : ℕ) (history : History) → Goes document depth history → Makes document (take history.present history.commands) (present_document history)
-makes_present document depth history goes =
-    subst (λ (d : Document). Makes document (take history.present history.commands) (after_all (take history.present history.commands) d)) (sym goes.start)
-    (makes_first history.present document history.commands goes.made goes.makes)
+-- those at the front, and those behind them
+makes_parts : (document : Document) (commands more : List Command) (made : Document) → Makes document (commands ++ more) made → Makes document commands (after_all commands document) × Makes (after_all commands document) more made
+makes_parts document [] more made makes = (refl, makes)
+makes_parts document (command ∷ commands) more made (next, accepted, makes) =
+    let parts = makes_parts next commands more made makes in
+    rw (after_accepted command document next accepted) ((next, accepted, parts.0), parts.1)
 
-goes_on : (document : Document) (depth : ℕ) (command : Command) (history after : History) (made : Result Document Refusal) → applied command (present_document history) ≡ made → Goes document depth history → edited_to command history made ≡ Ok after → IsSound after → Goes document depth after
-goes_on document depth command history after (Ok new) accepted goes e sound =
-    let same : with_command command history ≡ after = cc in
-    let is_sound : IsSound (with_command command history) = subst IsSound (sym same) sound in
-    subst (Goes document depth) same (record {
-      start = goes.start;
-      steps = goes.steps;
-      sound = is_sound;
-      made = new;
-      makes = makes_more document (take history.present history.commands) (present_document history) command new (makes_present document depth history goes) accepted;
-    })
-goes_on document depth command history after (Err refusal) accepted goes e sound = absurd cc
+-- ---- steps whose commands are all accepted
 
-goes_back : (document : Document) (depth : ℕ) (history after : History) → Goes document depth history → taken_back history ≡ Ok after → IsSound after → Goes document depth after
-goes_back document depth history after goes e sound =
-    elim (cases_Bool (history.present == history.floor)) [
-      | inl at_floor ↦ absurd (let refused = rw at_floor at e in cc)
-      | inr not_at ↦ (
-          let same : undone history ≡ after = let done = rw not_at at e in cc in
-          let is_sound : IsSound (undone history) = subst IsSound (sym same) sound in
-          subst (Goes document depth) same (record { start = goes.start; steps = goes.steps; sound = is_sound; made = goes.made; makes = goes.makes })
-          )
-    ]
+abbrev commands_of : List (List Command) → List Command
+commands_of steps = flat_map (λ step. step) steps
 
-goes_edited : (document : Document) (depth : ℕ) (command : Command) (history after : History) → Goes document depth history → edited command history ≡ Ok after → Goes document depth after
-goes_edited document depth command history after goes e =
-    goes_on document depth command history after (applied command (present_document history)) refl goes e (stays_sound.1 command history after goes.sound e)
+one_more : (steps : List (List Command)) (step : List Command) → commands_of (steps ++ step ∷ []) ≡ commands_of steps ++ step
+one_more steps step = flat_map-append (λ step. step) steps (step ∷ []) ∙ ap (λ rest. commands_of steps ++ rest) (append-nil step)
 
-goes_undone : (document : Document) (depth : ℕ) (history after : History) → Goes document depth history → taken_back history ≡ Ok after → Goes document depth after
-goes_undone document depth history after goes e = goes_back document depth history after goes e (stays_sound.2 history after goes.sound e)
+-- the first so many
+makes_first : (count : ℕ) (document : Document) (steps : List (List Command)) (made : Document) → Makes document (commands_of steps) made → Makes document (commands_of (take count steps)) (after_steps (take count steps) document)
+makes_first zero document steps made makes = refl
+makes_first (suc count) document [] made makes = refl
+makes_first (suc count) document (step ∷ steps) made makes =
+    let middle = after_all step document in
+    let parts = makes_parts document step (commands_of steps) made makes in
+    let rest = makes_first count middle steps made parts.1 in
+    makes_joined document step (commands_of (take count steps)) middle (after_steps (take count steps) middle) parts.0 rest
 
--- a command and an undo tell of the history that they make
-made_by_edit : (made : Result History Refusal) (told : Told) → told_by_edit made ≡ Ok told → made ≡ Ok told.history
-made_by_edit (Ok history) told e = let same : history ≡ told.history = cc in ap Ok same
-made_by_edit (Err refusal) told e = absurd cc
+-- ---- a history whose commands are all accepted
 
-made_by_undo : (made : Result History UndoError) (told : Told) → told_by_undo made ≡ Ok told → made ≡ Ok told.history
-made_by_undo (Ok history) told e = let same : history ≡ told.history = cc in ap Ok same
-made_by_undo (Err NothingToUndo) told e = absurd cc
-made_by_undo (Err NoMemory) told e = absurd cc
+-- Each of these commands is accepted, from the present point on.
+abbrev FromPresent : History → List Command → Type 0
+FromPresent history commands = Makes (present_document history) commands (after_all commands (present_document history))
 
-goes_after : (document : Document) (depth : ℕ) (request : Request) (history : History) (told : Told) → Goes document depth history → carried_out request history ≡ Ok told → Goes document depth told.history
-goes_after document depth (Edit command) history told goes e =
-    goes_edited document depth command history told.history goes (made_by_edit (edited command history) told e)
-goes_after document depth Undo history told goes e = goes_undone document depth history told.history goes (made_by_undo (taken_back history) told e)
-goes_after document depth Size history told goes e = subst (Goes document depth) (sym (looks_leave_history Size history told tt e)) goes
-goes_after document depth (Lists what) history told goes e = subst (Goes document depth) (sym (looks_leave_history (Lists what) history told tt e)) goes
+module _ (document : Document) (depth : ℕ) where
+  -- each command of a step, also of one that was undone, is accepted where it came, and so is each of the open step
+  record IsMade (history : History) : Type 0 where
+    start : history.start ≡ document
+    keeps_depth : history.depth ≡ depth
+    made : Document
+    steps : Makes history.start (commands_of history.steps) made
+    group : FromPresent history (commands_in history.group)
 
-goes_settled : (document : Document) (depth : ℕ) (p : Progress) (request : Request) (result : Result Told Refused) → carried_out request p.history ≡ result → Goes document depth p.history → Goes document depth (settled_by p result).history
-goes_settled document depth p request (Ok told) e goes = goes_after document depth request p.history told goes e
-goes_settled document depth p request (Err reason) e goes = goes
+  made_at_point : (point : ℕ) (history : History) → history.group ≡ None → IsMade history → IsMade (at_point point history)
+  made_at_point point history alone is_made = record { start = is_made.start; keeps_depth = is_made.keeps_depth; made = is_made.made; steps = is_made.steps; group = rw alone refl }
 
-goes_answered : (document : Document) (depth : ℕ) (p : Progress) (answer : Result (Option Request) ParseError) → Goes document depth p.history → Goes document depth (answered_by p answer).history
-goes_answered document depth p (Ok None) goes = goes
-goes_answered document depth p (Ok (Some request)) goes = goes_settled document depth p request (carried_out request p.history) refl goes
-goes_answered document depth p (Err error) goes = goes
+  made_with_marks : (marks : List Mark) (history : History) → IsMade history → IsMade (with_marks marks history)
+  made_with_marks marks history is_made = record { start = is_made.start; keeps_depth = is_made.keeps_depth; made = is_made.made; steps = is_made.steps; group = is_made.group }
 
-goes_lines : (document : Document) (depth : ℕ) (strict : Bool) (p : Progress) (lines : List (List ℕ)) → Goes document depth p.history → Goes document depth (after_lines strict p lines).history
-goes_lines document depth strict p [] goes = goes
-goes_lines document depth strict p (line ∷ lines) goes =
-    elim (cases_Bool (is_over strict p)) [
-      | inl over ↦ rw over goes
-      | inr on ↦ rw on (goes_lines document depth strict (after_line p line) lines (goes_answered document depth p (answer_to line) goes))
-    ]
+  made_with_group : (group : Option (List Command)) (history : History) → IsMade history → FromPresent history (commands_in group) → IsMade (with_group group history)
+  made_with_group group history is_made makes = record { start = is_made.start; keeps_depth = is_made.keeps_depth; made = is_made.made; steps = is_made.steps; group = makes }
 
-goes_begun : (document : Document) (depth : ℕ) → 1 ≤ depth → Goes document depth (begun document depth)
-goes_begun document depth some = record { start = refl; steps = refl; sound = stays_sound.0 document depth some; made = document; makes = refl }
+  -- the steps that stand
+  standing_made : (history : History) → IsMade history → Makes history.start (commands_of (take history.present history.steps)) (present_document history)
+  standing_made history is_made = makes_first history.present history.start history.steps is_made.made is_made.steps
 
-goes_ran : (document : Document) (options : Options) (script : List ℕ) → 1 ≤ options.depth → Goes document options.depth (ran document options script).history
-goes_ran document options script some = goes_lines document options.depth options.strict (at_first document options.depth) (lines_of script) (goes_begun document options.depth some)
+  made_with_step : (step : List Command) (made : Document) (history : History) → IsMade history → Makes (present_document history) step made → IsMade (with_step step history)
+  made_with_step step made history is_made makes =
+      let front = take history.present history.steps in
+      let all = makes_joined history.start (commands_of front) step (present_document history) made (standing_made history is_made) makes in
+      record {
+        start = is_made.start;
+        keeps_depth = is_made.keeps_depth;
+        made = made;
+        steps = subst (λ commands. Makes history.start commands made) (sym (one_more front step)) all;
+        group = refl;
+      }
 
-pub sound_ran : (document : Document) (options : Options) (script : List ℕ) → 1 ≤ options.depth → IsSound (ran document options script).history
-sound_ran document options script some = (goes_ran document options script some).sound
+  made_with_command : (command : Command) (group : Option (List Command)) (new : Document) (history : History) → IsMade history → FromPresent history (commands_in group) → applied command (after_all (commands_in group) (present_document history)) ≡ Ok new → IsMade (with_command command group history)
+  made_with_command command None new history is_made makes accepted = made_with_step (command ∷ []) new history is_made (new, accepted, refl)
+  made_with_command command (Some commands) new history is_made makes accepted =
+      let present = present_document history in
+      let more = commands ++ command ∷ [] in
+      let all : Makes present more new = makes_joined present commands (command ∷ []) (after_all commands present) new makes (new, accepted, refl) in
+      made_with_group (Some more) history is_made (subst (Makes present more) (makes_all present more new all) all)
 
-is_history : (document : Document) (depth : ℕ) (history : History) → Goes document depth history → IsHistoryOf document depth history
-is_history document depth history goes =
-    let sound = goes.sound in
-    let within = sound.within_depth in
-    record {
-      start = goes.start;
-      within_commands = sound.within_commands;
-      above_floor = sound.above_floor;
-      within_depth = subst (λ (d : ℕ). history.present ≤ history.floor + d) goes.steps within;
-      makes = makes_present document depth history goes;
-    }
+  -- ---- requests
 
-pub standing_commands : StandingCommands
-standing_commands document options script some = is_history document options.depth (ran document options script).history (goes_ran document options script some)
+  made_or_before : {E : Type 0} (before : History) (answer : Result History E) → IsMade before → IfOk answer IsMade → IsMade (or_before before answer)
+  made_or_before before (Ok after) is_made answered = answered
+  made_or_before before (Err error) is_made answered = is_made
+
+  made_unless_open : (group : Option (List Command)) (answer : Result History HistoryError) → (group ≡ None → IfOk answer IsMade) → IfOk (unless_open group answer) IsMade
+  made_unless_open None answer answered = answered refl
+  made_unless_open (Some commands) answer answered = tt
+
+  made_if : (test : Bool) (first second : Result History HistoryError) → IfOk first IsMade → IfOk second IsMade → IfOk (if test then first else second) IsMade
+  made_if test first second one other = elim (cases_Bool test) [ inl passed ↦ rw passed one | inr failed ↦ rw failed other ]
+
+  made_edited_to : (command : Command) (history : History) (made : Result Document Refusal) → applied command (standing_document history) ≡ made → IsMade history → IfOk (edited_to command history made) IsMade
+  made_edited_to command history (Ok new) accepted is_made = made_with_command command history.group new history is_made is_made.group accepted
+  made_edited_to command history (Err refusal) accepted is_made = tt
+
+  made_undone : (history : History) → IsMade history → IfOk (undone history) IsMade
+  made_undone history is_made =
+      let test = history.present == history.floor in
+      let back : Result History HistoryError = Ok (at_point (history.present - 1) history) in
+      let none : Result History HistoryError = Err NothingToUndo in
+      made_unless_open history.group (if test then none else back) (λ alone. made_if test none back tt (made_at_point (history.present - 1) history alone is_made))
+
+  made_redone : (history : History) → IsMade history → IfOk (redone history) IsMade
+  made_redone history is_made =
+      let test = history.present == length history.steps in
+      let on : Result History HistoryError = Ok (at_point (history.present + 1) history) in
+      let none : Result History HistoryError = Err NothingToRedo in
+      made_unless_open history.group (if test then none else on) (λ alone. made_if test none on tt (made_at_point (history.present + 1) history alone is_made))
+
+  made_marking : (test : Bool) (error : HistoryError) (marks : List Mark) (history : History) → IsMade history → IfOk (unless_open history.group (if test then Ok (with_marks marks history) else Err error)) IsMade
+  made_marking test error marks history is_made =
+      let set : Result History HistoryError = Ok (with_marks marks history) in
+      let none : Result History HistoryError = Err error in
+      made_unless_open history.group (if test then set else none) (λ alone. made_if test set none (made_with_marks marks history is_made) tt)
+
+  made_gone_to : (found : Option ℕ) (history : History) → history.group ≡ None → IsMade history → IfOk (gone_to found history) IsMade
+  made_gone_to None history alone is_made = tt
+  made_gone_to (Some point) history alone is_made = made_at_point point history alone is_made
+
+  made_gone_back : (name : List ℕ) (history : History) → IsMade history → IfOk (gone_back name history) IsMade
+  made_gone_back name history is_made =
+      let found = point_of name history.marks in
+      made_unless_open history.group (gone_to found history) (λ alone. made_gone_to found history alone is_made)
+
+  made_opened : (history : History) → IsMade history → IfOk (opened history) IsMade
+  made_opened history is_made = made_unless_open history.group (Ok (with_group (Some []) history)) (λ alone. made_with_group (Some []) history is_made refl)
+
+  made_ended : (group : Option (List Command)) (history : History) → IsMade history → FromPresent history (commands_in group) → IfOk (ended group history) IsMade
+  made_ended None history is_made makes = tt
+  made_ended (Some []) history is_made makes = made_with_group None history is_made refl
+  made_ended (Some (command ∷ commands)) history is_made makes =
+      made_with_step (command ∷ commands) (after_all (command ∷ commands) (present_document history)) history is_made makes
+
+  made_cancelled : (history : History) → IsMade history → IfOk (cancelled history) IsMade
+  made_cancelled history is_made = made_if (is_some history.group) (Ok (with_group None history)) (Err NoGroup) (made_with_group None history is_made refl) tt
+
+  made_asked : (request : Request) (history : History) → IsMade history → IsMade (asked request history)
+  made_asked (Edit command) history is_made =
+      made_or_before history (edited command history) is_made (made_edited_to command history (applied command (standing_document history)) refl is_made)
+  made_asked Undo history is_made = made_or_before history (undone history) is_made (made_undone history is_made)
+  made_asked Redo history is_made = made_or_before history (redone history) is_made (made_redone history is_made)
+  made_asked (SetMark name) history is_made =
+      let room = is_some (point_of name history.marks) || nat_lt (length history.marks) MAX_MARKS in
+      made_or_before history (marked name history) is_made (made_marking room TooManyMarks (bound name history.present history.marks) history is_made)
+  made_asked (TakeMark name) history is_made =
+      let there = is_some (point_of name history.marks) in
+      made_or_before history (unmarked name history) is_made (made_marking there NoMark (unbound name history.marks) history is_made)
+  made_asked (GoBack name) history is_made = made_or_before history (gone_back name history) is_made (made_gone_back name history is_made)
+  made_asked Begin history is_made = made_or_before history (opened history) is_made (made_opened history is_made)
+  made_asked End history is_made = made_or_before history (closed history) is_made (made_ended history.group history is_made is_made.group)
+  made_asked Cancel history is_made = made_or_before history (cancelled history) is_made (made_cancelled history is_made)
+
+  made_begun : IsMade (begun document depth)
+  made_begun = record { start = refl; keeps_depth = refl; made = document; steps = refl; group = refl }
+
+  is_history : (history : History) → IsMade history → IsSound history → IsHistoryOf document depth history
+  is_history history is_made sound =
+      let standing = commands_of (take history.present history.steps) in
+      let all = makes_joined history.start standing (commands_in history.group) (present_document history) (standing_document history) (standing_made history is_made) is_made.group in
+      record {
+        start = is_made.start;
+        keeps_depth = is_made.keeps_depth;
+        sound = sound;
+        makes = subst (λ d. Makes d (standing_commands history) (standing_document history)) is_made.start all;
+      }
+
+-- ---- after any script
+
+pub standing_commands_make : StandingCommands
+standing_commands_make document options script some =
+    let depth = options.depth in
+    let is_made = kept_by_lines (IsMade document depth) (made_asked document depth) options.strict (at_first document depth) (lines_of script) (made_begun document depth) in
+    is_history document depth (ran document options script).history is_made (sound_ran document options script some)

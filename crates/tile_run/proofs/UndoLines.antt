@@ -5,15 +5,15 @@ use Rattle.mvt_wire.specs.Wire.{bytes_of}
 use Rattle.tile_request.specs.Request.{Request, Edit, Undo}
 use Rattle.tile_script.specs.Line.{answer_to}
 use Rattle.tile_lines.specs.Lines.{lines_of, HasNoLineFeed, with_feed, EndsWithALine}
-use Rattle.tile_session.specs.History.{History, with_command, edited_to, edited}
-use Rattle.tile_answer.specs.Answering.{Told, told_by_edit, told_by_undo, carried_out}
+use Rattle.mvt_history.specs.History.{History, with_command, edited_to, edited}
+use Rattle.tile_answer.specs.Answering.{Told, told_by_edit, told_by_move, carried_out}
 use Rattle.tile_run.specs.Run.{Progress, accepted, answered_by, settled_by, after_line, is_over, after_lines, ran, tile_of}
 use Rattle.tile_run.specs.RunLaws.{UndoInARun, UndoInAScript}
 use Rattle.tile_run.specs.declared.outcome.Options.{Options}
 use Rattle.tile_run.proofs.Fronts.{fronts_stand}
-use Rattle.tile_session.proofs.HistoryLaws.{undo_at_once}
+use Rattle.mvt_history.proofs.HistoryLaws.{undo_at_once}
 use Rattle.tile_lines.proofs.LineLaws.{lines_only}
-use Rattle.tile_run.proofs.Standing.{sound_ran}
+use Rattle.tile_run.proofs.LineRequests.{sound_ran}
 
 -- a line whose request is accepted
 accepts : (p : Progress) (line : List ℕ) (request : Request) (told : Told) → answer_to line ≡ Ok (Some request) → carried_out request p.history ≡ Ok told → after_line p line ≡ accepted told p
@@ -28,13 +28,14 @@ abbrev telling_nothing : History → Told
 telling_nothing history = record { lines = []; history = history }
 
 pub undo_in_a_run : UndoInARun
-undo_in_a_run strict p line undo command edited_document sound on asks made asks_undo =
-    let done : edited command p.history ≡ Ok (with_command command p.history) = ap (edited_to command p.history) made in
-    let back = undo_at_once command p.history (with_command command p.history) sound done in
-    let one = telling_nothing (with_command command p.history) in
+undo_in_a_run strict p line undo command edited_document sound alone on asks made asks_undo =
+    let after = with_command command p.history.group p.history in
+    let done : edited command p.history ≡ Ok after = ap (edited_to command p.history) made in
+    let back = undo_at_once command p.history after sound alone done in
+    let one = telling_nothing after in
     let two = telling_nothing back.0 in
     let first = accepts p line (Edit command) one asks (ap told_by_edit done) in
-    let second = accepts (accepted one p) undo Undo two asks_undo (ap told_by_undo back.1) in
+    let second = accepts (accepted one p) undo Undo two asks_undo (ap told_by_move back.1) in
     let both = two_accepted strict p line undo one two on first second in (
       ap (λ (q : Progress). q.replies) both,
       ap tile_of both ∙ ap bytes_of back.2,
@@ -48,7 +49,7 @@ two_more document options front line undo ends first second =
     ap (ran document options) (append_assoc front (with_feed line) (with_feed undo)) ∙ fronts_stand document options front (with_feed line ++ with_feed undo) ends ∙ ap (after_lines options.strict (ran document options front)) (two_lines line undo first second)
 
 pub undo_in_a_script : UndoInAScript
-undo_in_a_script document options front line undo command edited_document some ends on first second asks made asks_undo =
+undo_in_a_script document options front line undo command edited_document some ends alone on first second asks made asks_undo =
     let whole = two_more document options front line undo ends first second in
-    let both = undo_in_a_run options.strict (ran document options front) line undo command edited_document (sound_ran document options front some) on asks made asks_undo in
+    let both = undo_in_a_run options.strict (ran document options front) line undo command edited_document (sound_ran document options front some) alone on asks made asks_undo in
     (ap (λ (q : Progress). q.replies) whole ∙ both.0, ap tile_of whole ∙ both.1)

@@ -1,19 +1,21 @@
 -- What may follow a line.
-use Rattle.std.proofs.Common.{◌≡◌, ℕ, List, Some, None, sym, ap, ◌∙◌, inl, inr}
+use Rattle.std.proofs.Common.{◌≡◌, ℕ, ◌+◌, true, List, ◌++◌, Some, None, sym, ap, ◌∙◌, inl, inr}
 use Rattle.std.specs.Prelude.{Result, Ok, Err}
 use Rattle.mvt_wire.specs.Held.{Held}
 use Rattle.tile_request.specs.Request.{Request}
 use Rattle.tile_words.specs.Answers.{Refuses}
 use Rattle.tile_script.specs.Line.{answer_to, TakesMemory}
 use Rattle.tile_answer.specs.Answers.{Answers}
-use Rattle.tile_run.specs.Run.{Progress, refused_for, settled_by, answered_by}
-use Rattle.tile_session.specs.Session.{StandsFor}
+use Rattle.tile_reply.specs.Replies.{refusal_number}
+use Rattle.tile_run.specs.Run.{Progress, refused_for, settled_by, answered_by, without_memory}
+use Rattle.mvt_history.specs.Session.{StandsFor}
 use Rattle.tile_run.specs.Steps.{CarriesOut, answered}
 use Rattle.tile_words.specs.declared.parse_error.ParseError.{ParseError}
 use Rattle.tile_words.specs.declared.parse_error.ParseError.TheVariants as parse
 use Rattle.tile_reply.specs.declared.refused.Refused.{Refused}
 use Rattle.tile_reply.specs.declared.refused.Refused.TheVariants as refused
-use Rattle.tile_session.specs.declared.session.Session.{Session}
+use Rattle.mvt_history.specs.declared.session.Session.{Session}
+use Rattle.tile_run.proofs.ReplyEnds.{want_reply}
 use Rattle.tile_run.proofs.Taking.{requests_take_memory}
 
 -- a line that asks for nothing
@@ -24,6 +26,11 @@ carries_nothing session line p asks stands = record {
   stands = stands;
 }
 
+-- a refusal with the number of want of memory
+wanting : (p : Progress) (reason : Refused) → refusal_number reason ≡ 60 → refused_for reason p ≡ without_memory p
+wanting p reason want =
+    ap (λ (reply : List ℕ). record { lines = p.lines + 1; history = p.history; replies = p.replies ++ reply; any_refused = true }) (want_reply (p.lines + 1) reason want)
+
 -- a request
 pub carries_request : (session : Session) (line : List ℕ) (request : Request) (p : Progress) (r : Result (Held ℕ) Refused)
     → answer_to line ≡ Ok (Some request) → Answers request p.history r session → CarriesOut session line (Some r) p
@@ -32,13 +39,25 @@ carries_request session line request p (Ok told) asks answers = record {
   follows = inl (ap (settled_by p) (sym answers.1) ∙ ap (answered_by p) (sym asks));
   stands = answers.2;
 }
-carries_request session line request p (Err reason) asks answers = record {
+carries_request session line request p (Err reason) asks (inl (refused, stands)) = record {
   history = p.history;
-  follows = elim answers.0 [
-    | inl e ↦ inr (requests_take_memory line request asks, ap (λ (why : Refused). answered p p.history (Some (Err why))) e)
+  follows = elim refused [
+    | inl (may, want) ↦ inr (inl (requests_take_memory line request asks, wanting p reason want))
     | inr e ↦ inl (ap (settled_by p) (sym e) ∙ ap (answered_by p) (sym asks))
   ];
-  stands = answers.1;
+  stands = stands;
+}
+carries_request session line request p (Err reason) asks (inr (taken, between, is, stops, stands)) = record {
+  history = between;
+  follows = inr (inr (record {
+    request = request;
+    asked = asks;
+    taken = taken;
+    between = between;
+    stops = stops;
+    stopped = ap (λ (why : Refused). answered p between (Some (Err why))) is;
+  }));
+  stands = stands;
 }
 
 -- a line that is refused before it asks for anything
@@ -47,7 +66,7 @@ pub carries_refusal : (session : Session) (line : List ℕ) (e : ParseError) (p 
 carries_refusal session line e p takes refuses stands = record {
   history = p.history;
   follows = elim refuses [
-    | inl is ↦ inr (takes is, ap (λ (why : ParseError). refused_for (refused.Parse why) p) is)
+    | inl is ↦ inr (inl (takes is, ap (λ (why : ParseError). refused_for (refused.Parse why) p) is))
     | inr is ↦ inl (ap (answered_by p) (sym is))
   ];
   stands = stands;

@@ -14,7 +14,7 @@ use Rattle.tile_run.specs.declared.outcome.Outcome.TheVariants as outcomes
 use Rattle.tile_run.specs.declared.outcome.DeviceName.TheVariants as devices
 use Rattle.tile_run.specs.declared.outcome.TileFault.{TileFault}
 use Rattle.tile_run.specs.declared.outcome.TileFault.TheVariants as faults
-use Rattle.tile_session.specs.History.{present_document}
+use Rattle.mvt_history.specs.History.{standing_document}
 use Rattle.tile_run.specs.Run.{Progress, at_first, is_over, MayFollow, Walk, tile_of}
 
 -- what was read of each source and written to each sink
@@ -125,7 +125,7 @@ start_of options document = at_first document options.depth
 
 -- the tile that stands opens again, as its document with each stored width raised to the width that was written
 abbrev pub OpensAgain : Progress → Type 0
-OpensAgain progress = OpensAs (tile_of progress) (settle (present_document progress.history))
+OpensAgain progress = OpensAs (tile_of progress) (settle (standing_document progress.history))
 
 -- every line was carried out and replied to, and the tile was written
 pub record IsEdited (options : Options) (any_refused : Bool) (course : Course) : Type 0 where

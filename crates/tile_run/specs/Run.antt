@@ -5,9 +5,11 @@ use Rattle.mvt_wire.specs.Wire.{bytes_of}
 use Rattle.tile_request.specs.Request.{Request}
 use Rattle.tile_script.specs.Line.{answer_to, TakesMemory}
 use Rattle.tile_lines.specs.Lines.{lines_of}
-use Rattle.tile_session.specs.History.{History, begun, present_document}
+use Rattle.mvt_history.specs.History.{History, begun, standing_document}
+use Rattle.mvt_history.specs.declared.error.HistoryError.TheVariants.{Stopped}
 use Rattle.tile_reply.specs.Replies.{accepted_reply, refused_reply}
 use Rattle.tile_answer.specs.Answering.{Told, carried_out}
+use Rattle.tile_answer.specs.Answers.{MayStop}
 use Rattle.tile_run.specs.declared.outcome.Options.{Options}
 use Rattle.tile_words.specs.declared.parse_error.ParseError.{ParseError}
 use Rattle.tile_words.specs.declared.parse_error.ParseError.TheVariants as parse
@@ -61,17 +63,30 @@ after_lines strict p (line ∷ lines) = if is_over strict p then p else after_li
 abbrev pub ran : Document → Options → List ℕ → Progress
 ran document options script = after_lines options.strict (at_first document options.depth) (lines_of script)
 
--- the bytes of the present document
+-- the bytes of the standing document
 abbrev pub tile_of : Progress → List ℕ
-tile_of p = bytes_of (present_document p.history)
+tile_of p = bytes_of (standing_document p.history)
 
 -- a line to which memory was refused: it is refused so, and changes nothing
 abbrev pub without_memory : Progress → Progress
 without_memory p = refused_for (refused.Parse parse.NoMemory) p
 
+-- a line that was stopped halfway: it is refused so, and what it came to stands
+abbrev pub stopped_at : ℕ → History → Progress → Progress
+stopped_at taken between p = record { lines = p.lines + 1; history = between; replies = p.replies ++ refused_reply (p.lines + 1) (refused.History (Stopped taken)); any_refused = true }
+
+-- the line asks to go back to a mark, or to cancel the open step, and memory was refused on the way
+pub record IsStopped (p : Progress) (line : List ℕ) (q : Progress) : Type 0 where
+  pub request : Request
+  pub asked : answer_to line ≡ Ok (Some request)
+  pub taken : ℕ
+  pub between : History
+  pub stops : MayStop request p.history taken between
+  pub stopped : q ≡ stopped_at taken between p
+
 -- One line, where growths may be refused. None is before a line is known to be readable and to ask for something.
 abbrev pub MayFollow : Progress → List ℕ → Progress → Type 0
-MayFollow p line q = (q ≡ after_line p line) ⊎ (TakesMemory line × (q ≡ without_memory p))
+MayFollow p line q = (q ≡ after_line p line) ⊎ (TakesMemory line × (q ≡ without_memory p)) ⊎ IsStopped p line q
 
 -- the lines in order, where growths may be refused, up to the one behind which the run is over
 abbrev pub Walk : Bool → Progress → List (List ℕ) → Progress → Type 0

@@ -1,12 +1,16 @@
 -- Laws over whole runs, in the words of scripts, replies and tiles.
-use Rattle.std.specs.Prelude.{◌≡◌, ℕ, ◌+◌, ◌≤◌, Bool, true, false, List, [], ◌∷◌, ◌++◌, length, take, Some, Ok}
+use Rattle.std.specs.Prelude.{◌≡◌, ℕ, ◌+◌, ◌≤◌, Bool, true, false, List, [], ◌∷◌, ◌++◌, take, Option, Some, None, Result, Ok, Err}
+use Rattle.std.specs.List.{flat_map}
 use Rattle.mvt_wire.specs.Plain.{Document}
 use Rattle.mvt_command.specs.Command.{Command}
-use Rattle.tile_request.specs.Request.{Request, Edit, Undo}
+use Rattle.tile_request.specs.Request.{Request, Edit, Undo, Redo, SetMark, TakeMark, GoBack, Begin, End, Cancel, ListMarks, TellHistory, Size, Lists}
 use Rattle.mvt_meaning.specs.Meaning.{applied}
 use Rattle.tile_script.specs.Line.{answer_to}
 use Rattle.tile_lines.specs.Lines.{lines_of, HasNoLineFeed, with_feed, EndsWithALine}
-use Rattle.tile_session.specs.History.{History, IsSound, present_document}
+use Rattle.mvt_history.specs.History.{History, IsSound, commands_in, standing_document}
+use Rattle.mvt_history.specs.Requests as asks
+use Rattle.mvt_history.specs.Requests.{asked_all}
+use Rattle.tile_words.specs.declared.parse_error.ParseError.{ParseError}
 use Rattle.tile_answer.specs.Laws.{Looks}
 use Rattle.tile_reply.specs.Replies.{accepted_reply, refused_reply, HasNoWant}
 use Rattle.tile_run.specs.Run.{Progress, after_line, after_lines, is_over, ran, tile_of, Walk}
@@ -37,8 +41,8 @@ RefusedLinesChangeNothing = (p : Progress) (line : List ℕ) (reason : Refused) 
 abbrev pub SilentLinesChangeNothing : Type 0
 SilentLinesChangeNothing = (p : Progress) (line : List ℕ) → (after_line p line).replies ≡ p.replies → after_line p line ≡ record p { lines = p.lines + 1 }
 
--- A line that asks for the size or for a listing, also one that is refused, changes neither the tile nor what undo takes back:
--- it is counted and replied to.
+-- A line that only looks, also one that is refused, changes neither the tile nor what undo takes back: it is counted and
+-- replied to.
 abbrev pub LookingChangesNothing : Type 0
 LookingChangesNothing = (p : Progress) (line : List ℕ) (request : Request) → answer_to line ≡ Ok (Some request) → Looks request → ((after_line p line).history ≡ p.history) × (tile_of (after_line p line) ≡ tile_of p) × ((after_line p line).lines ≡ p.lines + 1)
 
@@ -57,27 +61,64 @@ abbrev pub Makes : Document → List Command → Document → Type 0
 Makes document [] made = made ≡ document
 Makes document (command ∷ commands) made = (next : Document) × (applied command document ≡ Ok next) × Makes next commands made
 
--- a history of a tile in which undo goes back at most depth commands
+-- the commands of the steps that stand, and those of the open one
+abbrev pub standing_commands : History → List Command
+standing_commands history = flat_map (λ step. step) (take history.present history.steps) ++ commands_in history.group
+
+-- a history of a tile in which undo goes back at most depth steps
 pub record IsHistoryOf (document : Document) (depth : ℕ) (history : History) : Type 0 where
   pub start : history.start ≡ document
-  pub within_commands : history.present ≤ length history.commands
-  pub above_floor : history.floor ≤ history.present
-  pub within_depth : history.present ≤ history.floor + depth
-  pub makes : Makes document (take history.present history.commands) (present_document history)
+  pub keeps_depth : history.depth ≡ depth
+  pub sound : IsSound history
+  pub makes : Makes document (standing_commands history) (standing_document history)
 
 -- After every script the tile is the one at the start with the standing commands carried out in order.
 abbrev pub StandingCommands : Type 0
 StandingCommands = (document : Document) (options : Options) (script : List ℕ) → 1 ≤ options.depth → IsHistoryOf document options.depth (ran document options script).history
 
+-- ---- what lines ask of a history
+
+-- a look asks for nothing of it
+abbrev pub asked_of : Request → List asks.Request
+asked_of (Edit command) = asks.Edit command ∷ []
+asked_of Undo = asks.Undo ∷ []
+asked_of Redo = asks.Redo ∷ []
+asked_of (SetMark name) = asks.SetMark name ∷ []
+asked_of (TakeMark name) = asks.TakeMark name ∷ []
+asked_of (GoBack name) = asks.GoBack name ∷ []
+asked_of Begin = asks.Begin ∷ []
+asked_of End = asks.End ∷ []
+asked_of Cancel = asks.Cancel ∷ []
+asked_of ListMarks = []
+asked_of TellHistory = []
+asked_of Size = []
+asked_of (Lists what) = []
+
+-- and neither does a line that is blank, a comment or not understood
+abbrev pub asked_in : Result (Option Request) ParseError → List asks.Request
+asked_in (Ok None) = []
+asked_in (Ok (Some request)) = asked_of request
+asked_in (Err error) = []
+
+-- what the lines ask of a history, one after the other
+abbrev pub requests_of : List (List ℕ) → List asks.Request
+requests_of lines = flat_map (λ line. asked_in (answer_to line)) lines
+
+-- Where a run goes on behind refused lines, the history after lines is what their requests make of the one before them.
+-- So each law of histories holds of scripts.
+abbrev pub LinesAreRequests : Type 0
+LinesAreRequests = (p : Progress) (lines : List (List ℕ)) → (after_lines false p lines).history ≡ asked_all (requests_of lines) p.history
+
 -- ---- undo
 
--- A line whose command is accepted and then a line that asks for undo: both are accepted, and the tile is as before.
+-- Where no step is open, a line whose command is accepted and then a line that asks for undo: both are accepted, and the
+-- tile is as before.
 abbrev pub UndoInARun : Type 0
-UndoInARun = (strict : Bool) (p : Progress) (line undo : List ℕ) (command : Command) (edited : Document) → IsSound p.history → is_over strict p ≡ false → answer_to line ≡ Ok (Some (Edit command)) → applied command (present_document p.history) ≡ Ok edited → answer_to undo ≡ Ok (Some Undo) → ((after_lines strict p (line ∷ undo ∷ [])).replies ≡ p.replies ++ accepted_reply [] ++ accepted_reply []) × (tile_of (after_lines strict p (line ∷ undo ∷ [])) ≡ tile_of p)
+UndoInARun = (strict : Bool) (p : Progress) (line undo : List ℕ) (command : Command) (edited : Document) → IsSound p.history → p.history.group ≡ None → is_over strict p ≡ false → answer_to line ≡ Ok (Some (Edit command)) → applied command (standing_document p.history) ≡ Ok edited → answer_to undo ≡ Ok (Some Undo) → ((after_lines strict p (line ∷ undo ∷ [])).replies ≡ p.replies ++ accepted_reply [] ++ accepted_reply []) × (tile_of (after_lines strict p (line ∷ undo ∷ [])) ≡ tile_of p)
 
 -- The same of a script: these two lines behind it are accepted, and it makes the same tile.
 abbrev pub UndoInAScript : Type 0
-UndoInAScript = (document : Document) (options : Options) (front line undo : List ℕ) (command : Command) (edited : Document) → 1 ≤ options.depth → EndsWithALine front → is_over options.strict (ran document options front) ≡ false → HasNoLineFeed line → HasNoLineFeed undo → answer_to line ≡ Ok (Some (Edit command)) → applied command (present_document (ran document options front).history) ≡ Ok edited → answer_to undo ≡ Ok (Some Undo) → ((ran document options (front ++ with_feed line ++ with_feed undo)).replies ≡ (ran document options front).replies ++ accepted_reply [] ++ accepted_reply []) × (tile_of (ran document options (front ++ with_feed line ++ with_feed undo)) ≡ tile_of (ran document options front))
+UndoInAScript = (document : Document) (options : Options) (front line undo : List ℕ) (command : Command) (edited : Document) → 1 ≤ options.depth → EndsWithALine front → (ran document options front).history.group ≡ None → is_over options.strict (ran document options front) ≡ false → HasNoLineFeed line → HasNoLineFeed undo → answer_to line ≡ Ok (Some (Edit command)) → applied command (standing_document (ran document options front).history) ≡ Ok edited → answer_to undo ≡ Ok (Some Undo) → ((ran document options (front ++ with_feed line ++ with_feed undo)).replies ≡ (ran document options front).replies ++ accepted_reply [] ++ accepted_reply []) × (tile_of (ran document options (front ++ with_feed line ++ with_feed undo)) ≡ tile_of (ran document options front))
 
 -- ---- want of memory
 

@@ -18,12 +18,12 @@ use Rattle.tile_run.specs.declared.outcome.Unwritten.{Unwritten}
 use Rattle.tile_run.specs.declared.outcome.Unwritten.TheVariants as unwritten
 use Rattle.tile_reply.specs.declared.refused.Refused.{Refused}
 use Rattle.tile_run.specs.declared.runs.TheConstants.{MAX_SCRIPT}
-use Rattle.tile_session.specs.declared.session.Session.{Session}
+use Rattle.mvt_history.specs.declared.session.Session.{Session}
 use Rattle.tile_run.specs.Course.{IsOpened, IsFaulty, IsWritten, CarriesThrough, StopsStrictly, StopsAtScript, StopsAtReplies}
-use Rattle.tile_session.specs.History.{History}
+use Rattle.mvt_history.specs.History.{History}
 use Rattle.tile_reply.specs.Replies.{accepted_reply, refused_reply}
 use Rattle.tile_run.specs.Run.{Progress, is_over, MayFollow, Walk}
-use Rattle.tile_session.specs.Session.{StandsFor}
+use Rattle.mvt_history.specs.Session.{StandsFor}
 
 -- ---- devices, with the retries that are left before a step and after it
 

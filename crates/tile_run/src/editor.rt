@@ -1,6 +1,6 @@
 //! The lines of a script, carried out and replied to as they are read.
 
-ghost use Rattle.std.specs.Prelude.{◌≡◌, ℕ, ◌+◌, ◌^◌, ◌<◌, ◌≤◌, Bool, List, ◌++◌, false, length};
+ghost use Rattle.std.specs.Prelude.{◌≡◌, ℕ, ◌+◌, ◌^◌, ◌<◌, ◌≤◌, Bool, List, ◌++◌, false, length, IfSome};
 ghost use Rattle.mvt_wire.specs.Plain.{Document as PlainDocument};
 ghost use Rattle.mvt_wire.specs.Opens.{IsDocument};
 ghost use Rattle.mvt_wire.specs.Stands.{document_of};
@@ -10,13 +10,15 @@ ghost use Rattle.tile_lines.specs.CutStands.{cut_seen};
 ghost use Rattle.tile_lines.specs.Cutting.{cut_of, nothing_held};
 ghost use Rattle.tile_lines.specs.Lines.{whole_lines};
 ghost use Rattle.tile_reply.specs.Replies.{answer_seen};
-ghost use Rattle.tile_session.specs.History.{History, present_document};
+ghost use Rattle.mvt_history.specs.History.{History, standing_document};
+ghost use Rattle.mvt_history.specs.Session.{StandsFor};
+ghost use Rattle.mvt_history.specs.declared.TheConstants.{MAX_DEPTH};
 ghost use Rattle.tile_run.specs.Run.{Progress, at_first, is_over};
-ghost use Rattle.tile_session.specs.Session.{StandsFor};
 ghost use Rattle.tile_run.specs.Steps.{AnswersLine, CarriesOut, CarriesOutLines, CarriesOutPieces, CarriesOutScript, ComesTo, IsAt, WasGiven, told_in};
 
-use crate::outcome::{LineStop, ScriptStop};
+use crate::outcome::{LineStop, Options, ScriptStop};
 use crate::runs::MAX_SCRIPT;
+use mvt_history::Session;
 use mvt_wire::{Document, Items};
 use std::alloc::Global;
 use tile_answer::carry_out;
@@ -24,7 +26,6 @@ use tile_device::{Retries, Sink, Source, read_some};
 use tile_lines::{Cut, LineCutter};
 use tile_reply::{Refused, reply};
 use tile_script::parse_cut;
-use tile_session::Session;
 
 /// How many bytes of a script one read asks for at most.
 const PIECE: usize = 4096;
@@ -41,21 +42,28 @@ pub(crate) struct Editor {
 }
 
 impl Editor {
-    pub(crate) fn start(alloc: Global, document: Document, strict: bool) -> Self
-        requires { IsDocument (document_of document) }
-        ensures { IsAt result strict (at_first (document_of document) 1) }
+    /// An editor of a document that no line has edited, or `None` where there is no memory for what
+    /// its session keeps. A document that was read from a file is never too large for a session.
+    pub(crate) fn start(alloc: Global, document: Document, options: Options) -> Option<Self>
+        requires valid { IsDocument (document_of document) }
+        requires some_depth { 1 ≤ options.depth }
+        requires depth { options.depth ≤ MAX_DEPTH }
+        ensures { IfSome result (λ editor. IsAt editor options.strict (at_first (document_of document) options.depth)) }
     {
-        Editor {
-            session: Session::start(alloc, document),
-            strict,
+        let Ok(session) = Session::start(alloc, document, options.depth) else {
+            return None;
+        };
+        Some(Editor {
+            session,
+            strict: options.strict,
             lines: 0,
             any_refused: false,
-        }
+        })
     }
 
     pub(crate) fn document(&self) -> &Document
         ensures present { (history : History) → StandsFor self.now.session history
-            → document_of result.now ≡ present_document history }
+            → document_of result.now ≡ standing_document history }
         ensures valid { IsDocument (document_of result.now) }
     {
         self.session.document()
@@ -77,8 +85,8 @@ impl Editor {
         retries: &mut Retries,
     ) -> Result<(), ScriptStop>
         requires { self.old.lines ≡ 0 }
-        ensures { (strict : Bool) (document : PlainDocument) → IsAt self.old strict (at_first document 1)
-            → CarriesOutScript strict (at_first document 1)
+        ensures { (strict : Bool) (document : PlainDocument) (depth : ℕ) → IsAt self.old strict (at_first document depth)
+            → CarriesOutScript strict (at_first document depth)
             (source_at R.Source script.old) (source_at R.Source script.new)
             (sink_at W.Sink replies.old) (sink_at W.Sink replies.new)
             retries.old retries.new self.new result }
@@ -104,8 +112,8 @@ impl Editor {
         requires lines { self.old.lines ≡ 0 }
         requires cutter { cutter.old ≡ nothing_held }
         ensures lines { self.new.lines ≤ MAX_SCRIPT }
-        ensures pieces { (strict : Bool) (document : PlainDocument) → IsAt self.old strict (at_first document 1)
-            → CarriesOutPieces strict (at_first document 1)
+        ensures pieces { (strict : Bool) (document : PlainDocument) (depth : ℕ) → IsAt self.old strict (at_first document depth)
+            → CarriesOutPieces strict (at_first document depth)
             (source_at R.Source script.old) (source_at R.Source script.new)
             (sink_at W.Sink replies.old) (sink_at W.Sink replies.new)
             retries.old retries.new self.new cutter.new result }

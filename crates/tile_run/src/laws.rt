@@ -2,10 +2,13 @@
 //! and of what requests tell are passed on.
 
 ghost use Rattle.tile_run.specs.DeviceLaws.{FailedDevicesAreNamed, WornOutRunsNameADevice, DevicesAreNamedForCause};
-ghost use Rattle.tile_run.specs.RunLaws.{FrontsHaveFirstLines, FrontsStand, RepliesStand, RefusedLinesChangeNothing, SilentLinesChangeNothing, StrictRunsStop, AcceptedRunsAreAlike, StandingCommands, UndoInARun, UndoInAScript, WalksWithoutWantAreRuns, RunsAreWalks, RunsHaveNoWant, LookingChangesNothing};
+ghost use Rattle.tile_run.specs.RunLaws.{FrontsHaveFirstLines, FrontsStand, RepliesStand, RefusedLinesChangeNothing, SilentLinesChangeNothing, StrictRunsStop, AcceptedRunsAreAlike, StandingCommands, LinesAreRequests, UndoInARun, UndoInAScript, WalksWithoutWantAreRuns, RunsAreWalks, RunsHaveNoWant, LookingChangesNothing};
 
+pub use mvt_history::laws::{
+    back_to_the_mark, cancel_leaves_no_trace, changes_lead, history_fits, kept_within,
+    redos_undo_undos, stays_sound, step_undoes_whole, undo_at_once,
+};
 pub use tile_answer::laws::{looks_leave_history, requests_have_no_want, requests_tell_lines};
-pub use tile_session::laws::{history_fits, stays_sound, stays_valid, undo_at_once};
 
 /// After each front of whole lines the run has come to where it comes on that front alone. So the
 /// document, the history and the replies there are those of the front.
@@ -22,7 +25,7 @@ pub fn refused_lines_change_nothing()
     ensures silent { SilentLinesChangeNothing }
 {}
 
-/// A line that asks for the size or for a listing leaves the tile and the history as they were.
+/// A line that only looks leaves the tile and the history as they were.
 pub fn looking_changes_nothing()
     ensures { LookingChangesNothing }
 {}
@@ -34,13 +37,21 @@ pub fn strict_runs_stop()
     ensures alike { AcceptedRunsAreAlike }
 {}
 
-/// After any script the tile is the one read at the start, with the commands that stand carried
-/// out in order. Each of them was accepted, and undo goes back over no more than it may.
+/// After any script the tile is the one read at the start, with the commands of the steps that
+/// stand and those of the open step carried out in order. Each of them was accepted, and undo goes
+/// back over no more steps than it may.
 pub fn standing_commands()
     ensures { StandingCommands }
 {}
 
-/// A line with a command that is accepted, and a line that takes it back, leave the tile as it was.
+/// What a script makes of a history is what its lines ask for, one after the other. So each law of
+/// histories holds of scripts.
+pub fn lines_are_requests()
+    ensures { LinesAreRequests }
+{}
+
+/// Where no step is open, a line with a command that is accepted, and a line that takes it back,
+/// leave the tile as it was.
 pub fn undo_in_a_script()
     ensures progress { UndoInARun }
     ensures script { UndoInAScript }

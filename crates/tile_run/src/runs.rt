@@ -5,6 +5,7 @@ ghost use Rattle.mvt_wire.specs.Opens.{IsDocument, OpensAs};
 ghost use Rattle.mvt_wire.specs.Settle.{settle};
 ghost use Rattle.mvt_wire.specs.Stands.{document_of};
 ghost use Rattle.mvt_wire.specs.Wire.{bytes_of};
+ghost use Rattle.mvt_history.specs.declared.TheConstants.{MAX_DEPTH};
 ghost use Rattle.tile_device.specs.Seen.{Intake, Output, source_at, sink_at};
 ghost use Rattle.tile_run.specs.Headline.{Headline, RefusesTile, Runs, WritesATile, LeavesOut, LeavesReplies, devices_at};
 ghost use Rattle.tile_run.specs.Steps.{Reads, Writes, OpensTile, WritesTile};
@@ -31,7 +32,8 @@ pub fn run<R1: Source, R2: Source, W1: Sink, W2: Sink>(
     out: &mut W2,
     options: Options,
 ) -> Outcome
-    requires { options.depth ≡ 1 }
+    requires some_depth { 1 ≤ options.depth }
+    requires depth { options.depth ≤ MAX_DEPTH }
 
     // Where no device fails and memory is not wanted: the script on the document.
     ensures headline { Headline options
@@ -71,7 +73,8 @@ fn edit<R1: Source, R2: Source, W1: Sink, W2: Sink>(
     out: &mut W2,
     options: Options,
 ) -> Outcome
-    requires { options.depth ≡ 1 }
+    requires some_depth { 1 ≤ options.depth }
+    requires depth { options.depth ≤ MAX_DEPTH }
     ensures course { Runs options
         (devices_at R1.Source R2.Source W1.Sink W2.Sink tile.old script.old replies.old out.old)
         (devices_at R1.Source R2.Source W1.Sink W2.Sink tile.new script.new replies.new out.new)
@@ -85,7 +88,9 @@ fn edit<R1: Source, R2: Source, W1: Sink, W2: Sink>(
         Ok(document) => document,
         Err(stop) => return stop.into(),
     };
-    let mut editor = Editor::start(alloc, document, options.strict);
+    let Some(mut editor) = Editor::start(alloc, document, options) else {
+        return Outcome::NoMemory;
+    };
     if let Err(stop) = editor.carry_out_script(alloc, script, replies, &mut retries) {
         return stop.into();
     }

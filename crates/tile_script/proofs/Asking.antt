@@ -5,12 +5,12 @@ use Rattle.std.specs.Str.Parse.{digits_value}
 use Rattle.mvt_command.specs.Command.{Command, AtOrdinal, Named, RenameLayer, FeatureAtOrdinal, WithId}
 use Rattle.tile_arguments.specs.Arguments.{is_number}
 use Rattle.tile_arguments.proofs.Meant.{text_quoted, layer_named, layer_at, feature_at, feature_with_id}
-use Rattle.tile_request.specs.Request.{Request, Edit, Undo, Size, Lists, Whole, OneLayer, OneFeature}
+use Rattle.tile_request.specs.Request.{Request, Edit, Undo, Redo, SetMark, Begin, Size, Lists, Whole, OneLayer, OneFeature}
 use Rattle.tile_words.specs.Words.{Word, Bare, Quoted, words_of}
 use Rattle.tile_words.specs.Spelling.{SpellsWords}
 use Rattle.tile_words.proofs.Again.{words_only, behind_blanks, no_gap}
 use Rattle.tile_script.specs.Commands.{command_word_of, rename_layer_of}
-use Rattle.tile_script.specs.Line.{TakesMemory, keyword_of, edit_of, undo_of, size_request_of, list_of, asked_by, is_remark_behind, is_remark, request_in, answer_to, IsReadable}
+use Rattle.tile_script.specs.Line.{TakesMemory, plain_word_of, keyword_of, edit_of, plain_of, name_of, list_of, asked_by, is_remark_behind, is_remark, request_in, answer_to, IsReadable}
 use Rattle.tile_script.proofs.Silent.{answer_to-words}
 
 -- a line is no remark, where its first word is bare and begins with another byte
@@ -31,23 +31,44 @@ asks_by line b name arguments request readable other s asked =
     asks line words request (readable, no_remark line b name arguments s ∙ other) (words_only line words s) asked
 
 pub asks_undo : (line : List ℕ) → IsReadable line → SpellsWords line (Bare (codes "undo") ∷ []) → answer_to line ≡ Ok (Some Undo)
-unfolding asked_by keyword_of undo_of
+unfolding asked_by plain_word_of keyword_of plain_of
 asks_undo line readable s = asks_by line 117 (110 ∷ 100 ∷ 111 ∷ []) [] Undo readable refl s asked
   where
     asked : asked_by (Bare (codes "undo") ∷ []) ≡ Ok Undo
     asked = refl
 
+pub asks_redo : (line : List ℕ) → IsReadable line → SpellsWords line (Bare (codes "redo") ∷ []) → answer_to line ≡ Ok (Some Redo)
+unfolding asked_by plain_word_of keyword_of plain_of
+asks_redo line readable s = asks_by line 114 (101 ∷ 100 ∷ 111 ∷ []) [] Redo readable refl s asked
+  where
+    asked : asked_by (Bare (codes "redo") ∷ []) ≡ Ok Redo
+    asked = refl
+
+pub asks_begin : (line : List ℕ) → IsReadable line → SpellsWords line (Bare (codes "begin") ∷ []) → answer_to line ≡ Ok (Some Begin)
+unfolding asked_by plain_word_of keyword_of plain_of
+asks_begin line readable s = asks_by line 98 (101 ∷ 103 ∷ 105 ∷ 110 ∷ []) [] Begin readable refl s asked
+  where
+    asked : asked_by (Bare (codes "begin") ∷ []) ≡ Ok Begin
+    asked = refl
+
 pub asks_size : (line : List ℕ) → IsReadable line → SpellsWords line (Bare (codes "size") ∷ []) → answer_to line ≡ Ok (Some Size)
-unfolding asked_by keyword_of size_request_of
+unfolding asked_by plain_word_of keyword_of plain_of
 asks_size line readable s = asks_by line 115 (105 ∷ 122 ∷ 101 ∷ []) [] Size readable refl s asked
   where
     asked : asked_by (Bare (codes "size") ∷ []) ≡ Ok Size
     asked = refl
 
+pub asks_mark : (line name : List ℕ) → IsReadable line → SpellsWords line (Bare (codes "mark") ∷ Quoted name ∷ []) → answer_to line ≡ Ok (Some (SetMark name))
+unfolding asked_by keyword_of name_of
+asks_mark line name readable s = asks_by line 109 (97 ∷ 114 ∷ 107 ∷ []) (Quoted name ∷ []) (SetMark name) readable refl s asked
+  where
+    asked : asked_by (Bare (codes "mark") ∷ Quoted name ∷ []) ≡ Ok (SetMark name)
+    asked = rw (text_quoted name) refl
+
 -- ---- lines whose first word is `rename-layer`
 
 asks_rename : (line : List ℕ) (arguments : List Word) (command : Command) → IsReadable line → SpellsWords line (Bare (codes "rename-layer") ∷ arguments) → rename_layer_of arguments ≡ Ok command → answer_to line ≡ Ok (Some (Edit command))
-unfolding asked_by keyword_of command_word_of edit_of
+unfolding asked_by plain_word_of keyword_of command_word_of edit_of
 asks_rename line arguments command readable s e =
     asks_by line 114 (101 ∷ 110 ∷ 97 ∷ 109 ∷ 101 ∷ 45 ∷ 108 ∷ 97 ∷ 121 ∷ 101 ∷ 114 ∷ []) arguments (Edit command) readable refl s asked
   where

@@ -5,10 +5,12 @@ use Rattle.std.specs.Str.{is_utf8}
 use Rattle.tile_words.specs.Words.{Word, Bare, Quoted, words_of}
 use Rattle.tile_arguments.specs.Arguments.{text_of, texts_of, number_in, layer_of, feature_of, geometry_of}
 use Rattle.tile_arguments.proofs.Refusals.{then_other, text_other, texts_other, number_in_other, layer_other, feature_other, geometry_other}
-use Rattle.tile_script.specs.Line.{is_remark, edit_of, undo_of, size_request_of, list_of, keyword_of, with_arguments, asked_by, request_in, answer_to}
+use Rattle.tile_request.specs.Request.{Request}
+use Rattle.tile_script.specs.Line.{is_remark, edit_of, plain_of, name_of, mark_of, list_of, keyword_of, with_arguments, asked_by, request_in, answer_to}
 use Rattle.tile_script.specs.Commands.{chosen_of, rename_layer_of, move_layer_of, drop_layer_of, keep_layers_of, insert_feature_of, move_feature_of, drop_feature_of, set_id_of, clear_id_of, command_by}
 use Rattle.tile_script.specs.declared.keyword.CommandWord.{CommandWord}
 use Rattle.tile_script.specs.declared.keyword.CommandWord.TheVariants as words
+use Rattle.tile_script.specs.declared.keyword.PlainWord.{PlainWord}
 use Rattle.tile_script.specs.declared.keyword.Keyword.{Keyword}
 use Rattle.tile_script.specs.declared.keyword.Keyword.TheVariants as keywords
 use Rattle.tile_words.specs.declared.parse_error.ParseError.TheVariants as parse
@@ -95,15 +97,19 @@ edit_other : (word : CommandWord) (arguments : List Word) → Other parse.NoMemo
 unfolding edit_of
 edit_other word arguments = then_other (command_by word arguments) _ (command_other word arguments) (λ command. tt)
 
-undo_other : (arguments : List Word) → Other parse.NoMemory (undo_of arguments)
-unfolding undo_of
-undo_other [] = tt
-undo_other (more ∷ others) = λ e. cc
+plain_other : (word : PlainWord) (arguments : List Word) → Other parse.NoMemory (plain_of word arguments)
+unfolding plain_of
+plain_other word [] = tt
+plain_other word (more ∷ others) = λ e. cc
 
-size_other : (arguments : List Word) → Other parse.NoMemory (size_request_of arguments)
-unfolding size_request_of
-size_other [] = tt
-size_other (more ∷ others) = λ e. cc
+name_other : (arguments : List Word) → Other parse.NoMemory (name_of arguments)
+unfolding name_of
+name_other [] = λ e. cc
+name_other (name ∷ []) = text_other name
+name_other (name ∷ more ∷ others) = λ e. cc
+
+mark_other : (request : List ℕ → Request) (arguments : List Word) → Other parse.NoMemory (mark_of request arguments)
+mark_other request arguments = then_other (name_of arguments) _ (name_other arguments) (λ name. tt)
 
 list_other : (arguments : List Word) → Other parse.NoMemory (list_of arguments)
 unfolding list_of
@@ -115,8 +121,10 @@ list_other (layer ∷ feature ∷ more ∷ others) = λ e. cc
 arguments_other : (keyword : Option Keyword) (arguments : List Word) → Other parse.NoMemory (with_arguments keyword arguments)
 arguments_other None arguments = λ e. cc
 arguments_other (Some (keywords.Edit word)) arguments = edit_other word arguments
-arguments_other (Some keywords.Undo) arguments = undo_other arguments
-arguments_other (Some keywords.Size) arguments = size_other arguments
+arguments_other (Some (keywords.Plain word)) arguments = plain_other word arguments
+arguments_other (Some keywords.Mark) arguments = mark_other _ arguments
+arguments_other (Some keywords.Unmark) arguments = mark_other _ arguments
+arguments_other (Some keywords.Back) arguments = mark_other _ arguments
 arguments_other (Some keywords.List) arguments = list_other arguments
 
 asked_other : (words : List Word) → Other parse.NoMemory (asked_by words)

@@ -1,25 +1,42 @@
 -- What a line of a script asks for.
 use Rattle.std.specs.Prelude.{◌≡◌, ℕ, ◌≤◌, Bool, true, false, not, List, [], ◌∷◌, length, Option, Some, None, Result, Ok, Err, ◌==◌, nat_lt, if◌then◌else◌, codes, ok_or, option_map}
+use Rattle.std.specs.Option.{option_or}
 use Rattle.std.specs.Str.{bytes_eq, is_utf8, IsUtf8}
-use Rattle.tile_arguments.specs.Arguments.{layer_of, feature_of}
-use Rattle.tile_request.specs.Request.{Request, Edit, Undo, Size, Lists, Whole, OneLayer, OneFeature}
+use Rattle.tile_arguments.specs.Arguments.{text_of, layer_of, feature_of}
+use Rattle.tile_request.specs.Request.{Request, Edit, Undo, Redo, SetMark, TakeMark, GoBack, Begin, End, Cancel, ListMarks, TellHistory, Size, Lists, Whole, OneLayer, OneFeature}
 use Rattle.tile_words.specs.Words.{Word, Bare, Quoted, after_blanks, words_of}
 use Rattle.tile_words.specs.Answers.{◌>>=◌}
 use Rattle.tile_lines.specs.declared.TheConstants.{LINE_LIMIT}
 use Rattle.tile_script.specs.Commands.{command_word_of, command_by}
 use Rattle.tile_script.specs.declared.keyword.CommandWord.{CommandWord}
+use Rattle.tile_script.specs.declared.keyword.PlainWord.{PlainWord}
+use Rattle.tile_script.specs.declared.keyword.PlainWord.TheVariants as plain
 use Rattle.tile_script.specs.declared.keyword.Keyword.{Keyword}
 use Rattle.tile_script.specs.declared.keyword.Keyword.TheVariants as keywords
 use Rattle.tile_words.specs.declared.parse_error.ParseError.{ParseError}
 use Rattle.tile_words.specs.declared.parse_error.ParseError.TheVariants.{LineTooLong, BadUtf8, BadWord, UnknownCommand, BadArguments}
 
--- the words that a request begins with: those of commands, and others
+-- the words of the requests that take no argument
+unfoldable pub plain_word_of : List ℕ → Option PlainWord
+plain_word_of name =
+    if bytes_eq name (codes "undo") then Some plain.Undo
+    else (if bytes_eq name (codes "redo") then Some plain.Redo
+    else (if bytes_eq name (codes "marks") then Some plain.Marks
+    else (if bytes_eq name (codes "history") then Some plain.History
+    else (if bytes_eq name (codes "begin") then Some plain.Begin
+    else (if bytes_eq name (codes "end") then Some plain.End
+    else (if bytes_eq name (codes "cancel") then Some plain.Cancel
+    else (if bytes_eq name (codes "size") then Some plain.Size
+    else None)))))))
+
+-- the words that a request begins with: those of marks, that of listings, those without arguments, and those of commands
 unfoldable pub keyword_of : List ℕ → Option Keyword
 keyword_of name =
-    if bytes_eq name (codes "undo") then Some keywords.Undo
-    else (if bytes_eq name (codes "size") then Some keywords.Size
+    if bytes_eq name (codes "mark") then Some keywords.Mark
+    else (if bytes_eq name (codes "unmark") then Some keywords.Unmark
+    else (if bytes_eq name (codes "back") then Some keywords.Back
     else (if bytes_eq name (codes "list") then Some keywords.List
-    else option_map keywords.Edit (command_word_of name)))
+    else option_or (option_map keywords.Plain (plain_word_of name)) (option_map keywords.Edit (command_word_of name)))))
 
 -- what the arguments of a command make of it
 unfoldable pub edit_of : CommandWord → List Word → Result Request ParseError
@@ -27,15 +44,31 @@ edit_of word arguments = do
   command ← command_by word arguments
   Ok (Edit command)
 
--- no argument
-unfoldable pub undo_of : List Word → Result Request ParseError
-undo_of [] = Ok Undo
-undo_of (more ∷ others) = Err BadArguments
+-- what is asked for without arguments
+abbrev pub plain_request : PlainWord → Request
+plain_request plain.Undo = Undo
+plain_request plain.Redo = Redo
+plain_request plain.Marks = ListMarks
+plain_request plain.History = TellHistory
+plain_request plain.Begin = Begin
+plain_request plain.End = End
+plain_request plain.Cancel = Cancel
+plain_request plain.Size = Size
 
 -- no argument
-unfoldable pub size_request_of : List Word → Result Request ParseError
-size_request_of [] = Ok Size
-size_request_of (more ∷ others) = Err BadArguments
+unfoldable pub plain_of : PlainWord → List Word → Result Request ParseError
+plain_of word [] = Ok (plain_request word)
+plain_of word (more ∷ others) = Err BadArguments
+
+-- one argument: a name as a text
+unfoldable pub name_of : List Word → Result (List ℕ) ParseError
+name_of [] = Err BadArguments
+name_of (name ∷ []) = text_of name
+name_of (name ∷ more ∷ others) = Err BadArguments
+
+-- what is asked of the mark with this name
+abbrev pub mark_of : (List ℕ → Request) → List Word → Result Request ParseError
+mark_of request arguments = name_of arguments >>= λ name. Ok (request name)
 
 -- nothing, a layer, or a layer and one of its features
 unfoldable pub list_of : List Word → Result Request ParseError
@@ -53,8 +86,10 @@ list_of (layer ∷ feature ∷ more ∷ others) = Err BadArguments
 abbrev pub with_arguments : Option Keyword → List Word → Result Request ParseError
 with_arguments None arguments = Err UnknownCommand
 with_arguments (Some (keywords.Edit word)) arguments = edit_of word arguments
-with_arguments (Some keywords.Undo) arguments = undo_of arguments
-with_arguments (Some keywords.Size) arguments = size_request_of arguments
+with_arguments (Some (keywords.Plain word)) arguments = plain_of word arguments
+with_arguments (Some keywords.Mark) arguments = mark_of SetMark arguments
+with_arguments (Some keywords.Unmark) arguments = mark_of TakeMark arguments
+with_arguments (Some keywords.Back) arguments = mark_of GoBack arguments
 with_arguments (Some keywords.List) arguments = list_of arguments
 
 -- What the words of a line ask for: the first one is bare, and says which request it is. A line of no words has been

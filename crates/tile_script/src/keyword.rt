@@ -2,7 +2,7 @@
 
 ghost use Rattle.std.specs.Prelude.{◌≡◌};
 ghost use Rattle.tile_script.specs.Commands.{command_word_of};
-ghost use Rattle.tile_script.specs.Line.{keyword_of};
+ghost use Rattle.tile_script.specs.Line.{keyword_of, plain_word_of};
 
 /// The word of a command.
 #[derive(Clone, Copy, Debug, PartialEq, Eq)]
@@ -18,12 +18,27 @@ pub enum CommandWord {
     ClearId,
 }
 
+/// The word of a request that takes no argument.
+#[derive(Clone, Copy, Debug, PartialEq, Eq)]
+pub enum PlainWord {
+    Undo,
+    Redo,
+    Marks,
+    History,
+    Begin,
+    End,
+    Cancel,
+    Size,
+}
+
 /// The word of a request.
 #[derive(Clone, Copy, Debug, PartialEq, Eq)]
 pub enum Keyword {
     Edit(CommandWord),
-    Undo,
-    Size,
+    Plain(PlainWord),
+    Mark,
+    Unmark,
+    Back,
     List,
 }
 
@@ -32,14 +47,44 @@ pub enum Keyword {
 pub fn keyword_of(name: &[u8]) -> Option<Keyword>
     ensures { result ≡ keyword_of name.now }
 {
-    if name == b"undo".as_slice() {
-        Some(Keyword::Undo)
-    } else if name == b"size".as_slice() {
-        Some(Keyword::Size)
+    if name == b"mark".as_slice() {
+        Some(Keyword::Mark)
+    } else if name == b"unmark".as_slice() {
+        Some(Keyword::Unmark)
+    } else if name == b"back".as_slice() {
+        Some(Keyword::Back)
     } else if name == b"list".as_slice() {
         Some(Keyword::List)
+    } else if let Some(word) = plain_word_of(name) {
+        Some(Keyword::Plain(word))
     } else {
         command_word_of(name).map(Keyword::Edit)
+    }
+}
+
+/// The request without arguments that has this word.
+#[tactic(auto, unfolding(crate::specs::Line::plain_word_of))]
+fn plain_word_of(name: &[u8]) -> Option<PlainWord>
+    ensures { result ≡ plain_word_of name.now }
+{
+    if name == b"undo".as_slice() {
+        Some(PlainWord::Undo)
+    } else if name == b"redo".as_slice() {
+        Some(PlainWord::Redo)
+    } else if name == b"marks".as_slice() {
+        Some(PlainWord::Marks)
+    } else if name == b"history".as_slice() {
+        Some(PlainWord::History)
+    } else if name == b"begin".as_slice() {
+        Some(PlainWord::Begin)
+    } else if name == b"end".as_slice() {
+        Some(PlainWord::End)
+    } else if name == b"cancel".as_slice() {
+        Some(PlainWord::Cancel)
+    } else if name == b"size".as_slice() {
+        Some(PlainWord::Size)
+    } else {
+        None
     }
 }
 

@@ -1,4 +1,4 @@
-//! Tests of the language of scripts, of texts and listings, and of answers to requests.
+//! Tests of the language of scripts, of texts and listings, of answers to requests, and of replies.
 #![tactic(auto)]
 
 #[cfg(test)]
@@ -7,6 +7,8 @@ mod answer;
 mod arguments;
 #[cfg(test)]
 mod listing;
+#[cfg(test)]
+mod replies;
 #[cfg(test)]
 mod script;
 #[cfg(test)]

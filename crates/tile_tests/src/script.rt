@@ -6,11 +6,22 @@ use tile_lines::{Cut, LineCutter};
 use tile_request::Request;
 use tile_script::{ParseError, parse_line};
 
-const REFUSED: [(&[u8], ParseError); 13] = [
+const REFUSED: [(&[u8], ParseError); 24] = [
     (b"\xff", ParseError::BadUtf8),
     (b"frob", ParseError::UnknownCommand),
     (b"\"undo\"", ParseError::UnknownCommand),
+    (b"\"mark\" \"m\"", ParseError::UnknownCommand),
+    (b"Begin", ParseError::UnknownCommand),
     (b"undo now", ParseError::BadArguments),
+    (b"undo 1", ParseError::BadArguments),
+    (b"begin x", ParseError::BadArguments),
+    (b"marks \"m\"", ParseError::BadArguments),
+    (b"history \"\"", ParseError::BadArguments),
+    (b"mark", ParseError::BadArguments),
+    (b"mark m", ParseError::BadArguments),
+    (b"mark \"a\" \"b\"", ParseError::BadArguments),
+    (b"unmark #0", ParseError::BadArguments),
+    (b"back x:6", ParseError::BadArguments),
     (b"rename-layer \"a", ParseError::BadWord),
     (b"frob \"a\"b", ParseError::BadWord),
     (b"frob a\"b\"", ParseError::BadWord),
@@ -61,6 +72,49 @@ fn limit(rt: HostRuntime) -> Result<(), Fail> {
 #[test]
 fn reads_undo(rt: HostRuntime) -> Result<(), Fail> {
     assert!(rt; matches!(parse_line(rt.alloc(), b"\tundo\r")?, Some(Request::Undo)));
+    Ok(())
+}
+
+/// The word of a request that takes no argument.
+fn plain_word(request: &Request) -> Option<&'static str> {
+    match request {
+        Request::Undo => Some("undo"),
+        Request::Redo => Some("redo"),
+        Request::Marks => Some("marks"),
+        Request::History => Some("history"),
+        Request::Begin => Some("begin"),
+        Request::End => Some("end"),
+        Request::Cancel => Some("cancel"),
+        Request::Size => Some("size"),
+        _ => None,
+    }
+}
+
+#[test]
+fn reads_requests_without_arguments(rt: HostRuntime) -> Result<(), Fail> {
+    for word in [
+        "undo", "redo", "marks", "history", "begin", "end", "cancel", "size",
+    ] {
+        let request = parse_line(rt.alloc(), word.as_bytes())?.ok_or("no request")?;
+        assert_eq!(rt; plain_word(&request), Some(word));
+    }
+    Ok(())
+}
+
+#[test]
+fn reads_names_of_marks(rt: HostRuntime) -> Result<(), Fail> {
+    match &parse_line(rt.alloc(), b"mark \"m\"")? {
+        Some(Request::Mark(name)) => assert_eq!(rt; name.as_slice(), b"m".as_slice()),
+        _ => assert!(rt; false),
+    }
+    match &parse_line(rt.alloc(), b"unmark x:FF00")? {
+        Some(Request::Unmark(name)) => assert_eq!(rt; name.as_slice(), b"\xff\x00".as_slice()),
+        _ => assert!(rt; false),
+    }
+    match &parse_line(rt.alloc(), b"back \"\"")? {
+        Some(Request::Back(name)) => assert_eq!(rt; name.len(), 0),
+        _ => assert!(rt; false),
+    }
     Ok(())
 }
 

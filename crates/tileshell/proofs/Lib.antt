@@ -1,2 +1,3 @@
 pub mod InMemory
 pub mod LongScripts
+pub mod NumberOption

@@ -1,6 +1,7 @@
 //! An edit of a tile in memory, by a script in memory.
 
-ghost use Rattle.std.specs.Prelude.{◌≡◌, [], true, Some};
+ghost use Rattle.std.specs.Prelude.{◌≡◌, ◌≤◌, [], true, Some};
+ghost use Rattle.mvt_history.specs.declared.TheConstants.{MAX_DEPTH};
 ghost use Rattle.tileshell.specs.InMemory.{EditsTile, RefusesFile, CutsLongScript, NamesLongScript, GivesTile, handed_out};
 
 use std::alloc::Global;
@@ -22,7 +23,8 @@ pub struct Edited {
 /// script stay as they are. A line to which memory was refused is replied to as such, and the lines
 /// behind it are carried out.
 pub fn edit(alloc: Global, tile: &[u8], script: &[u8], options: Options) -> Edited
-    requires { options.depth ≡ 1 }
+    requires some_depth { 1 ≤ options.depth }
+    requires depth { options.depth ≤ MAX_DEPTH }
 
     // Where memory is not wanted: the script on the document.
     ensures edits { EditsTile options tile.now script.now result }

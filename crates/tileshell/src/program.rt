@@ -1,9 +1,12 @@
 //! The program, from its words to its status.
 
-ghost use Rattle.std.specs.Prelude.{◌≡◌};
+ghost use Rattle.std.specs.Prelude.{◌≤◌, IfOk};
+ghost use Rattle.mvt_history.specs.declared.TheConstants.{MAX_DEPTH};
+ghost use Rattle.tileshell.specs.Depth.{HasDepth, TellsDepth};
 
 use crate::created::Created;
-use clap::{Arg, ArgAction, ArgMatches, Command};
+use clap::{Arg, ArgAction, ArgMatches, Command, value_parser};
+use mvt_history::MAX_DEPTH;
 use std::alloc::Global;
 use std::fs;
 use std::io::{self, BufWriter, Read};
@@ -25,7 +28,9 @@ pub fn shell<R: Files + Input + Print + Eprint + AllocGlobal>(rt: &R, words: &[&
     }
 }
 
-fn matched<'a>(alloc: Global, words: &'a [&'a str]) -> Result<ArgMatches<'a>, clap::Error> {
+fn matched<'a>(alloc: Global, words: &'a [&'a str]) -> Result<ArgMatches<'a>, clap::Error>
+    ensures { IfOk result HasDepth }
+{
     let tile = Arg::new(alloc, "TILE")
         .required(true)
         .help("The tile to edit, uncompressed");
@@ -40,6 +45,13 @@ fn matched<'a>(alloc: Global, words: &'a [&'a str]) -> Result<ArgMatches<'a>, cl
         .long("strict")
         .action(ArgAction::SetTrue)
         .help("Stop at the first refused line");
+    let depth = Arg::new(alloc, "depth")
+        .long("depth")
+        .value_name("N")
+        .action(ArgAction::Set)
+        .value_parser(value_parser!(u32).range(1..=i64::from(MAX_DEPTH)))
+        .default_value("100")
+        .help("How many steps undo goes back at most, from 1 to 10000");
     Command::new(alloc, "tileshell")
         .version(VERSION)
         .about("Edits a vector tile by the lines of a script")
@@ -47,18 +59,31 @@ fn matched<'a>(alloc: Global, words: &'a [&'a str]) -> Result<ArgMatches<'a>, cl
         .arg(out)?
         .arg(script)?
         .arg(strict)?
+        .arg(depth)?
         .try_get_matches_from(words)
+}
+
+/// The depth that the words ask for, or else the default.
+fn depth_in(matches: &ArgMatches<'_>) -> u32
+    requires { HasDepth matches.now }
+    ensures tells { TellsDepth matches.now result }
+    ensures some_depth { 1 ≤ result }
+    ensures depth { result ≤ MAX_DEPTH }
+{
+    matches.get_one::<u32>("depth").unwrap()
 }
 
 fn edit_files<R: Files + Input + Print + Eprint + AllocGlobal>(
     rt: &R,
     matches: &ArgMatches<'_>,
-) -> u8 {
+) -> u8
+    requires { HasDepth matches.now }
+{
     let (Some(tile), Some(out)) = (matches.get_str("TILE"), matches.get_str("OUT")) else {
         return 2;
     };
     let options = Options {
-        depth: 1,
+        depth: depth_in(matches),
         strict: matches.get_flag("strict"),
     };
     let outcome = edit_file(rt, tile, out, matches.get_str("script"), options);
@@ -74,7 +99,8 @@ fn edit_file<R: Files + Input + Print + AllocGlobal>(
     script: Option<&str>,
     options: Options,
 ) -> Outcome
-    requires { options.depth ≡ 1 }
+    requires some_depth { 1 ≤ options.depth }
+    requires depth { options.depth ≤ MAX_DEPTH }
 {
     let Ok(tile) = fs::open(rt, tile) else {
         return Outcome::Device(DeviceName::Tile);
@@ -95,7 +121,8 @@ fn edit_opened<R: Files + Print + AllocGlobal, S: Read + Drop>(
     out: &str,
     options: Options,
 ) -> Outcome
-    requires { options.depth ≡ 1 }
+    requires some_depth { 1 ≤ options.depth }
+    requires depth { options.depth ≤ MAX_DEPTH }
 {
     let Ok(replies) = BufWriter::new(rt.alloc(), io::writer(rt)) else {
         return Outcome::NoMemory;

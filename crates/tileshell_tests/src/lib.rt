@@ -14,6 +14,8 @@ mod groups;
 #[cfg(test)]
 mod limits;
 #[cfg(test)]
+mod marks;
+#[cfg(test)]
 mod memory;
 #[cfg(test)]
 mod order;
@@ -22,7 +24,11 @@ mod program;
 #[cfg(test)]
 mod rows;
 #[cfg(test)]
+mod session;
+#[cfg(test)]
 mod std_devices;
+#[cfg(test)]
+mod steps;
 #[cfg(test)]
 mod troubles;
 #[cfg(test)]

@@ -1,6 +1,6 @@
 //! Lines and scripts at the limits of their lengths.
 
-use crate::memory::{Wanted, assert_edits, assert_runs};
+use crate::memory::{Wanted, assert_edits, assert_runs, options};
 use mvt_tests::tiles::T0;
 use std::alloc::{AllocError, Global};
 use std::test::Fail;
@@ -47,7 +47,7 @@ fn a_script_is_read_up_to_its_limit(rt: HostRuntime) -> Result<(), Fail> {
         replies: b"",
         tile: &T0,
     };
-    assert_edits(&rt, &T0, &script, false, done);
+    assert_edits(&rt, &T0, &script, options(false), done);
     script[..5].copy_from_slice(b"undo\n");
     script[16_777_211..].copy_from_slice(b"\nfrob");
     let some_refused = Wanted {
@@ -55,7 +55,7 @@ fn a_script_is_read_up_to_its_limit(rt: HostRuntime) -> Result<(), Fail> {
         replies: b"line 1 refused 50 NothingToUndo\nline 4098 refused 12 UnknownCommand\n",
         tile: &T0,
     };
-    assert_edits(&rt, &T0, &script, false, some_refused);
+    assert_edits(&rt, &T0, &script, options(false), some_refused);
     Ok(())
 }
 
@@ -69,13 +69,13 @@ fn a_script_that_is_too_long_is_a_fault(rt: HostRuntime) -> Result<(), Fail> {
         replies: b"",
         tile: b"",
     };
-    assert_edits(&rt, &T0, &script, false, none);
+    assert_edits(&rt, &T0, &script, options(false), none);
     script[..5].copy_from_slice(b"undo\n");
     script[16_777_211..].copy_from_slice(b"\nfrob\n");
     let first = Wanted {
         replies: b"line 1 refused 50 NothingToUndo\n",
         ..none
     };
-    assert_edits(&rt, &T0, &script, false, first);
+    assert_edits(&rt, &T0, &script, options(false), first);
     Ok(())
 }

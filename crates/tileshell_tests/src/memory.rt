@@ -1,6 +1,7 @@
 //! Runs over bytes in memory.
 
-ghost use Rattle.std.specs.Prelude.{◌≡◌};
+ghost use Rattle.std.specs.Prelude.{◌≤◌};
+ghost use Rattle.mvt_history.specs.declared.TheConstants.{MAX_DEPTH};
 
 use crate::drip::{Calls, DripSink, DripSource};
 use std::alloc::Global;
@@ -23,15 +24,19 @@ pub struct Ran {
     pub tile: Vec<u8>,
 }
 
-/// A run that goes one step back, and that is strict or not.
+/// A run in which undo goes a hundred steps back, and that is strict or not.
 pub fn options(strict: bool) -> Options
-    ensures { result.depth ≡ 1 }
+    ensures some_depth { 1 ≤ result.depth }
+    ensures depth { result.depth ≤ MAX_DEPTH }
 {
-    Options { depth: 1, strict }
+    Options { depth: 100, strict }
 }
 
 /// Runs the script on the tile, over readers and writers of std.
-pub fn edited(alloc: Global, tile: &[u8], script: &[u8], strict: bool) -> Ran {
+pub fn edited(alloc: Global, tile: &[u8], script: &[u8], options: Options) -> Ran
+    requires some_depth { 1 ≤ options.depth }
+    requires depth { options.depth ≤ MAX_DEPTH }
+{
     let mut replies = FromWrite::new(Vec::new(alloc));
     let mut out = FromWrite::new(Vec::new(alloc));
     let outcome = run(
@@ -40,7 +45,7 @@ pub fn edited(alloc: Global, tile: &[u8], script: &[u8], strict: bool) -> Ran {
         &mut FromRead::new(script),
         &mut replies,
         &mut out,
-        options(strict),
+        options,
     );
     Ran {
         outcome,
@@ -77,14 +82,17 @@ impl<'a> Drips<'a> {
         }
     }
 
-    pub fn run(&mut self, alloc: Global, strict: bool) -> Outcome {
+    pub fn run(&mut self, alloc: Global, options: Options) -> Outcome
+        requires some_depth { 1 ≤ options.depth }
+        requires depth { options.depth ≤ MAX_DEPTH }
+    {
         run(
             alloc,
             &mut self.tile,
             &mut self.script,
             &mut self.replies,
             &mut self.out,
-            options(strict),
+            options,
         )
     }
 }
@@ -94,14 +102,17 @@ pub fn assert_edits(
     rt: &(impl Abort + AllocGlobal),
     tile: &[u8],
     script: &[u8],
-    strict: bool,
+    options: Options,
     want: Wanted<'_>,
-) {
-    let ran = edited(rt.alloc(), tile, script, strict);
+)
+    requires some_depth { 1 ≤ options.depth }
+    requires depth { options.depth ≤ MAX_DEPTH }
+{
+    let ran = edited(rt.alloc(), tile, script, options);
     assert_eq!(rt; ran.outcome, want.outcome);
     assert_eq!(rt; ran.replies.as_slice(), want.replies);
     assert!(rt; ran.tile.as_slice() == want.tile);
-    let called = edit(rt.alloc(), tile, script, options(strict));
+    let called = edit(rt.alloc(), tile, script, options);
     assert_eq!(rt; called.outcome, want.outcome);
     assert_eq!(rt; called.replies.as_slice(), want.replies);
     match &called.tile {
@@ -110,19 +121,34 @@ pub fn assert_edits(
     }
 }
 
-/// The script on the tile does what is wanted, over readers and writers of std and one byte a call.
-/// A strict run does too where no line is refused.
-pub fn assert_runs(rt: &(impl Abort + AllocGlobal), tile: &[u8], script: &[u8], want: Wanted<'_>) {
+/// The script on the tile does what is wanted where undo goes so many steps back, over readers and
+/// writers of std and one byte a call. A strict run does too where no line is refused.
+pub fn assert_runs_at(
+    rt: &(impl Abort + AllocGlobal),
+    depth: u32,
+    tile: &[u8],
+    script: &[u8],
+    want: Wanted<'_>,
+)
+    requires some_depth { 1 ≤ depth }
+    requires depth { depth ≤ MAX_DEPTH }
+{
     for strict in [false, true] {
         if strict && want.outcome != Outcome::Done {
             return;
         }
-        assert_edits(rt, tile, script, strict, want);
+        let options = Options { depth, strict };
+        assert_edits(rt, tile, script, options, want);
         let mut drips = Drips::new(rt.alloc(), tile, script);
-        assert_eq!(rt; drips.run(rt.alloc(), strict), want.outcome);
+        assert_eq!(rt; drips.run(rt.alloc(), options), want.outcome);
         assert_eq!(rt; drips.replies.taken.as_slice(), want.replies);
         assert!(rt; drips.out.taken.as_slice() == want.tile);
     }
+}
+
+/// The script on the tile does what is wanted where undo goes a hundred steps back.
+pub fn assert_runs(rt: &(impl Abort + AllocGlobal), tile: &[u8], script: &[u8], want: Wanted<'_>) {
+    assert_runs_at(rt, 100, tile, script, want);
 }
 
 /// The script is accepted, with these replies, and gives this tile.

@@ -2,6 +2,7 @@
 
 use crate::console::Console;
 use mvt_tests::tiles::{RENAME, ROADS, T0};
+use std::alloc::{AllocError, Global};
 use std::process::Abort;
 use std::test::Fail;
 use std::{env, fs, io, process};
@@ -49,19 +50,35 @@ fn taken(rt: &HostRuntime, path: &str) -> io::Result<Option<Vec<u8>>> {
     Ok(Some(bytes))
 }
 
+/// The words of a command line, with these options behind its files.
+fn words_of<'a>(
+    alloc: Global,
+    tile: &'a str,
+    out: &'a str,
+    options: &'a str,
+) -> Result<Vec<&'a str>, AllocError> {
+    let mut words = Vec::new(alloc);
+    words.push("tileshell")?;
+    words.push(tile)?;
+    words.push(out)?;
+    for word in options.split_whitespace() {
+        words.push(word)?;
+    }
+    Ok(words)
+}
+
 /// What the program does on a tile and a script, and the file that it writes.
 fn edited(
     rt: &HostRuntime,
     tile: &[u8],
     script: &[u8],
-    is_strict: bool,
+    options: &str,
 ) -> io::Result<(Finished, Option<Vec<u8>>)> {
     let path = path_of(rt, "tile")?;
     let out = path_of(rt, "out")?;
     fs::write(rt, path.as_str(), tile)?;
-    let words = ["tileshell", path.as_str(), out.as_str(), "--strict"];
-    let count = if is_strict { 4 } else { 3 };
-    let done = shelled(Console::new(rt, script), &words[..count]);
+    let words = words_of(rt.alloc(), path.as_str(), out.as_str(), options)?;
+    let done = shelled(Console::new(rt, script), words.as_slice());
     fs::remove_file(rt, path.as_str())?;
     Ok((done, taken(rt, out.as_str())?))
 }
@@ -71,7 +88,7 @@ fn edited(
 struct Row<'a> {
     tile: &'a [u8],
     script: &'a [u8],
-    is_strict: bool,
+    options: &'a str,
     status: u8,
     output: &'a [u8],
     errors: &'a [u8],
@@ -81,7 +98,7 @@ struct Row<'a> {
 const RENAMED: Row<'static> = Row {
     tile: &T0,
     script: RENAME,
-    is_strict: false,
+    options: "",
     status: 0,
     output: b"ok\n",
     errors: b"",
@@ -91,7 +108,7 @@ const RENAMED: Row<'static> = Row {
 const ROWS: [Row<'static>; 6] = [
     RENAMED,
     Row {
-        is_strict: true,
+        options: "--strict",
         ..RENAMED
     },
     Row {
@@ -110,7 +127,7 @@ const ROWS: [Row<'static>; 6] = [
     },
     Row {
         script: b"undo\nrename-layer #0 \"b\"\n",
-        is_strict: true,
+        options: "--strict",
         status: 1,
         output: b"line 1 refused 50 NothingToUndo\n",
         written: None,
@@ -129,9 +146,61 @@ const ROWS: [Row<'static>; 6] = [
 #[test]
 fn a_status_tells_how_the_run_ended(rt: HostRuntime) -> Result<(), Fail> {
     for row in &ROWS {
-        let (done, written) = edited(&rt, row.tile, row.script, row.is_strict)?;
+        let (done, written) = edited(&rt, row.tile, row.script, row.options)?;
         assert_shelled(&rt, &done, row.status, row.output, row.errors);
         assert!(rt; written.as_ref().map(|bytes| bytes.as_slice()) == row.written);
+    }
+    Ok(())
+}
+
+#[test]
+fn the_depth_of_undo_is_told(rt: HostRuntime) -> Result<(), Fail> {
+    for (options, output) in [
+        ("", b"undo 0 redo 0 depth 100\nok\n".as_slice()),
+        ("--depth 1", b"undo 0 redo 0 depth 1\nok\n".as_slice()),
+        (
+            "--depth=10000 --strict",
+            b"undo 0 redo 0 depth 10000\nok\n".as_slice(),
+        ),
+    ] {
+        let (done, written) = edited(&rt, &T0, b"history\n", options)?;
+        assert_shelled(&rt, &done, 0, output, b"");
+        assert!(rt; written.as_ref().map(|bytes| bytes.as_slice()) == Some(T0.as_slice()));
+    }
+    Ok(())
+}
+
+#[test]
+fn undo_goes_back_to_its_depth(rt: HostRuntime) -> Result<(), Fail> {
+    let script = b"rename-layer #0 \"b\"\nrename-layer #0 \"c\"\nundo\nundo\n";
+    let (done, written) = edited(&rt, &T0, script, "--depth 2")?;
+    assert_shelled(&rt, &done, 0, b"ok\nok\nok\nok\n", b"");
+    assert!(rt; written.as_ref().map(|bytes| bytes.as_slice()) == Some(T0.as_slice()));
+    let (done, written) = edited(&rt, &T0, script, "--depth 1")?;
+    let output = b"ok\nok\nok\nline 4 refused 50 NothingToUndo\n";
+    assert_shelled(&rt, &done, 1, output, b"");
+    assert!(rt; written.is_some_and(|bytes| bytes.as_slice() != T0.as_slice()));
+    Ok(())
+}
+
+#[test]
+fn a_depth_out_of_its_range_is_refused(rt: HostRuntime) -> Result<(), Fail> {
+    for options in [
+        "--depth 0",
+        "--depth 10001",
+        "--depth 4294967297",
+        "--depth=-1",
+        "--depth 1.5",
+        "--depth x",
+        "--depth=",
+        "--depth",
+        "--depth 1 --depth 1",
+    ] {
+        let (done, written) = edited(&rt, &T0, RENAME, options)?;
+        assert_eq!(rt; done.status, 2, "{options}");
+        assert_eq!(rt; done.output.len(), 0);
+        assert!(rt; done.errors.as_slice().starts_with(b"error: "));
+        assert!(rt; written.is_none());
     }
     Ok(())
 }
@@ -154,7 +223,7 @@ fn what_is_too_long_is_told(rt: HostRuntime) -> Result<(), Fail> {
             b"tileshell: device fault: script\n".as_slice(),
         ),
     ] {
-        let (done, written) = edited(&rt, tile, script, false)?;
+        let (done, written) = edited(&rt, tile, script, "")?;
         assert_shelled(&rt, &done, status, b"", errors);
         assert!(rt; written.is_none());
     }

@@ -64,7 +64,7 @@ fn a_thousand_interrupted_calls_are_made_again(rt: HostRuntime) {
         drips.set_calls(DeviceName::Script, Calls::interrupted(script));
         drips.set_calls(DeviceName::Replies, Calls::interrupted(replies));
         drips.set_calls(DeviceName::Out, Calls::interrupted(out));
-        let outcome_met = drips.run(rt.alloc(), false);
+        let outcome_met = drips.run(rt.alloc(), options(false));
         assert_eq!(rt; outcome_met, outcome, "{tile} {script} {replies} {out}");
         assert_written(&rt, &drips, outcome, want);
         if outcome == FAULT_OF_SCRIPT {
@@ -96,7 +96,7 @@ fn assert_fails_at_each_call(
     for call in 0..=count {
         let mut drips = Drips::new(rt.alloc(), &T0, script);
         drips.set_calls(device, Calls::failing_at(call));
-        let outcome = drips.run(rt.alloc(), false);
+        let outcome = drips.run(rt.alloc(), options(false));
         if call < count {
             assert_eq!(rt; outcome, Outcome::Device(device), "{device} at {call}");
         } else {
@@ -147,7 +147,7 @@ fn a_strict_run_stops_before_the_script_fails(rt: HostRuntime) {
     for (strict, outcome, reads) in [(true, Outcome::StrictStop, 5), (false, FAULT_OF_SCRIPT, 6)] {
         let mut drips = Drips::new(rt.alloc(), &T0, b"undo\n");
         drips.set_calls(DeviceName::Script, Calls::failing_at(5));
-        assert_eq!(rt; drips.run(rt.alloc(), strict), outcome);
+        assert_eq!(rt; drips.run(rt.alloc(), options(strict)), outcome);
         assert_eq!(rt; drips.script.calls.made, reads);
         assert_eq!(rt;
             drips.replies.taken.as_slice(),
@@ -190,7 +190,7 @@ fn replies_that_nobody_takes_are_a_fault(rt: HostRuntime) -> Result<(), Fail> {
 fn what_a_failed_file_took_is_a_front(rt: HostRuntime) {
     let mut drips = Drips::new(rt.alloc(), &T0, RENAME);
     drips.out = DripSink::of_most(rt.alloc(), 10, Calls::failing_at(1));
-    assert_eq!(rt; drips.run(rt.alloc(), false), FAULT_OF_OUT);
+    assert_eq!(rt; drips.run(rt.alloc(), options(false)), FAULT_OF_OUT);
     assert_eq!(rt; drips.replies.taken.as_slice(), b"ok\n".as_slice());
     assert_eq!(rt; drips.out.taken.as_slice(), &ROADS[..10]);
 }

@@ -1,6 +1,6 @@
 //! Tiles at the limits of the wire format.
 
-use crate::memory::{Wanted, assert_runs, edited};
+use crate::memory::{Wanted, assert_runs, edited, options};
 use mvt_tests::bytes::joined;
 use mvt_tests::tiles::{BEHIND_NAME, T0};
 use mvt_wire::{ReadError, read_document};
@@ -39,14 +39,14 @@ fn filled(alloc: Global, length: &[u8], end: usize) -> Result<Vec<u8>, AllocErro
 fn a_file_of_sixteen_mebibytes_takes_a_longer_name(rt: HostRuntime) -> Result<(), Fail> {
     let mut file = filled(rt.alloc(), b"\xda\xff\xff\x07", 16_777_216)?;
     let renames = b"rename-layer #0 \"bb\"\nrename-layer #0 \"b\"\n";
-    let ran = edited(rt.alloc(), &file, renames, false);
+    let ran = edited(rt.alloc(), &file, renames, options(false));
     assert_eq!(rt; ran.outcome, Outcome::Done);
     assert_eq!(rt; ran.replies.as_slice(), b"ok\nok\n".as_slice());
     assert_eq!(rt; ran.tile.len(), 16_777_216);
     assert!(rt; ran.tile.as_slice().starts_with(b"\x1a\x1e\x0a\x01b"));
     assert!(rt; ran.tile.as_slice().get(5..) == file.as_slice().get(5..));
     file.push(0)?;
-    let refused = edited(rt.alloc(), &file, b"", false);
+    let refused = edited(rt.alloc(), &file, b"", options(false));
     assert_eq!(rt;
         refused.outcome,
         Outcome::TileRefused(TileFault::BadWire { place: 16_777_216 })
@@ -61,7 +61,7 @@ fn a_full_file_takes_no_longer_name(rt: HostRuntime) -> Result<(), Fail> {
         rt.alloc(),
         &file,
         b"rename-layer #0 \"bb\"\nrename-layer #0 \"b\"\n",
-        false,
+        options(false),
     );
     assert_eq!(rt; ran.outcome, Outcome::SomeRefused);
     assert_eq!(rt;
@@ -79,7 +79,7 @@ fn a_file_past_the_limit_is_too_large(rt: HostRuntime) -> Result<(), Fail> {
     let file = vec![in rt.alloc(); 0u8; 67_108_865]?;
     let refused = read_document(rt.alloc(), &file).err();
     assert_eq!(rt; refused, Some(ReadError::FileTooLarge));
-    let ran = edited(rt.alloc(), &file, b"", false);
+    let ran = edited(rt.alloc(), &file, b"", options(false));
     assert_eq!(rt; ran.outcome, Outcome::TileRefused(TileFault::FileTooLarge));
     Ok(())
 }

@@ -2,7 +2,7 @@ use Rattle.std.proofs.Common.{refl, Some, option_map, ap, ◌∙◌, subst, sym,
 use Rattle.mvt_wire.specs.Stands.{document_of}
 use Rattle.mvt_change.specs.Joining.{go_along}
 use Rattle.mvt_history.specs.Held.{from_last, standing_of}
-use Rattle.mvt_history.specs.Session.{StandsFor, StopsWithin}
+use Rattle.mvt_history.specs.Session.{StandsFor}
 use Rattle.mvt_history.proofs.Keeping.{with_open}
 use Rattle.mvt_history.proofs.KeepingCommands.{length_from_last, all_taken, seen_open, stopped_held, cancelled_held, step_stopped, step_cancelled}
 use Rattle.mvt_history.proofs.session.Session.cancel.Goals as goal
@@ -25,9 +25,8 @@ returns-in-Err-clause-answer c = λ history stands.
     let changes = c.in-Some.pending.items in
     let is = seen_open s.pending c.in-Some.pending c.in-Some.is in
     let some = rw (← length_from_last changes) at c.in-Err.ensures.err in
-    let stops : StopsWithin history c.in-Err.taken (with_open (document_of c.take_back.new.document) (Some (from_last c.take_back.new.changes.items)) session) =
-    rw (c.in-Err.ensures.document, c.in-Err.ensures.changes) (step_stopped history session (from_last changes) c.in-Err.taken is some before) in
-    inr (c.in-Err.taken, refl, stops)
+    let stopped = step_stopped history session (from_last changes) c.in-Err.taken is some before in
+    inr (c.in-Err.taken, stopped.0, refl, stopped.1, rw (c.in-Err.ensures.document, c.in-Err.ensures.changes) stopped.2)
 
 -- ---- all taken back
 

@@ -1,4 +1,4 @@
-use Rattle.std.proofs.Common.{◌+◌, ◌≤◌, Bool}
+use Rattle.std.proofs.Common.{ℕ, ◌+◌, ◌≤◌, Bool}
 use Rattle.mvt_wire.specs.Plain.{Document}
 use Rattle.tile_device.specs.Seen.{source_at, sink_at}
 use Rattle.tile_run.specs.Run.{at_first}
@@ -10,8 +10,8 @@ use Rattle.tile_run.proofs.editor.Editor.carry_out_pieces.Given as goal
 abbrev pub invariant-loop-count : goal.invariant-loop-count
 invariant-loop-count g l = record {
   lines : l.self.lines + l.room ≤ MAX_SCRIPT;
-  so_far : (strict : Bool) (document : Document) → IsAt l.fn.self strict (at_first document 1)
-      → SoFar strict (at_first document 1) (source_at g.R.Source l.fn.script) (source_at g.R.Source l.script) (sink_at g.W.Sink l.fn.replies) (sink_at g.W.Sink l.replies)
+  so_far : (strict : Bool) (document : Document) (depth : ℕ) → IsAt l.fn.self strict (at_first document depth)
+      → SoFar strict (at_first document depth) (source_at g.R.Source l.fn.script) (source_at g.R.Source l.script) (sink_at g.W.Sink l.fn.replies) (sink_at g.W.Sink l.replies)
       l.fn.retries l.retries l.room l.self l.cutter;
 }
 

@@ -1,0 +1,136 @@
+//! The scripts of the trials, and the tile that several of them edit.
+
+/// Seven layers of nothing but a name, "a" to "g".
+pub const LAYERS: &[u8] = b"\
+    \x1a\x03\x0a\x01a\x1a\x03\x0a\x01b\x1a\x03\x0a\x01c\x1a\x03\x0a\x01d\
+    \x1a\x03\x0a\x01e\x1a\x03\x0a\x01f\x1a\x03\x0a\x01g";
+
+pub const RENAME_AND_UNDO: &str = "\
+rename-layer \"a\" \"roads\"
+undo
+";
+
+pub const IDS_LISTED: &str = "\
+set-id #0 0 9
+list
+list #0
+list \"a\" @9
+undo
+";
+
+pub const SIZES: &str = "\
+set-id #0 0 18446744073709551615
+set-id #0 0 18446744073709551616
+size
+";
+
+/// Layers go in three parts, and come back.
+pub const KEPT_LAYERS: &str = "\
+keep \"a\" \"c\" \"e\" \"g\"
+undo
+redo
+size
+undo
+redo
+";
+
+pub const FEATURES: &str = "\
+insert \"a\" 1 polygon 3,6 8,12 20,34 / 1,1 4,1 4,4
+move-feature \"a\" @2 0
+drop-feature #0 @1
+clear-id #0 0
+drop-layer \"b\"
+insert \"a\" 2 line 2,2 2,10 10,10
+move-layer \"a\" 0
+mark \"m\"
+undo
+undo
+unmark \"n\"
+unmark \"m\"
+marks
+";
+
+pub const MARKS: &str = "\
+mark \"m\"
+rename-layer #0 \"b\"
+rename-layer #0 \"c\"
+rename-layer #0 \"d\"
+back \"m\"
+history
+";
+
+pub const TWO_MARKS: &str = "\
+mark \"a\"
+rename-layer #0 \"b\"
+rename-layer #0 \"c\"
+mark \"z\"
+back \"a\"
+history
+marks
+back \"z\"
+rename-layer #0 \"d\"
+marks
+";
+
+pub const STEP: &str = "\
+begin
+rename-layer #0 \"b\"
+set-id #0 0 9
+history
+undo
+end
+undo
+";
+
+pub const CANCELLED_STEP: &str = "\
+rename-layer #0 \"b\"
+undo
+begin
+set-id #0 0 9
+cancel
+redo
+cancel
+";
+
+/// Each step takes memory to be taken back.
+pub const BACK_OVER_STEPS: &str = "\
+mark \"m\"
+begin
+drop-layer \"b\"
+drop-layer \"e\"
+end
+begin
+keep \"a\" \"d\" \"g\"
+move-layer \"a\" 2
+rename-layer \"g\" \"z\"
+end
+begin
+insert \"a\" 0 point 1,1
+insert \"a\" 1 point 2,2
+end
+back \"m\"
+history
+";
+
+/// Each step takes memory to stand again.
+pub const ON_OVER_STEPS: &str = "\
+keep \"a\" \"c\" \"e\" \"g\"
+begin
+drop-layer \"a\"
+drop-layer \"e\"
+end
+mark \"m\"
+undo
+undo
+back \"m\"
+history
+";
+
+/// Each command of the open step takes memory to be taken back.
+pub const CANCELLED_KEEPS: &str = "\
+begin
+keep \"a\" \"c\" \"e\" \"g\"
+keep \"c\" \"g\"
+cancel
+history
+";

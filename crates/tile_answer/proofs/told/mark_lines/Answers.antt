@@ -1,0 +1,18 @@
+use Rattle.std.proofs.Common.{rules, ◌≡◌, ◌++◌, ◌∙◌, sym, refl, length, arith}
+use Rattle.tile_answer.specs.Answering.{offset_line}
+use Rattle.tile_answer.proofs.Telling.{told_there, none_behind, lines_of_marks, all_told}
+use Rattle.tile_answer.proofs.told.mark_lines.Goals as goal
+use Rattle.tile_answer.proofs.told.mark_lines.Goals.{else-loop-index-test, then-loop-index-test+in_default}
+
+pub loop-index-preserved : goal.loop-index-preserved
+loop-index-preserved c =
+    let added : c.put_mark.new.lines.items ≡ c.loop-index.lines.items ++ offset_line c.in-Some.name.now c.in-Some.offset = search rules in
+    told_there (length c.args.session.now.undo) c.args.session.now.marks c.loop-index.index c.loop-index.lines.items c.put_mark.new.lines.items (c.in-Some.name, c.in-Some.offset) _ refl c.in-Some.ensures c.loop-index.invariant added
+
+pub returns-clause-lines : goal.returns-clause-lines
+returns-clause-lines c history stands =
+    let session = c.args.session.now in
+    elim c.loop-index-test.branch [
+      | else-loop-index-test w ↦ c.from_vec.ensures ∙ c.loop-index.invariant ∙ all_told (length session.undo) session.marks c.loop-index.index (omega (arith, w.loop-index-test.false, c.mark_count-index-end.ensures)) ∙ sym (lines_of_marks session history stands)
+      | then-loop-index-test+in_default w ↦ absurd (none_behind (length session.undo) session.marks c.loop-index.index _ refl w.in_default.ensures (omega (arith, w.loop-index-test.true, c.mark_count-index-end.ensures)))
+    ]

@@ -1,4 +1,0 @@
-pub mod Histories
-pub mod HistoryLaws
-pub mod Sessions
-pub mod Validity

@@ -1,4 +1,0 @@
-pub mod History
-pub mod Standing
-pub mod Session
-pub mod Laws

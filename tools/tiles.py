@@ -1,0 +1,246 @@
+"""Tiles as docs/FORMATS.md has them, and the commands that edit them: whole tiles in, whole tiles out."""
+from dataclasses import dataclass, replace
+
+# The tags of the messages that are read into.
+LAYER, FEATURE = 3 << 3 | 2, 2 << 3 | 2
+
+# The tags of single fields.
+NAME, KEY, VALUE, EXTENT, VERSION = 1 << 3 | 2, 3 << 3 | 2, 4 << 3 | 2, 5 << 3, 15 << 3
+ID, TAGS, KIND, GEOMETRY = 1 << 3, 2 << 3 | 2, 3 << 3, 4 << 3 | 2
+
+LEN = 2
+SIZES = {1: 8, 5: 4}
+KINDS = ["unknown", "point", "line", "polygon"]
+
+
+class Refused(Exception):
+    """Why a line is refused: the number of the refusal."""
+
+    def __init__(self, number):
+        super().__init__(number)
+        self.number = number
+
+
+@dataclass(frozen=True)
+class Item:
+    """A field as it is spelled, or a layer or a feature, whose content is its items."""
+    tag: bytes
+    # Where there is a length, the width that it was spelled in, else 0.
+    width: int
+    content: object
+
+    @property
+    def key(self):
+        return number_at(self.tag, 0)[0]
+
+
+def number_at(data, at):
+    """The number that is spelled there, and where its spelling ends."""
+    end = at
+    while data[end] & 0x80:
+        end += 1
+    return sum((byte & 0x7F) << 7 * place for place, byte in enumerate(data[at:end + 1])), end + 1
+
+
+def spelled(number, width=1):
+    """The number in that many bytes, or in the least that it needs."""
+    groups = []
+    while number or len(groups) < width:
+        groups.append(number & 0x7F)
+        number >>= 7
+    return bytes([group | 0x80 for group in groups[:-1]] + groups[-1:])
+
+
+def bytes_of(items):
+    return b"".join(bytes_of_item(item) for item in items)
+
+
+def bytes_of_item(item):
+    content = bytes_of(item.content) if isinstance(item.content, tuple) else item.content
+    return item.tag + (spelled(len(content), item.width) if item.width else b"") + content
+
+
+def read_tile(data):
+    return read_items(data, {LAYER: {FEATURE: {}}})
+
+
+def read_items(data, inner):
+    """The items of these bytes. Those with the tags of `inner` are read into."""
+    items, at = [], 0
+    while at < len(data):
+        key, behind_tag = number_at(data, at)
+        begin, end = bounds(data, behind_tag, key & 7)
+        content = data[begin:end]
+        if key in inner:
+            content = read_items(content, inner[key])
+        items.append(Item(data[at:behind_tag], begin - behind_tag, content))
+        at = end
+    return tuple(items)
+
+
+def bounds(data, at, wire_type):
+    """Where the content of the field begins whose tag ends there, and where it ends."""
+    if wire_type == LEN:
+        length, begin = number_at(data, at)
+        return begin, begin + length
+    return at, at + SIZES[wire_type] if wire_type in SIZES else number_at(data, at)[1]
+
+
+def places(items, key):
+    """The positions of the items with the tag."""
+    return [place for place, item in enumerate(items) if item.key == key]
+
+
+def last(items, key, default=None):
+    """The content of the last field with the tag: its bytes, or its number."""
+    found = places(items, key)
+    if not found:
+        return default
+    content = items[found[-1]].content
+    return content if key & 7 == LEN else number_at(content, 0)[0]
+
+
+def put(items, place, item):
+    return (*items[:place], item, *items[place + 1:])
+
+
+def inserted(items, place, item):
+    return (*items[:place], item, *items[place:])
+
+
+def without(items, gone):
+    return tuple(item for place, item in enumerate(items) if place not in gone)
+
+
+def put_last(items, key, content):
+    """The last field with the tag has the content, and where there is none it comes at the end."""
+    found = places(items, key)
+    if not found:
+        return (*items, Item(spelled(key), int(key & 7 == LEN), content))
+    return put(items, found[-1], replace(items[found[-1]], content=content))
+
+
+def layer_place(tile, chosen):
+    """The position of the layer that an ordinal or a name chooses."""
+    layers = places(tile, LAYER)
+    if isinstance(chosen, int):
+        return layers[chosen] if chosen < len(layers) else refuse(20)
+    named = [place for place in layers if last(tile[place].content, NAME) == chosen]
+    return one_of(named, 20, 21)
+
+
+def feature_place(layer, chosen):
+    """The position of the feature that an ordinal, or the one item of a list as an id, chooses."""
+    features = places(layer.content, FEATURE)
+    if isinstance(chosen, int):
+        return features[chosen] if chosen < len(features) else refuse(22)
+    with_id = [place for place in features if last(layer.content[place].content, ID) == chosen[0]]
+    return one_of(with_id, 22, 25)
+
+
+def one_of(found, none, several):
+    return found[0] if len(found) == 1 else refuse(several if found else none)
+
+
+def refuse(number):
+    raise Refused(number)
+
+
+def in_layer(tile, place, items):
+    return put(tile, place, replace(tile[place], content=items))
+
+
+def in_feature(tile, place, feature, fields):
+    layer = tile[place].content
+    return in_layer(tile, place, put(layer, feature, replace(layer[feature], content=fields)))
+
+
+def moved(items, key, place, index):
+    """The item comes to stand at the ordinal among those with the tag."""
+    found = places(items, key)
+    if index >= len(found):
+        refuse(24)
+    target = found[index]
+    return inserted(without(items, [place]), target, items[place])
+
+
+def rename_layer(tile, chosen, name):
+    place = layer_place(tile, chosen)
+    if any(last(tile[other].content, NAME) == name for other in places(tile, LAYER) if other != place):
+        refuse(40)
+    return in_layer(tile, place, put_last(tile[place].content, NAME, name))
+
+
+def move_layer(tile, chosen, index):
+    return moved(tile, LAYER, layer_place(tile, chosen), index)
+
+
+def drop_layer(tile, chosen):
+    return without(tile, [layer_place(tile, chosen)])
+
+
+def keep(tile, *names):
+    layers = places(tile, LAYER)
+    gone = [place for place in layers if last(tile[place].content, NAME) not in names]
+    return refuse(20) if len(gone) == len(layers) else without(tile, gone)
+
+
+def insert(tile, chosen, index, geometry):
+    place = layer_place(tile, chosen)
+    layer = tile[place].content
+    features = places(layer, FEATURE)
+    if index > len(features):
+        refuse(24)
+    kind, parts = geometry
+    fields = put_last(put_last((), KIND, spelled(kind)), GEOMETRY, encoded(kind, parts))
+    before = features[index] if index < len(features) else features[-1] + 1 if features else len(layer)
+    return in_layer(tile, place, inserted(layer, before, Item(spelled(FEATURE), 1, fields)))
+
+
+def encoded(kind, parts):
+    """The numbers of a geometry, packed."""
+    numbers, cursor = [], (0, 0)
+    for part in parts:
+        runs = [(1, part)] if kind == 1 else [(1, part[:1]), (2, part[1:])]
+        for command, points in runs:
+            numbers.append(command | len(points) << 3)
+            for point in points:
+                numbers += [zigzag(to - at) for to, at in zip(point, cursor)]
+                cursor = point
+        numbers += [7 | 1 << 3] if kind == 3 else []
+    return b"".join(map(spelled, numbers))
+
+
+def zigzag(number):
+    return 2 * number if number >= 0 else -2 * number - 1
+
+
+def move_feature(tile, chosen, feature, index):
+    place = layer_place(tile, chosen)
+    found = feature_place(tile[place], feature)
+    return in_layer(tile, place, moved(tile[place].content, FEATURE, found, index))
+
+
+def drop_feature(tile, chosen, feature):
+    place = layer_place(tile, chosen)
+    return in_layer(tile, place, without(tile[place].content, [feature_place(tile[place], feature)]))
+
+
+def set_id(tile, chosen, feature, number):
+    place = layer_place(tile, chosen)
+    found = feature_place(tile[place], feature)
+    fields = tile[place].content[found].content
+    has_it = last(fields, ID) == number
+    return tile if has_it else in_feature(tile, place, found, put_last(fields, ID, spelled(number)))
+
+
+def clear_id(tile, chosen, feature):
+    place = layer_place(tile, chosen)
+    found = feature_place(tile[place], feature)
+    fields = tile[place].content[found].content
+    return in_feature(tile, place, found, without(fields, places(fields, ID)))
+
+
+def quoted(text):
+    """A text of plain letters, as it is told."""
+    return f'"{text.decode()}"'
