@@ -57,11 +57,12 @@ ROWS = [
         'layer 0 "a" version 2 extent 4096 features 1 keys 1 values 1', 'key 0 "k"', "value 0 int 5",
         "feature 0 id 1 point", OK,
         "feature 0 id 1 point", 'attribute "k" int 5', "geometry point 25,17", OK]),
-    (T0, 'frob ; undo now ; insert #0 0 line 1,1 ; drop-layer "a ; drop-layer "b" ; drop-feature #0 1'
-         ' ; insert #0 2 point 1,1 ; unmark "q"',
-     [refused(1, 12, "UnknownCommand"), refused(2, 13, "BadArguments"), refused(3, 16, "BadGeometryText"),
-      refused(4, 11, "BadWord"), refused(5, 20, "NoLayer"), refused(6, 22, "NoFeature"), refused(7, 24, "BadPlace"),
-      refused(8, 52, "NoMark")]),
+    (T0, 'frob ; undo now ; set #0 0 "k" int x ; insert #0 0 line 1,1 ; drop-layer "a ; drop-layer "b"'
+         ' ; drop-feature #0 1 ; rename-key #0 "z" "y" ; insert #0 2 point 1,1 ; unmark "q"',
+     [refused(1, 12, "UnknownCommand"), refused(2, 13, "BadArguments"), refused(3, 12, "UnknownCommand"),
+      refused(4, 16, "BadGeometryText"), refused(5, 11, "BadWord"), refused(6, 20, "NoLayer"),
+      refused(7, 22, "NoFeature"), refused(8, 12, "UnknownCommand"), refused(9, 24, "BadPlace"),
+      refused(10, 52, "NoMark")]),
     (T0, " ; ".join(f'mark "{name}"' for name in [*range(257), 0]), [OK] * 256 + [refused(257, 53, "TooManyMarks"), OK]),
     (T0, " # note ;  ; undo", [refused(3, 50, "NothingToUndo")]),
     (T0, 'mark "m" ; clear-id #0 0 ; marks ; back "m"', [OK, OK, 'mark "m" -1', OK, OK]),

@@ -8,7 +8,7 @@ use mvt_tests::asked::{
 };
 use mvt_tests::bytes::joined;
 use mvt_tests::edits::{Edit, Seen};
-use mvt_tests::tiles::{OTHER, T0, TWO_IDS};
+use mvt_tests::tiles::{OTHER, ROADS, T0, TWO_IDS};
 use std::alloc::{AllocError, Global};
 use std::process::Abort;
 use std::test::Fail;
@@ -18,6 +18,36 @@ const FIELD: &[u8] = b"\x80\x01\x07";
 
 /// A layer without a name.
 const NAMELESS: &[u8] = b"\x1a\x00";
+
+/// `T0` without its feature.
+const NO_FEATURE: &[u8] = b"\x1a\x0f\x0a\x01a\x1a\x01k\x22\x02\x20\x05\x28\x80\x20\x78\x02";
+
+/// `T0` with a ring of three points behind its feature.
+const WITH_RING: &[u8] = b"\
+    \x1a\x2d\x0a\x01a\x12\x0d\x08\x01\x12\x02\x00\x00\x18\x01\x22\x03\x09\x32\x22\
+    \x12\x0d\x18\x03\x22\x09\x09\x06\x0c\x12\x0a\x0c\x18\x2c\x0f\
+    \x1a\x01k\x22\x02\x20\x05\x28\x80\x20\x78\x02";
+
+/// `T0` with its feature without an id.
+const NO_ID: &[u8] = b"\
+    \x1a\x1c\x0a\x01a\x12\x0b\x12\x02\x00\x00\x18\x01\x22\x03\x09\x32\x22\
+    \x1a\x01k\x22\x02\x20\x05\x28\x80\x20\x78\x02";
+
+/// `T0` with the id 2.
+const ID_2: &[u8] = b"\
+    \x1a\x1e\x0a\x01a\x12\x0d\x08\x02\x12\x02\x00\x00\x18\x01\x22\x03\x09\x32\x22\
+    \x1a\x01k\x22\x02\x20\x05\x28\x80\x20\x78\x02";
+
+/// `T0` with the id 300.
+const ID_300: &[u8] = b"\
+    \x1a\x1f\x0a\x01a\x12\x0e\x08\xac\x02\x12\x02\x00\x00\x18\x01\x22\x03\x09\x32\x22\
+    \x1a\x01k\x22\x02\x20\x05\x28\x80\x20\x78\x02";
+
+/// `TWO_IDS` with its features the other way round.
+const SWAPPED_IDS: &[u8] = b"\
+    \x1a\x2d\x0a\x01a\x12\x0d\x08\x02\x12\x02\x00\x00\x18\x01\x22\x03\x09\x32\x22\
+    \x12\x0d\x08\x01\x12\x02\x00\x00\x18\x01\x22\x03\x09\x32\x22\
+    \x1a\x01k\x22\x02\x20\x05\x28\x80\x20\x78\x02";
 
 /// How many layers stay, and how many go, where a change has many steps.
 const PAIRS: usize = 5_000;
@@ -95,87 +125,90 @@ fn assert_makes(
     Ok(())
 }
 
-/// The change makes another tile, whose size is known, and then what was seen before it, the tile
-/// and the change, and then the same as the first time.
+/// The change makes the tile that is wanted, and then what was seen before it, the tile and the
+/// change, and then the same as the first time.
 fn assert_leads_back(
     rt: &(impl Abort + AllocGlobal),
     edit: &mut Edit,
     before: &Seen,
+    wanted: &[u8],
 ) -> Result<(), Fail> {
     let after = flipped(rt.alloc(), edit)?;
-    assert!(rt; after.tile != before.tile);
-    assert_tile(rt, &after, &after.tile);
+    assert_tile(rt, &after, wanted);
     assert_makes(rt, edit, before)?;
     assert_makes(rt, edit, &after)
 }
 
-/// Flipped twice, the tile and the change of the command are as they were. Flipped once, the tile
-/// is another one, and its size is known.
+/// Flipped once, the change of the command makes the tile that is wanted. Flipped twice, the tile
+/// and the change are as they were.
 fn assert_comes_back(
     rt: &(impl Abort + AllocGlobal),
     tile: &[u8],
     command: Command,
+    wanted: &[u8],
 ) -> Result<(), Fail> {
     let mut edit = prepared(rt.alloc(), tile, command)?;
     let before = edit.seen(rt.alloc())?;
     assert_tile(rt, &before, tile);
-    assert_leads_back(rt, &mut edit, &before)
+    assert_leads_back(rt, &mut edit, &before, wanted)
 }
 
 #[test]
 fn a_name_comes_back(rt: HostRuntime) -> Result<(), Fail> {
     let roads = rename(rt.alloc(), b"a", b"roads")?;
-    assert_comes_back(&rt, &T0, roads)
+    assert_comes_back(&rt, &T0, roads, &ROADS)
 }
 
 #[test]
 fn an_inserted_feature_comes_back(rt: HostRuntime) -> Result<(), Fail> {
     let polygon = insert_polygon(rt.alloc(), 1)?.expect(&rt, "a ring");
-    assert_comes_back(&rt, &T0, polygon)
+    assert_comes_back(&rt, &T0, polygon, WITH_RING)
 }
 
 #[test]
 fn the_only_feature_comes_back(rt: HostRuntime) -> Result<(), Fail> {
-    assert_comes_back(&rt, &T0, drop_feature())
+    assert_comes_back(&rt, &T0, drop_feature(), NO_FEATURE)
 }
 
 #[test]
 fn the_first_of_two_features_comes_back(rt: HostRuntime) -> Result<(), Fail> {
-    assert_comes_back(&rt, TWO_IDS, drop_feature())
+    assert_comes_back(&rt, TWO_IDS, drop_feature(), ID_2)
 }
 
 #[test]
 fn a_feature_moves_back(rt: HostRuntime) -> Result<(), Fail> {
-    assert_comes_back(&rt, TWO_IDS, move_feature(1))
+    assert_comes_back(&rt, TWO_IDS, move_feature(1), SWAPPED_IDS)
 }
 
 #[test]
 fn a_cleared_id_comes_back(rt: HostRuntime) -> Result<(), Fail> {
-    assert_comes_back(&rt, &T0, clear_id())
+    assert_comes_back(&rt, &T0, clear_id(), NO_ID)
 }
 
 #[test]
 fn an_id_that_was_set_anew_comes_back(rt: HostRuntime) -> Result<(), Fail> {
-    assert_comes_back(&rt, &T0, set_id(300))
+    assert_comes_back(&rt, &T0, set_id(300), ID_300)
 }
 
 #[test]
 fn a_layer_moves_back(rt: HostRuntime) -> Result<(), Fail> {
     let two = two_layers(rt.alloc())?;
-    assert_comes_back(&rt, &two, move_layer(1))
+    let moved = joined(rt.alloc(), &[FIELD, OTHER, &T0])?;
+    assert_comes_back(&rt, &two, move_layer(1), &moved)
 }
 
 #[test]
 fn a_dropped_layer_comes_back(rt: HostRuntime) -> Result<(), Fail> {
     let two = two_layers(rt.alloc())?;
-    assert_comes_back(&rt, &two, drop_layer())
+    let second = joined(rt.alloc(), &[FIELD, OTHER])?;
+    assert_comes_back(&rt, &two, drop_layer(), &second)
 }
 
 #[test]
 fn layers_that_are_not_kept_come_back(rt: HostRuntime) -> Result<(), Fail> {
     let two = two_layers(rt.alloc())?;
-    let second = keep(rt.alloc(), b"b")?;
-    assert_comes_back(&rt, &two, second)
+    let second = joined(rt.alloc(), &[FIELD, OTHER])?;
+    assert_comes_back(&rt, &two, keep(rt.alloc(), b"b")?, &second)
 }
 
 /// Carried out, the change leaves this tile.

@@ -11,7 +11,7 @@ mod script;
 mod scripts;
 mod trial;
 
-use crate::script::script_named;
+use crate::script::front_named;
 use crate::trial::{Trial, trial_named};
 use std::alloc::{AllocError, Global};
 use std::io;
@@ -20,6 +20,9 @@ use std::process::ExitCode;
 
 /// Standard input has no more bytes than this.
 const ROOM: usize = 1024;
+
+/// How many growths are made behind the trial of a script, to see whether the refused one is there.
+const BEHIND: u64 = 1000;
 
 /// The status where no trial found a fault.
 const NO_FAULT: u8 = 0;
@@ -65,12 +68,21 @@ fn line_status<R: Print + Eprint + AllocGlobal>(rt: &R, line: &str) -> io::Resul
         grow(rt.alloc(), growths)?;
         return trial_status(rt, trial);
     }
-    let Some(script) = script_named(name) else {
+    let Some(front) = front_named(name) else {
         return no_trial(rt, line);
     };
     grow(rt.alloc(), growths)?;
-    script.run(rt)?;
+    front.run(rt)?;
+    tell_beyond(rt)?;
     Ok(NO_FAULT)
+}
+
+/// Tells it where a growth is refused only behind the trial.
+fn tell_beyond<R: Print + AllocGlobal>(rt: &R) -> io::Result<()> {
+    if grow(rt.alloc(), BEHIND).is_err() {
+        println!(rt; "beyond")?;
+    }
+    Ok(())
 }
 
 fn no_trial<R: Eprint>(rt: &R, line: &str) -> io::Result<u8> {

@@ -1,4 +1,4 @@
-//! The trials of whole scripts.
+//! The trials of scripts, whole or up to one of their lines.
 //!
 //! A script is run on a tile by the public call. What came of it is told, with what was run, so that
 //! `tools/refused-growths` can hold it against what each line may be answered.
@@ -7,16 +7,21 @@ ghost use Rattle.std.specs.Prelude.{◌≤◌};
 
 use crate::scripts::{
     BACK_OVER_STEPS, CANCELLED_KEEPS, CANCELLED_STEP, FEATURES, IDS_LISTED, KEPT_LAYERS, LAYERS,
-    MARKS, ON_OVER_STEPS, RENAME_AND_UNDO, SIZES, STEP, TWO_MARKS,
+    LISTINGS, MARKS, ON_OVER_STEPS, RENAME_AND_UNDO, SIZES, STEP, TWO_MARKS,
 };
 use mvt_tests::tiles::{T0, TWO_IDS};
-use std::{fmt, io};
-use tileshell::{Options, edit};
+use std::fmt;
+use std::io::{self, Cursor};
+use tileshell::{FromRead, FromWrite, Options, run};
+
+/// Neither the replies of a script nor its tile have more bytes than this.
+const ROOM: usize = 4096;
 
 /// A script on a tile.
 #[derive(Clone, Copy, Debug, PartialEq, Eq)]
 pub enum Script {
     RenameAndUndo,
+    Listings,
     IdsListed,
     Sizes,
     KeptLayers,
@@ -30,8 +35,9 @@ pub enum Script {
     CancelledKeeps,
 }
 
-const SCRIPTS: [Script; 12] = [
+const SCRIPTS: [Script; 13] = [
     Script::RenameAndUndo,
+    Script::Listings,
     Script::IdsListed,
     Script::Sizes,
     Script::KeptLayers,
@@ -45,7 +51,7 @@ const SCRIPTS: [Script; 12] = [
     Script::CancelledKeeps,
 ];
 
-pub fn script_named(name: &str) -> Option<Script> {
+fn script_named(name: &str) -> Option<Script> {
     for script in SCRIPTS {
         if script.name() == name {
             return Some(script);
@@ -58,6 +64,7 @@ impl Script {
     fn name(self) -> &'static str {
         match self {
             Script::RenameAndUndo => "rename-and-undo",
+            Script::Listings => "listings",
             Script::IdsListed => "ids-listed",
             Script::Sizes => "sizes",
             Script::KeptLayers => "kept-layers",
@@ -75,6 +82,7 @@ impl Script {
     fn lines(self) -> &'static str {
         match self {
             Script::RenameAndUndo => RENAME_AND_UNDO,
+            Script::Listings => LISTINGS,
             Script::IdsListed => IDS_LISTED,
             Script::Sizes => SIZES,
             Script::KeptLayers => KEPT_LAYERS,
@@ -108,28 +116,104 @@ impl Script {
             _ => 100,
         }
     }
+}
 
-    /// Runs the script, and tells what was run and what came of it. Telling it takes no memory.
+/// A script, or the first lines of one.
+#[derive(Clone, Copy, Debug, PartialEq, Eq)]
+pub struct Front {
+    script: Script,
+    /// How many lines are run, where they are not all.
+    count: Option<usize>,
+}
+
+/// The script of this name, or as many of its lines as are told behind `@`.
+pub fn front_named(name: &str) -> Option<Front> {
+    let Some((script, count)) = name.split_once('@') else {
+        let script = script_named(name)?;
+        return Some(Front {
+            script,
+            count: None,
+        });
+    };
+    Some(Front {
+        script: script_named(script)?,
+        count: Some(count.parse().ok()?),
+    })
+}
+
+impl fmt::Display for Front {
+    fn fmt<W: fmt::Write>(&self, f: &mut fmt::Formatter<W>) -> fmt::Result {
+        f.write_str(self.script.name())?;
+        match self.count {
+            Some(count) => write!(f, "@{count}"),
+            None => Ok(()),
+        }
+    }
+}
+
+impl Front {
+    fn lines(self) -> &'static str {
+        let lines = self.script.lines();
+        match self.count {
+            Some(count) => first_lines(lines, count),
+            None => lines,
+        }
+    }
+
+    /// Runs the lines, and tells what was run and what came of it. Only the run itself takes memory:
+    /// there is room for its replies and its tile.
     pub fn run<R: Print + AllocGlobal>(self, rt: &R) -> io::Result<()> {
+        let tile = self.script.tile();
+        let lines = self.lines();
         let options = Options {
-            depth: self.depth(),
+            depth: self.script.depth(),
             strict: false,
         };
-        let edited = edit(rt.alloc(), self.tile(), self.lines().as_bytes(), options);
-        println!(rt; "{}: {:?}", self.name(), edited.outcome)?;
+        let mut replies = FromWrite::new(Cursor::new([0; ROOM]));
+        let mut out = FromWrite::new(Cursor::new([0; ROOM]));
+        let outcome = run(
+            rt.alloc(),
+            &mut FromRead::new(tile),
+            &mut FromRead::new(lines.as_bytes()),
+            &mut replies,
+            &mut out,
+            options,
+        );
+        println!(rt; "{self}: {outcome:?}")?;
         println!(rt; "depth {}", options.depth)?;
-        println!(rt; "tile {}", Hex(self.tile()))?;
-        tell_lines(rt, "script", self.lines())?;
+        println!(rt; "tile {}", Hex(tile))?;
+        tell_lines(rt, "script", lines)?;
+        let replies = replies.into_inner();
         tell_lines(
             rt,
             "reply",
-            str::from_utf8(&edited.replies).unwrap_or("no UTF-8"),
+            str::from_utf8(written(&replies)).unwrap_or("no UTF-8"),
         )?;
-        if let Some(tile) = &edited.tile {
-            println!(rt; "edited {}", Hex(tile))?;
+        let edited = out.into_inner();
+        if edited.position() > 0 {
+            println!(rt; "edited {}", Hex(written(&edited)))?;
         }
         Ok(())
     }
+}
+
+/// So many lines of the text, or all.
+fn first_lines(text: &str, count: usize) -> &str {
+    let mut rest = text;
+    for _ in 0..count {
+        let Some((_, behind)) = rest.split_once('\n') else {
+            return text;
+        };
+        rest = behind;
+    }
+    text.strip_suffix(rest).unwrap_or(text)
+}
+
+/// The bytes that were written.
+fn written(sink: &Cursor<[u8; ROOM]>) -> &[u8] {
+    let room = sink.get_ref();
+    let count = room.len().min(sink.position() as usize);
+    &room[..count]
 }
 
 /// Tells each line of the text behind the word.

@@ -10,6 +10,12 @@ rename-layer \"a\" \"roads\"
 undo
 ";
 
+pub const LISTINGS: &str = "\
+list
+list #0
+list \"a\" @1
+";
+
 pub const IDS_LISTED: &str = "\
 set-id #0 0 9
 list

@@ -4,58 +4,69 @@ ghost use Rattle.std.specs.Prelude.{IfOk};
 ghost use Rattle.mvt_wire.specs.Stands.{document_of};
 ghost use Rattle.mvt_wire.specs.Opens.{IsDocument};
 
-use crate::asked::{name, session};
+use crate::asked::{assert_reaches, session};
 use mvt_edit::Refusal;
 use mvt_history::{Session, StartError};
+use mvt_tests::asked::rename_first;
 use mvt_tests::bytes::joined;
 use mvt_tests::tiles::T0;
 use mvt_wire::{
-    Body, Document, Field, MAX_FILE, TileItem, Varint, WriteError, read_document, size,
+    Body, Document, Field, Items, MAX_FILE, TileItem, Varint, WriteError, read_document, size,
     write_document,
 };
 use std::alloc::{AllocError, Global};
 use std::test::Fail;
 
-/// `T0` and a field of zeros, so long in all.
-fn of_zeros(alloc: Global, head: &[u8], length: usize) -> Result<Vec<u8>, AllocError> {
-    let mut tile = joined(alloc, &[&T0, head])?;
-    tile.resize(length, 0)?;
+/// `T0` and a field of zeros, as long as a file may be.
+fn longest_file(alloc: Global) -> Result<Vec<u8>, AllocError> {
+    let mut tile = joined(alloc, &[&T0, b"\x82\x01\xda\xff\xff\x1f".as_slice()])?;
+    tile.resize(MAX_FILE, 0)?;
     Ok(tile)
 }
 
-/// The document, and a field of three bytes behind it.
-fn and_a_field(mut document: Document) -> Result<Document, AllocError>
-    requires { IsDocument (document_of document) }
-    ensures { IfOk result (λ longer. IsDocument (document_of longer)) }
+/// `T0` and a field of so many zeros, which no file need have room for.
+fn t0_and_zeros(alloc: Global, count: usize) -> Result<Document, Fail>
+    ensures { IfOk result (λ document. IsDocument (document_of document)) }
 {
-    let tag = Varint::minimal(128);
-    let body = Body::Number(Varint::minimal(0));
+    let mut document = read_document(alloc, &T0)?;
+    let bytes = Items::from_vec(vec![in alloc; 0u8; count]?);
+    let tag = Varint::minimal(130);
+    let body = Body::Bytes { width: 4, bytes };
     document.items.push(TileItem::Plain(Field { tag, body }))?;
     Ok(document)
 }
 
 #[test]
 fn a_session_keeps_a_tile_within_the_limit(rt: HostRuntime) -> Result<(), Fail> {
-    let tile = of_zeros(rt.alloc(), b"\x82\x01\xda\xff\xff\x1f", MAX_FILE)?;
+    let tile = longest_file(rt.alloc())?;
     let mut session = session(&rt, tile.as_slice(), 100)?;
-    let longer = name(rt.alloc(), &mut session, b"a", b"bb");
+    let longer = session.command(&rename_first(rt.alloc(), b"bb")?);
     assert_eq!(rt; longer, Err(Refusal::TooLarge));
-    name(rt.alloc(), &mut session, b"a", b"b")?;
+    assert_reaches(&rt, &session, 0, 0);
+    session.command(&rename_first(rt.alloc(), b"b")?)?;
+    assert_reaches(&rt, &session, 1, 0);
+    assert_eq!(rt; size(session.document()), Some(67_108_864));
     Ok(())
 }
 
-/// How many items the document has that is handed back as too large.
-fn items_handed_back(error: &StartError) -> Option<usize> {
-    match error {
-        StartError::TooLarge(document) => Some(document.items.len()),
-        StartError::NoMemory(_document) => None,
+/// How many bytes the field has that stands behind the one layer of a document that is handed back
+/// as too large.
+fn zeros_handed_back(error: &StartError) -> Option<usize> {
+    let StartError::TooLarge(document) = error else {
+        return None;
+    };
+    match document.items.as_slice() {
+        [TileItem::Layer(_), TileItem::Plain(field)] => match &field.body {
+            Body::Bytes { bytes, .. } => Some(bytes.len()),
+            _ => None,
+        },
+        _ => None,
     }
 }
 
 #[test]
 fn a_document_past_the_limit_is_handed_back(rt: HostRuntime) -> Result<(), Fail> {
-    let tile = of_zeros(rt.alloc(), b"\x82\x01\xd8\xff\xff\x1f", MAX_FILE - 2)?;
-    let document = and_a_field(read_document(rt.alloc(), tile.as_slice())?)?;
+    let document = t0_and_zeros(rt.alloc(), 67_108_827)?;
     assert_eq!(rt; size(&document), None);
     assert!(rt;
         matches!(
@@ -64,6 +75,9 @@ fn a_document_past_the_limit_is_handed_back(rt: HostRuntime) -> Result<(), Fail>
         )
     );
     let refused = Session::start(rt.alloc(), document, 100).err();
-    assert_eq!(rt; refused.as_ref().and_then(items_handed_back), Some(3));
+    assert_eq!(rt;
+        refused.as_ref().and_then(zeros_handed_back),
+        Some(67_108_827)
+    );
     Ok(())
 }

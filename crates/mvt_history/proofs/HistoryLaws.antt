@@ -1,5 +1,5 @@
 -- What the laws of undo and of a tile's length rest on.
-use Rattle.std.proofs.Common.{◌≡◌, ◌+◌, ◌-◌, ◌<◌, ◌≤◌, ◌==◌, false, None, Result, Ok, Err, List, [], ◌∷◌, length, length-take-le, take, refl, ap, arith}
+use Rattle.std.proofs.Common.{◌≡◌, ◌+◌, ◌-◌, ◌<◌, ◌≤◌, ◌==◌, false, Some, None, Result, Ok, Err, List, [], ◌∷◌, length, length-take-le, take, refl, sym, ap, ◌∙◌, arith}
 use Rattle.std.proofs.lemmas.Bool.Decides.{nat_tests}
 use Rattle.std.proofs.lemmas.List.{take_at}
 use Rattle.std.specs.Result.{result_unwrap_or}
@@ -10,8 +10,9 @@ use Rattle.mvt_command.specs.Command.{Command}
 use Rattle.mvt_meaning.specs.Meaning.{after, applied}
 use Rattle.mvt_meaning.specs.declared.refusal.Refusal.{Refusal}
 use Rattle.mvt_meaning.proofs.Lengths.{command_fits}
-use Rattle.mvt_history.specs.History.{History, IsSound, after_all, after_steps, document_at, present_document, standing_document, commands_in, at_point, with_step, with_command, edited_to, undone, ended, closed}
-use Rattle.mvt_history.specs.Laws.{HistoryFits, UndoAtOnce, StepUndoesWhole}
+use Rattle.mvt_history.specs.History.{History, IsSound, after_all, after_steps, document_at, present_document, standing_document, commands_in, at_point, with_group, with_step, with_command, edited_to, undone, ended, closed}
+use Rattle.mvt_history.specs.Laws.{HistoryFits, UndoAtOnce, UndoAfterEnd, StepUndoesWhole}
+use Rattle.mvt_history.proofs.OpenStep.{within_step}
 
 -- ---- undo
 
@@ -41,11 +42,27 @@ pub undo_at_once : UndoAtOnce
 undo_at_once command history after sound alone e =
     rw (standing_alone history alone) (rw (← edited_alone command history after (applied command (standing_document history)) alone e) (step_undone (command ∷ []) history sound))
 
+pub undo_after_end : UndoAfterEnd
+undo_after_end command commands history sound opened =
+    let step = command ∷ commands in
+    let undo = step_undone step history sound in
+    (with_step step history, undo.0, ap (λ group. ended group history) opened, undo.1, undo.2)
+
+-- the end of a step of these commands, and its undo
+ended_undoes : (commands : List Command) (history : History) → IsSound history → ¬ (commands ≡ []) → (after : History) × (back : History) × (closed (with_group (Some commands) history) ≡ Ok after) × (undone after ≡ Ok back) × (standing_document back ≡ present_document history)
+ended_undoes [] history sound some = absurd (some refl)
+ended_undoes (command ∷ commands) history sound some =
+    let step = command ∷ commands in
+    let undo = step_undone step history sound in
+    (with_step step history, undo.0, refl, undo.1, undo.2)
+
 pub step_undoes_whole : StepUndoesWhole
-step_undoes_whole command commands history after sound opened e =
-    let done : closed history ≡ Ok (with_step (command ∷ commands) history) = ap (λ group. ended group history) opened in
-    let same : with_step (command ∷ commands) history ≡ after = cc in
-    rw (← same) (step_undone (command ∷ commands) history sound)
+step_undoes_whole requests history opening sound open_so leave some =
+    let step = within_step requests history opening open_so leave in
+    let held = step.1.1 in
+    let not_none : ¬ (step.1.0 ≡ []) = λ none. some (ap (λ h. h.group) held ∙ ap Some none) in
+    let undo = ended_undoes step.1.0 history sound not_none in
+    (undo.0, undo.1, ap closed held ∙ undo.2, undo.3, undo.4 ∙ sym (standing_alone history step.0))
 
 -- ---- the limit
 
@@ -64,5 +81,6 @@ steps_fit (step ∷ steps) document fits = steps_fit steps (after_all step docum
 pub history_fits : HistoryFits
 history_fits history fits = (
   λ point. steps_fit (take point history.steps) history.start fits,
+  λ count. all_fit (take count (commands_in history.group)) (present_document history) (steps_fit (take history.present history.steps) history.start fits),
   all_fit (commands_in history.group) (present_document history) (steps_fit (take history.present history.steps) history.start fits),
 )

@@ -13,6 +13,7 @@ use Rattle.mvt_edit.specs.Prepared.{IsPrepared}
 use Rattle.mvt_history.specs.History.{after_all, after_steps, commands_in}
 use Rattle.mvt_history.specs.Reached.{all_taken_by, all_put_by, LeadsBack, LeadBack, singles, LeadOut}
 use Rattle.mvt_history.specs.Standing.{changes_in}
+use Rattle.mvt_history.proofs.Turned.{length_turned}
 use Rattle.mvt_history.proofs.Following.{all_joined, lead_back_same, lead_back_dropped, back_along}
 
 -- ---- one command
@@ -28,12 +29,14 @@ prepared_leads_back command document change valid prepared =
     let twice : turn turned (after command document) ≡ change = ap (turn turned) made ∙ turned_twice change document prepared.fits in
     let takes = prepared.takes in
     let puts = prepared.puts in
+    let few = prepared.steps in
     let again : weight (turn turned (after command document)) ≡ weight change = ap weight twice in
     record {
       fits = subst (Fits turned) (sym made) (turned_fits change document valid prepared.fits);
       leads = ap (go turned) made ∙ turned_back change document prepared.fits;
       holds = omega arith;
       becomes = omega arith;
+      few_steps = omega (arith, length_turned change document);
     }
 
 -- ---- one step after the other
@@ -62,11 +65,14 @@ leads_back_joined first second before later earlier back further =
     let holds_further = further.holds in
     let becomes = back.becomes in
     let becomes_further = further.becomes in
+    let few = back.few_steps in
+    let few_further = further.few_steps in
     record {
       fits = subst (Fits (later ++ earlier)) whole (fits_joined later earlier end back.fits (subst (Fits earlier) (sym back.leads) further.fits));
       leads = ap (go (later ++ earlier)) (sym whole) ∙ go_joined later earlier end ∙ ap (go earlier) back.leads ∙ further.leads;
       holds = omega (arith, weight_joined later earlier, taken_joined first second before, holds, holds_further);
       becomes = omega (arith, turned_weight, put_joined first second before, becomes, becomes_further);
+      few_steps = omega (arith, length-append later earlier, length-append first second, taken_joined first second before, put_joined first second before, few, few_further);
     }
 
 -- ---- an open step
@@ -153,7 +159,7 @@ after_commands_of (step ∷ steps) document = all_joined step (commands_of steps
 
 -- as many changes as there are steps below the point
 joined_leads_back : (steps : List (List Command)) (start : Document) (point : ℕ) (changes : List Change) → point ≤ length steps → length changes ≡ point → LeadBack steps start point changes → LeadsBack (commands_of (take point steps)) start (joined changes)
-joined_leads_back steps start zero [] inside counted leads = record { fits = tt; leads = refl; holds = omega arith; becomes = omega arith }
+joined_leads_back steps start zero [] inside counted leads = record { fits = tt; leads = refl; holds = omega arith; becomes = omega arith; few_steps = omega arith }
 joined_leads_back steps start (suc point) [] inside counted leads = absurd (omega (arith, counted))
 joined_leads_back steps start zero (change ∷ changes) inside counted leads = absurd leads
 joined_leads_back steps start (suc point) (change ∷ changes) inside counted leads =

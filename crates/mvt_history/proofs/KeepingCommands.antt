@@ -2,7 +2,7 @@
 use Rattle.std.proofs.Common.{◌≡◌, ℕ, ◌+◌, ◌-◌, ◌<◌, ◌≤◌, true, false, is_some, ◌==◌, OnErr, inl, Option, Some, None, option_map, Vec, Global, Result, Ok, Err, List, [], ◌∷◌, ◌++◌, length, map, reverse, take, drop, refl, sym, ap, subst, ◌∙◌, arith}
 use Rattle.std.proofs.lemmas.List.{length-map, length-reverse, reverse-append, take_all}
 use Rattle.std.proofs.lemmas.Bool.Decides.{nat_tests}
-use Rattle.std.specs.Result.{IsErrAnd}
+use Rattle.std.specs.Result.{IsErrAnd, IsOk, is_ok}
 use Rattle.mvt_wire.specs.Plain.{Document}
 use Rattle.mvt_wire.specs.Opens.{IsDocument}
 use Rattle.mvt_document.specs.declared.document.Document.{Document as HeldDocument}
@@ -78,9 +78,9 @@ seen_none (Some changes) left = absurd (left changes refl)
 
 -- ---- want of memory
 
-pub wanted_memory : (asked : Result History HistoryError) (history : History) (answer : Result (Unit {0}) HistoryError) (session : Standing) → IsErrAnd answer (λ error. error ≡ NoMemory) → StandsFor session history → AnswersWithMemory asked history answer session
-wanted_memory asked history (Ok done) session wanted stands = absurd wanted
-wanted_memory asked history (Err error) session wanted stands = (inl wanted, stands)
+pub wanted_memory : (asked : Result History HistoryError) (history : History) (answer : Result (Unit {0}) HistoryError) (session : Standing) → IsErrAnd answer (λ error. error ≡ NoMemory) → IsOk asked → StandsFor session history → AnswersWithMemory asked history answer session
+wanted_memory asked history (Ok done) session wanted accepted stands = absurd wanted
+wanted_memory asked history (Err error) session wanted accepted stands = (inl (wanted, accepted), stands)
 
 pub on_error : (answer : Result (Unit {0}) HistoryError) {P : Type 0} → P → OnErr answer P
 on_error (Ok done) says = tt
@@ -204,6 +204,16 @@ ended_held undo_room redo_room before after changes kept is same held =
 ended_some : (commands : List Command) (history : History) → 1 ≤ length commands → ended (Some commands) history ≡ Ok (with_step commands history)
 ended_some [] history some = absurd (omega (arith, some))
 ended_some (command ∷ commands) history some = refl
+
+ended_ok : (commands : List Command) (history : History) → is_ok (ended (Some commands) history) ≡ true
+ended_ok [] history = refl
+ended_ok (command ∷ commands) history = refl
+
+-- an open step can always be ended
+pub end_accepted : (history : History) (session : Standing) (changes : List Change) → session.pending ≡ Some changes → StandsFor session history → IsOk (closed history)
+end_accepted history session changes is stands =
+    let found = stands_open history session changes is stands in
+    ap (λ group. is_ok (ended group history)) found.1 ∙ ended_ok found.0 history
 
 pub step_ended : (history : History) (before after : Standing) (changes : List Change) → IsKept before after (joined changes) → before.pending ≡ Some changes → 1 ≤ length changes → after.document ≡ before.document → StandsFor before history → (next : History) × (closed history ≡ Ok next) × StandsFor after next
 step_ended history before after changes kept is some same stands =

@@ -7,7 +7,9 @@ pub mod Sound
 pub mod HistoryLaws
 pub mod Reaching
 pub mod UndosRedos
+pub mod OpenStep
 pub mod NoTrace
+pub mod GoingOn
 pub mod BackToMark
 pub mod Turned
 pub mod Moving

@@ -1,5 +1,5 @@
 -- Where the changes that a session keeps lead, and how much they hold.
-use Rattle.std.proofs.Common.{◌≡◌, ℕ, zero, suc, ◌+◌, ◌-◌, ◌<◌, ◌≤◌, Option, Some, None, List, [], ◌∷◌, length, take, get_or, refl, sym, ap, ◌∙◌, arith}
+use Rattle.std.proofs.Common.{◌≡◌, ℕ, zero, suc, ◌+◌, ◌-◌, ◌*◌, ◌<◌, ◌≤◌, Option, Some, None, List, [], ◌∷◌, length, take, get_or, refl, sym, ap, ◌∙◌, arith}
 use Rattle.std.specs.List.{sum_by}
 use Rattle.std.proofs.lemmas.List.{take_all}
 use Rattle.std.proofs.lemmas.List.Sums.{sum_by-cons}
@@ -9,9 +9,10 @@ use Rattle.mvt_change.specs.Joining.{go_along}
 use Rattle.mvt_command.specs.Command.{Command}
 use Rattle.mvt_meaning.specs.Meaning.{after}
 use Rattle.mvt_history.specs.History.{after_all, after_steps, present_document, commands_in}
-use Rattle.mvt_history.specs.Reached.{LeadBack, LeadOn, LeadOut, all_taken_by, all_put_by, singles}
+use Rattle.mvt_history.specs.Reached.{LeadBack, LeadOn, LeadOut, all_taken_by, all_put_by, step_allowance, singles}
 use Rattle.mvt_history.specs.Standing.{changes_in}
-use Rattle.mvt_history.specs.Laws.{ChangesLead, KeptWithin, sum_from}
+use Rattle.mvt_history.specs.Laws.{ChangesLead, KeptWithin, sum_from, FewSteps}
+use Rattle.mvt_history.proofs.Joined.{between_commands}
 
 -- ---- where they lead
 
@@ -65,6 +66,14 @@ out_along (Some commands) document (Some changes) lead =
     ∙ back_along (singles commands) document number changes number inside enough lead.1
     ∙ ap (λ n. after_steps (take n (singles commands)) document) none
 
+-- so many of them lead to the document within the open step
+within_along : (group : Option (List Command)) (document : Document) (pending : Option (List Change)) (count : ℕ) → LeadOut group document pending → count ≤ length (commands_in group) → go_along (take count (changes_in pending)) (after_all (commands_in group) document) ≡ after_all (take (length (commands_in group) - count) (commands_in group)) document
+within_along None document None zero lead within = refl
+within_along None document None (suc count) lead within = absurd (omega (arith, within))
+within_along None document (Some changes) count lead within = absurd lead
+within_along (Some commands) document None count lead within = absurd lead
+within_along (Some commands) document (Some changes) count lead within = between_commands commands document changes count lead within
+
 pub changes_lead : ChangesLead
 changes_lead session history stands =
     let steps = history.steps in
@@ -73,6 +82,7 @@ changes_lead session history stands =
     let on = stands.redo_reaches in (
       λ count enough. back_along steps start present session.undo count stands.sound.within_steps enough stands.undo_leads,
       λ count enough. on_along steps start present session.redo count (omega (arith, on, enough)) enough stands.redo_leads,
+      λ count within. ap (go_along (take count (changes_in session.pending))) stands.document ∙ within_along history.group (present_document history) session.pending count stands.pending_leads within,
       ap (go_along (changes_in session.pending)) stands.document ∙ out_along history.group (present_document history) session.pending stands.pending_leads,
     )
 
@@ -131,3 +141,59 @@ kept_within session history stands =
     let on = on_weighs steps start history.present session.redo stands.redo_leads in
     let out = out_weighs history.group (present_document history) session.pending stands.pending_leads in
     omega (arith, back, on, out)
+
+-- ---- how many steps they have
+
+sum_on : (number : ℕ → ℕ) (point count more : ℕ) → sum_from number point (count + more) ≡ sum_from number point count + sum_from number (point + count) more
+sum_on number point zero more =
+    let none : sum_from number point (0 + more) ≡ sum_from number point more = ap (sum_from number point) (omega arith) in
+    let here : sum_from number (point + 0) more ≡ sum_from number point more = ap (λ n. sum_from number n more) (omega arith) in
+    omega (arith, none, here)
+sum_on number point (suc count) more =
+    let count_next : suc count + more ≡ suc (count + more) = omega arith in
+    let first : sum_from number point (suc count + more) ≡ sum_from number point (suc (count + more)) = ap (sum_from number point) count_next in
+    let next : sum_from number (suc point + count) more ≡ sum_from number (point + suc count) more = ap (λ n. sum_from number n more) (omega arith) in
+    omega (arith, first, sum_on number (suc point) count more, next)
+
+-- twice as many steps as the change of the step at a point may have
+abbrev step_allowance_of : List (List Command) → Document → ℕ → ℕ
+step_allowance_of steps start point = step_allowance (get_or steps point []) (after_steps (take point steps) start)
+
+back_few : (steps : List (List Command)) (start : Document) (floor point : ℕ) (changes : List Change) → floor + length changes ≡ point → LeadBack steps start point changes → 2 * sum_by length changes ≤ sum_from (step_allowance_of steps start) floor (length changes)
+back_few steps start floor point [] reaches lead = omega arith
+back_few steps start floor zero (change ∷ changes) reaches lead = absurd lead
+back_few steps start floor (suc point) (change ∷ changes) reaches lead =
+    let bound = step_allowance_of steps start in
+    let here : floor + length changes ≡ point = omega (arith, reaches) in
+    let last : bound (floor + length changes) ≡ bound point = ap bound here in
+    omega (arith, sum_by-cons length change changes, lead.0.few_steps, back_few steps start floor point changes here lead.1, sum_at_end bound floor (length changes), last)
+
+on_few : (steps : List (List Command)) (start : Document) (point : ℕ) (changes : List Change) → LeadOn steps start point changes → 2 * sum_by length changes ≤ sum_from (step_allowance_of steps start) point (length changes)
+on_few steps start point [] lead = omega arith
+on_few steps start point (change ∷ changes) lead = omega (arith, sum_by-cons length change changes, lead.0.few_steps, on_few steps start (suc point) changes lead.1)
+
+singles_few : (commands : List Command) (document : Document) → sum_from (step_allowance_of (singles commands) document) 0 (length commands) ≡ step_allowance commands document
+singles_few [] document = refl
+singles_few (command ∷ commands) document =
+    let bound = step_allowance_of (singles (command ∷ commands)) document in
+    omega (arith, sum_shifted bound 0 (length commands), singles_few commands (after command document))
+
+out_few : (group : Option (List Command)) (document : Document) (pending : Option (List Change)) → LeadOut group document pending → 2 * sum_by length (changes_in pending) ≤ step_allowance (commands_in group) document
+out_few None document None lead = omega arith
+out_few None document (Some changes) lead = absurd lead
+out_few (Some commands) document None lead = absurd lead
+out_few (Some commands) document (Some changes) lead =
+    let bound = step_allowance_of (singles commands) document in
+    let count : sum_from bound 0 (length changes) ≡ sum_from bound 0 (length commands) = ap (sum_from bound 0) lead.0 in
+    omega (arith, back_few (singles commands) document 0 (length commands) changes (omega (arith, lead.0)) lead.1, count, singles_few commands document)
+
+pub few_steps : FewSteps
+few_steps session history stands =
+    let steps = history.steps in
+    let start = history.start in
+    let bound = step_allowance_of steps start in
+    let back = back_few steps start history.floor history.present session.undo stands.undo_reaches stands.undo_leads in
+    let on = on_few steps start history.present session.redo stands.redo_leads in
+    let out = out_few history.group (present_document history) session.pending stands.pending_leads in
+    let above : sum_from bound (history.floor + length session.undo) (length session.redo) ≡ sum_from bound history.present (length session.redo) = ap (λ point. sum_from bound point (length session.redo)) stands.undo_reaches in
+    omega (arith, back, on, out, sum_on bound history.floor (length session.undo) (length session.redo), above)

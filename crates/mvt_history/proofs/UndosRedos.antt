@@ -1,11 +1,11 @@
--- As many redos as there were undos lead to the very history before them.
+-- As many redos as there were undos lead to the very history before them, and as many undos as there were redos.
 use Rattle.std.proofs.Common.{◌≡◌, ℕ, zero, suc, ◌+◌, ◌-◌, ◌<◌, ◌≤◌, ◌==◌, false, Option, None, Some, Result, Ok, Err, List, length, refl, ap, ◌∙◌, inl, inr, arith, if◌then◌else◌}
 use Rattle.std.proofs.lemmas.Bool.{cases_Bool}
 use Rattle.std.proofs.lemmas.Bool.Decides.{nat_tests}
 use Rattle.mvt_command.specs.Command.{Command}
 use Rattle.mvt_history.specs.History.{History, at_point, unless_open, undone, redone}
 use Rattle.mvt_history.specs.Requests.{and_then, then_times}
-use Rattle.mvt_history.specs.Laws.{RedosUndoUndos}
+use Rattle.mvt_history.specs.Laws.{RedosUndoUndos, UndosUndoRedos}
 use Rattle.mvt_history.specs.declared.error.HistoryError.{HistoryError}
 use Rattle.mvt_history.specs.declared.error.HistoryError.TheVariants.{NothingToUndo, NothingToRedo}
 
@@ -50,6 +50,31 @@ redo_of_undo history closed above within =
     let done : answer ≡ Ok history = rw apart (ap (λ point. Ok (at_point point history)) point) in
     ap (λ group. unless_open group answer) closed ∙ done
 
+-- ---- a redo, and the undo of it
+
+pub record IsRedone (history after : History) : Type 0 where
+  pub is_closed : history.group ≡ None
+  pub below : history.present < length history.steps
+  pub is_next : at_point (history.present + 1) history ≡ after
+
+redone_so : (history after : History) → history.present ≤ length history.steps → redone history ≡ Ok after → IsRedone history after
+redone_so history after high e =
+    let answer : Result History HistoryError = if history.present == length history.steps then Err NothingToRedo else Ok (at_point (history.present + 1) history) in
+    let closed = none_open history.group answer after e in
+    elim (cases_Bool (history.present == length history.steps)) [
+      | inl at_end ↦ absurd (let refused = rw at_end at closed.1 in cc)
+      | inr not_at ↦ (let done = rw not_at at closed.1 in record { is_closed = closed.0; below = grind (arith, nat_tests); is_next = cc })
+    ]
+
+undo_of_redo : (history : History) → history.group ≡ None → history.floor ≤ history.present → undone (at_point (history.present + 1) history) ≡ Ok history
+undo_of_redo history closed above =
+    let next = at_point (history.present + 1) history in
+    let apart : (history.present + 1 == history.floor) ≡ false = grind (arith, nat_tests) in
+    let point : history.present + 1 - 1 ≡ history.present = omega arith in
+    let answer : Result History HistoryError = if next.present == next.floor then Err NothingToUndo else Ok (at_point (next.present - 1) next) in
+    let done : answer ≡ Ok history = rw apart (ap (λ point. Ok (at_point point history)) point) in
+    ap (λ group. unless_open group answer) closed ∙ done
+
 -- ---- all of them
 
 first_of : (answer : Result History HistoryError) (more : History → Result History HistoryError) (after : History) → and_then answer more ≡ Ok after → (first : History) × (answer ≡ Ok first) × (more first ≡ Ok after)
@@ -69,3 +94,17 @@ redos_lead_back (suc count) history after low within e =
 
 pub redos_undo_undos : RedosUndoUndos
 redos_undo_undos count history after sound e = redos_lead_back count history after sound.above_floor sound.within_steps e
+
+undos_lead_back : (count : ℕ) (history after : History) → history.floor ≤ history.present → history.present ≤ length history.steps → then_times count redone history ≡ Ok after → then_times count undone after ≡ Ok history
+undos_lead_back zero history after low within e = cc
+undos_lead_back (suc count) history after low within e =
+    let rest = first_of (redone history) (then_times count redone) after e in
+    let redo = redone_so history rest.0 within rest.1 in
+    let below = redo.below in
+    let next = at_point (history.present + 1) history in
+    let others : then_times count redone next ≡ Ok after = rw redo.is_next rest.2 in
+    let back : then_times count undone after ≡ Ok next = undos_lead_back count next after (omega (arith, low)) (omega (arith, below)) others in
+    one_more count undone next history (undo_of_redo history redo.is_closed low) after back
+
+pub undos_undo_redos : UndosUndoRedos
+undos_undo_redos count history after sound e = undos_lead_back count history after sound.above_floor sound.within_steps e

@@ -1,5 +1,5 @@
 -- Where the changes that are kept lead, and how much they hold.
-use Rattle.std.specs.Prelude.{◌≡◌, ℕ, zero, suc, ◌+◌, ◌≤◌, List, [], ◌∷◌, map, length, get_or, take, Option, Some, None}
+use Rattle.std.specs.Prelude.{◌≡◌, ℕ, zero, suc, ◌+◌, ◌*◌, ◌≤◌, List, [], ◌∷◌, map, length, get_or, take, Option, Some, None}
 use Rattle.mvt_wire.specs.Plain.{Document}
 use Rattle.mvt_change.specs.Changes.{Change, Fits, go, turn, weight}
 use Rattle.mvt_command.specs.Command.{Command}
@@ -17,23 +17,31 @@ abbrev pub all_put_by : List Command → Document → ℕ
 all_put_by [] document = 0
 all_put_by (command ∷ commands) document = put_by command document + all_put_by commands (after command document)
 
+-- twice as many steps as the changes of these commands may have: two for each command, and one for each byte that they
+-- take out or put in
+abbrev pub step_allowance : List Command → Document → ℕ
+step_allowance commands document = 2 * length commands + all_taken_by commands document + all_put_by commands document
+
 -- ---- one change
 
 -- The change leads from the document after the step to the one before it. It holds no more than the step took out, and
--- what it becomes no more than the step put in.
+-- what it becomes no more than the step put in. Its own steps are at most one for each command, and half as many as
+-- the bytes taken out and put in.
 pub record LeadsBack (step : List Command) (before : Document) (change : Change) : Type 0 where
   pub fits : Fits change (after_all step before)
   pub leads : go change (after_all step before) ≡ before
   pub holds : weight change ≤ all_taken_by step before
   pub becomes : weight (turn change (after_all step before)) ≤ all_put_by step before
+  pub few_steps : 2 * length change ≤ step_allowance step before
 
 -- The change leads from the document before the step to the one after it. It holds no more than the step put in, and
--- what it becomes no more than the step took out.
+-- what it becomes no more than the step took out. Its own steps are as few.
 pub record LeadsOn (step : List Command) (before : Document) (change : Change) : Type 0 where
   pub fits : Fits change before
   pub leads : go change before ≡ after_all step before
   pub holds : weight change ≤ all_put_by step before
   pub becomes : weight (turn change before) ≤ all_taken_by step before
+  pub few_steps : 2 * length change ≤ step_allowance step before
 
 -- ---- lists of changes, the next one first
 

@@ -48,6 +48,18 @@ SetsOther name Begin = Unit {0}
 SetsOther name End = Unit {0}
 SetsOther name Cancel = Unit {0}
 
+-- the request does not close the open step
+abbrev pub LeavesOpen : Request → Type 0
+LeavesOpen (Edit command) = Unit {0}
+LeavesOpen Undo = Unit {0}
+LeavesOpen Redo = Unit {0}
+LeavesOpen (SetMark name) = Unit {0}
+LeavesOpen (TakeMark name) = Unit {0}
+LeavesOpen (GoBack name) = Unit {0}
+LeavesOpen Begin = Unit {0}
+LeavesOpen End = ⊥
+LeavesOpen Cancel = ⊥
+
 -- what is answered to a further request, where the one before was accepted
 abbrev pub and_then : Result History HistoryError → (History → Result History HistoryError) → Result History HistoryError
 and_then (Ok after) more = more after

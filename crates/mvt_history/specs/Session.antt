@@ -1,5 +1,5 @@
 -- What a session answers, and the history that it holds.
-use Rattle.std.specs.Prelude.{◌≡◌, ℕ, ◌+◌, ◌-◌, ◌<◌, ◌≤◌, ℤ, pos, ◌-ℤ◌, ◌⊎◌, List, map, length, take, Option, Some, None, Result, Ok, Err}
+use Rattle.std.specs.Prelude.{◌≡◌, ℕ, ◌+◌, ◌-◌, ◌<◌, ◌≤◌, ℤ, pos, ◌-ℤ◌, ◌⊎◌, List, map, length, take, Option, Some, None, Result, Ok, Err, IsOk}
 use Rattle.mvt_wire.specs.TheConstants.{MAX_FILE}
 use Rattle.mvt_wire.specs.Wire.{bytes_of}
 use Rattle.mvt_command.specs.Command.{Command}
@@ -39,10 +39,10 @@ abbrev pub Answers : Result History HistoryError → History → Result (Unit {0
 Answers asked history (Ok done) new = (after : History) × (asked ≡ Ok after) × StandsFor new after
 Answers asked history (Err error) new = (asked ≡ Err error) × StandsFor new history
 
--- The same, where want of memory, and no other refusal, may come in place of either.
+-- The same, where want of memory may come in place of what was asked for, and never in place of a refusal.
 abbrev pub AnswersWithMemory : Result History HistoryError → History → Result (Unit {0}) HistoryError → Standing → Type 0
 AnswersWithMemory asked history (Ok done) new = (after : History) × (asked ≡ Ok after) × StandsFor new after
-AnswersWithMemory asked history (Err error) new = ((error ≡ NoMemory) ⊎ (asked ≡ Err error)) × StandsFor new history
+AnswersWithMemory asked history (Err error) new = (((error ≡ NoMemory) × IsOk asked) ⊎ (asked ≡ Err error)) × StandsFor new history
 
 -- The same of a command.
 abbrev pub AnswersCommand : Command → History → Result (Unit {0}) Refusal → Standing → Type 0

@@ -10,21 +10,29 @@ use thiserror::Error;
 /// Why a request was refused.
 #[derive(Clone, Copy, Debug, PartialEq, Eq, Error)]
 pub enum HistoryError {
+    /// Undo goes back no further.
     #[error("there is nothing to undo")]
     NothingToUndo,
+    /// No step was undone that could stand again.
     #[error("there is nothing to redo")]
     NothingToRedo,
+    /// The name marks nothing.
     #[error("there is no such mark")]
     NoMark,
+    /// The name is a new one, and `MAX_MARKS` names are marked.
     #[error("there are too many marks")]
     TooManyMarks,
-    /// So many steps, or commands of the open step, were taken; they stand.
+    /// Memory was refused on the way. So many undos or redos of a `back` were made, or so many
+    /// commands of the open step, the last ones, were taken back by a `cancel`; that stands.
     #[error("out of memory after {taken} steps")]
     Stopped { taken: usize },
+    /// A step is open, and this has to wait for its end.
     #[error("a step is open")]
     GroupOpen,
+    /// No step is open that could be ended or cancelled.
     #[error("no step is open")]
     NoGroup,
+    /// Memory was refused, and nothing has changed.
     #[error("out of memory")]
     NoMemory,
 }
@@ -50,5 +58,6 @@ impl<T: Drop> From<AllocFailed<T>> for HistoryError {
 pub enum StartError {
     /// No file can hold it.
     TooLarge(Document),
+    /// Memory was refused for the lists of changes.
     NoMemory(Document),
 }

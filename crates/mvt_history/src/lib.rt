@@ -10,7 +10,7 @@ mod steps;
 pub use error::{HistoryError, StartError};
 pub use session::Session;
 
-/// How many steps undo goes back at most.
+/// The greatest depth that a session may have.
 pub const MAX_DEPTH: u32 = 10_000;
 
 /// How many names are marked at most.

@@ -1,6 +1,6 @@
 //! Names of points, in the order of the names' bytes.
 
-ghost use Rattle.std.specs.Prelude.{◌≡◌, ◌↔◌, map, is_ok, IsSome, if◌then◌else◌};
+ghost use Rattle.std.specs.Prelude.{◌≡◌, ◌↔◌, map, is_ok, None, IsSome, IsErr, if◌then◌else◌};
 ghost use Rattle.mvt_history.specs.Held.{mark_of};
 ghost use Rattle.mvt_history.specs.Marks.{InOrder, IsPlaceOf, between, bound, counted_from, point_of, unbound};
 
@@ -38,7 +38,8 @@ pub(crate) fn bind(
     point: u32,
 ) -> Result<(), AllocError>
     requires { InOrder (map mark_of marks.old.items) }
-    ensures { map mark_of marks.new.items ≡ (if is_ok result then bound name.now point (map mark_of marks.old.items) else map mark_of marks.old.items) }
+    ensures marks { map mark_of marks.new.items ≡ (if is_ok result then bound name.now point (map mark_of marks.old.items) else map mark_of marks.old.items) }
+    ensures no_memory { IsErr result → point_of name.now (map mark_of marks.old.items) ≡ None }
 {
     match place_of(marks.as_slice(), name) {
         Ok(place) => marks[place].point = point,

@@ -3,12 +3,13 @@
 #[cfg(test)]
 mod fields;
 
-ghost use Rattle.std.specs.Prelude.{◌≡◌, ◌≤◌, ◌⊎◌, if◌then◌else◌, is_some, Ok, Err, OnErr, IfOk, IfErr, length, option_map, slice_get};
-ghost use Rattle.mvt_history.specs.declared.error.HistoryError.TheVariants.{GroupOpen};
+ghost use Rattle.std.specs.Prelude.{◌≡◌, ◌≤◌, ◌⊎◌, if◌then◌else◌, is_some, None, Ok, Err, OnErr, IfOk, IfErr, IsSomeAnd, length, option_map, slice_get};
+ghost use Rattle.mvt_history.specs.declared.error.HistoryError.TheVariants.{GroupOpen, NoMemory};
 ghost use Rattle.mvt_wire.specs.Stands.{document_of};
 ghost use Rattle.mvt_wire.specs.Opens.{IsDocument};
 ghost use Rattle.mvt_command.specs.CommandStands.{command_of};
 ghost use Rattle.mvt_history.specs.declared.TheConstants.{MAX_DEPTH};
+ghost use Rattle.mvt_history.specs.Marks.{point_of};
 ghost use Rattle.mvt_history.specs.History.{History, begun, closed, marked, opened, redone, standing_document, undone, unmarked};
 ghost use Rattle.mvt_history.specs.Session.{Answers, AnswersBack, AnswersCancel, AnswersCommand, AnswersWithMemory, IsStop, NotStarted, SeesMark, StandsFor};
 
@@ -146,7 +147,7 @@ impl Session {
     }
 
     /// Carries a command out. Where a step is open it joins that; otherwise it is a step, and what
-    /// was undone is forgotten.
+    /// was undone is forgotten. It is refused as `prepare` refuses it.
     pub fn command(&mut self, command: &Command) -> Result<(), Refusal>
         ensures answer { (history : History) → StandsFor self.old history → AnswersCommand (command_of command.now) history result self.new }
         ensures err { OnErr result (self.new ≡ self.old) }
@@ -163,7 +164,8 @@ impl Session {
         Ok(())
     }
 
-    /// Takes the last step back.
+    /// Takes the last step back. `GroupOpen` while a step is open, else `NothingToUndo` where undo
+    /// goes back no further.
     pub fn undo(&mut self) -> Result<(), HistoryError>
         ensures answer { (history : History) → StandsFor self.old history → AnswersWithMemory (undone history) history result self.new }
         ensures err { OnErr result (self.new ≡ self.old) }
@@ -181,7 +183,8 @@ impl Session {
         Ok(())
     }
 
-    /// Has the step stand again that was taken back last.
+    /// Has the step stand again that was taken back last. `GroupOpen` while a step is open, else
+    /// `NothingToRedo` where none was.
     pub fn redo(&mut self) -> Result<(), HistoryError>
         ensures answer { (history : History) → StandsFor self.old history → AnswersWithMemory (redone history) history result self.new }
         ensures err { OnErr result (self.new ≡ self.old) }
@@ -199,10 +202,12 @@ impl Session {
         Ok(())
     }
 
-    /// Has the name mark the present point, and no other.
+    /// Has the name mark the present point, and no other. `GroupOpen` while a step is open, else
+    /// `TooManyMarks` for a new name where there are `MAX_MARKS`.
     pub fn mark(&mut self, name: &[u8]) -> Result<(), HistoryError>
         ensures answer { (history : History) → StandsFor self.old history → AnswersWithMemory (marked name.now history) history result self.new }
         ensures err { OnErr result (self.new ≡ self.old) }
+        ensures no_memory { IfErr result (λ error. error ≡ NoMemory → point_of name.now self.old.marks ≡ None) }
     {
         self.closed()?;
         if self.marks.len() == MAX_MARKS && find_point(self.marks.as_slice(), name).is_none() {
@@ -212,7 +217,8 @@ impl Session {
         Ok(())
     }
 
-    /// Has the name mark nothing.
+    /// Has the name mark nothing. `GroupOpen` while a step is open, else `NoMark` where it marks
+    /// nothing.
     pub fn unmark(&mut self, name: &[u8]) -> Result<(), HistoryError>
         ensures answer { (history : History) → StandsFor self.old history → Answers (unmarked name.now history) history result self.new }
         ensures err { OnErr result (self.new ≡ self.old) }
@@ -221,8 +227,9 @@ impl Session {
         unbind(&mut self.marks, name).ok_or(HistoryError::NoMark)
     }
 
-    /// Goes to the marked point, by as many undos or redos. Where there is no memory for one of
-    /// them, those before it stand, and the error says how many they are.
+    /// Goes to the marked point, by as many undos or redos. `GroupOpen` while a step is open, else
+    /// `NoMark` where the name marks nothing. Where there is no memory for one of them, those before
+    /// it stand, and `Stopped` says how many they are.
     pub fn back(&mut self, name: &[u8]) -> Result<(), HistoryError>
         ensures answer { (history : History) → StandsFor self.old history → AnswersBack name.now history result self.new }
         ensures err { IfErr result (λ error. (self.new ≡ self.old) ⊎ IsStop error) }
@@ -253,7 +260,7 @@ impl Session {
         walked.map_err(|taken| HistoryError::Stopped { taken })
     }
 
-    /// Opens a step: the commands from now on are one.
+    /// Opens a step: the commands from now on are one. `GroupOpen` where one is open.
     pub fn begin(&mut self) -> Result<(), HistoryError>
         ensures answer { (history : History) → StandsFor self.old history → Answers (opened history) history result self.new }
         ensures err { OnErr result (self.new ≡ self.old) }
@@ -263,10 +270,12 @@ impl Session {
         Ok(())
     }
 
-    /// Ends the open step. One without a command leaves all as it was before it.
+    /// Ends the open step, or refuses with `NoGroup`. One without a command leaves all as it was
+    /// before it. Where there is no memory it stays open.
     pub fn end(&mut self) -> Result<(), HistoryError>
         ensures answer { (history : History) → StandsFor self.old history → AnswersWithMemory (closed history) history result self.new }
         ensures err { OnErr result (self.new ≡ self.old) }
+        ensures no_memory { IfErr result (λ error. error ≡ NoMemory → IsSomeAnd self.old.pending (λ changes. 2 ≤ length changes)) }
     {
         let Some(pending) = &mut self.pending else {
             return Err(HistoryError::NoGroup);
@@ -281,9 +290,9 @@ impl Session {
         Ok(())
     }
 
-    /// Takes the commands of the open step back, and closes it. Where there is no memory for one of
-    /// them, it stays open with that one and those before it, and the error says how many were taken
-    /// back.
+    /// Takes the commands of the open step back, and closes it, or refuses with `NoGroup`. Where
+    /// there is no memory for one of them, it stays open with that one and those before it, and
+    /// `Stopped` says how many were taken back.
     pub fn cancel(&mut self) -> Result<(), HistoryError>
         ensures answer { (history : History) → StandsFor self.old history → AnswersCancel history result self.new }
         ensures err { IfErr result (λ error. (self.new ≡ self.old) ⊎ IsStop error) }

@@ -23,6 +23,14 @@ pub fn rename(alloc: Global, from: &[u8], to: &[u8]) -> Result<Command, AllocErr
     })
 }
 
+/// The first layer gets the name.
+pub fn rename_first(alloc: Global, to: &[u8]) -> Result<Command, AllocError> {
+    Ok(Command::RenameLayer {
+        layer: FIRST,
+        name: text(alloc, to)?,
+    })
+}
+
 /// The layers stay that have this name.
 pub fn keep(alloc: Global, name: &[u8]) -> Result<Command, AllocError> {
     let mut names = Vec::new(alloc);

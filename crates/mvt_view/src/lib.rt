@@ -1,4 +1,4 @@
-//! Views of a document. They borrow from it and copy nothing. A feature's pairs alone take memory.
+//! Views of a document. They borrow from it and copy nothing. A feature's pairs and its geometry alone take memory.
 #![tactic(auto)]
 
 mod attributes;

@@ -12,7 +12,7 @@ pub fn requests_have_no_want()
     ensures { RequestsHaveNoWant }
 {}
 
-/// `size` and a listing leave the tile as it was, and what undo takes back.
+/// A look (the marks, the history, the size, a listing) leaves the tile as it was, and what undo takes back.
 pub fn looks_leave_history()
     ensures { LooksLeaveHistory }
 {}

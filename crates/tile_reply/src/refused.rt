@@ -12,10 +12,13 @@ use tile_words::ParseError;
 /// Why a line was refused.
 #[derive(Clone, Copy, Debug, PartialEq, Eq, Error)]
 pub enum Refused {
+    /// It asks for nothing that is known.
     #[error("{0}")]
     Parse(ParseError),
+    /// The tile does not allow what it asks for.
     #[error("{0}")]
     Edit(Refusal),
+    /// The history does not allow it.
     #[error("{0}")]
     History(HistoryError),
 }

@@ -17,8 +17,11 @@ pub enum What {
 /// What a line of a script asks for.
 #[derive(Debug, Drop)]
 pub enum Request {
+    /// A command, carried out on the tile.
     Edit(Command),
+    /// Takes the last step back.
     Undo,
+    /// Has the step stand again that was taken back last.
     Redo,
     /// Has the name mark the present point.
     Mark(Items<u8>),
@@ -38,5 +41,6 @@ pub enum Request {
     History,
     /// The length of the tile in bytes.
     Size,
+    /// A listing of the tile, or of a part of it.
     List(What),
 }

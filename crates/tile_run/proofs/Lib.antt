@@ -5,6 +5,7 @@ pub mod Replying
 pub mod LineRequests
 pub mod Standing
 pub mod UndoLines
+pub mod StepLines
 pub mod NoWant
 pub mod Taking
 pub mod Walks

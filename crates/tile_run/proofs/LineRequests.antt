@@ -55,7 +55,7 @@ answer_asks p (Err error) = refl
 line_asks : (p : Progress) (line : List ℕ) → (after_line p line).history ≡ asked_all (asked_in (answer_to line)) p.history
 line_asks p line = answer_asks p (answer_to line)
 
-asked_joined : (requests more : List asks.Request) (history : History) → asked_all (requests ++ more) history ≡ asked_all more (asked_all requests history)
+pub asked_joined : (requests more : List asks.Request) (history : History) → asked_all (requests ++ more) history ≡ asked_all more (asked_all requests history)
 asked_joined [] more history = refl
 asked_joined (request ∷ requests) more history = asked_joined requests more (asked request history)
 

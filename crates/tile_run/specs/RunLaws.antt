@@ -1,13 +1,13 @@
 -- Laws over whole runs, in the words of scripts, replies and tiles.
 use Rattle.std.specs.Prelude.{◌≡◌, ℕ, ◌+◌, ◌≤◌, Bool, true, false, List, [], ◌∷◌, ◌++◌, take, Option, Some, None, Result, Ok, Err}
-use Rattle.std.specs.List.{flat_map}
+use Rattle.std.specs.List.{AllByRecursion, flat_map}
 use Rattle.mvt_wire.specs.Plain.{Document}
 use Rattle.mvt_command.specs.Command.{Command}
 use Rattle.tile_request.specs.Request.{Request, Edit, Undo, Redo, SetMark, TakeMark, GoBack, Begin, End, Cancel, ListMarks, TellHistory, Size, Lists}
 use Rattle.mvt_meaning.specs.Meaning.{applied}
 use Rattle.tile_script.specs.Line.{answer_to}
 use Rattle.tile_lines.specs.Lines.{lines_of, HasNoLineFeed, with_feed, EndsWithALine}
-use Rattle.mvt_history.specs.History.{History, IsSound, commands_in, standing_document}
+use Rattle.mvt_history.specs.History.{History, IsSound, commands_in, standing_document, marked, gone_back}
 use Rattle.mvt_history.specs.Requests as asks
 use Rattle.mvt_history.specs.Requests.{asked_all}
 use Rattle.tile_words.specs.declared.parse_error.ParseError.{ParseError}
@@ -25,17 +25,27 @@ FrontsHaveFirstLines = (front rest : List ℕ) → EndsWithALine front → lines
 
 -- The run on such a front comes to where the run on the whole script is after those lines, and the others go on from there.
 abbrev pub FrontsStand : Type 0
-FrontsStand = (document : Document) (options : Options) (front rest : List ℕ) → EndsWithALine front → ran document options (front ++ rest) ≡ after_lines options.strict (ran document options front) (lines_of rest)
+FrontsStand =
+    (document : Document) (options : Options) (front rest : List ℕ) → EndsWithALine front
+    → ran document options (front ++ rest) ≡ after_lines options.strict (ran document options front) (lines_of rest)
 
 -- What was replied to such a front stays at the front of what is replied to the whole script.
 abbrev pub RepliesStand : Type 0
-RepliesStand = (document : Document) (options : Options) (front rest : List ℕ) → EndsWithALine front → (more : List ℕ) × ((ran document options (front ++ rest)).replies ≡ (ran document options front).replies ++ more)
+RepliesStand =
+    (document : Document) (options : Options) (front rest : List ℕ) → EndsWithALine front
+    → (more : List ℕ)
+    × ((ran document options (front ++ rest)).replies ≡ (ran document options front).replies ++ more)
 
 -- ---- lines that change nothing
 
 -- A line that is refused changes neither the tile nor what undo takes back. That it was refused is kept.
 abbrev pub RefusedLinesChangeNothing : Type 0
-RefusedLinesChangeNothing = (p : Progress) (line : List ℕ) (reason : Refused) → (after_line p line).replies ≡ p.replies ++ refused_reply (p.lines + 1) reason → ((after_line p line).history ≡ p.history) × (tile_of (after_line p line) ≡ tile_of p) × ((after_line p line).any_refused ≡ true)
+RefusedLinesChangeNothing =
+    (p : Progress) (line : List ℕ) (reason : Refused)
+    → (after_line p line).replies ≡ p.replies ++ refused_reply (p.lines + 1) reason
+    → ((after_line p line).history ≡ p.history)
+    × (tile_of (after_line p line) ≡ tile_of p)
+    × ((after_line p line).any_refused ≡ true)
 
 -- A line without a reply is counted, and changes nothing else.
 abbrev pub SilentLinesChangeNothing : Type 0
@@ -44,7 +54,11 @@ SilentLinesChangeNothing = (p : Progress) (line : List ℕ) → (after_line p li
 -- A line that only looks, also one that is refused, changes neither the tile nor what undo takes back: it is counted and
 -- replied to.
 abbrev pub LookingChangesNothing : Type 0
-LookingChangesNothing = (p : Progress) (line : List ℕ) (request : Request) → answer_to line ≡ Ok (Some request) → Looks request → ((after_line p line).history ≡ p.history) × (tile_of (after_line p line) ≡ tile_of p) × ((after_line p line).lines ≡ p.lines + 1)
+LookingChangesNothing =
+    (p : Progress) (line : List ℕ) (request : Request) → answer_to line ≡ Ok (Some request) → Looks request
+    → ((after_line p line).history ≡ p.history)
+    × (tile_of (after_line p line) ≡ tile_of p)
+    × ((after_line p line).lines ≡ p.lines + 1)
 
 -- A strict run ends with the first line that is refused: what follows it changes nothing.
 abbrev pub StrictRunsStop : Type 0
@@ -114,17 +128,65 @@ LinesAreRequests = (p : Progress) (lines : List (List ℕ)) → (after_lines fal
 -- Where no step is open, a line whose command is accepted and then a line that asks for undo: both are accepted, and the
 -- tile is as before.
 abbrev pub UndoInARun : Type 0
-UndoInARun = (strict : Bool) (p : Progress) (line undo : List ℕ) (command : Command) (edited : Document) → IsSound p.history → p.history.group ≡ None → is_over strict p ≡ false → answer_to line ≡ Ok (Some (Edit command)) → applied command (standing_document p.history) ≡ Ok edited → answer_to undo ≡ Ok (Some Undo) → ((after_lines strict p (line ∷ undo ∷ [])).replies ≡ p.replies ++ accepted_reply [] ++ accepted_reply []) × (tile_of (after_lines strict p (line ∷ undo ∷ [])) ≡ tile_of p)
+UndoInARun =
+    (strict : Bool) (p : Progress) (line undo : List ℕ) (command : Command) (edited : Document) → IsSound p.history
+    → p.history.group ≡ None → is_over strict p ≡ false → answer_to line ≡ Ok (Some (Edit command))
+    → applied command (standing_document p.history) ≡ Ok edited → answer_to undo ≡ Ok (Some Undo)
+    → ((after_lines strict p (line ∷ undo ∷ [])).replies ≡ p.replies ++ accepted_reply [] ++ accepted_reply [])
+    × (tile_of (after_lines strict p (line ∷ undo ∷ [])) ≡ tile_of p)
 
 -- The same of a script: these two lines behind it are accepted, and it makes the same tile.
 abbrev pub UndoInAScript : Type 0
-UndoInAScript = (document : Document) (options : Options) (front line undo : List ℕ) (command : Command) (edited : Document) → 1 ≤ options.depth → EndsWithALine front → (ran document options front).history.group ≡ None → is_over options.strict (ran document options front) ≡ false → HasNoLineFeed line → HasNoLineFeed undo → answer_to line ≡ Ok (Some (Edit command)) → applied command (standing_document (ran document options front).history) ≡ Ok edited → answer_to undo ≡ Ok (Some Undo) → ((ran document options (front ++ with_feed line ++ with_feed undo)).replies ≡ (ran document options front).replies ++ accepted_reply [] ++ accepted_reply []) × (tile_of (ran document options (front ++ with_feed line ++ with_feed undo)) ≡ tile_of (ran document options front))
+UndoInAScript =
+    (document : Document) (options : Options) (front line undo : List ℕ) (command : Command) (edited : Document)
+    → 1 ≤ options.depth → EndsWithALine front → (ran document options front).history.group ≡ None
+    → is_over options.strict (ran document options front) ≡ false → HasNoLineFeed line → HasNoLineFeed undo
+    → answer_to line ≡ Ok (Some (Edit command))
+    → applied command (standing_document (ran document options front).history) ≡ Ok edited
+    → answer_to undo ≡ Ok (Some Undo)
+    → ((ran document options (front ++ with_feed line ++ with_feed undo)).replies ≡ (ran document options front).replies ++ accepted_reply [] ++ accepted_reply [])
+    × (tile_of (ran document options (front ++ with_feed line ++ with_feed undo)) ≡ tile_of (ran document options front))
+
+-- ---- steps and marks
+
+-- none of the lines closes an open step
+abbrev pub LeaveOpen : List (List ℕ) → Type 0
+LeaveOpen lines = AllByRecursion asks.LeavesOpen (requests_of lines)
+
+-- Where no step is open: a line that opens one, any lines that do not close it, and a line that cancels it leave the
+-- history as it was, and so the tile.
+abbrev pub CancelInARun : Type 0
+CancelInARun =
+    (p : Progress) (begin cancel : List ℕ) (lines : List (List ℕ)) → p.history.group ≡ None
+    → answer_to begin ≡ Ok (Some Begin) → LeaveOpen lines → answer_to cancel ≡ Ok (Some Cancel)
+    → (after_lines false p (begin ∷ lines ++ cancel ∷ [])).history ≡ p.history
+
+-- The same with a line that ends the step, and then one that asks for undo: the tile is as before the step, where a
+-- command of it was accepted.
+abbrev pub StepUndoneInARun : Type 0
+StepUndoneInARun =
+    (p : Progress) (begin end undo : List ℕ) (lines : List (List ℕ)) → IsSound p.history → p.history.group ≡ None
+    → answer_to begin ≡ Ok (Some Begin) → LeaveOpen lines → ¬ ((after_lines false p (begin ∷ lines)).history.group ≡ Some [])
+    → answer_to end ≡ Ok (Some End) → answer_to undo ≡ Ok (Some Undo)
+    → tile_of (after_lines false p (begin ∷ lines ++ end ∷ undo ∷ [])) ≡ tile_of p
+
+-- A line that sets a mark, any lines that do not set it anew, and a line that goes back to it, where both are accepted:
+-- the tile is the one that stood when the mark was set.
+abbrev pub BackInARun : Type 0
+BackInARun =
+    (p : Progress) (name mark back : List ℕ) (lines : List (List ℕ)) (set gone : History) → IsSound p.history
+    → answer_to mark ≡ Ok (Some (SetMark name)) → marked name p.history ≡ Ok set
+    → AllByRecursion (asks.SetsOther name) (requests_of lines)
+    → answer_to back ≡ Ok (Some (GoBack name)) → gone_back name (after_lines false p (mark ∷ lines)).history ≡ Ok gone
+    → tile_of (after_lines false p (mark ∷ lines ++ back ∷ [])) ≡ tile_of p
 
 -- ---- want of memory
 
 -- Where growths may be refused, and no reply says that one was, all comes as where none is refused.
 abbrev pub WalksWithoutWantAreRuns : Type 0
-WalksWithoutWantAreRuns = (strict : Bool) (p q : Progress) (lines : List (List ℕ)) (added : List ℕ) → Walk strict p lines q → q.replies ≡ p.replies ++ added → HasNoWant added → q ≡ after_lines strict p lines
+WalksWithoutWantAreRuns =
+    (strict : Bool) (p q : Progress) (lines : List (List ℕ)) (added : List ℕ) → Walk strict p lines q
+    → q.replies ≡ p.replies ++ added → HasNoWant added → q ≡ after_lines strict p lines
 
 -- The run with all memory is one of the walks.
 abbrev pub RunsAreWalks : Type 0

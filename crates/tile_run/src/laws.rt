@@ -2,11 +2,12 @@
 //! and of what requests tell are passed on.
 
 ghost use Rattle.tile_run.specs.DeviceLaws.{FailedDevicesAreNamed, WornOutRunsNameADevice, DevicesAreNamedForCause};
-ghost use Rattle.tile_run.specs.RunLaws.{FrontsHaveFirstLines, FrontsStand, RepliesStand, RefusedLinesChangeNothing, SilentLinesChangeNothing, StrictRunsStop, AcceptedRunsAreAlike, StandingCommands, LinesAreRequests, UndoInARun, UndoInAScript, WalksWithoutWantAreRuns, RunsAreWalks, RunsHaveNoWant, LookingChangesNothing};
+ghost use Rattle.tile_run.specs.RunLaws.{FrontsHaveFirstLines, FrontsStand, RepliesStand, RefusedLinesChangeNothing, SilentLinesChangeNothing, StrictRunsStop, AcceptedRunsAreAlike, StandingCommands, LinesAreRequests, UndoInARun, UndoInAScript, CancelInARun, StepUndoneInARun, BackInARun, WalksWithoutWantAreRuns, RunsAreWalks, RunsHaveNoWant, LookingChangesNothing};
 
 pub use mvt_history::laws::{
-    back_to_the_mark, cancel_leaves_no_trace, changes_lead, history_fits, kept_within,
-    redos_undo_undos, stays_sound, step_undoes_whole, undo_at_once,
+    back_to_the_mark, cancel_leaves_no_trace, changes_lead, empty_step_leaves_no_trace, few_steps,
+    history_fits, kept_within, redos_undo_undos, stays_sound, step_undoes_whole, stopped_goes_on,
+    undo_after_end, undo_at_once, undos_undo_redos,
 };
 pub use tile_answer::laws::{looks_leave_history, requests_have_no_want, requests_tell_lines};
 
@@ -44,8 +45,8 @@ pub fn standing_commands()
     ensures { StandingCommands }
 {}
 
-/// What a script makes of a history is what its lines ask for, one after the other. So each law of
-/// histories holds of scripts.
+/// In a run that goes on behind refused lines, what the lines make of a history is what they ask
+/// for, one after the other. So what a law says of histories holds of such a run.
 pub fn lines_are_requests()
     ensures { LinesAreRequests }
 {}
@@ -55,6 +56,18 @@ pub fn lines_are_requests()
 pub fn undo_in_a_script()
     ensures progress { UndoInARun }
     ensures script { UndoInAScript }
+{}
+
+/// A step that lines open, and another line cancels, leaves the history as it was. One that is ended
+/// and undone leaves the tile as it was.
+pub fn steps_in_a_run()
+    ensures cancelled { CancelInARun }
+    ensures undone { StepUndoneInARun }
+{}
+
+/// A line that goes back to a mark brings back the tile that stood when a line set it.
+pub fn back_in_a_run()
+    ensures { BackInARun }
 {}
 
 /// Where growths may be refused, all comes as it would with all memory, unless a reply says that

@@ -11,7 +11,7 @@ use tile_device::ReadFault;
 /// How a script is carried out.
 #[derive(Clone, Copy, Debug, PartialEq, Eq)]
 pub struct Options {
-    /// How many steps undo goes back at most.
+    /// How many steps undo goes back at most: from 1 to `MAX_DEPTH`.
     pub depth: u32,
     /// Whether the first refused line stops the run.
     pub strict: bool,
@@ -33,8 +33,10 @@ pub enum DeviceName {
 /// Why a tile did not open.
 #[derive(Clone, Copy, Debug, PartialEq, Eq, Error)]
 pub enum TileFault {
+    /// It is no vector tile. The place is the length in bytes of its longest front that is one.
     #[error("1 BadWire place {place}")]
     BadWire { place: usize },
+    /// It has more than `MAX_FILE` bytes.
     #[error("2 FileTooLarge")]
     FileTooLarge,
 }

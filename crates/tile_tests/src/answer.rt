@@ -1,6 +1,6 @@
 //! Requests carried out in a session, and what they tell.
 
-use mvt_command::LayerChoice;
+use crate::asked::{replied, request};
 use mvt_history::{HistoryError, Session};
 use mvt_meaning::Refusal;
 use mvt_tests::tiles::{RENAME, T0};
@@ -9,10 +9,8 @@ use std::alloc::Global;
 use std::process::Abort;
 use std::test::Fail;
 use tile_answer::carry_out;
-use tile_device::{FromWrite, Retries};
-use tile_reply::{Refused, reply};
-use tile_request::{Request, What};
-use tile_script::parse_line;
+use tile_reply::Refused;
+use tile_request::Request;
 
 /// A session of `T0`.
 fn session(alloc: Global) -> Result<Session, Fail> {
@@ -20,51 +18,30 @@ fn session(alloc: Global) -> Result<Session, Fail> {
     Ok(session.ok().ok_or("no session")?)
 }
 
-/// The request is accepted, and tells these lines.
+/// The line is accepted, and tells these lines.
 fn assert_tells(
     rt: &(impl Abort + AllocGlobal),
     session: &mut Session,
-    request: &Request,
+    line: &[u8],
     lines: &[u8],
 ) -> Result<(), Fail> {
-    let told = carry_out(rt.alloc(), session, request)?;
-    assert_eq!(rt; told.as_slice(), lines);
+    let request = request(rt.alloc(), line)?;
+    let told = carry_out(rt.alloc(), session, &request)?;
+    assert_eq!(rt; told.as_slice(), lines, "at {line:?}");
     Ok(())
 }
 
-#[test]
-fn size_is_told_before_ok(rt: HostRuntime) -> Result<(), Fail> {
-    let mut session = session(rt.alloc())?;
-    let told = carry_out(rt.alloc(), &mut session, &Request::Size)?;
-    let mut replies = FromWrite::new(Vec::new(rt.alloc()));
-    reply(&mut replies, 1, Ok(told.as_slice()), &mut Retries::new(0))?;
-    assert_eq!(rt;
-        replies.into_inner().as_slice(),
-        b"size 32\nok\n".as_slice()
-    );
+/// The line is refused for this reason.
+fn assert_refused(
+    rt: &(impl Abort + AllocGlobal),
+    session: &mut Session,
+    line: &[u8],
+    reason: Refused,
+) -> Result<(), Fail> {
+    let request = request(rt.alloc(), line)?;
+    let refused = carry_out(rt.alloc(), session, &request).err();
+    assert_eq!(rt; refused, Some(reason), "at {line:?}");
     Ok(())
-}
-
-#[test]
-fn size_is_that_of_the_present_tile(rt: HostRuntime) -> Result<(), Fail> {
-    let mut session = session(rt.alloc())?;
-    let rename = parse_line(rt.alloc(), RENAME)?.ok_or("no request")?;
-    assert_tells(&rt, &mut session, &rename, b"")?;
-    assert_tells(&rt, &mut session, &Request::Size, b"size 36\n")?;
-    assert_tells(&rt, &mut session, &Request::Undo, b"")?;
-    assert_tells(&rt, &mut session, &Request::Size, b"size 32\n")?;
-    Ok(())
-}
-
-#[test]
-fn a_listing_of_no_layer_is_refused(rt: HostRuntime) -> Result<(), Fail> {
-    let mut session = session(rt.alloc())?;
-    let second = Request::List(What::OneLayer(LayerChoice::Ordinal(1)));
-    match carry_out(rt.alloc(), &mut session, &second) {
-        Err(reason) => assert_eq!(rt; reason, Refused::Edit(Refusal::NoLayer)),
-        Ok(_) => assert!(rt; false),
-    }
-    assert_tells(&rt, &mut session, &Request::Size, b"size 32\n")
 }
 
 /// The lines are accepted one after the other, and each tells what stands beside it.
@@ -74,11 +51,43 @@ fn assert_tells_in_turn(
 ) -> Result<(), Fail> {
     let mut session = session(rt.alloc())?;
     for (line, told) in lines {
-        let request = parse_line(rt.alloc(), line)?.ok_or("no request")?;
-        let answer = carry_out(rt.alloc(), &mut session, &request)?;
-        assert_eq!(rt; answer.as_slice(), *told, "at {line:?}");
+        assert_tells(rt, &mut session, line, told)?;
     }
     Ok(())
+}
+
+/// The reply to a first line that asks for the size.
+fn reply_to_size(alloc: Global) -> Result<Vec<u8>, Fail> {
+    let mut session = session(alloc)?;
+    let told = carry_out(alloc, &mut session, &Request::Size)?;
+    replied(alloc, 1, Ok(told.as_slice()))
+}
+
+#[test]
+fn size_is_told_before_ok(rt: HostRuntime) -> Result<(), Fail> {
+    let reply = reply_to_size(rt.alloc())?;
+    assert_eq!(rt; reply.as_slice(), b"size 32\nok\n".as_slice());
+    Ok(())
+}
+
+const SIZES: [(&[u8], &[u8]); 4] = [
+    (RENAME, b""),
+    (b"size", b"size 36\n"),
+    (b"undo", b""),
+    (b"size", b"size 32\n"),
+];
+
+#[test]
+fn size_is_that_of_the_present_tile(rt: HostRuntime) -> Result<(), Fail> {
+    assert_tells_in_turn(&rt, &SIZES)
+}
+
+#[test]
+fn a_listing_of_no_layer_is_refused(rt: HostRuntime) -> Result<(), Fail> {
+    let mut session = session(rt.alloc())?;
+    let reason = Refused::Edit(Refusal::NoLayer);
+    assert_refused(&rt, &mut session, b"list #1", reason)?;
+    assert_tells(&rt, &mut session, b"size", b"size 32\n")
 }
 
 const LOOKS_AT_A_STEP: [(&[u8], &[u8]); 6] = [
@@ -144,21 +153,6 @@ fn an_open_step_is_told_with_the_history(rt: HostRuntime) -> Result<(), Fail> {
     assert_tells_in_turn(&rt, &OPEN_STEP)
 }
 
-/// The line is refused for this reason.
-fn assert_refused(
-    rt: &(impl Abort + AllocGlobal),
-    session: &mut Session,
-    line: &[u8],
-    reason: HistoryError,
-) -> Result<(), Fail> {
-    let request = parse_line(rt.alloc(), line)?.ok_or("no request")?;
-    match carry_out(rt.alloc(), session, &request) {
-        Err(refused) => assert_eq!(rt; refused, Refused::History(reason), "at {line:?}"),
-        Ok(_) => assert!(rt; false, "at {line:?}"),
-    }
-    Ok(())
-}
-
 const REFUSED: [(&[u8], HistoryError); 6] = [
     (b"undo", HistoryError::NothingToUndo),
     (b"redo", HistoryError::NothingToRedo),
@@ -172,7 +166,7 @@ const REFUSED: [(&[u8], HistoryError); 6] = [
 fn what_the_history_lacks_is_refused(rt: HostRuntime) -> Result<(), Fail> {
     let mut session = session(rt.alloc())?;
     for (line, reason) in &REFUSED {
-        assert_refused(&rt, &mut session, line, *reason)?;
+        assert_refused(&rt, &mut session, line, Refused::History(*reason))?;
     }
     Ok(())
 }
@@ -190,8 +184,9 @@ const GO_BY_STEPS: [&[u8]; 6] = [
 fn what_goes_by_steps_is_refused_in_an_open_one(rt: HostRuntime) -> Result<(), Fail> {
     let mut session = session(rt.alloc())?;
     session.begin()?;
+    let reason = Refused::History(HistoryError::GroupOpen);
     for line in &GO_BY_STEPS {
-        assert_refused(&rt, &mut session, line, HistoryError::GroupOpen)?;
+        assert_refused(&rt, &mut session, line, reason)?;
     }
     Ok(())
 }

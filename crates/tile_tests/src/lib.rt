@@ -6,10 +6,20 @@ mod answer;
 #[cfg(test)]
 mod arguments;
 #[cfg(test)]
+mod asked;
+#[cfg(test)]
+mod cuts;
+#[cfg(test)]
+mod geometries;
+#[cfg(test)]
 mod listing;
 #[cfg(test)]
 mod replies;
 #[cfg(test)]
+mod requests;
+#[cfg(test)]
 mod script;
 #[cfg(test)]
 mod texts;
+#[cfg(test)]
+mod values;

@@ -1,11 +1,11 @@
 //! The replies to refused lines.
 
+use crate::asked::replied;
 use mvt_history::HistoryError;
 use mvt_meaning::Refusal;
 use std::process::Abort;
 use std::test::Fail;
-use tile_device::{FromWrite, Retries};
-use tile_reply::{Refused, reply};
+use tile_reply::Refused;
 use tile_words::ParseError;
 
 const REFUSALS: [(Refused, &[u8]); 25] = [
@@ -118,9 +118,8 @@ fn assert_refused(
     reason: Refused,
     text: &[u8],
 ) -> Result<(), Fail> {
-    let mut replies = FromWrite::new(Vec::new(rt.alloc()));
-    reply(&mut replies, line, Err(reason), &mut Retries::new(0))?;
-    assert_eq!(rt; replies.into_inner().as_slice(), text);
+    let reply = replied(rt.alloc(), line, Err(reason))?;
+    assert_eq!(rt; reply.as_slice(), text);
     Ok(())
 }
 
@@ -132,17 +131,22 @@ fn refusals_tell_their_number_and_name(rt: HostRuntime) -> Result<(), Fail> {
     Ok(())
 }
 
+/// The number of a line, how many commands it took before it stopped, and the reply.
+const STOPS: [(u64, usize, &[u8]); 3] = [
+    (3, 0, b"line 3 refused 54 Stopped taken 0\n"),
+    (3, 2, b"line 3 refused 54 Stopped taken 2\n"),
+    (
+        65_537,
+        10_000,
+        b"line 65537 refused 54 Stopped taken 10000\n",
+    ),
+];
+
 #[test]
 fn stops_tell_how_much_was_taken(rt: HostRuntime) -> Result<(), Fail> {
-    let none = Refused::History(HistoryError::Stopped { taken: 0 });
-    assert_refused(&rt, 3, none, b"line 3 refused 54 Stopped taken 0\n")?;
-    let two = Refused::History(HistoryError::Stopped { taken: 2 });
-    assert_refused(&rt, 3, two, b"line 3 refused 54 Stopped taken 2\n")?;
-    let many = Refused::History(HistoryError::Stopped { taken: 10_000 });
-    assert_refused(
-        &rt,
-        65_537,
-        many,
-        b"line 65537 refused 54 Stopped taken 10000\n",
-    )
+    for (line, taken, text) in &STOPS {
+        let reason = Refused::History(HistoryError::Stopped { taken: *taken });
+        assert_refused(&rt, *line, reason, text)?;
+    }
+    Ok(())
 }

@@ -1,8 +1,9 @@
 //! The lines of a script, and what they ask for.
 
+use crate::asked::{assert_refused, request};
 use mvt_command::{Command, LayerChoice};
+use std::alloc::{AllocError, Global};
 use std::test::Fail;
-use tile_lines::{Cut, LineCutter};
 use tile_request::Request;
 use tile_script::{ParseError, parse_line};
 
@@ -39,39 +40,32 @@ const REFUSED: [(&[u8], ParseError); 24] = [
 #[test]
 fn refuses(rt: HostRuntime) {
     for (line, refusal) in &REFUSED {
-        match parse_line(rt.alloc(), line) {
-            Err(e) => assert_eq!(rt; e, *refusal, "at {line:?}"),
-            Ok(_) => assert!(rt; false, "at {line:?}"),
-        }
+        assert_refused(&rt, parse_line(rt.alloc(), line), *refusal, line);
     }
 }
 
+const NO_REQUESTS: [&[u8]; 4] = [b"", b" # note", b" \t\r", b"#"];
+
 #[test]
 fn no_request(rt: HostRuntime) -> Result<(), Fail> {
-    let lines: [&[u8]; 4] = [b"", b" # note", b" \t\r", b"#"];
-    for line in &lines {
+    for line in &NO_REQUESTS {
         assert!(rt; parse_line(rt.alloc(), line)?.is_none());
     }
     Ok(())
 }
 
-#[test]
-fn limit(rt: HostRuntime) -> Result<(), Fail> {
-    let line = vec![in rt.alloc(); b'a'; 65_537]?;
-    assert!(rt; matches!(parse_line(rt.alloc(), &line), Err(ParseError::LineTooLong)));
-    assert_eq!(rt; line.len(), 65_537);
-    assert!(rt;
-        matches!(
-            parse_line(rt.alloc(), &line[1..]),
-            Err(ParseError::UnknownCommand)
-        )
-    );
-    Ok(())
+/// Why a line of so many bytes is refused.
+fn refusal_of(alloc: Global, length: usize) -> Result<Option<ParseError>, AllocError> {
+    let line = vec![in alloc; b'a'; length]?;
+    Ok(parse_line(alloc, &line).err())
 }
 
 #[test]
-fn reads_undo(rt: HostRuntime) -> Result<(), Fail> {
-    assert!(rt; matches!(parse_line(rt.alloc(), b"\tundo\r")?, Some(Request::Undo)));
+fn limit(rt: HostRuntime) -> Result<(), Fail> {
+    let longest = refusal_of(rt.alloc(), 65_536)?;
+    assert_eq!(rt; longest, Some(ParseError::UnknownCommand));
+    let longer = refusal_of(rt.alloc(), 65_537)?;
+    assert_eq!(rt; longer, Some(ParseError::LineTooLong));
     Ok(())
 }
 
@@ -90,100 +84,84 @@ fn plain_word(request: &Request) -> Option<&'static str> {
     }
 }
 
+/// Lines, each with the word of its request.
+const PLAIN: [(&[u8], &str); 9] = [
+    (b"\tundo\r", "undo"),
+    (b"undo", "undo"),
+    (b"redo", "redo"),
+    (b"marks", "marks"),
+    (b"history", "history"),
+    (b"begin", "begin"),
+    (b"end", "end"),
+    (b"cancel", "cancel"),
+    (b"size", "size"),
+];
+
 #[test]
 fn reads_requests_without_arguments(rt: HostRuntime) -> Result<(), Fail> {
-    for word in [
-        "undo", "redo", "marks", "history", "begin", "end", "cancel", "size",
-    ] {
-        let request = parse_line(rt.alloc(), word.as_bytes())?.ok_or("no request")?;
-        assert_eq!(rt; plain_word(&request), Some(word));
+    for (line, word) in &PLAIN {
+        let request = request(rt.alloc(), line)?;
+        assert_eq!(rt; plain_word(&request), Some(*word));
     }
     Ok(())
 }
+
+/// The request has this word, and this name of a mark.
+fn names_mark(request: &Request, word: &str, name: &[u8]) -> bool {
+    let (found, mark) = match request {
+        Request::Mark(mark) => ("mark", mark),
+        Request::Unmark(mark) => ("unmark", mark),
+        Request::Back(mark) => ("back", mark),
+        _ => return false,
+    };
+    found == word && mark.as_slice() == name
+}
+
+const NAMES_OF_MARKS: [(&[u8], &str, &[u8]); 3] = [
+    (b"mark \"m\"", "mark", b"m"),
+    (b"unmark x:FF00", "unmark", b"\xff\x00"),
+    (b"back \"\"", "back", b""),
+];
 
 #[test]
 fn reads_names_of_marks(rt: HostRuntime) -> Result<(), Fail> {
-    match &parse_line(rt.alloc(), b"mark \"m\"")? {
-        Some(Request::Mark(name)) => assert_eq!(rt; name.as_slice(), b"m".as_slice()),
-        _ => assert!(rt; false),
-    }
-    match &parse_line(rt.alloc(), b"unmark x:FF00")? {
-        Some(Request::Unmark(name)) => assert_eq!(rt; name.as_slice(), b"\xff\x00".as_slice()),
-        _ => assert!(rt; false),
-    }
-    match &parse_line(rt.alloc(), b"back \"\"")? {
-        Some(Request::Back(name)) => assert_eq!(rt; name.len(), 0),
-        _ => assert!(rt; false),
+    for (line, word, name) in &NAMES_OF_MARKS {
+        let request = request(rt.alloc(), line)?;
+        assert!(rt; names_mark(&request, word, name), "at {line:?}");
     }
     Ok(())
 }
 
+/// The layer that is to be renamed, and its new name.
+fn renaming(request: &Request) -> Option<(&LayerChoice, &[u8])> {
+    match request {
+        Request::Edit(Command::RenameLayer { layer, name }) => Some((layer, name.as_slice())),
+        _ => None,
+    }
+}
+
 #[test]
-fn reads_rename_layer(rt: HostRuntime) -> Result<(), Fail> {
+fn reads_rename_layer_by_ordinal(rt: HostRuntime) -> Result<(), Fail> {
     let line = b"rename-layer #007 \"q\\\"\\\\\\x0a\\x7F # \xc3\xa9\"";
-    match &parse_line(rt.alloc(), line)? {
-        Some(
-            Request::Edit(
-                Command::RenameLayer {
-                    layer: LayerChoice::Ordinal(ordinal),
-                    name,
-                },
-            ),
-        ) => {
-            assert_eq!(rt; *ordinal, 7);
-            assert_eq!(rt; name.as_slice(), b"q\"\\\n\x7f # \xc3\xa9".as_slice());
+    let request = request(rt.alloc(), line)?;
+    match renaming(&request) {
+        Some((LayerChoice::Ordinal(7), name)) => {
+            assert_eq!(rt; name, b"q\"\\\n\x7f # \xc3\xa9".as_slice());
         }
         _ => assert!(rt; false),
     }
-    match &parse_line(rt.alloc(), b"rename-layer \"\" \"b\"")? {
-        Some(
-            Request::Edit(
-                Command::RenameLayer {
-                    layer: LayerChoice::Name(old),
-                    name,
-                },
-            ),
-        ) => {
+    Ok(())
+}
+
+#[test]
+fn reads_rename_layer_by_name(rt: HostRuntime) -> Result<(), Fail> {
+    let request = request(rt.alloc(), b"rename-layer \"\" \"b\"")?;
+    match renaming(&request) {
+        Some((LayerChoice::Name(old), name)) => {
             assert_eq!(rt; old.len(), 0);
-            assert_eq!(rt; name.as_slice(), b"b".as_slice());
+            assert_eq!(rt; name, b"b".as_slice());
         }
         _ => assert!(rt; false),
     }
-    Ok(())
-}
-
-#[test]
-fn cuts_lines(rt: HostRuntime) -> Result<(), Fail> {
-    let mut cutter = LineCutter::new(rt.alloc())?;
-    let mut lines = Vec::new(rt.alloc());
-    for byte in b"undo\n\nundo" {
-        cutter.push(*byte);
-        if let Some(Cut::Line(line)) = cutter.line() {
-            lines.extend_from_slice(line)?;
-            lines.push(b'|')?;
-        }
-    }
-    assert_eq!(rt; lines.as_slice(), b"undo||".as_slice());
-    assert!(rt; matches!(cutter.rest(), Some(Cut::Line(b"undo"))));
-    cutter.push(b'\n');
-    assert!(rt; matches!(cutter.line(), Some(Cut::Line(b"undo"))));
-    assert!(rt; cutter.rest().is_none());
-    Ok(())
-}
-
-#[test]
-fn cuts_long_lines(rt: HostRuntime) -> Result<(), Fail> {
-    let mut cutter = LineCutter::new(rt.alloc())?;
-    for _ in 0..65_536 {
-        cutter.push(b'a');
-    }
-    assert!(rt; matches!(cutter.rest(), Some(Cut::Line(line)) if line.len() == 65_536));
-    cutter.push(b'a');
-    assert!(rt; matches!(cutter.rest(), Some(Cut::TooLong)));
-    cutter.push(b'\n');
-    assert!(rt; matches!(cutter.line(), Some(Cut::TooLong)));
-    cutter.push(b'b');
-    assert!(rt; cutter.line().is_none());
-    assert!(rt; matches!(cutter.rest(), Some(Cut::Line(b"b"))));
     Ok(())
 }

@@ -18,43 +18,54 @@ fn assert_quoted(
     Ok(())
 }
 
+const QUOTED: [(&[u8], &[u8]); 7] = [
+    (b"a", b"\"a\""),
+    (b"", b"\"\""),
+    (b"q\"\x0a", b"\"q\\\"\\x0a\""),
+    (b"\\", b"\"\\\\\""),
+    (b"\x00\x1f \x7f~", b"\"\\x00\\x1f \\x7f~\""),
+    (b"\xc3\xa9", b"\"\xc3\xa9\""),
+    (b"\xf0\x9f\x9a\x8c", b"\"\xf0\x9f\x9a\x8c\""),
+];
+
 #[test]
 fn texts_are_quoted(rt: HostRuntime) -> Result<(), Fail> {
-    for (bytes, text) in [
-        (b"a".as_slice(), b"\"a\"".as_slice()),
-        (b"".as_slice(), b"\"\"".as_slice()),
-        (b"q\"\x0a".as_slice(), b"\"q\\\"\\x0a\"".as_slice()),
-        (b"\\".as_slice(), b"\"\\\\\"".as_slice()),
-        (
-            b"\x00\x1f \x7f~".as_slice(),
-            b"\"\\x00\\x1f \\x7f~\"".as_slice(),
-        ),
-        (b"\xc3\xa9".as_slice(), b"\"\xc3\xa9\"".as_slice()),
-        (
-            b"\xf0\x9f\x9a\x8c".as_slice(),
-            b"\"\xf0\x9f\x9a\x8c\"".as_slice(),
-        ),
-    ] {
+    for (bytes, text) in &QUOTED {
         assert_quoted(&rt, bytes, text)?;
     }
     Ok(())
 }
 
+const DIGITS: [(&[u8], &[u8]); 3] = [
+    (b"\xff", b"x:ff"),
+    (b"a\xc3", b"x:61c3"),
+    (b"\xed\xa0\x80", b"x:eda080"),
+];
+
 #[test]
 fn other_bytes_are_digits(rt: HostRuntime) -> Result<(), Fail> {
-    assert_quoted(&rt, b"\xff", b"x:ff")?;
-    assert_quoted(&rt, b"a\xc3", b"x:61c3")?;
-    assert_quoted(&rt, b"\xed\xa0\x80", b"x:eda080")?;
+    for (bytes, text) in &DIGITS {
+        assert_quoted(&rt, bytes, text)?;
+    }
     Ok(())
+}
+
+/// How so many times this byte is written.
+fn quoted(alloc: Global, byte: u8, count: usize) -> Result<Items<u8>, AllocError> {
+    let bytes = vec![in alloc; byte; count]?;
+    quote(alloc, &bytes)
 }
 
 #[test]
 fn long_texts_are_whole(rt: HostRuntime) -> Result<(), Fail> {
-    let plain = vec![in rt.alloc(); b'a'; 100_000]?;
-    let text = quote(rt.alloc(), &plain)?;
+    let text = quoted(rt.alloc(), b'a', 100_000)?;
     assert_eq!(rt; text.len(), 100_002);
-    let broken = vec![in rt.alloc(); 0xab; 1_000]?;
-    let digits = quote(rt.alloc(), &broken)?;
+    Ok(())
+}
+
+#[test]
+fn long_digits_are_whole(rt: HostRuntime) -> Result<(), Fail> {
+    let digits = quoted(rt.alloc(), 0xab, 1_000)?;
     assert_eq!(rt; digits.len(), 2_002);
     assert!(rt;
         digits.as_slice()[2..]
@@ -76,42 +87,35 @@ fn assert_shown(
     Ok(())
 }
 
+const VALUES: [(&[u8], &[u8]); 14] = [
+    (b"\x20\x05", b"int 5"),
+    (b"\x38\x01", b"bool true"),
+    (b"\x38\x00", b"bool false"),
+    (b"\x15\x00\x00\x80\x3f", b"float 0000803f"),
+    (
+        b"\x19\x00\x00\x00\x00\x00\x00\xf0\x3f",
+        b"double 000000000000f03f",
+    ),
+    (b"\x30\x01", b"sint -1"),
+    (b"\x20\xff\xff\xff\xff\xff\xff\xff\xff\xff\x01", b"int -1"),
+    (
+        b"\x20\x80\x80\x80\x80\x80\x80\x80\x80\x80\x01",
+        b"int -9223372036854775808",
+    ),
+    (b"\x28\x05", b"uint 5"),
+    (
+        b"\x28\xff\xff\xff\xff\xff\xff\xff\xff\xff\x01",
+        b"uint 18446744073709551615",
+    ),
+    (b"\x0a\x02\xc3\xa9", b"string \"\xc3\xa9\""),
+    (b"\x0a\x01\xff", b"string x:ff"),
+    (b"", b"raw"),
+    (b"\x20\x05\x20\x05", b"raw 20052005"),
+];
+
 #[test]
 fn values_are_a_type_and_a_value(rt: HostRuntime) -> Result<(), Fail> {
-    for (bytes, text) in [
-        (b"\x20\x05".as_slice(), b"int 5".as_slice()),
-        (b"\x38\x01".as_slice(), b"bool true".as_slice()),
-        (b"\x38\x00".as_slice(), b"bool false".as_slice()),
-        (
-            b"\x15\x00\x00\x80\x3f".as_slice(),
-            b"float 0000803f".as_slice(),
-        ),
-        (
-            b"\x19\x00\x00\x00\x00\x00\x00\xf0\x3f".as_slice(),
-            b"double 000000000000f03f".as_slice(),
-        ),
-        (b"\x30\x01".as_slice(), b"sint -1".as_slice()),
-        (
-            b"\x20\xff\xff\xff\xff\xff\xff\xff\xff\xff\x01".as_slice(),
-            b"int -1".as_slice(),
-        ),
-        (
-            b"\x20\x80\x80\x80\x80\x80\x80\x80\x80\x80\x01".as_slice(),
-            b"int -9223372036854775808".as_slice(),
-        ),
-        (b"\x28\x05".as_slice(), b"uint 5".as_slice()),
-        (
-            b"\x28\xff\xff\xff\xff\xff\xff\xff\xff\xff\x01".as_slice(),
-            b"uint 18446744073709551615".as_slice(),
-        ),
-        (
-            b"\x0a\x02\xc3\xa9".as_slice(),
-            b"string \"\xc3\xa9\"".as_slice(),
-        ),
-        (b"\x0a\x01\xff".as_slice(), b"string x:ff".as_slice()),
-        (b"".as_slice(), b"raw".as_slice()),
-        (b"\x20\x05\x20\x05".as_slice(), b"raw 20052005".as_slice()),
-    ] {
+    for (bytes, text) in &VALUES {
         assert_shown(&rt, bytes, text)?;
     }
     Ok(())
@@ -136,42 +140,50 @@ fn part(alloc: Global, points: &[(i64, i64)]) -> Result<Part, AllocError> {
     })
 }
 
+/// A geometry of parts of these points.
+fn geometry(alloc: Global, kind: Kind, parts: &[&[(i64, i64)]]) -> Result<Geometry, Fail> {
+    let mut drawn = Vec::with_capacity(alloc, parts.len())?;
+    for points in parts {
+        drawn.push(part(alloc, points)?)?;
+    }
+    let geometry = Geometry::new(kind, Items::from_vec(drawn)).ok();
+    Ok(geometry.ok_or("no geometry")?)
+}
+
 /// The geometry of parts of these points is written as this text.
 fn assert_drawn(
     rt: &(impl Abort + AllocGlobal),
     kind: Kind,
     parts: &[&[(i64, i64)]],
     text: &[u8],
-) -> Result<(), AllocError> {
-    let mut drawn = Vec::new(rt.alloc());
-    for points in parts {
-        drawn.push(part(rt.alloc(), points)?)?;
-    }
-    let geometry = Geometry::new(kind, Items::from_vec(drawn)).ok();
-    assert!(rt; geometry.is_some());
-    if let Some(geometry) = geometry {
-        let mut line = Vec::new(rt.alloc());
-        put_geometry(&mut line, &geometry)?;
-        assert_eq!(rt; line.as_slice(), text);
-    }
+) -> Result<(), Fail> {
+    let geometry = geometry(rt.alloc(), kind, parts)?;
+    let mut line = Vec::new(rt.alloc());
+    put_geometry(&mut line, &geometry)?;
+    assert_eq!(rt; line.as_slice(), text);
     Ok(())
 }
 
-#[test]
-fn geometries_are_words(rt: HostRuntime) -> Result<(), Fail> {
-    assert_drawn(&rt, Kind::Dots, &[&[(25, 17)]], b"point 25,17")?;
-    assert_drawn(&rt, Kind::Dots, &[&[(5, -7), (-3, 2)]], b"point 5,-7 -3,2")?;
-    assert_drawn(
-        &rt,
+/// The geometries that are written, and their texts.
+const DRAWN: [(Kind, &[&[(i64, i64)]], &[u8]); 4] = [
+    (Kind::Dots, &[&[(25, 17)]], b"point 25,17"),
+    (Kind::Dots, &[&[(5, -7), (-3, 2)]], b"point 5,-7 -3,2"),
+    (
         Kind::Lines,
         &[&[(2, 2), (2, 10), (10, 10)], &[(1, 1), (3, 5)]],
         b"line 2,2 2,10 10,10 / 1,1 3,5",
-    )?;
-    assert_drawn(
-        &rt,
+    ),
+    (
         Kind::Areas,
         &[&[(3, 6), (8, 12), (20, 34)]],
         b"polygon 3,6 8,12 20,34",
-    )?;
+    ),
+];
+
+#[test]
+fn geometries_are_words(rt: HostRuntime) -> Result<(), Fail> {
+    for (kind, parts, text) in &DRAWN {
+        assert_drawn(&rt, *kind, parts, text)?;
+    }
     Ok(())
 }

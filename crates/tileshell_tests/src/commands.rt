@@ -209,3 +209,9 @@ line 13 refused 14 BadNumber
 ";
     assert_some_refused(&rt, &T0, script, replies, &T0);
 }
+
+#[test]
+fn a_way_that_is_too_long_is_not_inserted(rt: HostRuntime) {
+    let script = b"insert #0 0 line 2147483647,0 -2147483647,0\n";
+    assert_some_refused(&rt, &T0, script, b"line 1 refused 42 OutOfRange\n", &T0);
+}

@@ -111,7 +111,17 @@ ok
 #[test]
 fn a_mark_leads_to_the_tile_as_it_was_read(rt: HostRuntime) {
     let script = b"mark \"m\"\nclear-id #0 0\nmarks\nback \"m\"\n";
-    assert_done(&rt, &T0, script, b"ok\nok\nmark \"m\" -1\nok\nok\n", &T0);
+    let mut no_kind = T0;
+    no_kind[14] = 0;
+    for tile in [T0, no_kind] {
+        assert_done(
+            &rt,
+            &tile,
+            script,
+            b"ok\nok\nmark \"m\" -1\nok\nok\n",
+            &tile,
+        );
+    }
 }
 
 #[test]

@@ -97,6 +97,11 @@ impl<'a> Drips<'a> {
     }
 }
 
+/// A run that ends so writes a tile.
+fn gives_tile(outcome: Outcome) -> bool {
+    matches!(outcome, Outcome::Done | Outcome::SomeRefused)
+}
+
 /// The script on the tile does what is wanted, over readers and writers of std and as a call.
 pub fn assert_edits(
     rt: &(impl Abort + AllocGlobal),
@@ -116,8 +121,33 @@ pub fn assert_edits(
     assert_eq!(rt; called.outcome, want.outcome);
     assert_eq!(rt; called.replies.as_slice(), want.replies);
     match &called.tile {
-        Some(bytes) => assert!(rt; bytes.as_slice() == want.tile),
-        None => assert_eq!(rt; want.tile.len(), 0),
+        Some(bytes) => {
+            assert!(rt; gives_tile(want.outcome));
+            assert!(rt; bytes.as_slice() == want.tile);
+        }
+        None => assert!(rt; !gives_tile(want.outcome)),
+    }
+}
+
+/// The script on the tile does what is wanted, over readers and writers of std, as a call, and one
+/// byte a call. Nothing is asked of `out` where no tile is written.
+pub fn assert_runs_with(
+    rt: &(impl Abort + AllocGlobal),
+    tile: &[u8],
+    script: &[u8],
+    options: Options,
+    want: Wanted<'_>,
+)
+    requires some_depth { 1 ≤ options.depth }
+    requires depth { options.depth ≤ MAX_DEPTH }
+{
+    assert_edits(rt, tile, script, options, want);
+    let mut drips = Drips::new(rt.alloc(), tile, script);
+    assert_eq!(rt; drips.run(rt.alloc(), options), want.outcome);
+    assert_eq!(rt; drips.replies.taken.as_slice(), want.replies);
+    assert!(rt; drips.out.taken.as_slice() == want.tile);
+    if !gives_tile(want.outcome) {
+        assert_eq!(rt; drips.out.calls.made, 0);
     }
 }
 
@@ -137,12 +167,7 @@ pub fn assert_runs_at(
         if strict && want.outcome != Outcome::Done {
             return;
         }
-        let options = Options { depth, strict };
-        assert_edits(rt, tile, script, options, want);
-        let mut drips = Drips::new(rt.alloc(), tile, script);
-        assert_eq!(rt; drips.run(rt.alloc(), options), want.outcome);
-        assert_eq!(rt; drips.replies.taken.as_slice(), want.replies);
-        assert!(rt; drips.out.taken.as_slice() == want.tile);
+        assert_runs_with(rt, tile, script, Options { depth, strict }, want);
     }
 }
 

@@ -1,7 +1,7 @@
 //! The program, from its words to its status, over files.
 
 use crate::console::Console;
-use mvt_tests::tiles::{RENAME, ROADS, T0};
+use mvt_tests::tiles::{OTHER, RENAME, ROADS, T0};
 use std::alloc::{AllocError, Global};
 use std::process::Abort;
 use std::test::Fail;
@@ -105,8 +105,14 @@ const RENAMED: Row<'static> = Row {
     written: Some(&ROADS),
 };
 
-const ROWS: [Row<'static>; 6] = [
+const ROWS: [Row<'static>; 7] = [
     RENAMED,
+    Row {
+        script: b"rename-layer \"a\" \"roads\"\nundo\n",
+        output: b"ok\nok\n",
+        written: Some(&T0),
+        ..RENAMED
+    },
     Row {
         options: "--strict",
         ..RENAMED
@@ -179,7 +185,7 @@ fn undo_goes_back_to_its_depth(rt: HostRuntime) -> Result<(), Fail> {
     let (done, written) = edited(&rt, &T0, script, "--depth 1")?;
     let output = b"ok\nok\nok\nline 4 refused 50 NothingToUndo\n";
     assert_shelled(&rt, &done, 1, output, b"");
-    assert!(rt; written.is_some_and(|bytes| bytes.as_slice() != T0.as_slice()));
+    assert!(rt; written.as_ref().map(|bytes| bytes.as_slice()) == Some(OTHER));
     Ok(())
 }
 

@@ -1,7 +1,7 @@
 //! Scripts that undo and redo.
 
 use crate::memory::{
-    Wanted, assert_done, assert_edits, assert_runs_at, assert_some_refused, options,
+    Wanted, assert_done, assert_runs_at, assert_runs_with, assert_some_refused, options,
 };
 use mvt_tests::bytes::joined;
 use mvt_tests::tiles::{BEHIND_NAME, OTHER, ROADS, T0};
@@ -97,6 +97,25 @@ fn a_command_that_changes_nothing_forgets_redo(rt: HostRuntime) {
     let script = b"rename-layer #0 \"b\"
 undo
 set-id #0 0 1
+redo
+undo
+redo
+";
+    let replies = b"ok
+ok
+ok
+line 4 refused 51 NothingToRedo
+ok
+ok
+";
+    assert_some_refused(&rt, &T0, script, replies, &T0);
+}
+
+#[test]
+fn a_move_to_its_own_place_forgets_redo(rt: HostRuntime) {
+    let script = b"rename-layer #0 \"b\"
+undo
+move-layer #0 0
 redo
 undo
 redo
@@ -225,7 +244,7 @@ fn a_strict_run_stops_where_nothing_is_to_redo(rt: HostRuntime) {
         replies: b"ok\nline 2 refused 51 NothingToRedo\n",
         tile: b"",
     };
-    assert_edits(&rt, &T0, script, options(true), stopped);
+    assert_runs_with(&rt, &T0, script, options(true), stopped);
     let replies = b"ok\nline 2 refused 51 NothingToRedo\nok\n";
     assert_some_refused(&rt, &T0, script, replies, &T0);
 }
@@ -234,21 +253,25 @@ fn a_strict_run_stops_where_nothing_is_to_redo(rt: HostRuntime) {
 fn each_line_is_refused_for_its_own_reason(rt: HostRuntime) {
     let script = b"frob
 undo now
+set #0 0 \"k\" int x
 insert #0 0 line 1,1
 drop-layer \"a
 drop-layer \"b\"
 drop-feature #0 1
+rename-key #0 \"z\" \"y\"
 insert #0 2 point 1,1
 unmark \"q\"
 ";
     let replies = b"line 1 refused 12 UnknownCommand
 line 2 refused 13 BadArguments
-line 3 refused 16 BadGeometryText
-line 4 refused 11 BadWord
-line 5 refused 20 NoLayer
-line 6 refused 22 NoFeature
-line 7 refused 24 BadPlace
-line 8 refused 52 NoMark
+line 3 refused 12 UnknownCommand
+line 4 refused 16 BadGeometryText
+line 5 refused 11 BadWord
+line 6 refused 20 NoLayer
+line 7 refused 22 NoFeature
+line 8 refused 12 UnknownCommand
+line 9 refused 24 BadPlace
+line 10 refused 52 NoMark
 ";
     assert_some_refused(&rt, &T0, script, replies, &T0);
 }

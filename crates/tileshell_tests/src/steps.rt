@@ -1,10 +1,12 @@
 //! Scripts with steps of several commands.
 
 use crate::memory::{
-    Wanted, assert_done, assert_edits, assert_runs_at, assert_some_refused, options,
+    Wanted, assert_done, assert_runs_at, assert_runs_with, assert_some_refused, options,
 };
 use crate::session::{named, with_id};
+use mvt_tests::bytes::joined;
 use mvt_tests::tiles::{OTHER, T0};
+use std::alloc::AllocError;
 use tileshell::Outcome;
 
 #[test]
@@ -293,5 +295,35 @@ fn a_strict_run_stops_within_a_step(rt: HostRuntime) {
         tile: b"",
     };
     let script = b"begin\nrename-layer #0 \"b\"\nundo\nend\n";
-    assert_edits(&rt, &T0, script, options(true), stopped);
+    assert_runs_with(&rt, &T0, script, options(true), stopped);
+}
+
+#[test]
+fn a_step_may_end_where_undo_is_full(rt: HostRuntime) {
+    let script = b"rename-layer #0 \"b\"
+begin
+set-id #0 0 9
+end
+undo
+undo
+";
+    let want = Wanted {
+        outcome: Outcome::SomeRefused,
+        replies: b"ok\nok\nok\nok\nok\nline 6 refused 50 NothingToUndo\n",
+        tile: OTHER,
+    };
+    assert_runs_at(&rt, 1, &T0, script, want);
+}
+
+#[test]
+fn commands_whose_order_counts_are_undone_from_the_last(rt: HostRuntime) -> Result<(), AllocError> {
+    let script = b"begin
+drop-layer #0
+drop-layer #0
+end
+undo
+";
+    let tile = joined(rt.alloc(), &[&T0, OTHER])?;
+    assert_done(&rt, &tile, script, b"ok\nok\nok\nok\nok\n", &tile);
+    Ok(())
 }

@@ -157,10 +157,15 @@ fn a_strict_run_stops_before_the_script_fails(rt: HostRuntime) {
     }
 }
 
-/// Refuses an `undo`, with its reply to this sink. Gives the outcome, and how often the script and
+/// Runs the script with its replies to this sink. Gives the outcome, and how often the script and
 /// `out` were called.
-fn refused_undo<W: Sink>(alloc: Global, replies: &mut W, strict: bool) -> (Outcome, u64, u64) {
-    let mut script = DripSource::new(b"undo\n", Calls::untroubled());
+fn replying_to<W: Sink>(
+    alloc: Global,
+    script: &[u8],
+    replies: &mut W,
+    strict: bool,
+) -> (Outcome, u64, u64) {
+    let mut script = DripSource::new(script, Calls::untroubled());
     let mut out = DripSink::new(alloc, Calls::untroubled());
     let outcome = run(
         alloc,
@@ -175,13 +180,21 @@ fn refused_undo<W: Sink>(alloc: Global, replies: &mut W, strict: bool) -> (Outco
 
 #[test]
 fn replies_that_nobody_takes_are_a_fault(rt: HostRuntime) -> Result<(), Fail> {
-    for strict in [false, true] {
-        let want = (FAULT_OF_REPLIES, 5, 0);
+    for (script, reads, strict) in [
+        (RENAME, 25, false),
+        (RENAME, 25, true),
+        (b"undo\n".as_slice(), 5, false),
+        (b"undo\n".as_slice(), 5, true),
+    ] {
+        let want = (FAULT_OF_REPLIES, reads, 0);
         let mut deaf = FromWrite::new(Deaf { error: None });
-        assert_eq!(rt; refused_undo(rt.alloc(), &mut deaf, strict), want);
+        assert_eq!(rt; replying_to(rt.alloc(), script, &mut deaf, strict), want);
         let held_back = BufWriter::new(rt.alloc(), Deaf { error: None })?;
         let mut held_back = FromWrite::new(held_back);
-        assert_eq!(rt; refused_undo(rt.alloc(), &mut held_back, strict), want);
+        assert_eq!(rt;
+            replying_to(rt.alloc(), script, &mut held_back, strict),
+            want
+        );
     }
     Ok(())
 }

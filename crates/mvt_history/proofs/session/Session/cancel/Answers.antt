@@ -1,9 +1,8 @@
-use Rattle.std.proofs.Common.{refl, Some, option_map, ap, ◌∙◌, subst, sym, inr}
+use Rattle.std.proofs.Common.{refl, option_map, ap, ◌∙◌, subst, sym, inr}
 use Rattle.mvt_wire.specs.Stands.{document_of}
 use Rattle.mvt_change.specs.Joining.{go_along}
 use Rattle.mvt_history.specs.Held.{from_last, standing_of}
 use Rattle.mvt_history.specs.Session.{StandsFor}
-use Rattle.mvt_history.proofs.Keeping.{with_open}
 use Rattle.mvt_history.proofs.KeepingCommands.{length_from_last, all_taken, seen_open, stopped_held, cancelled_held, step_stopped, step_cancelled}
 use Rattle.mvt_history.proofs.session.Session.cancel.Goals as goal
 

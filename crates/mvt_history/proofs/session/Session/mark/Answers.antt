@@ -43,7 +43,7 @@ invariant_of-self-2 c =
     let s = c.self.inside in
     let session = standing_of s.document s.undo.items s.redo.items s.depth s.marks.items (option_map (λ pending. pending.items) s.pending) in
     let present = c.len-2.ensures.len ∙ sym (length-from_last s.undo.items) in
-    let marks = c.in_ok-bind.ensures ∙ ap (λ point. bound c.args.name.now point session.marks) present in
+    let marks = c.in_ok-bind.ensures.marks ∙ ap (λ point. bound c.args.name.now point session.marks) present in
     let held = marked_held s.undo.capacity s.redo.capacity c.args.name.now session (room_left c) c.self.invariant in
     subst (λ marks. IsHeld s.undo.capacity s.redo.capacity (with_names marks session)) (sym marks) held
 
@@ -54,6 +54,6 @@ returns-clause-answer c = λ history stands.
     let before = subst (λ s. StandsFor s history) (sym c.self.view_is) stands in
     let closed = seen_closed session c.args.self.now c.in_ok-closed.field-0 c.self.view_is c.in_ok-closed.ensures in
     let present = c.len-2.ensures.len ∙ sym (length-from_last s.undo.items) in
-    let marks = c.in_ok-bind.ensures ∙ ap (λ point. bound c.args.name.now point session.marks) present in
+    let marks = c.in_ok-bind.ensures.marks ∙ ap (λ point. bound c.args.name.now point session.marks) present in
     let answer = marked_answers c.args.name.now session history closed (room_left c) before in
     subst (λ marks. (after : History) × (marked c.args.name.now history ≡ Ok after) × StandsFor (with_names marks session) after) (sym marks) answer
