@@ -3,7 +3,7 @@ use Rattle.std.proofs.Common.{◌≡◌, ℕ, zero, suc, ◌+◌, ◌<◌, ◌�
 use Rattle.std.specs.List.{flat_map}
 use Rattle.std.specs.Option.{SomeIff, IfSome}
 use Rattle.std.proofs.lemmas.List.Concat.{flat_map-append}
-use Rattle.std.proofs.lemmas.List.{append-nil, drop-drop}
+use Rattle.std.proofs.lemmas.List.{drop-drop}
 use Rattle.mvt_document.specs.Splicing.{moved, part, splice}
 use Rattle.mvt_document.specs.Kept.{IsKept, bytes_beside}
 
@@ -19,13 +19,6 @@ item_and_beside f (y ∷ xs) (suc i) x inside is = omega (arith, item_and_beside
 pub known_so : (P : Type 0) (r : Option ℕ) (n m : ℕ) → SomeIff r P n → n ≡ m → IfSome r (λ x. x ≡ m)
 known_so P None n m some is = tt
 known_so P (Some x) n m some is = some.1 ∙ is
-
--- a list without a part is what stands before it and behind it
-pub without_size : {T : Type 0} (f : T → List ℕ) (index count : ℕ) (items : List T) → length (flat_map f (splice index count [] items)) ≡ length (flat_map f (take index items)) + length (flat_map f (drop (index + count) items))
-without_size f index count items =
-    let joined = ap length (flat_map-append f (take index items ++ []) (drop (index + count) items)) ∙ length-append (flat_map f (take index items ++ [])) (flat_map f (drop (index + count) items)) in
-    let front = ap (λ xs. length (flat_map f xs)) (append-nil (take index items)) in
-    omega (arith, joined, front)
 
 -- what goes and what stays, what comes and what was
 pub spliced_size : {T : Type 0} (f : T → List ℕ) (index taken : ℕ) (put items : List T) → length (flat_map f (splice index taken put items)) + length (flat_map f (part index taken items)) ≡ length (flat_map f items) + length (flat_map f put)

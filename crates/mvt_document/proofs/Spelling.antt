@@ -40,9 +40,6 @@ length-spell v zero = refl
 length-spell v (suc zero) = refl
 length-spell v (suc (suc w)) = ap suc (length-spell (v / 128) (suc w))
 
-pub spell_some : (v w : ℕ) → 1 ≤ w → spell v w ≡ [] → ⊥
-spell_some v w some e = omega (arith, length-spell v w, ap length e)
-
 -- ---- the least width
 
 pub width_within_some : (m v : ℕ) → 1 ≤ width_within m v
@@ -120,12 +117,6 @@ spelling_below v w s =
     let b : 2 ^ (7 * minimal_width v) ≤ 2 ^ (7 * w) = pow_le (7 * minimal_width v) (7 * w) l in
     omega arith
 
--- a stored width is a lower bound on that of a length
-pub wide_spelling : (v w : ℕ) → v < 2 ^ 64 → w ≤ 10 → IsSpelling v (max w (minimal_width v))
-wide_spelling v w fits short =
-    let small : minimal_width v ≤ 10 = minimal_width_short v in
-    record { fits = fits; wide = omega arith; short = omega arith }
-
 pub max_spelling : (v w : ℕ) → IsSpelling v w → max w (minimal_width v) ≡ w
 max_spelling v w s = omega (arith, s.wide)
 
@@ -153,10 +144,6 @@ apart (suc w) (suc w') v v' x y h h' e =
     apart w w' (v / 128) (v' / 128) x y (rest_below v (suc w) h) (rest_below v' (suc w') h') t in
     let q : v / 128 ≡ v' / 128 = r.0 in
     (omega arith, ap suc r.1, r.2)
-
-one_more : (w : ℕ) → 1 ≤ w → (n : ℕ) × (w ≡ suc n)
-one_more zero h = absurd (omega arith)
-one_more (suc n) h = (n, refl)
 
 pub one_spelling : (v w v' w' : ℕ) (x y : List ℕ) → IsSpelling v w → IsSpelling v' w' → spell v w ++ x ≡ spell v' w' ++ y → (v ≡ v') × (w ≡ w') × (x ≡ y)
 one_spelling v zero v' w' x y s t e = absurd (omega (arith, spelling_some v 0 s))

@@ -29,9 +29,6 @@ pub record IsLeastFrom (value width rest more : ℕ) : Type 0 where
   pub below : rest < 2 ^ (7 * suc more)
   pub same : width + width_within more rest ≡ minimal_width value + 1
 
-pub least_from-start : (v : ℕ) → v < 2 ^ 64 → IsLeastFrom v 1 v 9
-least_from-start v h = record { of_ten = refl; below = omega arith; same = omega arith }
-
 pub least_from-more : (v width rest more : ℕ) → 128 ≤ rest → IsLeastFrom v width rest more → IsLeastFrom v (width + 1) (rest / 128) (more - 1)
 least_from-more v width rest zero h s = absurd (omega (arith, s.below))
 least_from-more v width rest (suc more) h s =

@@ -115,15 +115,6 @@ tile_items-bytes_as_fields items =
 content_of : (v w : ℕ) (a b : List ℕ) → Delimited v a ≡ Delimited w b → a ≡ b
 content_of v w a b e = cc
 
-pub no_feature : (front : Field) (width : ℕ) (bytes : List ℕ) → front.body ≡ Delimited width bytes → front.tag.value ≡ 18
-    → ((fields : List Field) → AllByRecursion IsWholeField fields → AllByRecursion IsWholeField fields → bytes ≡ flat_map field_bytes fields → ⊥) → MakesLayerItem front → ⊥
-no_feature front width bytes e tag none (OfFeature f, p, made) =
-    let same : flat_map field_bytes f.fields ≡ bytes = content_of f.width width (flat_map field_bytes f.fields) bytes (ap (λ (g : Field). g.body) made ∙ e) in
-    let fields = all_with IsField StoresField IsWholeField (λ g v s. record { valid = v; stored = s }) f.fields p.valid.fields p.stored.fields in
-    none f.fields fields fields (sym same)
-no_feature front width bytes e tag none (PlainInLayer f, p, made) =
-    p.valid.1 (ap (λ (g : Field). g.tag.value) made ∙ tag)
-
 pub no_layer : (front : Field) (width : ℕ) (bytes : List ℕ) → front.body ≡ Delimited width bytes → front.tag.value ≡ 26
     → ((fields : List Field) → AllByRecursion IsWholeField fields → AllByRecursion MakesLayerItem fields → bytes ≡ flat_map field_bytes fields → ⊥) → MakesTileItem front → ⊥
 no_layer front width bytes e tag none (OfLayer l, p, made) =

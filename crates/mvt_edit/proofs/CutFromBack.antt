@@ -13,9 +13,6 @@ pub record SoFar {A : Type 0} (place : Place) (goes : A → Bool) (n : ℕ) (xs 
   pub others : steps ≡ steps_out place (drop 1 (runs_from goes n xs))
   pub counted : gone ≡ length (filter goes xs)
 
-pub none_so_far : {A : Type 0} (place : Place) (goes : A → Bool) (n : ℕ) → SoFar place goes n [] None [] 0
-none_so_far place goes n = record { run = refl; others = refl; counted = refl }
-
 pub item_stays : {A : Type 0} {place : Place} {goes : A → Bool} {n : ℕ} {xs : List A} {first : Option Run} {steps : List Step} {gone : ℕ} (x : A) → goes x ≡ false → SoFar place goes (n + 1) xs first steps gone → SoFar place goes n (x ∷ xs) first steps gone
 item_stays x stays so_far = record { run = rw stays so_far.run; others = rw stays so_far.others; counted = rw stays so_far.counted }
 

@@ -100,12 +100,6 @@ pub record CutsFrom {A : Type 0} (goes : A → Bool) (n : ℕ) (front xs items :
   pub there : AreThere (runs_from goes n xs) items
   pub few : length (runs_from goes n xs) ≤ length (filter goes xs)
 
-runs_going : {A : Type 0} (goes : A → Bool) (n : ℕ) (x : A) (xs : List A) → goes x ≡ true → runs_from goes n (x ∷ xs) ≡ and_item n (runs_from goes (n + 1) xs)
-runs_going goes n x xs e = rw e refl
-
-runs_staying : {A : Type 0} (goes : A → Bool) (n : ℕ) (x : A) (xs : List A) → goes x ≡ false → runs_from goes n (x ∷ xs) ≡ runs_from goes (n + 1) xs
-runs_staying goes n x xs e = rw e refl
-
 one_out : {A : Type 0} (n : ℕ) (front : List A) (x : A) (rest : List A) → length front ≡ n → splice n 1 [] ((front ++ x ∷ []) ++ rest) ≡ front ++ rest
 one_out n front x rest e =
     let before : take n ((front ++ x ∷ []) ++ rest) ≡ front = ap (take n) (append_assoc front (x ∷ []) rest) ∙ take_at front (x ∷ rest) n e in

@@ -59,10 +59,6 @@ leads_less from x y numbers (p ∷ more) l =
       record { spelled = cc; short = l.short.1.1; placed = l.placed.1 },
     )
 
-pub leads_end : (from : Point) (points : List Point) → Leads from [] points → points ≡ []
-leads_end from [] l = refl
-leads_end from (p ∷ points) l = let e = l.spelled in absurd (cc)
-
 leads_odd : (from : Point) (x : ℕ) (points : List Point) → Leads from (x ∷ []) points → ⊥
 leads_odd from x [] l = let e = l.spelled in cc
 leads_odd from x (p ∷ points) l = let e = l.spelled in cc

@@ -21,12 +21,6 @@ counted_twice more floor (mark ∷ marks) =
     let point : more + (floor + mark.point) ≡ more + floor + mark.point = omega arith in
     ap₂ (λ n ys. record { name = mark.name; point = n } ∷ ys) point (counted_twice more floor marks)
 
-pub counted_from_zero : (marks : List Mark) → map (counted_from 0) marks ≡ marks
-counted_from_zero [] = refl
-counted_from_zero (mark ∷ marks) =
-    let point : 0 + mark.point ≡ mark.point = omega arith in
-    ap₂ (λ n ys. record { name = mark.name; point = n } ∷ ys) point (counted_from_zero marks)
-
 pub counted_length : (floor : ℕ) (marks : List Mark) → length (map (counted_from floor) marks) ≡ length marks
 counted_length floor marks = length-map marks (counted_from floor)
 
@@ -63,32 +57,11 @@ pub counted_names : (floor : ℕ) (marks : List Mark) → map (λ mark. mark.nam
 counted_names floor [] = refl
 counted_names floor (mark ∷ marks) = ap (λ ys. mark.name ∷ ys) (counted_names floor marks)
 
-pub counted_in_order : (floor : ℕ) (marks : List Mark) → InOrder marks → InOrder (map (counted_from floor) marks)
-counted_in_order floor marks order = subst (IsStrictlySortedBy compared) (sym (counted_names floor marks)) order
-
 pub in_order_from_counted : (floor : ℕ) (marks : List Mark) → InOrder (map (counted_from floor) marks) → InOrder marks
 in_order_from_counted floor marks order = subst (IsStrictlySortedBy compared) (counted_names floor marks) order
 
 -- ---- what holds of each
 
-pub counted_all : (P Q : Mark → Type 0) (floor : ℕ) → ((mark : Mark) → P mark → Q (counted_from floor mark)) → (marks : List Mark) → AllByRecursion P marks → AllByRecursion Q (map (counted_from floor) marks)
-counted_all P Q floor says [] all = tt
-counted_all P Q floor says (mark ∷ marks) all = (says mark all.0, counted_all P Q floor says marks all.1)
-
 pub all_from_counted : (P Q : Mark → Type 0) (floor : ℕ) → ((mark : Mark) → Q (counted_from floor mark) → P mark) → (marks : List Mark) → AllByRecursion Q (map (counted_from floor) marks) → AllByRecursion P marks
 all_from_counted P Q floor says [] all = tt
 all_from_counted P Q floor says (mark ∷ marks) all = (says mark all.0, all_from_counted P Q floor says marks all.1)
-
--- a list that is counted from a floor says which it was
-pub counted_same : (floor : ℕ) (marks others : List Mark) → map (counted_from floor) marks ≡ map (counted_from floor) others → marks ≡ others
-counted_same floor [] [] e = refl
-counted_same floor [] (other ∷ others) e = absurd cc
-counted_same floor (mark ∷ marks) [] e = absurd cc
-counted_same floor (mark ∷ marks) (other ∷ others) e =
-    let rest : map (counted_from floor) marks ≡ map (counted_from floor) others = cc in
-    let heads : counted_from floor mark ≡ counted_from floor other = cc in
-    let names : mark.name ≡ other.name = ap (λ m. m.name) heads in
-    let sums : floor + mark.point ≡ floor + other.point = ap (λ m. m.point) heads in
-    let points : mark.point ≡ other.point = omega arith in
-    let tails = counted_same floor marks others rest in
-    λ i. record { name = names i; point = points i } ∷ tails i

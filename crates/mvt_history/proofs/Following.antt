@@ -7,7 +7,7 @@ use Rattle.mvt_command.specs.Command.{Command}
 use Rattle.mvt_meaning.specs.Meaning.{after}
 use Rattle.mvt_change.specs.Changes.{Change, go}
 use Rattle.mvt_change.specs.Joining.{go_along}
-use Rattle.mvt_history.specs.History.{History, after_all, after_steps, document_at}
+use Rattle.mvt_history.specs.History.{after_all, after_steps}
 use Rattle.mvt_history.specs.Reached.{LeadsBack, LeadBack, LeadOn}
 
 -- ---- documents
@@ -26,9 +26,6 @@ next_document steps start point inside =
     ap (λ n. after_steps (take n steps) start) next
     ∙ ap (λ front. after_steps front start) (take_more steps point [] inside)
     ∙ steps_joined (take point steps) (get_or steps point [] ∷ []) start
-
-pub document_next : (point : ℕ) (history : History) → point < length history.steps → document_at (suc point) history ≡ after_all (get_or history.steps point []) (document_at point history)
-document_next point history inside = next_document history.steps history.start point inside
 
 -- ---- changes that lead back
 
@@ -75,7 +72,7 @@ back_along steps start (suc point) (suc count) (change ∷ changes) inside enoug
 -- ---- changes that lead on
 
 -- so many of them lead so many steps up
-pub on_along : (steps : List (List Command)) (start : Document) (point count : ℕ) (changes : List Change) → point + length changes ≤ length steps → count ≤ length changes → LeadOn steps start point changes → go_along (take count changes) (after_steps (take point steps) start) ≡ after_steps (take (point + count) steps) start
+pub on_along : (steps : List (List Command)) (start : Document) (point count : ℕ) (changes : List Change) → point + count ≤ length steps → count ≤ length changes → LeadOn steps start point changes → go_along (take count changes) (after_steps (take point steps) start) ≡ after_steps (take (point + count) steps) start
 on_along steps start point zero changes inside enough leads =
     let same : point ≡ point + 0 = omega arith in ap (λ p. after_steps (take p steps) start) same
 on_along steps start point (suc count) [] inside enough leads = absurd (omega (arith, enough))

@@ -12,6 +12,7 @@ use Rattle.mvt_meaning.specs.declared.refusal.Refusal.{Refusal}
 use Rattle.mvt_meaning.proofs.Lengths.{command_fits}
 use Rattle.mvt_history.specs.History.{History, IsSound, after_all, after_steps, document_at, present_document, standing_document, commands_in, at_point, with_group, with_step, with_command, edited_to, undone, ended, closed}
 use Rattle.mvt_history.specs.Laws.{HistoryFits, UndoAtOnce, UndoAfterEnd, StepUndoesWhole}
+use Rattle.mvt_history.proofs.Closed.{standing_alone}
 use Rattle.mvt_history.proofs.OpenStep.{within_step}
 
 -- ---- undo
@@ -34,9 +35,6 @@ step_undone step history sound =
 edited_alone : (command : Command) (history after : History) (made : Result Document Refusal) → history.group ≡ None → edited_to command history made ≡ Ok after → with_step (command ∷ []) history ≡ after
 edited_alone command history after (Ok document) alone e = let done : edited_to command history (Ok document) ≡ Ok (with_step (command ∷ []) history) = ap (λ group. Ok (with_command command group history)) alone in cc
 edited_alone command history after (Err refusal) alone e = absurd cc
-
-standing_alone : (history : History) → history.group ≡ None → standing_document history ≡ present_document history
-standing_alone history alone = ap (λ group. after_all (commands_in group) (present_document history)) alone
 
 pub undo_at_once : UndoAtOnce
 undo_at_once command history after sound alone e =

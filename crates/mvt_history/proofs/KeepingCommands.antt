@@ -1,6 +1,6 @@
 -- What a session stands for, and that it is held, after a command, the end of a step, and its being cancelled.
 use Rattle.std.proofs.Common.{◌≡◌, ℕ, ◌+◌, ◌-◌, ◌<◌, ◌≤◌, true, false, is_some, ◌==◌, OnErr, inl, Option, Some, None, option_map, Vec, Global, Result, Ok, Err, List, [], ◌∷◌, ◌++◌, length, map, reverse, take, drop, refl, sym, ap, subst, ◌∙◌, arith}
-use Rattle.std.proofs.lemmas.List.{length-map, length-reverse, reverse-append, take_all}
+use Rattle.std.proofs.lemmas.List.{take_all}
 use Rattle.std.proofs.lemmas.Bool.Decides.{nat_tests}
 use Rattle.std.specs.Result.{IsErrAnd, IsOk, is_ok}
 use Rattle.mvt_wire.specs.Plain.{Document}
@@ -8,7 +8,6 @@ use Rattle.mvt_wire.specs.Opens.{IsDocument}
 use Rattle.mvt_document.specs.declared.document.Document.{Document as HeldDocument}
 use Rattle.mvt_command.specs.Command.{Command}
 use Rattle.mvt_meaning.specs.Meaning.{after, applied}
-use Rattle.mvt_meaning.specs.declared.refusal.Refusal.{Refusal}
 use Rattle.mvt_change.specs.declared.change.Change.{Change as HeldChange}
 use Rattle.mvt_change.specs.ChangeStands.{change_of}
 use Rattle.mvt_change.specs.Changes.{Change, Fits, go, turn}
@@ -19,24 +18,20 @@ use Rattle.mvt_change.proofs.RunPieces.{map-reverse}
 use Rattle.mvt_edit.specs.Prepared.{IsPrepared}
 use Rattle.mvt_history.specs.Marks.{between, counted_from}
 use Rattle.mvt_history.specs.declared.marks.Mark.{Mark as HeldMark}
-use Rattle.mvt_history.specs.History.{History, after_all, present_document, standing_document, commands_in, with_group, with_step, with_command, edited_to, edited, ended, closed, cancelled}
+use Rattle.mvt_history.specs.History.{History, after_all, present_document, commands_in, with_group, with_step, with_command, edited_to, edited, ended, closed, cancelled}
 use Rattle.mvt_history.specs.declared.error.HistoryError.{HistoryError}
-use Rattle.mvt_history.specs.declared.error.HistoryError.TheVariants.{NoGroup, NoMemory}
+use Rattle.mvt_history.specs.declared.error.HistoryError.TheVariants.{NoMemory}
 use Rattle.mvt_history.specs.Reached.{LeadsBack, LeadOut}
 use Rattle.mvt_history.specs.Standing.{Standing, changes_in, closed_document}
 use Rattle.mvt_history.specs.Held.{mark_of, from_last, standing_of, IsHeld}
 use Rattle.mvt_history.specs.Session.{StandsFor, AnswersWithMemory, StopsWithin}
+use Rattle.mvt_history.proofs.Stepping.{length_from_last}
+use Rattle.mvt_history.proofs.Closed.{is_closed, stands_present}
 use Rattle.mvt_history.proofs.Joined.{after_accepted, prepared_leads_back, lead_out_more, lead_out_stopped, between_commands, lead_out_along, lead_out_joined}
 use Rattle.mvt_history.proofs.Following.{all_joined}
 use Rattle.mvt_history.proofs.Keeping.{fit_taken, fit_dropped, along_dropped, along_makes, IsKept, kept_held, kept_stands, with_open, open_held, open_stands}
 
 -- ---- as the code keeps it
-
-pub from_last_more : (changes : List HeldChange) (change : HeldChange) → from_last (changes ++ change ∷ []) ≡ change_of change ∷ from_last changes
-from_last_more changes change = ap (map change_of) (reverse-append changes (change ∷ []))
-
-pub length_from_last : (changes : List HeldChange) → length (from_last changes) ≡ length changes
-length_from_last changes = length-map (reverse changes) change_of ∙ length-reverse changes
 
 pub is_kept : (old new : HeldDocument) (undo undo_new redo redo_new : List HeldChange) (depth room : ℕ) (marks marks_new : List HeldMark) (pending pending_new : Option (List HeldChange)) (change : Change) → room ≡ depth → from_last undo_new ≡ take room (change ∷ from_last undo) → redo_new ≡ [] → map (counted_from (length undo + 1 - room)) (map mark_of marks_new) ≡ between (length undo + 1 - room) (length undo) (map mark_of marks) → pending_new ≡ None → IsKept (standing_of old undo redo depth marks pending) (standing_of new undo_new redo_new depth marks_new pending_new) change
 is_kept old new undo undo_new redo redo_new depth room marks marks_new pending pending_new change full next none stay closed =
@@ -88,17 +83,9 @@ on_error (Err error) says = says
 
 -- ---- which step is open
 
-pub group_none : (group : Option (List Command)) (document : Document) (pending : Option (List Change)) → pending ≡ None → LeadOut group document pending → group ≡ None
-group_none None document pending is out = refl
-group_none (Some commands) document None is out = absurd out
-group_none (Some commands) document (Some changes) is out = absurd cc
-
 pub group_some : (group : Option (List Command)) (document : Document) (changes : List Change) → LeadOut group document (Some changes) → (commands : List Command) × (group ≡ Some commands) × LeadOut (Some commands) document (Some changes)
 group_some None document changes out = absurd out
 group_some (Some commands) document changes out = (commands, refl, out)
-
-stands_closed : (history : History) (session : Standing) → session.pending ≡ None → StandsFor session history → history.group ≡ None
-stands_closed history session is stands = group_none history.group (present_document history) session.pending is stands.pending_leads
 
 stands_open : (history : History) (session : Standing) (changes : List Change) → session.pending ≡ Some changes → StandsFor session history → (commands : List Command) × (history.group ≡ Some commands) × LeadOut (Some commands) (present_document history) (Some changes)
 stands_open history session changes is stands = group_some history.group (present_document history) changes (subst (LeadOut history.group (present_document history)) is stands.pending_leads)
@@ -131,8 +118,8 @@ edited_so command history session group new is stands means =
 pub command_alone : (command : Command) (history : History) (before after : Standing) (change : Change) → IsKept before after (turn change before.document) → before.pending ≡ None → IsDocument before.document → IsPrepared command before.document change → after.document ≡ go change before.document → StandsFor before history → (next : History) × (edited command history ≡ Ok next) × StandsFor after next
 command_alone command history before next change kept is valid prepared made stands =
     let old = before.document in
-    let alone = stands_closed history before is stands in
-    let here : old ≡ present_document history = standing_open history before None alone stands in
+    let alone = is_closed before history is stands in
+    let here : old ≡ present_document history = stands_present before history is stands in
     let accepted : after command old ≡ go change old = after_accepted command old (go change old) prepared.means in
     let document : next.document ≡ after_all (command ∷ []) (present_document history) = made ∙ sym accepted ∙ ap (after command) here in
     let back = subst (λ d. LeadsBack (command ∷ []) d (turn change old)) here (prepared_leads_back command old change valid prepared) in (
@@ -170,20 +157,11 @@ command_within command history session changes change is valid prepared stands =
       open_stands (Some more) history session (go change old) (Some (turn change old ∷ changes)) stands document (lead_out_more commands command present changes (turn change old) found.2 back),
     )
 
-refused_so : (command : Command) (history : History) (made : Result Document Refusal) (refusal : Refusal) → made ≡ Err refusal → edited_to command history made ≡ Err refusal
-refused_so command history made refusal e = rw e refl
-
-pub command_refused : (command : Command) (history : History) (session : Standing) (refusal : Refusal) → StandsFor session history → applied command session.document ≡ Err refusal → edited command history ≡ Err refusal
-command_refused command history session refusal stands e = refused_so command history (applied command (standing_document history)) refusal (ap (applied command) (sym stands.document) ∙ e)
-
 -- ---- the end of a step
 
 empty_step : (commands : List Command) (document : Document) → LeadOut (Some commands) document (Some []) → commands ≡ []
 empty_step [] document out = refl
 empty_step (command ∷ commands) document out = absurd (omega (arith, out.0))
-
-pub empty_ended_held : (undo_room redo_room : ℕ) (session : Standing) → session.pending ≡ Some [] → IsHeld undo_room redo_room session → IsHeld undo_room redo_room (with_open session.document None session)
-empty_ended_held undo_room redo_room session is held = open_held undo_room redo_room session session.document None held held.ready.valid tt (closed_from session (Some []) is)
 
 pub empty_ended : (history : History) (session : Standing) → session.pending ≡ Some [] → StandsFor session history → (next : History) × (closed history ≡ Ok next) × StandsFor (with_open session.document None session) next
 empty_ended history session is stands =
@@ -224,9 +202,6 @@ step_ended history before after changes kept is some same stands =
       ap (λ group. ended group history) found.1 ∙ ended_some commands history (omega (arith, some, found.2.0)),
       kept_stands commands history before after (joined changes) kept stands (same ∙ standing_open history before (Some commands) found.1 stands) (lead_out_joined commands present changes found.2),
     )
-
-pub not_ended : (history : History) (session : Standing) → session.pending ≡ None → StandsFor session history → closed history ≡ Err NoGroup
-not_ended history session is stands = ap (λ group. ended group history) (stands_closed history session is stands)
 
 -- ---- a step that is cancelled
 
@@ -269,6 +244,3 @@ step_cancelled history session changes is stands =
       rw opened refl,
       open_stands None history session (go_along changes session.document) None stands document tt,
     )
-
-pub not_cancelled : (history : History) (session : Standing) → session.pending ≡ None → StandsFor session history → cancelled history ≡ Err NoGroup
-not_cancelled history session is stands = let none : is_some history.group ≡ is_some {T = List Command} None = ap is_some (stands_closed history session is stands) in rw none refl

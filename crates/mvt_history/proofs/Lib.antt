@@ -12,6 +12,7 @@ pub mod NoTrace
 pub mod GoingOn
 pub mod BackToMark
 pub mod Turned
+pub mod Closed
 pub mod Moving
 pub mod Marking
 pub mod Following

@@ -16,7 +16,8 @@ use Rattle.mvt_history.specs.declared.error.HistoryError.TheVariants.{NoMark, To
 use Rattle.mvt_history.proofs.Counting.{counted_length, counted_point_of, counted_bound, counted_unbound}
 use Rattle.mvt_history.proofs.MarkOrder.{all_bound, all_filtered, order_bound, order_unbound, few_bound, length_filtered, point_holds}
 use Rattle.mvt_history.proofs.Sound.{sound_bound, sound_unbound}
-use Rattle.mvt_history.proofs.Moving.{undo_walk, redo_walk, undone_to, redone_to, is_closed, undone_held, redone_held, undone_stands, redone_stands}
+use Rattle.mvt_history.proofs.Closed.{is_closed}
+use Rattle.mvt_history.proofs.Moving.{undo_walk, redo_walk, undone_to, redone_to, undone_held, redone_held, undone_stands, redone_stands}
 
 -- the session with these marks
 abbrev pub with_names : List Mark → Standing → Standing

@@ -1,20 +1,18 @@
 -- What a session stands for, and that it is held, when steps were taken back or made again.
-use Rattle.std.proofs.Common.{◌≡◌, ℕ, zero, suc, ◌+◌, ◌-◌, ◌<◌, ◌≤◌, false, is_some, if◌then◌else◌, ◌==◌, Result, Ok, Err, Option, Some, None, List, [], ◌∷◌, ◌++◌, length, take, get_or, reverse, refl, sym, ap, ◌∙◌, subst, arith}
+use Rattle.std.proofs.Common.{◌≡◌, ℕ, zero, suc, ◌+◌, ◌-◌, ◌≤◌, false, is_some, if◌then◌else◌, ◌==◌, Result, Ok, Err, Option, Some, None, List, [], ◌∷◌, length, take, get_or, refl, sym, ap, ◌∙◌, subst, arith}
 use Rattle.std.specs.List.{AllByRecursion}
 use Rattle.std.specs.List.Sorted.{IsStrictlySortedBy}
 use Rattle.std.proofs.lemmas.Bool.Decides.{nat_tests}
-use Rattle.std.proofs.lemmas.List.{take_more, length-map, length-reverse}
 use Rattle.mvt_wire.specs.TheConstants.{MAX_FILE}
 use Rattle.mvt_wire.specs.Plain.{Document}
 use Rattle.mvt_wire.specs.Wire.{bytes_of}
 use Rattle.mvt_wire.specs.Opens.{IsDocument}
 use Rattle.mvt_command.specs.Command.{Command}
 use Rattle.mvt_change.specs.Changes.{Change, go, turn}
-use Rattle.mvt_change.specs.ChangeStands.{change_of}
 use Rattle.mvt_change.specs.declared.change.Change.{Change as HeldChange}
 use Rattle.mvt_change.specs.Joining.{FitAlong}
 use Rattle.mvt_change.proofs.Turning.{change_makes, turned_back, turned_fits}
-use Rattle.mvt_history.specs.History.{History, begun, after_all, after_steps, document_at, present_document, commands_in, at_point, with_group, undone, redone, opened}
+use Rattle.mvt_history.specs.History.{History, begun, after_all, after_steps, document_at, commands_in, at_point, with_group, undone, redone, opened}
 use Rattle.mvt_history.specs.Moves.{Walk, stepped, walked}
 use Rattle.mvt_history.specs.Reached.{LeadsBack, LeadsOn, LeadBack, LeadOn, LeadOut}
 use Rattle.mvt_history.specs.Standing.{Standing, IsReady}
@@ -24,6 +22,9 @@ use Rattle.mvt_history.specs.declared.error.HistoryError.{HistoryError}
 use Rattle.mvt_history.specs.declared.error.HistoryError.TheVariants.{GroupOpen}
 use Rattle.mvt_history.specs.Session.{StandsFor}
 use Rattle.mvt_history.proofs.Sound.{begins_sound, sound_at_point, sound_with_group}
+use Rattle.mvt_history.proofs.Following.{next_document}
+use Rattle.mvt_history.proofs.Stepping.{length_from_last}
+use Rattle.mvt_history.proofs.Closed.{is_closed, stands_present}
 use Rattle.mvt_history.proofs.Turned.{turned_leads_on, turned_leads_back}
 
 -- ---- how many changes lie ahead and behind
@@ -64,16 +65,6 @@ walked_ready (suc count) walk ready =
 
 -- ---- what stands on the way
 
-steps_joined : (steps more : List (List Command)) (start : Document) → after_steps (steps ++ more) start ≡ after_steps more (after_steps steps start)
-steps_joined [] more start = refl
-steps_joined (step ∷ steps) more start = steps_joined steps more (after_all step start)
-
--- the step at a point makes the document of the next one
-step_makes_next : (steps : List (List Command)) (start : Document) (point : ℕ) → point < length steps → after_all (get_or steps point []) (after_steps (take point steps) start) ≡ after_steps (take (suc point) steps) start
-step_makes_next steps start point inside =
-    let next : suc point ≡ point + 1 = omega arith in
-    sym (ap (λ n. after_steps (take n steps) start) next ∙ ap (λ front. after_steps front start) (take_more steps point [] inside) ∙ steps_joined (take point steps) (get_or steps point [] ∷ []) start)
-
 -- the document is that of the point, and from there the changes lead back and on
 record StandsAt (steps : List (List Command)) (start : Document) (point : ℕ) (document : Document) (undo redo : List Change) : Type 0 where
   valid : IsDocument document
@@ -87,7 +78,7 @@ one_back steps start point document (change ∷ undo) redo inside some stands =
     let step = get_or steps point [] in
     let before = after_steps (take point steps) start in
     let leads = stands.back.0 in
-    let after : after_all step before ≡ document = step_makes_next steps start point (omega (arith, inside)) ∙ sym stands.here in
+    let after : after_all step before ≡ document = sym (next_document steps start point (omega (arith, inside))) ∙ sym stands.here in
     let valid : IsDocument (after_all step before) = subst IsDocument (sym after) stands.valid in
     let made : go change document ≡ before = ap (go change) (sym after) ∙ leads.leads in
     record {
@@ -107,7 +98,7 @@ one_on steps start point document undo (change ∷ redo) inside some stands =
     let made : go change document ≡ after_all step before = ap (go change) stands.here ∙ leads.leads in
     record {
       valid = subst (λ d. IsDocument (go change d)) (sym stands.here) (change_makes change before valid leads.fits);
-      here = made ∙ step_makes_next steps start point (omega (arith, inside));
+      here = made ∙ sym (next_document steps start point (omega (arith, inside)));
       back = (subst (λ d. LeadsBack step before (turn change d)) (sym stands.here) (turned_leads_back step before change valid leads), stands.back);
       on = stands.on.1;
     }
@@ -145,12 +136,16 @@ undo_walk session = record { document = session.document; ahead = session.undo; 
 abbrev pub redo_walk : Standing → Walk
 redo_walk session = record { document = session.document; ahead = session.redo; behind = session.undo }
 
+-- the session with another document and other changes for undo and redo
+abbrev pub moved_to : Document → List Change → List Change → Standing → Standing
+moved_to document undo redo session = record { document = document; undo = undo; redo = redo; depth = session.depth; marks = session.marks; pending = session.pending }
+
 -- the session when they went there
 abbrev pub undone_to : Walk → Standing → Standing
-undone_to walk session = record { document = walk.document; undo = walk.ahead; redo = walk.behind; depth = session.depth; marks = session.marks; pending = session.pending }
+undone_to walk session = moved_to walk.document walk.ahead walk.behind session
 
 abbrev pub redone_to : Walk → Standing → Standing
-redone_to walk session = record { document = walk.document; undo = walk.behind; redo = walk.ahead; depth = session.depth; marks = session.marks; pending = session.pending }
+redone_to walk session = moved_to walk.document walk.behind walk.ahead session
 
 -- ---- where no step is open
 
@@ -159,17 +154,6 @@ closed_fits session closed ready = (let fit = ready.undo_fit in rw closed at fit
 
 pub closed_ready : (session : Standing) → session.pending ≡ None → IsDocument session.document → FitAlong session.undo session.document → FitAlong session.redo session.document → IsReady session
 closed_ready session closed valid undo_fit redo_fit = record { valid = valid; pending_fit = rw closed tt; undo_fit = rw closed undo_fit; redo_fit = rw closed redo_fit }
-
-none_open : (group : Option (List Command)) (document : Document) (pending : Option (List Change)) → pending ≡ None → LeadOut group document pending → group ≡ None
-none_open None document pending closed out = refl
-none_open (Some commands) document None closed out = absurd out
-none_open (Some commands) document (Some changes) closed out = absurd cc
-
-pub is_closed : (session : Standing) (history : History) → session.pending ≡ None → StandsFor session history → history.group ≡ None
-is_closed session history closed stands = none_open history.group (present_document history) session.pending closed stands.pending_leads
-
-pub stands_present : (session : Standing) (history : History) → session.pending ≡ None → StandsFor session history → session.document ≡ present_document history
-stands_present session history closed stands = stands.document ∙ ap (λ group. after_all (commands_in group) (present_document history)) (is_closed session history closed stands)
 
 closed_leads : (group : Option (List Command)) (document : Document) (pending : Option (List Change)) → group ≡ None → pending ≡ None → LeadOut group document pending
 closed_leads None document None e closed = tt
@@ -180,18 +164,28 @@ none_pending : (pending : Option (List Change)) (answer : Result (Unit {0}) Hist
 none_pending None answer done e is = refl
 none_pending (Some changes) answer done e is = absurd cc
 
--- what an answer of `closed` means for the session that was seen
+-- what an answer of `ensure_closed` means for the session that was seen
 pub seen_closed : (session seen : Standing) (done : Unit {0}) → session ≡ seen → ◌≡◌ {A = Result (Unit {0}) HistoryError} (Ok done) (if is_some seen.pending then Err GroupOpen else Ok tt) → session.pending ≡ None
 seen_closed session seen done same is = ap (λ session. session.pending) same ∙ none_pending seen.pending (Ok done) done refl is
 
--- as many plain changes as there are
-pub length-from_last : (changes : List HeldChange) → length (from_last changes) ≡ length changes
-length-from_last changes = length-map (reverse changes) change_of ∙ length-reverse changes
-
 pub some_from_last : (changes : List HeldChange) → (length changes == 0) ≡ false → 1 ≤ length (from_last changes)
-some_from_last changes some = let all = length-from_last changes in grind (arith, nat_tests)
+some_from_last changes some = let all = length_from_last changes in grind (arith, nat_tests)
 
 -- ---- undo and redo
+
+-- as many changes are kept as before
+moved_held : (undo_room redo_room : ℕ) (session : Standing) (document : Document) (undo redo : List Change) → session.pending ≡ None → IsDocument document → FitAlong undo document → FitAlong redo document → length session.undo + length session.redo ≡ length undo + length redo → IsHeld undo_room redo_room session → IsHeld undo_room redo_room (moved_to document undo redo session)
+moved_held undo_room redo_room session document undo redo closed valid undo_fit redo_fit all held = record {
+  ready = closed_ready (moved_to document undo redo session) closed valid undo_fit redo_fit;
+  some_depth = held.some_depth;
+  little_depth = held.little_depth;
+  room_for_undo = held.room_for_undo;
+  room_for_redo = held.room_for_redo;
+  within_depth = subst (λ n. n ≤ session.depth) all held.within_depth;
+  in_order = held.in_order;
+  few_marks = held.few_marks;
+  reached = subst (λ n. AllByRecursion (IsReached n) session.marks) all held.reached;
+}
 
 pub undone_held : (undo_room redo_room count : ℕ) (session : Standing) → session.pending ≡ None → count ≤ length session.undo → IsHeld undo_room redo_room session → IsHeld undo_room redo_room (undone_to (walked count (undo_walk session)) session)
 undone_held undo_room redo_room count session closed enough held =
@@ -199,18 +193,7 @@ undone_held undo_room redo_room count session closed enough held =
     let fit = closed_fits session closed held.ready in
     let ready = walked_ready count (undo_walk session) (record { valid = held.ready.valid; ahead_fit = fit.0; behind_fit = fit.1 }) in
     let left = walked_count count (undo_walk session) enough in
-    let all : length session.undo + length session.redo ≡ length walk.ahead + length walk.behind = omega (arith, left) in
-    record {
-      ready = closed_ready (undone_to walk session) closed ready.valid ready.ahead_fit ready.behind_fit;
-      some_depth = held.some_depth;
-      little_depth = held.little_depth;
-      room_for_undo = held.room_for_undo;
-      room_for_redo = held.room_for_redo;
-      within_depth = subst (λ n. n ≤ session.depth) all held.within_depth;
-      in_order = held.in_order;
-      few_marks = held.few_marks;
-      reached = subst (λ n. AllByRecursion (IsReached n) session.marks) all held.reached;
-    }
+    moved_held undo_room redo_room session walk.document walk.ahead walk.behind closed ready.valid ready.ahead_fit ready.behind_fit (omega (arith, left)) held
 
 pub redone_held : (undo_room redo_room count : ℕ) (session : Standing) → session.pending ≡ None → count ≤ length session.redo → IsHeld undo_room redo_room session → IsHeld undo_room redo_room (redone_to (walked count (redo_walk session)) session)
 redone_held undo_room redo_room count session closed enough held =
@@ -218,64 +201,45 @@ redone_held undo_room redo_room count session closed enough held =
     let fit = closed_fits session closed held.ready in
     let ready = walked_ready count (redo_walk session) (record { valid = held.ready.valid; ahead_fit = fit.1; behind_fit = fit.0 }) in
     let left = walked_count count (redo_walk session) enough in
-    let all : length session.undo + length session.redo ≡ length walk.behind + length walk.ahead = omega (arith, left) in
+    moved_held undo_room redo_room session walk.document walk.behind walk.ahead closed ready.valid ready.behind_fit ready.ahead_fit (omega (arith, left)) held
+
+-- what the session stands for at another point
+moved_stands : (point : ℕ) (session : Standing) (history : History) (document : Document) (undo redo : List Change) → session.pending ≡ None → StandsFor session history → StandsAt history.steps history.start point document undo redo → history.floor + length undo ≡ point → point + length redo ≡ length history.steps → StandsFor (moved_to document undo redo session) (at_point point history)
+moved_stands point session history document undo redo closed stands there back on =
+    let none = is_closed session history closed stands in
     record {
-      ready = closed_ready (redone_to walk session) closed ready.valid ready.behind_fit ready.ahead_fit;
-      some_depth = held.some_depth;
-      little_depth = held.little_depth;
-      room_for_undo = held.room_for_undo;
-      room_for_redo = held.room_for_redo;
-      within_depth = subst (λ n. n ≤ session.depth) all held.within_depth;
-      in_order = held.in_order;
-      few_marks = held.few_marks;
-      reached = subst (λ n. AllByRecursion (IsReached n) session.marks) all held.reached;
+      sound = sound_at_point point history stands.sound (omega (arith, back)) (omega (arith, on));
+      fits_in_file = stands.fits_in_file;
+      depth = stands.depth;
+      document = there.here ∙ ap (λ group. after_all (commands_in group) (document_at point history)) (sym none);
+      undo_reaches = back;
+      redo_reaches = on;
+      undo_leads = there.back;
+      redo_leads = there.on;
+      pending_leads = closed_leads history.group (document_at point history) session.pending none closed;
+      marks = stands.marks;
     }
+
+stands_here : (session : Standing) (history : History) → session.pending ≡ None → IsReady session → StandsFor session history → StandsAt history.steps history.start history.present session.document session.undo session.redo
+stands_here session history closed ready stands = record { valid = ready.valid; here = stands_present session history closed stands; back = stands.undo_leads; on = stands.redo_leads }
 
 pub undone_stands : (count : ℕ) (session : Standing) (history : History) → session.pending ≡ None → IsReady session → count ≤ length session.undo → StandsFor session history → StandsFor (undone_to (walked count (undo_walk session)) session) (at_point (history.present - count) history)
 undone_stands count session history closed ready enough stands =
     let walk = walked count (undo_walk session) in
     let back = stands.undo_reaches in
     let on = stands.redo_reaches in
-    let within = stands.sound.within_steps in
-    let none = is_closed session history closed stands in
-    let here : StandsAt history.steps history.start history.present session.document session.undo session.redo = record { valid = ready.valid; here = stands_present session history closed stands; back = stands.undo_leads; on = stands.redo_leads } in
-    let there = some_back history.steps history.start history.present count (undo_walk session) within (omega arith) enough here in
+    let there = some_back history.steps history.start history.present count (undo_walk session) stands.sound.within_steps (omega arith) enough (stands_here session history closed ready stands) in
     let left = walked_count count (undo_walk session) enough in
-    record {
-      sound = sound_at_point (history.present - count) history stands.sound (omega arith) (omega arith);
-      fits_in_file = stands.fits_in_file;
-      depth = stands.depth;
-      document = there.here ∙ ap (λ group. after_all (commands_in group) (document_at (history.present - count) history)) (sym none);
-      undo_reaches = omega (arith, left);
-      redo_reaches = omega (arith, left);
-      undo_leads = there.back;
-      redo_leads = there.on;
-      pending_leads = closed_leads history.group (document_at (history.present - count) history) session.pending none closed;
-      marks = stands.marks;
-    }
+    moved_stands (history.present - count) session history walk.document walk.ahead walk.behind closed stands there (omega (arith, left)) (omega (arith, left))
 
 pub redone_stands : (count : ℕ) (session : Standing) (history : History) → session.pending ≡ None → IsReady session → count ≤ length session.redo → StandsFor session history → StandsFor (redone_to (walked count (redo_walk session)) session) (at_point (history.present + count) history)
 redone_stands count session history closed ready enough stands =
     let walk = walked count (redo_walk session) in
     let back = stands.undo_reaches in
     let on = stands.redo_reaches in
-    let above = stands.sound.above_floor in
-    let none = is_closed session history closed stands in
-    let here : StandsAt history.steps history.start history.present session.document session.undo session.redo = record { valid = ready.valid; here = stands_present session history closed stands; back = stands.undo_leads; on = stands.redo_leads } in
-    let there = some_on history.steps history.start history.present count (redo_walk session) (omega arith) enough here in
+    let there = some_on history.steps history.start history.present count (redo_walk session) (omega arith) enough (stands_here session history closed ready stands) in
     let left = walked_count count (redo_walk session) enough in
-    record {
-      sound = sound_at_point (history.present + count) history stands.sound (omega arith) (omega arith);
-      fits_in_file = stands.fits_in_file;
-      depth = stands.depth;
-      document = there.here ∙ ap (λ group. after_all (commands_in group) (document_at (history.present + count) history)) (sym none);
-      undo_reaches = omega (arith, left);
-      redo_reaches = omega (arith, left);
-      undo_leads = there.back;
-      redo_leads = there.on;
-      pending_leads = closed_leads history.group (document_at (history.present + count) history) session.pending none closed;
-      marks = stands.marks;
-    }
+    moved_stands (history.present + count) session history walk.document walk.behind walk.ahead closed stands there (omega (arith, left)) (omega (arith, left))
 
 -- ---- what one undo and one redo answer
 

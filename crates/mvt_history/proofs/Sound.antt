@@ -162,10 +162,6 @@ sound_or_before : {E : Type 0} (before : History) (answer : Result History E) �
 sound_or_before before (Ok after) sound answered = answered
 sound_or_before before (Err error) sound answered = sound
 
--- what is answered is sound
-pub sound_answered : {E : Type 0} (answer : Result History E) (after : History) → IfOk answer IsSound → answer ≡ Ok after → IsSound after
-sound_answered answer after sound e = rw e at sound
-
 pub sound_asked : (request : Request) (history : History) → IsSound history → IsSound (asked request history)
 sound_asked (Edit command) history sound = sound_or_before history (edited command history) sound (sound_edited_to command history (applied command (standing_document history)) sound)
 sound_asked Undo history sound = sound_or_before history (undone history) sound (sound_undone history sound)

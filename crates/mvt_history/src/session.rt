@@ -39,15 +39,15 @@ pub struct Session {
 }
 
 impl Model for Session {
-    ghost use Rattle.std.specs.Prelude.{option_map};
     ghost use Rattle.mvt_history.specs.Standing.{Standing};
-    ghost use Rattle.mvt_history.specs.Held.{IsHeld, standing_of};
 
     ghost Value = { Standing };
 
-    ghost view = { λ s. standing_of s.document s.undo.items s.redo.items s.depth s.marks.items (option_map (λ pending. pending.items) s.pending) };
+    ghost use Rattle.mvt_history.specs.Inside.{IsHeldIn, seen_in};
 
-    ghost invariant = { λ s. IsHeld s.undo.capacity s.redo.capacity (standing_of s.document s.undo.items s.redo.items s.depth s.marks.items (option_map (λ pending. pending.items) s.pending)) };
+    ghost view = { seen_in };
+
+    ghost invariant = { IsHeldIn };
 }
 
 impl Session {
@@ -137,7 +137,7 @@ impl Session {
     }
 
     /// Refuses where a step is open.
-    fn closed(&self) -> Result<(), HistoryError>
+    fn ensure_closed(&self) -> Result<(), HistoryError>
         ensures { result ≡ (if is_some self.now.pending then Err GroupOpen else Ok tt) }
     {
         if self.pending.is_some() {
@@ -170,7 +170,7 @@ impl Session {
         ensures answer { (history : History) → StandsFor self.old history → AnswersWithMemory (undone history) history result self.new }
         ensures err { OnErr result (self.new ≡ self.old) }
     {
-        self.closed()?;
+        self.ensure_closed()?;
         if self.undo.is_empty() {
             return Err(HistoryError::NothingToUndo);
         }
@@ -189,7 +189,7 @@ impl Session {
         ensures answer { (history : History) → StandsFor self.old history → AnswersWithMemory (redone history) history result self.new }
         ensures err { OnErr result (self.new ≡ self.old) }
     {
-        self.closed()?;
+        self.ensure_closed()?;
         if self.redo.is_empty() {
             return Err(HistoryError::NothingToRedo);
         }
@@ -209,7 +209,7 @@ impl Session {
         ensures err { OnErr result (self.new ≡ self.old) }
         ensures no_memory { IfErr result (λ error. error ≡ NoMemory → point_of name.now self.old.marks ≡ None) }
     {
-        self.closed()?;
+        self.ensure_closed()?;
         if self.marks.len() == MAX_MARKS && find_point(self.marks.as_slice(), name).is_none() {
             return Err(HistoryError::TooManyMarks);
         }
@@ -223,7 +223,7 @@ impl Session {
         ensures answer { (history : History) → StandsFor self.old history → Answers (unmarked name.now history) history result self.new }
         ensures err { OnErr result (self.new ≡ self.old) }
     {
-        self.closed()?;
+        self.ensure_closed()?;
         unbind(&mut self.marks, name).ok_or(HistoryError::NoMark)
     }
 
@@ -234,7 +234,7 @@ impl Session {
         ensures answer { (history : History) → StandsFor self.old history → AnswersBack name.now history result self.new }
         ensures err { IfErr result (λ error. (self.new ≡ self.old) ⊎ IsStop error) }
     {
-        self.closed()?;
+        self.ensure_closed()?;
         let Some(point) = find_point(self.marks.as_slice(), name) else {
             return Err(HistoryError::NoMark);
         };
@@ -265,7 +265,7 @@ impl Session {
         ensures answer { (history : History) → StandsFor self.old history → Answers (opened history) history result self.new }
         ensures err { OnErr result (self.new ≡ self.old) }
     {
-        self.closed()?;
+        self.ensure_closed()?;
         self.pending = Some(Vec::new(self.alloc));
         Ok(())
     }

@@ -1,5 +1,5 @@
 -- Positions of the items that pass, one item after the other.
-use Rattle.std.proofs.Common.{◌≡◌, ℕ, zero, suc, ◌+◌, ◌<◌, ◌≤◌, Bool, true, false, ◌&&◌, not, Option, Some, None, List, [], ◌∷◌, length, map, filter, slice_get, slice_set, refl, sym, ap, ◌∙◌, ◌⊎◌, inl, inr, arith}
+use Rattle.std.proofs.Common.{◌≡◌, ℕ, zero, suc, ◌+◌, ◌<◌, ◌≤◌, Bool, true, false, ◌&&◌, not, Option, Some, None, List, [], ◌∷◌, length, map, filter, slice_get, refl, ◌∙◌, inl, inr, arith}
 use Rattle.std.proofs.lemmas.Bool.{cases_Bool, or_parts, or_from, and_right, and_from, not_from_true, not_from_false}
 use Rattle.std.specs.List.{enumerate_from, list_any, last_or}
 use Rattle.mvt_meaning.specs.Ordinals.{change_last}
@@ -39,18 +39,6 @@ last_some : {A : Type 0} (x : A) (xs : List A) → last_or (Some x) xs ≡ None 
 last_some x [] e = cc
 last_some x (y ∷ xs) e = last_some y xs e
 
-last_found : {A : Type 0} (o : Option A) (xs : List A) (x : A) → last_or o xs ≡ Some x → (o ≡ Some x) ⊎ ((i : ℕ) × (slice_get xs i ≡ Some x))
-last_found o [] x e = inl e
-last_found o (y ∷ xs) x e =
-    elim (last_found (Some y) xs x e) [ inl here ↦ inr (0, here) | inr later ↦ inr (suc later.0, later.1) ]
-
-pub last_within : {A : Type 0} (passes : A → Bool) (n : ℕ) (xs : List A) (k : ℕ) → last_or None (positions_from passes n xs) ≡ Some k → (n ≤ k) × (k < n + length xs)
-last_within passes n xs k e =
-    elim (last_found None (positions_from passes n xs) k e) [
-      | inl none ↦ absurd cc
-      | inr found ↦ positions_within passes n xs found.0 k found.1
-    ]
-
 -- none passes where there is no last one
 pub no_last : {A : Type 0} (passes : A → Bool) (n : ℕ) (xs : List A) → last_or None (positions_from passes n xs) ≡ None → list_any passes xs ≡ false
 no_last passes n [] e = refl
@@ -58,13 +46,6 @@ no_last passes n (x ∷ xs) e =
     elim (cases_Bool (passes x)) [
       | inl pass ↦ absurd (last_some n (positions_from passes (n + 1) xs) (rw (positions_pass passes n x xs pass) at e))
       | inr skip ↦ or_from (passes x) (list_any passes xs) skip (no_last passes (n + 1) xs (rw (positions_skip passes n x xs skip) at e))
-    ]
-
-pub some_last : {A : Type 0} (passes : A → Bool) (n : ℕ) (xs : List A) (k : ℕ) → last_or None (positions_from passes n xs) ≡ Some k → list_any passes xs ≡ true
-some_last passes n xs k e =
-    elim (cases_Bool (list_any passes xs)) [
-      | inl some ↦ some
-      | inr none ↦ absurd (let at_none = rw (no_positions passes n xs none) at e in cc)
     ]
 
 pub later_any : {A : Type 0} (passes : A → Bool) (x : A) (xs : List A) → list_any passes (x ∷ xs) ≡ true → passes x ≡ false → list_any passes xs ≡ true
@@ -102,25 +83,3 @@ change_later passes change x xs later =
 pub change_here : {A : Type 0} (passes : A → Bool) (change : A → A) (x : A) (xs : List A) → passes x ≡ true → list_any passes xs ≡ false → change_last passes change (x ∷ xs) ≡ change x ∷ xs
 change_here passes change x xs pass none =
     let yes : (passes x && not (list_any passes xs)) ≡ true = and_from (passes x) (not (list_any passes xs)) pass (not_from_false (list_any passes xs) none) in rw yes refl
-
-set_later : {A : Type 0} (passes : A → Bool) (change : A → A) (x : A) (xs : List A) (n j k : ℕ) (z : A) → n + 1 ≤ k → k ≡ n + j → slice_get (x ∷ xs) j ≡ Some z → ((i : ℕ) → k ≡ n + 1 + i → slice_get xs i ≡ Some z → change_last passes change xs ≡ slice_set xs i (change z)) → x ∷ change_last passes change xs ≡ slice_set (x ∷ xs) j (change z)
-set_later passes change x xs n zero k z low at is more = absurd (omega arith)
-set_later passes change x xs n (suc i) k z low at is more = ap (λ ys. x ∷ ys) (more i (omega arith) is)
-
-set_here : {A : Type 0} (change : A → A) (x : A) (xs : List A) (n j : ℕ) (z : A) → n ≡ n + j → slice_get (x ∷ xs) j ≡ Some z → change x ∷ xs ≡ slice_set (x ∷ xs) j (change z)
-set_here change x xs n zero z at is = let same : x ≡ z = cc in ap (λ y. change y ∷ xs) same
-set_here change x xs n (suc i) z at is = absurd (omega arith)
-
-pub change_last_set : {A : Type 0} (passes : A → Bool) (change : A → A) (xs : List A) (n j k : ℕ) (z : A) → last_or None (positions_from passes n xs) ≡ Some k → k ≡ n + j → slice_get xs j ≡ Some z → change_last passes change xs ≡ slice_set xs j (change z)
-change_last_set passes change [] n j k z e at is = absurd cc
-change_last_set passes change (x ∷ xs) n j k z e at is =
-    elim (cases_Bool (list_any passes xs)) [
-      | inl later ↦ (
-          let there = sym (last_later passes n x xs later) ∙ e in
-          change_later passes change x xs later ∙ set_later passes change x xs n j k z (last_within passes (n + 1) xs k there).0 at is (λ i at is. change_last_set passes change xs (n + 1) i k z there at is)
-          )
-      | inr none ↦ (
-          let here = last_here passes n k x xs none e in
-          change_here passes change x xs here.0 none ∙ set_here change x xs n j z (here.1 ∙ at) is
-          )
-    ]

@@ -1,7 +1,7 @@
 -- The numbers of fields, from a position on.
-use Rattle.std.proofs.Common.{◌≡◌, ℕ, ◌+◌, ◌<◌, ◌≤◌, List, [], ◌++◌, length, get_or, map, sym, ap, ◌∙◌, arith}
+use Rattle.std.proofs.Common.{◌≡◌, ℕ, ◌+◌, ◌<◌, List, ◌++◌, length, get_or, map, sym, ap, ◌∙◌, arith}
 use Rattle.std.specs.List.{flat_map, enumerate_from}
-use Rattle.std.proofs.lemmas.List.{drop_more, drop_all, length-map, get_or-map}
+use Rattle.std.proofs.lemmas.List.{drop_more, length-map, get_or-map}
 use Rattle.mvt_wire.specs.Plain as plain
 use Rattle.mvt_wire.specs.Stands.{field_of}
 use Rattle.mvt_wire.specs.declared.Field.{Field}
@@ -17,8 +17,3 @@ numbers_from-more number position fields field within read =
     let first : get_or all position (field_of field) ≡ field_of field = get_or-map field_of fields position field (field_of field) within ∙ ap field_of (sym read) in
     ap (λ (rest : List plain.Field). flat_map (numbers_in number) (enumerate_from position rest)) (drop_more all position (field_of field) inside)
     ∙ ap (λ (f : plain.Field). numbers_in number (position, f) ++ numbers_from number (position + 1) all) first
-
--- past the last field there are none
-pub numbers_from-all : (number position : ℕ) (fields : List Field) → length fields ≤ position → numbers_from number position (map field_of fields) ≡ []
-numbers_from-all number position fields past =
-    ap (λ (rest : List plain.Field). flat_map (numbers_in number) (enumerate_from position rest)) (drop_all position (map field_of fields) (omega (arith, length-map fields field_of)))

@@ -9,7 +9,7 @@ use Rattle.mvt_document.specs.Groups.{IsNumber, IsEnd, IsFlatBody, IsGroup}
 use Rattle.mvt_read.specs.Open.{LeadsTo}
 use Rattle.mvt_read.proofs.Begins.{from, IsNumberAt, number_then, field_taken}
 use Rattle.mvt_document.proofs.Prefixes.{number_with, field_with}
-use Rattle.mvt_read.proofs.OpenBytes.{NothingLeft, IsTagAt, field_of_parts, flat_is_whole, field_leads, start_leads, end_leads, no_tag, no_body, too_deep, other_end, leads_nowhere, leads_on, group_ends, no_group}
+use Rattle.mvt_read.proofs.OpenBytes.{NothingLeft, IsTagAt, field_of_parts, flat_is_whole, field_leads, start_leads, end_leads, no_tag, no_body, too_deep, other_end, leads_on, group_ends, no_group}
 
 -- a tag at the front, as the program reads it
 pub record IsTagFound (value width : ℕ) (bytes : List ℕ) : Type 0 where
@@ -69,9 +69,6 @@ end_missing v w bytes (number ∷ numbers) t some kind other =
 pub record IsInGroup (number : ℕ) (bytes groups : List ℕ) (place : ℕ) : Type 0 where
   pub within : place ≤ length bytes
   pub leads : LeadsTo (take place bytes) (number ∷ []) groups
-
-pub in_group-start : (number : ℕ) (bytes : List ℕ) → IsInGroup number bytes (number ∷ []) 0
-in_group-start number bytes = record { within = omega arith; leads = leads_nowhere (number ∷ []) }
 
 pub in_group-more : (number : ℕ) (bytes groups new : List ℕ) (place size : ℕ) → IsInGroup number bytes groups place → size ≤ length (from place bytes) → LeadsTo (take size (from place bytes)) groups new → IsInGroup number bytes new (place + size)
 in_group-more number bytes groups new place size p enough q =

@@ -273,9 +273,6 @@ other_end tag number numbers bytes after t kind other = λ left rest c e.
 
 -- ---- piece by piece
 
-pub leads_nowhere : (numbers : List ℕ) → LeadsTo [] numbers numbers
-leads_nowhere numbers = record { closes = λ left c. c; goes_on = λ bytes after rest c e. (bytes, c, e) }
-
 pub leads_on : (first second old middle new : List ℕ) → LeadsTo first old middle → LeadsTo second middle new → LeadsTo (first ++ second) old new
 leads_on first second old middle new p q =
     record {

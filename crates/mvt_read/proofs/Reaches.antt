@@ -1,7 +1,7 @@
 -- Reading fields from the front of a content: how far it has come, and where it stops.
-use Rattle.std.proofs.Common.{◌≡◌, ℕ, ◌+◌, ◌-◌, ◌<◌, ◌≤◌, min, List, [], ◌∷◌, ◌++◌, length, map, take, drop, refl, sym, ap, ◌∙◌, subst, append_assoc, arith}
+use Rattle.std.proofs.Common.{◌≡◌, ℕ, ◌+◌, ◌-◌, ◌<◌, ◌≤◌, min, List, [], ◌∷◌, ◌++◌, length, map, take, drop, sym, ap, ◌∙◌, subst, append_assoc, arith}
 use Rattle.std.specs.List.{flat_map, AllByRecursion}
-use Rattle.std.proofs.lemmas.List.{length-take, length-drop, take-append-drop, take_rest, take_all, append-nil}
+use Rattle.std.proofs.lemmas.List.{length-take, length-drop, take-append-drop, take_rest, append-nil}
 use Rattle.std.proofs.lemmas.List.Folds.{flat_map-map}
 use Rattle.std.proofs.lemmas.Grind.{flat_map-append}
 use Rattle.std.proofs.Math.Seq.{take-add}
@@ -40,9 +40,6 @@ pub bytes_push : {T : Type 0} (f : T → Field) (items : List T) (x : T) → byt
 bytes_push f items x =
     flat_map-append (λ i. field_bytes (f i)) items (x ∷ []) ∙ ap (λ (b : List ℕ). bytes_by f items ++ b) (append-nil (field_bytes (f x)))
 
-pub reaches_start : {T : Type 0} (f : T → Field) (w : T → Type 0) (content : List ℕ) → Reaches f w content 0 []
-reaches_start f w content = record { within = omega arith; spelled = refl; fields = tt; whole = tt }
-
 pub reaches_more : {T : Type 0} (f : T → Field) (w : T → Type 0) (content : List ℕ) (place : ℕ) (items : List T) (x : T) (field : Field) (size : ℕ)
     → Reaches f w content place items → IsFieldAt field size (from place content) → f x ≡ field → w x → Reaches f w content (place + size) (items ++ x ∷ [])
 reaches_more f w content place items x field size r h e p =
@@ -56,10 +53,6 @@ reaches_more f w content place items x field size r h e p =
       fields = all_push (λ i. IsWholeField (f i)) items x r.fields (subst IsWholeField (sym e) h.whole);
       whole = all_push w items x r.whole p;
     }
-
--- at the end the content is these items
-pub reaches_all : {T : Type 0} (f : T → Field) (w : T → Type 0) (content : List ℕ) (place : ℕ) (items : List T) → Reaches f w content place items → length content ≤ place → content ≡ bytes_by f items
-reaches_all f w content place items r h = sym (take_all place content h) ∙ r.spelled
 
 -- a place further on is closer to the end
 pub further : (content : List ℕ) (place size : ℕ) (field : Field) → place < length content → IsFieldAt field size (from place content) → length content - (place + size) < length content - place

@@ -1,6 +1,6 @@
 -- A list in two pieces, the second of them in reverse.
 use Rattle.std.proofs.Common.{◌≡◌, ℕ, suc, ◌+◌, ◌-◌, ◌≤◌, List, [], ◌∷◌, ◌++◌, length, length-drop, take, drop, reverse, take-append-drop, refl, sym, ap, ◌∙◌, arith}
-use Rattle.std.proofs.lemmas.List.{length-reverse, reverse-append, reverse-reverse, take_at, drop_at, take-append-le, drop-append-le, drop-drop}
+use Rattle.std.proofs.lemmas.List.{length-reverse, reverse-append, reverse-reverse, take_at, drop_at, drop-drop}
 use Rattle.mvt_document.specs.Splicing.{part}
 
 pieces_back : {A : Type 0} (left : ℕ) (xs : List A) → reverse (drop left xs) ++ reverse (take left xs) ≡ reverse xs
@@ -18,16 +18,6 @@ first_of left count xs all =
     sym (reverse-reverse (take left xs)) ∙ ap reverse (sym (drop_at (reverse (drop left xs)) (reverse (take left xs)) count long) ∙ ap (drop count) (pieces_back left xs))
 
 -- ---- the gap goes to an index
-
--- .. before it: so much of the front goes to the back
-pub back_front : {A : Type 0} (index : ℕ) (front back : List A) → index ≤ length front → take index front ≡ take index (front ++ reverse back)
-back_front index front back within = sym (take-append-le index front (reverse back) within)
-
-pub back_back : {A : Type 0} (index : ℕ) (front back : List A) → index ≤ length front → back ++ reverse (drop index front) ≡ reverse (drop index (front ++ reverse back))
-back_back index front back within =
-    ap (λ y. y ++ reverse (drop index front)) (sym (reverse-reverse back))
-    ∙ sym (reverse-append (drop index front) (reverse back))
-    ∙ ap reverse (sym (drop-append-le index front (reverse back) within))
 
 -- .. behind it: so much of the back goes to the front
 take_past : {A : Type 0} (n : ℕ) (xs ys : List A) → take (length xs + n) (xs ++ ys) ≡ xs ++ take n ys

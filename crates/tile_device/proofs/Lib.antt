@@ -1,6 +1,5 @@
 pub mod Troubles
 pub mod Meeting
-pub mod Spending
 pub mod Sending
 pub mod Writing
 pub mod Supplying

@@ -1,9 +1,8 @@
 -- What trouble was met, over several calls.
-use Rattle.std.proofs.Common.{◌≡◌, ℕ, ◌+◌, IsTrue, arith, sym, ◌∙◌, ap, zero-add, Some, None}
+use Rattle.std.proofs.Common.{◌≡◌, ℕ, ◌+◌, IsTrue, sym, ◌∙◌, ap, zero-add, None}
 use Rattle.std.specs.declared.option.Option.{Option}
 use Rattle.tile_device.specs.Device.{counted, interruptions_in, failures_in, interruptions_after, failures_after}
 use Rattle.tile_device.specs.declared.device.Trouble.{Trouble}
-use Rattle.tile_device.specs.declared.device.Trouble.TheVariants.{Interrupted}
 use Rattle.tile_device.specs.Seen.{Seen, Meets}
 use Rattle.tile_device.proofs.Troubles.{counted-zero, counted-more, counted-same}
 
@@ -27,7 +26,3 @@ meets_then a b c n m trouble first second = record {
   failures = counted-same (failures_in trouble) a.failures b.failures c.failures first.failures second.failures;
   still_tells = λ h. first.still_tells (second.still_tells h);
 }
-
--- the interrupted call was made again
-pub meets_again : (a b : Seen) (n k : ℕ) → k ≡ n + 1 → Meets a b n (Some Interrupted) → Meets a b k None
-meets_again a b n k e met = record { interruptions = met.interruptions ∙ ap (λ (m : ℕ). counted m a.interruptions) (omega arith); failures = met.failures; still_tells = met.still_tells }

@@ -44,13 +44,6 @@ stops_early A B a b n bytes more trouble sends = (
   sends.2,
 )
 
--- it stops, and the trouble is passed on
-pub sends_stopped : {A B : Type 0} (a b : Seen) (n : ℕ) (bytes : List ℕ) (r : Result A Trouble) (q : Result B Trouble) (trouble : Trouble)
-    → r ≡ Err trouble → q ≡ Err trouble → Sends a b bytes n r → Sends a b bytes n q
-sends_stopped {A} {B} a b n bytes r q trouble was is sends =
-    let step : Sends {A = A} a b bytes n (Err trouble) = subst (Sends a b bytes n) was sends in
-    subst (Sends {A = B} a b bytes n) (sym is) step
-
 -- ---- a flush
 
 -- a flush is not interrupted

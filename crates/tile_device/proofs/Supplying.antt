@@ -1,15 +1,12 @@
 -- What a source supplied, over several calls.
-use Rattle.std.proofs.Common.{◌≡◌, ℕ, ◌+◌, ◌<◌, false, List, [], ◌++◌, IsTrue, length, take, sym, ap, subst, ◌∙◌, refl, append-nil, arith, Some, None, ◌≤◌}
+use Rattle.std.proofs.Common.{◌≡◌, ℕ, ◌+◌, ◌<◌, false, List, [], ◌++◌, length, take, sym, ap, subst, ◌∙◌, refl, append-nil, arith, Some, None, ◌≤◌}
 use Rattle.std.specs.Prelude.{Result, Ok, Err, nat_lt, ◌&&◌, ◌==◌}
-use Rattle.std.specs.Io.KnownBytes.{ReadConsumes}
-use Rattle.std.proofs.KnownBytes.{Consumes-nil, Consumes-trans, Consumes-kept}
+use Rattle.std.proofs.KnownBytes.{Consumes-nil, Consumes-trans}
 use Rattle.std.specs.declared.vec.Vec.{Vec}
 use Rattle.std.specs.declared.alloc.Global.{Global}
 use Rattle.std.proofs.lemmas.Bool.{and_from, eq-eqb, lt-ltb}
-use Rattle.std.proofs.lemmas.Bool.Decides.{nat_tests}
-use Rattle.tile_device.specs.Device.{trouble_of}
 use Rattle.tile_device.specs.declared.device.Trouble.{Trouble}
-use Rattle.tile_device.specs.Seen.{Seen, Intake, Meets, Supplies, nothing_read}
+use Rattle.tile_device.specs.Seen.{Seen, Intake, Supplies, nothing_read}
 use Rattle.tile_device.specs.Transfer.{ReadsUpTo, piece_of}
 use Rattle.tile_device.specs.declared.transfer.ReadFault.{ReadFault}
 use Rattle.tile_device.specs.declared.transfer.ReadFault.TheVariants.{Device}
@@ -29,24 +26,6 @@ supplies_more a b c n bytes intake first second = record {
   meets = meets_then a b c n intake.retries intake.trouble first.meets second.meets;
   bytes = λ told. Consumes-trans a.bytes b.bytes c.bytes bytes intake.bytes (first.bytes (second.meets.still_tells told)) (second.bytes told);
   whole = second.whole;
-}
-
--- it gave none, and there was room
-none_with_room : (n : ℕ) (buffer : List ℕ) → IsTrue ((n == 0) && nat_lt 0 (length buffer)) → (n ≡ 0) × (0 < length buffer)
-none_with_room n buffer h = (grind (arith, nat_tests), grind (arith, nat_tests))
-
--- what one call read
-pub supplies_call : (a b : Seen) (r : Result ℕ Trouble) (buffer : List ℕ) → Meets a b 0 (trouble_of r)
-    → (IsTrue b.tells → ReadConsumes a.bytes b.bytes r buffer) → Supplies a b (piece_of r buffer 0)
-supplies_call a b (Ok n) buffer met reads = record {
-  meets = met;
-  bytes = λ told. (reads told).0;
-  whole = λ told whole. let none = none_with_room n buffer whole in (reads told).1 none.0 none.1;
-}
-supplies_call a b (Err trouble) buffer met reads = record {
-  meets = met;
-  bytes = λ told. Consumes-kept a.bytes a.bytes b.bytes [] (Consumes-nil a.bytes) (reads told);
-  whole = λ told whole. absurd cc;
 }
 
 -- what a reading up to a limit answers, and what it read

@@ -1,10 +1,8 @@
 -- The whole lines of a front of a script, and the line that goes on behind them.
-use Rattle.std.proofs.Common.{◌≡◌, ℕ, ◌+◌, ◌<◌, Bool, true, false, eqb, eq-eqb, List, [], ◌∷◌, ◌++◌, length, take, get_or, refl, sym, ap, ◌∙◌, append_assoc, arith}
+use Rattle.std.proofs.Common.{◌≡◌, ℕ, Bool, true, false, List, [], ◌∷◌, ◌++◌, refl, sym, ap, ◌∙◌}
 use Rattle.std.specs.List.{slice_split, onto_first}
-use Rattle.std.proofs.lemmas.Bool.Decides.{nat_tests}
-use Rattle.std.proofs.lemmas.List.{append-nil, take_more}
+use Rattle.std.proofs.lemmas.List.{append-nil}
 use Rattle.tile_lines.specs.Lines.{is_line_feed, last_line, without_empty_end, without_last, whole_lines, lines_of}
-use Rattle.tile_lines.proofs.LineCuts.{first_stays}
 
 -- the last of some parts
 abbrev last_part : List (List ℕ) → List ℕ
@@ -116,35 +114,3 @@ lines_of-open script =
 
 pub whole_lines-other : (front : List ℕ) (byte : ℕ) → is_line_feed byte ≡ false → whole_lines (front ++ byte ∷ []) ≡ whole_lines front
 whole_lines-other front byte other = ap without_last (other_parts front byte other) ∙ without_last-append (whole_lines front) (open_line front ++ byte ∷ []) [] ∙ append-nil (whole_lines front)
-
-pub whole_lines-feed : (front : List ℕ) (byte : ℕ) → is_line_feed byte ≡ true → lines_of (front ++ byte ∷ []) ≡ whole_lines (front ++ byte ∷ [])
-whole_lines-feed front byte feed =
-    lines_of-open (front ++ byte ∷ []) ∙ ap (λ (line : List ℕ). whole_lines (front ++ byte ∷ []) ++ last_line line) (open_line-line_feed front byte feed) ∙ append-nil (whole_lines (front ++ byte ∷ []))
-
--- the lines of a script that is cut behind a line feed
-pub lines_of-append : (front more : List ℕ) → lines_of (front ++ 10 ∷ more) ≡ lines_of (front ++ 10 ∷ []) ++ lines_of more
-unfolding lines_of
-lines_of-append front more =
-    let parts = split-append front (10 ∷ more) ∙ ap (λ (line : List ℕ). whole_lines front ++ line ∷ slice_split is_line_feed more) (append-nil (open_line front)) in
-    let ended = whole_lines-feed front 10 refl ∙ whole_lines-line_feed front 10 refl in
-    ap without_empty_end parts ∙ without_empty_end-append (whole_lines front) (open_line front) (slice_split is_line_feed more)
-    ∙ ap (λ (lines : List (List ℕ)). whole_lines front ++ lines) (first_stays (open_line front) more)
-    ∙ sym (append_assoc (whole_lines front) (open_line front ∷ []) (lines_of more)) ∙ ap (λ (lines : List (List ℕ)). lines ++ lines_of more) (sym ended)
-
-pub lines_of-nothing : lines_of [] ≡ whole_lines []
-unfolding lines_of
-lines_of-nothing = refl
-
-pub lines_to-feed : (text : List ℕ) (place end : ℕ) → place < length text → get_or text place 0 ≡ 10 → end ≡ place + 1
-    → lines_of (take end text) ≡ whole_lines (take (place + 1) text)
-lines_to-feed text place end lt feed is =
-    let more : take (place + 1) text ≡ take place text ++ get_or text place 0 ∷ [] = take_more text place 0 lt in
-    ap (λ (n : ℕ). lines_of (take n text)) is ∙ ap lines_of more
-    ∙ whole_lines-feed (take place text) (get_or text place 0) (eq-eqb (get_or text place 0) 10 feed) ∙ ap whole_lines (sym more)
-
-pub lines_to-other : (text : List ℕ) (place end so_far : ℕ) → place < length text → (get_or text place 0 ≡ 10 → ⊥) → end ≡ so_far
-    → lines_of (take so_far text) ≡ whole_lines (take place text) → lines_of (take end text) ≡ whole_lines (take (place + 1) text)
-lines_to-other text place end so_far lt other is before =
-    let more : take (place + 1) text ≡ take place text ++ get_or text place 0 ∷ [] = take_more text place 0 lt in
-    let no : eqb (get_or text place 0) 10 ≡ false = grind (arith, nat_tests) in
-    ap (λ (n : ℕ). lines_of (take n text)) is ∙ before ∙ sym (whole_lines-other (take place text) (get_or text place 0) no) ∙ ap whole_lines (sym more)

@@ -1,16 +1,18 @@
 -- A line of the right words asks for a request.
 use Rattle.std.proofs.Common.{◌≡◌, ℕ, true, false, eqb, List, [], ◌∷◌, ◌++◌, Some, Ok, refl, ap, ◌∙◌}
 use Rattle.std.specs.Prelude.{codes}
+use Rattle.std.specs.List.{AllByRecursion}
 use Rattle.std.specs.Str.Parse.{digits_value}
 use Rattle.mvt_command.specs.Command.{Command, AtOrdinal, Named, RenameLayer, FeatureAtOrdinal, WithId}
 use Rattle.tile_arguments.specs.Arguments.{is_number}
 use Rattle.tile_arguments.proofs.Meant.{text_quoted, layer_named, layer_at, feature_at, feature_with_id}
-use Rattle.tile_request.specs.Request.{Request, Edit, Undo, Redo, SetMark, Begin, Size, Lists, Whole, OneLayer, OneFeature}
+use Rattle.tile_request.specs.Request.{Request, Edit, Undo, Redo, SetMark, TakeMark, GoBack, Begin, End, Cancel, ListMarks, TellHistory, Size, Lists, Whole, OneLayer, OneFeature}
 use Rattle.tile_words.specs.Words.{Word, Bare, Quoted, words_of}
 use Rattle.tile_words.specs.Spelling.{SpellsWords}
 use Rattle.tile_words.proofs.Again.{words_only, behind_blanks, no_gap}
 use Rattle.tile_script.specs.Commands.{command_word_of, rename_layer_of}
 use Rattle.tile_script.specs.Line.{TakesMemory, plain_word_of, keyword_of, edit_of, plain_of, name_of, list_of, asked_by, is_remark_behind, is_remark, request_in, answer_to, IsReadable}
+use Rattle.tile_script.specs.Shapes.{AsksAlone, AsksByName, requests_alone, requests_by_name}
 use Rattle.tile_script.proofs.Silent.{answer_to-words}
 
 -- a line is no remark, where its first word is bare and begins with another byte
@@ -30,40 +32,48 @@ asks_by line b name arguments request readable other s asked =
     let words = Bare (b ∷ name) ∷ arguments in
     asks line words request (readable, no_remark line b name arguments s ∙ other) (words_only line words s) asked
 
-pub asks_undo : (line : List ℕ) → IsReadable line → SpellsWords line (Bare (codes "undo") ∷ []) → answer_to line ≡ Ok (Some Undo)
-unfolding asked_by plain_word_of keyword_of plain_of
-asks_undo line readable s = asks_by line 117 (110 ∷ 100 ∷ 111 ∷ []) [] Undo readable refl s asked
-  where
-    asked : asked_by (Bare (codes "undo") ∷ []) ≡ Ok Undo
-    asked = refl
+-- ---- lines of a request's word, alone or with a name
 
-pub asks_redo : (line : List ℕ) → IsReadable line → SpellsWords line (Bare (codes "redo") ∷ []) → answer_to line ≡ Ok (Some Redo)
-unfolding asked_by plain_word_of keyword_of plain_of
-asks_redo line readable s = asks_by line 114 (101 ∷ 100 ∷ 111 ∷ []) [] Redo readable refl s asked
-  where
-    asked : asked_by (Bare (codes "redo") ∷ []) ≡ Ok Redo
-    asked = refl
+alone : (b : ℕ) (name : List ℕ) (request : Request) → eqb b 35 ≡ false → asked_by (Bare (b ∷ name) ∷ []) ≡ Ok request → AsksAlone (b ∷ name, request)
+alone b name request other asked = λ line readable s. asks_by line b name [] request readable other s asked
 
-pub asks_begin : (line : List ℕ) → IsReadable line → SpellsWords line (Bare (codes "begin") ∷ []) → answer_to line ≡ Ok (Some Begin)
+pub asks_alone : AllByRecursion AsksAlone requests_alone
 unfolding asked_by plain_word_of keyword_of plain_of
-asks_begin line readable s = asks_by line 98 (101 ∷ 103 ∷ 105 ∷ 110 ∷ []) [] Begin readable refl s asked
-  where
-    asked : asked_by (Bare (codes "begin") ∷ []) ≡ Ok Begin
-    asked = refl
+asks_alone = (
+  alone _ _ Undo refl refl,
+  (
+    alone _ _ Redo refl refl,
+    (
+      alone _ _ ListMarks refl refl,
+      (
+        alone _ _ TellHistory refl refl,
+        (
+          alone _ _ Begin refl refl,
+          (
+            alone _ _ End refl refl,
+            (
+              alone _ _ Cancel refl refl,
+              (alone _ _ Size refl refl, tt),
+            ),
+          ),
+        ),
+      ),
+    ),
+  ),
+)
 
-pub asks_size : (line : List ℕ) → IsReadable line → SpellsWords line (Bare (codes "size") ∷ []) → answer_to line ≡ Ok (Some Size)
-unfolding asked_by plain_word_of keyword_of plain_of
-asks_size line readable s = asks_by line 115 (105 ∷ 122 ∷ 101 ∷ []) [] Size readable refl s asked
-  where
-    asked : asked_by (Bare (codes "size") ∷ []) ≡ Ok Size
-    asked = refl
+by_name : (b : ℕ) (word : List ℕ) (request : List ℕ → Request) → eqb b 35 ≡ false → ((name : List ℕ) → asked_by (Bare (b ∷ word) ∷ Quoted name ∷ []) ≡ Ok (request name)) → AsksByName (b ∷ word, request)
+by_name b word request other asked = λ line name readable s. asks_by line b word (Quoted name ∷ []) (request name) readable other s (asked name)
 
-pub asks_mark : (line name : List ℕ) → IsReadable line → SpellsWords line (Bare (codes "mark") ∷ Quoted name ∷ []) → answer_to line ≡ Ok (Some (SetMark name))
+pub asks_by_name : AllByRecursion AsksByName requests_by_name
 unfolding asked_by keyword_of name_of
-asks_mark line name readable s = asks_by line 109 (97 ∷ 114 ∷ 107 ∷ []) (Quoted name ∷ []) (SetMark name) readable refl s asked
-  where
-    asked : asked_by (Bare (codes "mark") ∷ Quoted name ∷ []) ≡ Ok (SetMark name)
-    asked = rw (text_quoted name) refl
+asks_by_name = (
+  by_name _ _ SetMark refl (λ name. rw (text_quoted name) refl),
+  (
+    by_name _ _ TakeMark refl (λ name. rw (text_quoted name) refl),
+    (by_name _ _ GoBack refl (λ name. rw (text_quoted name) refl), tt),
+  ),
+)
 
 -- ---- lines whose first word is `rename-layer`
 

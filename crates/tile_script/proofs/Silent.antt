@@ -1,5 +1,5 @@
 -- Lines that ask for nothing, and lines that take memory.
-use Rattle.std.proofs.Common.{◌≡◌, ℕ, false, true, ltb, List, length, Some, None, Result, Ok, Err, refl, sym, ◌∙◌}
+use Rattle.std.proofs.Common.{◌≡◌, ℕ, false, true, ltb, List, length, Some, None, Result, Ok, Err, refl}
 use Rattle.std.specs.Str.{is_utf8}
 use Rattle.std.proofs.lemmas.Bool.{le-ltb}
 use Rattle.std.proofs.lemmas.Str.{is_utf8-from_IsUtf8}
@@ -20,7 +20,3 @@ answer_to-words line (readable, other) =
     let short : ltb LINE_LIMIT (length line) ≡ false = le-ltb _ _ readable.0 in
     let text : is_utf8 line ≡ true = is_utf8-from_IsUtf8 line readable.1 in
     rw (short, text, other) refl
-
--- a line that asks for nothing takes no memory
-pub nothing_taken : (line : List ℕ) → answer_to line ≡ Ok None → TakesMemory line → ⊥
-nothing_taken line nothing takes = asks_something (request_in line) (sym (answer_to-words line takes) ∙ nothing)

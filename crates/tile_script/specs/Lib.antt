@@ -1,2 +1,3 @@
 pub mod Commands
 pub mod Line
+pub mod Shapes

@@ -1,27 +1,26 @@
 //! Laws on how a line is read. That of a line's words is passed on.
 
 ghost use Rattle.std.specs.Prelude.{◌≡◌, ℕ, List, [], ◌∷◌, ◌++◌, Some, Ok, codes, IsTrue};
+ghost use Rattle.std.specs.List.{AllByRecursion};
 ghost use Rattle.std.specs.Str.Parse.{digits_value};
 ghost use Rattle.mvt_command.specs.Command.{AtOrdinal, Named, RenameLayer, FeatureAtOrdinal, WithId};
 ghost use Rattle.tile_arguments.specs.Arguments.{is_number};
-ghost use Rattle.tile_request.specs.Request.{Edit, Undo, Redo, SetMark, Begin, Size, Lists, Whole, OneLayer, OneFeature};
+ghost use Rattle.tile_request.specs.Request.{Edit, Lists, Whole, OneLayer, OneFeature};
 ghost use Rattle.tile_script.specs.Line.{IsReadable, answer_to};
+ghost use Rattle.tile_script.specs.Shapes.{AsksAlone, AsksByName, requests_alone, requests_by_name};
 ghost use Rattle.tile_words.specs.Spelling.{SpellsWords};
 ghost use Rattle.tile_words.specs.Words.{Bare, Quoted};
 
 pub use tile_words::laws::words_are_spelled;
 
-/// What some shapes of line ask for: `undo`, `redo`, `begin` and `size`, `mark` with a name, `rename-layer` with a
-/// layer's name or its ordinal, and with the new name, and `list` alone, with a layer's name, with the ordinals of a
-/// layer and of a feature, and with a layer's name and a feature's id.
+/// What some shapes of line ask for: each word that takes no argument, `mark`, `unmark` and `back` with a name,
+/// `rename-layer` with a layer's name or its ordinal, and with the new name, and `list` alone, with a layer's name, with
+/// the ordinals of a layer and of a feature, and with a layer's name and a feature's id.
 pub fn words_ask_for_requests()
-    ensures undo { (line : List ℕ) → IsReadable line → SpellsWords line (Bare (codes "undo") ∷ []) → answer_to line ≡ Ok (Some Undo) }
-    ensures redo { (line : List ℕ) → IsReadable line → SpellsWords line (Bare (codes "redo") ∷ []) → answer_to line ≡ Ok (Some Redo) }
-    ensures mark { (line name : List ℕ) → IsReadable line → SpellsWords line (Bare (codes "mark") ∷ Quoted name ∷ []) → answer_to line ≡ Ok (Some (SetMark name)) }
-    ensures begin { (line : List ℕ) → IsReadable line → SpellsWords line (Bare (codes "begin") ∷ []) → answer_to line ≡ Ok (Some Begin) }
+    ensures alone { AllByRecursion AsksAlone requests_alone }
+    ensures by_name { AllByRecursion AsksByName requests_by_name }
     ensures rename_layer { (line old new : List ℕ) → IsReadable line → SpellsWords line (Bare (codes "rename-layer") ∷ Quoted old ∷ Quoted new ∷ []) → answer_to line ≡ Ok (Some (Edit (RenameLayer (Named old) new))) }
     ensures rename_layer_at { (line digits new : List ℕ) → IsReadable line → IsTrue (is_number digits) → SpellsWords line (Bare (codes "rename-layer") ∷ Bare (codes "#" ++ digits) ∷ Quoted new ∷ []) → answer_to line ≡ Ok (Some (Edit (RenameLayer (AtOrdinal (digits_value 10 digits)) new))) }
-    ensures size { (line : List ℕ) → IsReadable line → SpellsWords line (Bare (codes "size") ∷ []) → answer_to line ≡ Ok (Some Size) }
     ensures list { (line : List ℕ) → IsReadable line → SpellsWords line (Bare (codes "list") ∷ []) → answer_to line ≡ Ok (Some (Lists Whole)) }
     ensures list_layer { (line name : List ℕ) → IsReadable line → SpellsWords line (Bare (codes "list") ∷ Quoted name ∷ []) → answer_to line ≡ Ok (Some (Lists (OneLayer (Named name)))) }
     ensures list_feature_at { (line layer feature : List ℕ) → IsReadable line → IsTrue (is_number layer) → IsTrue (is_number feature) → SpellsWords line (Bare (codes "list") ∷ Bare (codes "#" ++ layer) ∷ Bare feature ∷ []) → answer_to line ≡ Ok (Some (Lists (OneFeature (AtOrdinal (digits_value 10 layer)) (FeatureAtOrdinal (digits_value 10 feature))))) }

@@ -19,12 +19,6 @@ use Rattle.mvt_geometry.specs.declared.shapes.Point.{Point}
 pub extends_more : (a b c : List ℕ) → Extends a b → Extends b c → Extends a c
 extends_more a b c h k = record { added = h.added ++ k.added; whole = k.whole ∙ ap (λ (xs : List ℕ). xs ++ k.added) h.whole ∙ append_assoc a h.added k.added }
 
-pub extends_same : (a b : List ℕ) → b ≡ a → Extends a b
-extends_same a b e = record { added = []; whole = e ∙ sym (append-nil a) }
-
-pub extends_by : (a b more : List ℕ) → b ≡ a ++ more → Extends a b
-extends_by a b more e = record { added = more; whole = e }
-
 -- ---- hexadecimal digits
 
 pub encode_with-append : (t xs ys : List ℕ) → encode_with t (xs ++ ys) ≡ encode_with t xs ++ encode_with t ys

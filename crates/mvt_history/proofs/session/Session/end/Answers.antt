@@ -5,9 +5,11 @@ use Rattle.mvt_change.specs.ChangeStands.{change_of}
 use Rattle.mvt_change.specs.Joining.{joined}
 use Rattle.mvt_history.specs.History.{closed}
 use Rattle.mvt_history.specs.Held.{IsHeld, from_last, standing_of}
+use Rattle.mvt_history.specs.Inside.{seen_in}
 use Rattle.mvt_history.specs.Session.{StandsFor}
 use Rattle.mvt_history.proofs.Keeping.{IsKept, with_open}
-use Rattle.mvt_history.proofs.KeepingCommands.{is_kept, joined_from, same_from_last, length_from_last, no_items, some_items, seen_open, wanted_memory, on_error, empty_ended, end_accepted, ended_held, step_ended}
+use Rattle.mvt_history.proofs.Stepping.{length_from_last}
+use Rattle.mvt_history.proofs.KeepingCommands.{is_kept, joined_from, same_from_last, no_items, some_items, seen_open, wanted_memory, on_error, empty_ended, end_accepted, ended_held, step_ended}
 use Rattle.mvt_history.proofs.session.Session.end.Goals as goal
 
 -- ---- a step of no commands
@@ -15,7 +17,7 @@ use Rattle.mvt_history.proofs.session.Session.end.Goals as goal
 pub returns-then-is_empty-clause-answer : goal.returns-then-is_empty-clause-answer
 returns-then-is_empty-clause-answer c = λ history stands.
     let s = c.self.inside in
-    let session = standing_of s.document s.undo.items s.redo.items s.depth s.marks.items (option_map (λ pending. pending.items) s.pending) in
+    let session = seen_in s in
     let before = subst (λ s. StandsFor s history) (sym c.self.view_is) stands in
     let pending = c.in-Some.pending in
     let is = seen_open s.pending c.in-Some.pending c.in-Some.is in
@@ -27,7 +29,7 @@ returns-then-is_empty-clause-answer c = λ history stands.
 pub invariant_of-self-in_err-change : goal.invariant_of-self-in_err-change
 invariant_of-self-in_err-change c =
     let s = c.self.inside in
-    let session = standing_of s.document s.undo.items s.redo.items s.depth s.marks.items (option_map (λ pending. pending.items) s.pending) in
+    let session = seen_in s in
     let pending = c.in-Some.pending in
     let is = seen_open s.pending c.in-Some.pending c.in-Some.is in
     let same = is ∙ ap (λ changes. Some changes) (sym (same_from_last c.join.new.changes.items pending.items c.in_err-change.ensures.err)) in
@@ -36,7 +38,7 @@ invariant_of-self-in_err-change c =
 pub returns-in_err-change-clause-answer : goal.returns-in_err-change-clause-answer
 returns-in_err-change-clause-answer c = λ history stands.
     let s = c.self.inside in
-    let session = standing_of s.document s.undo.items s.redo.items s.depth s.marks.items (option_map (λ pending. pending.items) s.pending) in
+    let session = seen_in s in
     let before = subst (λ s. StandsFor s history) (sym c.self.view_is) stands in
     let pending = c.in-Some.pending in
     let is = seen_open s.pending c.in-Some.pending c.in-Some.is in
@@ -46,7 +48,7 @@ returns-in_err-change-clause-answer c = λ history stands.
 pub returns-in_err-change-clause-err : goal.returns-in_err-change-clause-err
 returns-in_err-change-clause-err c =
     let s = c.self.inside in
-    let session = standing_of s.document s.undo.items s.redo.items s.depth s.marks.items (option_map (λ pending. pending.items) s.pending) in
+    let session = seen_in s in
     let pending = c.in-Some.pending in
     let is = seen_open s.pending c.in-Some.pending c.in-Some.is in
     let same = is ∙ ap (λ changes. Some changes) (sym (same_from_last c.join.new.changes.items pending.items c.in_err-change.ensures.err)) in
@@ -54,7 +56,7 @@ returns-in_err-change-clause-err c =
 
 -- ---- a step of some
 
-kept : (c : goal.After-keep) → let s = c.self.inside in IsKept (standing_of s.document s.undo.items s.redo.items s.depth s.marks.items (option_map (λ (pending : Vec Change Global). pending.items) s.pending)) (standing_of s.document c.keep.new.undo.items c.keep.new.redo.items s.depth c.keep.new.marks.items None) (joined (from_last c.in-Some.pending.items))
+kept : (c : goal.After-keep) → let s = c.self.inside in IsKept (seen_in s) (standing_of s.document c.keep.new.undo.items c.keep.new.redo.items s.depth c.keep.new.marks.items None) (joined (from_last c.in-Some.pending.items))
 kept c =
     let s = c.self.inside in
     let k = c.keep.new in
@@ -68,7 +70,7 @@ kept c =
 pub invariant_of-self-2 : goal.invariant_of-self-2
 invariant_of-self-2 c =
     let s = c.self.inside in
-    let session = standing_of s.document s.undo.items s.redo.items s.depth s.marks.items (option_map (λ pending. pending.items) s.pending) in
+    let session = seen_in s in
     let is = seen_open s.pending c.in-Some.pending c.in-Some.is in
     rw (c.keep.ensures.capacity, ap (λ (redo : Buffer Change). redo.capacity) c.keep.ensures.redo)
     (ended_held s.undo.capacity s.redo.capacity session _ (from_last c.in-Some.pending.items) (kept c) is refl c.self.invariant)
@@ -76,7 +78,7 @@ invariant_of-self-2 c =
 pub returns-clause-answer : goal.returns-clause-answer
 returns-clause-answer c = λ history stands.
     let s = c.self.inside in
-    let session = standing_of s.document s.undo.items s.redo.items s.depth s.marks.items (option_map (λ pending. pending.items) s.pending) in
+    let session = seen_in s in
     let before = subst (λ s. StandsFor s history) (sym c.self.view_is) stands in
     let pending = c.in-Some.pending in
     let is = seen_open s.pending c.in-Some.pending c.in-Some.is in

@@ -1,6 +1,7 @@
-use Rattle.std.proofs.Common.{◌≡◌, Ok, option_map, subst, sym}
+use Rattle.std.proofs.Common.{◌≡◌, Ok, subst, sym}
 use Rattle.mvt_history.specs.History.{History, redone}
-use Rattle.mvt_history.specs.Held.{IsHeld, standing_of}
+use Rattle.mvt_history.specs.Held.{IsHeld}
+use Rattle.mvt_history.specs.Inside.{seen_in}
 use Rattle.mvt_history.specs.Session.{StandsFor}
 use Rattle.mvt_history.proofs.Moving.{redone_to, seen_closed, some_from_last, redone_held, redo_answers}
 use Rattle.mvt_history.proofs.session.Session.redo.Goals as goal
@@ -8,8 +9,8 @@ use Rattle.mvt_history.proofs.session.Session.redo.Goals as goal
 pub invariant_of-self-2 : goal.invariant_of-self-2
 invariant_of-self-2 c =
     let s = c.self.inside in
-    let session = standing_of s.document s.undo.items s.redo.items s.depth s.marks.items (option_map (λ pending. pending.items) s.pending) in
-    let closed = seen_closed session c.args.self.now c.in_ok-closed.field-0 c.self.view_is c.in_ok-closed.ensures in
+    let session = seen_in s in
+    let closed = seen_closed session c.args.self.now c.in_ok-ensure_closed.field-0 c.self.view_is c.in_ok-ensure_closed.ensures in
     let some = some_from_last s.redo.items cc in
     let held = redone_held s.undo.capacity s.redo.capacity 1 session closed some c.self.invariant in
     let room = c.in_ok-step.ensures.capacities in
@@ -18,9 +19,9 @@ invariant_of-self-2 c =
 pub returns-clause-answer : goal.returns-clause-answer
 returns-clause-answer c = λ history stands.
     let s = c.self.inside in
-    let session = standing_of s.document s.undo.items s.redo.items s.depth s.marks.items (option_map (λ pending. pending.items) s.pending) in
+    let session = seen_in s in
     let before = subst (λ s. StandsFor s history) (sym c.self.view_is) stands in
-    let closed = seen_closed session c.args.self.now c.in_ok-closed.field-0 c.self.view_is c.in_ok-closed.ensures in
+    let closed = seen_closed session c.args.self.now c.in_ok-ensure_closed.field-0 c.self.view_is c.in_ok-ensure_closed.ensures in
     let some = some_from_last s.redo.items cc in
     let answer = redo_answers session history closed c.self.invariant.ready some before in
     subst (λ walk. (after : History) × (redone history ≡ Ok after) × StandsFor (redone_to walk session) after) (sym c.in_ok-step.ensures.walk) answer

@@ -1,0 +1,11 @@
+-- What is seen of a session's fields.
+use Rattle.std.specs.Prelude.{option_map}
+use Rattle.mvt_history.specs.Standing.{Standing}
+use Rattle.mvt_history.specs.Held.{standing_of, IsHeld}
+use Rattle.mvt_history.specs.declared.session.Session.TheInside.{Inside}
+
+abbrev pub seen_in : Inside → Standing
+seen_in session = standing_of session.document session.undo.items session.redo.items session.depth session.marks.items (option_map (λ pending. pending.items) session.pending)
+
+abbrev pub IsHeldIn : Inside → Type 0
+IsHeldIn session = IsHeld session.undo.capacity session.redo.capacity (seen_in session)
