@@ -1,6 +1,6 @@
 -- Which plain change a change of the program stands for.
 use Rattle.std.specs.Prelude.{map}
-use Rattle.mvt_wire.specs.Stands.{field_of, layer_item_of, tile_item_of}
+use Rattle.mvt_document.specs.Stands.{field_of, layer_item_of, tile_item_of}
 use Rattle.mvt_change.specs.Changes as plain
 use Rattle.mvt_change.specs.declared.change.Place.{Place}
 use Rattle.mvt_change.specs.declared.change.Place.TheVariants.{Tile, Layer, Feature}

@@ -2,10 +2,10 @@
 use Rattle.std.specs.Prelude.{ℕ, List, [], ◌∷◌, ◌++◌, length, Option}
 use Rattle.std.specs.List.{flat_map, sum_by}
 use Rattle.std.specs.Option.{IsSomeAnd, option_map_or}
-use Rattle.mvt_wire.specs.Plain.{Field, LayerItem, TileItem, Document}
-use Rattle.mvt_wire.specs.Wire.{field_bytes, layer_item_bytes, tile_item_bytes}
-use Rattle.mvt_wire.specs.Opens.{IsField, IsLayerItem, IsTileItem}
-use Rattle.mvt_wire.specs.Splicing.{part, splice, moved}
+use Rattle.mvt_document.specs.Plain.{Field, LayerItem, TileItem, Document}
+use Rattle.mvt_document.specs.Wire.{field_bytes, layer_item_bytes, tile_item_bytes}
+use Rattle.mvt_document.specs.Opens.{IsField, IsLayerItem, IsTileItem}
+use Rattle.mvt_document.specs.Splicing.{part, splice, moved}
 use Rattle.mvt_change.specs.Lists.{CanSplice, CanMove, HasPart}
 use Rattle.mvt_change.specs.Places.{items_at, fields_at, change_items, change_fields}
 

@@ -1,8 +1,8 @@
 -- What steps make of a document of the program, with the room of its lists, and when no list has to grow.
 use Rattle.std.specs.Prelude.{◌≡◌, ℕ, ◌+◌, ◌-◌, ◌≤◌, Bool, List, [], ◌∷◌, length, Option, Some, IsTrue, if◌then◌else◌}
 use Rattle.std.specs.Option.{IsSomeAnd, option_map_or}
-use Rattle.mvt_wire.specs.Held.{Held}
-use Rattle.mvt_wire.specs.Splicing.{part, splice, moved}
+use Rattle.mvt_document.specs.Held.{Held}
+use Rattle.mvt_document.specs.Splicing.{part, splice, moved}
 use Rattle.mvt_document.specs.declared.document.Field.{Field}
 use Rattle.mvt_document.specs.declared.document.LayerItem.{LayerItem}
 use Rattle.mvt_document.specs.declared.document.TileItem.{TileItem}

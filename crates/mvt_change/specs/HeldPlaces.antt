@@ -1,7 +1,7 @@
 -- The lists of a document of the program, as Places has those of a plain one.
 use Rattle.std.specs.Prelude.{ℕ, slice_get, Option, Some, None}
 use Rattle.std.specs.Option.{option_and_then}
-use Rattle.mvt_wire.specs.Held.{Held}
+use Rattle.mvt_document.specs.Held.{Held}
 use Rattle.mvt_document.specs.declared.document.Field.{Field}
 use Rattle.mvt_document.specs.declared.document.LayerItem.{LayerItem}
 use Rattle.mvt_document.specs.declared.document.LayerItem.TheVariants as in_layer

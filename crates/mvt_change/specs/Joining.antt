@@ -1,6 +1,6 @@
 -- Several changes as one, and where they lead. A list of changes begins with the one that is carried out first.
 use Rattle.std.specs.Prelude.{List, [], ◌∷◌, ◌++◌}
-use Rattle.mvt_wire.specs.Plain.{Document}
+use Rattle.mvt_document.specs.Plain.{Document}
 use Rattle.mvt_change.specs.Changes.{Change, go, Fits}
 
 -- one change with the steps of all

@@ -1,9 +1,9 @@
 -- Laws of changes.
 use Rattle.std.specs.Prelude.{◌≡◌, ◌↔◌, ◌≤◌, List, ◌++◌, length}
 use Rattle.std.specs.List.{AllByRecursion}
-use Rattle.mvt_wire.specs.Plain.{Field, LayerItem, TileItem, Document}
-use Rattle.mvt_wire.specs.Wire.{field_bytes, layer_item_bytes, tile_item_bytes}
-use Rattle.mvt_wire.specs.Opens.{IsField, IsLayerItem, IsTileItem, IsDocument}
+use Rattle.mvt_document.specs.Plain.{Field, LayerItem, TileItem, Document}
+use Rattle.mvt_document.specs.Wire.{field_bytes, layer_item_bytes, tile_item_bytes}
+use Rattle.mvt_document.specs.Opens.{IsField, IsLayerItem, IsTileItem, IsDocument}
 use Rattle.mvt_change.specs.Changes.{Change, go, Fits, turn, weight, put_count}
 use Rattle.mvt_change.specs.Joining.{joined, go_along, FitAlong}
 

@@ -1,7 +1,7 @@
 -- Values of the program that are the same and have no less room in any list.
 use Rattle.std.specs.Prelude.{◌≡◌, ℕ, ◌+◌, ◌≤◌, length}
 use Rattle.std.specs.List.{AllZip}
-use Rattle.mvt_wire.specs.Held.{Held}
+use Rattle.mvt_document.specs.Held.{Held}
 use Rattle.mvt_document.specs.declared.document.Field.{Field}
 use Rattle.mvt_document.specs.declared.document.Feature.{Feature}
 use Rattle.mvt_document.specs.declared.document.LayerItem.{LayerItem}

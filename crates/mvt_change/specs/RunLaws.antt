@@ -1,8 +1,8 @@
 -- Laws of steps as splices.
 use Rattle.std.specs.Prelude.{◌≡◌, List, refl}
 use Rattle.std.proofs.Common.{sym, subst, arith}
-use Rattle.mvt_wire.specs.Held.{Held}
-use Rattle.mvt_wire.specs.Splicing.{part}
+use Rattle.mvt_document.specs.Held.{Held}
+use Rattle.mvt_document.specs.Splicing.{part}
 use Rattle.mvt_splices.specs.Splices.{IsRoomier}
 use Rattle.mvt_document.specs.declared.document.Field.{Field}
 use Rattle.mvt_document.specs.declared.document.LayerItem.{LayerItem}

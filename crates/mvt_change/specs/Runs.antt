@@ -1,8 +1,8 @@
 -- Steps as splices of the list that they are on.
 use Rattle.std.specs.Prelude.{◌≡◌, ℕ, ◌-◌, ◌≤◌, List, [], ◌∷◌, length}
 use Rattle.std.specs.List.{AllByRecursion}
-use Rattle.mvt_wire.specs.Held.{Held}
-use Rattle.mvt_wire.specs.Splicing.{part}
+use Rattle.mvt_document.specs.Held.{Held}
+use Rattle.mvt_document.specs.Splicing.{part}
 use Rattle.mvt_splices.specs.Splices.{Splice}
 use Rattle.mvt_document.specs.declared.document.Field.{Field}
 use Rattle.mvt_document.specs.declared.document.LayerItem.{LayerItem}

@@ -5,7 +5,7 @@ ghost use Rattle.mvt_change.specs.ChangeStands.{change_of};
 ghost use Rattle.mvt_change.specs.Joining.{joined};
 
 use crate::change::Change;
-use mvt_wire::Items;
+use mvt_document::Items;
 use std::alloc::{AllocError, Global};
 
 /// One change with the steps of the last change, then of the one before it, and so on; the list is

@@ -1,7 +1,7 @@
 //! The commands that change a tile.
 
+use mvt_document::Items;
 use mvt_geometry::Geometry;
-use mvt_wire::Items;
 
 /// The layer that is meant.
 #[derive(Debug, Drop)]

@@ -1,6 +1,6 @@
 -- Where a new item comes to have an ordinal.
 use Rattle.std.specs.Prelude.{◌≡◌, ℕ, ◌≤◌, Bool, List, [], ◌∷◌, length}
-use Rattle.mvt_wire.specs.Splicing.{splice}
+use Rattle.mvt_document.specs.Splicing.{splice}
 use Rattle.mvt_meaning.specs.Ordinals.{count, insert_nth}
 
 -- put in at this place, a new item has this ordinal among those that pass

@@ -1,6 +1,6 @@
 -- The change that carries out a command.
 use Rattle.std.specs.Prelude.{◌≡◌, ◌⊎◌, ◌+◌, ◌*◌, ◌≤◌, length, Result, Ok, Err}
-use Rattle.mvt_wire.specs.Plain.{Document}
+use Rattle.mvt_document.specs.Plain.{Document}
 use Rattle.mvt_change.specs.Changes as plain
 use Rattle.mvt_change.specs.Changes.{Fits, go, turn, weight}
 use Rattle.mvt_change.specs.ChangeStands.{change_of}

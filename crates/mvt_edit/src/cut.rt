@@ -9,7 +9,7 @@ ghost use Rattle.mvt_edit.specs.declared.cut.Run.{Run};
 
 use crate::steps::one_step;
 use mvt_change::{Change, Place, Step};
-use mvt_wire::Items;
+use mvt_document::Items;
 use std::alloc::{AllocError, AllocFailed, Global};
 
 /// So many items of a list from an index on.

@@ -2,7 +2,7 @@
 -- Vector Tile Specification 2.1, sections 4.3.1 "Command Integers", 4.3.2 "Parameter Integers", 4.3.3 "Command Types" and 4.3.4 "Geometry Types".
 use Rattle.std.specs.Prelude.{◌≡◌, ℕ, ◌+◌, ◌-◌, ◌*◌, ◌^◌, ◌<◌, ℤ, pos, ◌-ℤ◌, unsigned_abs, List, [], ◌∷◌, ◌++◌, length, map}
 use Rattle.std.specs.List.{AllByRecursion, flat_map}
-use Rattle.mvt_wire.specs.Wire.{spell, minimal_width}
+use Rattle.mvt_document.specs.Wire.{spell, minimal_width}
 use Rattle.mvt_zigzag.specs.Signed.{zigzag}
 use Rattle.mvt_geometry.specs.Shapes.{Point, Kind, Dots, Lines, Areas, number_of, Geometry, IsGeometry}
 

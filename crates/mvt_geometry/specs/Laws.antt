@@ -1,9 +1,9 @@
 -- Laws of geometries and their integers.
 use Rattle.std.specs.Prelude.{◌≡◌, ℕ, ◌^◌, ◌<◌, List, map}
 use Rattle.std.specs.List.{flat_map, AllByRecursion}
-use Rattle.mvt_wire.specs.Plain.{Number}
-use Rattle.mvt_wire.specs.Wire.{minimal_width, spelling}
-use Rattle.mvt_wire.specs.Groups.{IsNumber}
+use Rattle.mvt_document.specs.Plain.{Number}
+use Rattle.mvt_document.specs.Wire.{minimal_width, spelling}
+use Rattle.mvt_document.specs.Groups.{IsNumber}
 use Rattle.mvt_geometry.specs.Shapes.{Geometry, number_of, IsGeometry}
 use Rattle.mvt_geometry.specs.Integers.{integers, IsInRange, HasGeometry, encoded}
 

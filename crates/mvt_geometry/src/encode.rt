@@ -11,7 +11,7 @@ use crate::geometry::Geometry;
 use crate::path::{LINE_TO, MOVE_TO_ONE};
 use crate::read::{CLOSE_PATH, MOVE_TO};
 use crate::shapes::{Kind, ORIGIN, Point};
-use mvt_wire::{Items, least_width, put_number};
+use mvt_document::{Items, least_width, put_number};
 use mvt_zigzag::to_zigzag;
 use std::alloc::{AllocError, Global};
 

@@ -2,7 +2,7 @@
 
 use crate::shapes::{Kind, Part};
 use crate::valid::is_geometry;
-use mvt_wire::Items;
+use mvt_document::Items;
 use std::marker::Model;
 
 /// A geometry whose parts have as many points as their kind asks for. Contracts see its points.

@@ -11,7 +11,7 @@ use crate::geometry::Geometry;
 use crate::path::{Front, path_at_front};
 use crate::shapes::{Kind, ORIGIN, Part, Point};
 use crate::steps::{moved, points_from};
-use mvt_wire::Items;
+use mvt_document::Items;
 use std::alloc::Global;
 
 pub(crate) const MOVE_TO: u32 = 1;

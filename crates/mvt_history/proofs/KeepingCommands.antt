@@ -3,8 +3,8 @@ use Rattle.std.proofs.Common.{◌≡◌, ℕ, ◌+◌, ◌-◌, ◌<◌, ◌≤�
 use Rattle.std.proofs.lemmas.List.{take_all}
 use Rattle.std.proofs.lemmas.Bool.Decides.{nat_tests}
 use Rattle.std.specs.Result.{IsErrAnd, IsOk, is_ok}
-use Rattle.mvt_wire.specs.Plain.{Document}
-use Rattle.mvt_wire.specs.Opens.{IsDocument}
+use Rattle.mvt_document.specs.Plain.{Document}
+use Rattle.mvt_document.specs.Opens.{IsDocument}
 use Rattle.mvt_document.specs.declared.document.Document.{Document as HeldDocument}
 use Rattle.mvt_command.specs.Command.{Command}
 use Rattle.mvt_meaning.specs.Meaning.{after, applied}

@@ -3,7 +3,7 @@ use Rattle.std.proofs.Common.{◌≡◌, ℕ, ◌+◌, ◌-◌, ◌<◌, ◌≤�
 use Rattle.std.specs.List.{AllByRecursion}
 use Rattle.std.proofs.lemmas.Bool.{cases_Bool}
 use Rattle.std.proofs.lemmas.Bool.Decides.{nat_tests}
-use Rattle.mvt_wire.specs.Plain.{Document}
+use Rattle.mvt_document.specs.Plain.{Document}
 use Rattle.mvt_command.specs.Command.{Command}
 use Rattle.mvt_meaning.specs.Meaning.{applied}
 use Rattle.mvt_meaning.specs.declared.refusal.Refusal.{Refusal}

@@ -1,7 +1,7 @@
 -- How a session keeps what contracts see of it.
 use Rattle.std.specs.Prelude.{◌≡◌, ℕ, ◌+◌, ◌≤◌, List, map, reverse, length, Option, option_map}
 use Rattle.std.specs.List.{AllByRecursion}
-use Rattle.mvt_wire.specs.Stands.{document_of}
+use Rattle.mvt_document.specs.Stands.{document_of}
 use Rattle.mvt_document.specs.declared.document.Document.{Document}
 use Rattle.mvt_change.specs.Changes as plain
 use Rattle.mvt_change.specs.ChangeStands.{change_of}

@@ -1,6 +1,6 @@
 -- Steps from one list of changes to another, over a document.
 use Rattle.std.specs.Prelude.{ℕ, zero, suc, List, [], ◌∷◌, Result, Ok, Err}
-use Rattle.mvt_wire.specs.Plain.{Document}
+use Rattle.mvt_document.specs.Plain.{Document}
 use Rattle.mvt_change.specs.Changes.{Change, go, turn}
 
 -- a document, the changes that lie ahead, and those that lead back; the next one first

@@ -1,7 +1,7 @@
 -- What a session answers, and the history that it holds.
 use Rattle.std.specs.Prelude.{◌≡◌, ℕ, ◌+◌, ◌-◌, ◌<◌, ◌≤◌, ℤ, pos, ◌-ℤ◌, ◌⊎◌, List, map, length, take, Option, Some, None, Result, Ok, Err, IsOk}
-use Rattle.mvt_wire.specs.TheConstants.{MAX_FILE}
-use Rattle.mvt_wire.specs.Wire.{bytes_of}
+use Rattle.mvt_document.specs.declared.TheConstants.{MAX_FILE}
+use Rattle.mvt_document.specs.Wire.{bytes_of}
 use Rattle.mvt_command.specs.Command.{Command}
 use Rattle.mvt_meaning.specs.declared.refusal.Refusal.{Refusal}
 use Rattle.mvt_meaning.specs.declared.refusal.Refusal.TheVariants as edit
@@ -10,7 +10,7 @@ use Rattle.mvt_history.specs.History.{History, IsSound, standing_document, prese
 use Rattle.mvt_history.specs.Reached.{LeadBack, LeadOn, LeadOut}
 use Rattle.mvt_history.specs.Standing.{Standing}
 use Rattle.mvt_document.specs.declared.document.Document as held
-use Rattle.mvt_wire.specs.Stands.{document_of}
+use Rattle.mvt_document.specs.Stands.{document_of}
 use Rattle.std.specs.Borrow.{Bor}
 use Rattle.mvt_history.specs.declared.error.HistoryError.{HistoryError}
 use Rattle.mvt_history.specs.declared.error.StartError.{StartError}

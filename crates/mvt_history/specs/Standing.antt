@@ -1,7 +1,7 @@
 -- What contracts see of a session.
 use Rattle.std.specs.Prelude.{ℕ, List, [], Option, Some, None}
-use Rattle.mvt_wire.specs.Plain.{Document}
-use Rattle.mvt_wire.specs.Opens.{IsDocument}
+use Rattle.mvt_document.specs.Plain.{Document}
+use Rattle.mvt_document.specs.Opens.{IsDocument}
 use Rattle.mvt_change.specs.Changes.{Change}
 use Rattle.mvt_change.specs.Joining.{go_along, FitAlong}
 use Rattle.mvt_history.specs.Marks.{Mark}

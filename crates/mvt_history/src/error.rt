@@ -3,7 +3,7 @@
 ghost use Rattle.std.specs.Prelude.{◌≡◌};
 ghost use Rattle.mvt_history.specs.declared.error.HistoryError.TheVariants.{NoMemory};
 
-use mvt_wire::Document;
+use mvt_document::Document;
 use std::alloc::{AllocError, AllocFailed};
 use thiserror::Error;
 

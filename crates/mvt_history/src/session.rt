@@ -5,8 +5,8 @@ mod fields;
 
 ghost use Rattle.std.specs.Prelude.{◌≡◌, ◌≤◌, ◌⊎◌, if◌then◌else◌, is_some, None, Ok, Err, OnErr, IfOk, IfErr, IsSomeAnd, length, option_map, slice_get};
 ghost use Rattle.mvt_history.specs.declared.error.HistoryError.TheVariants.{GroupOpen, NoMemory};
-ghost use Rattle.mvt_wire.specs.Stands.{document_of};
-ghost use Rattle.mvt_wire.specs.Opens.{IsDocument};
+ghost use Rattle.mvt_document.specs.Stands.{document_of};
+ghost use Rattle.mvt_document.specs.Opens.{IsDocument};
 ghost use Rattle.mvt_command.specs.CommandStands.{command_of};
 ghost use Rattle.mvt_history.specs.declared.TheConstants.{MAX_DEPTH};
 ghost use Rattle.mvt_history.specs.Marks.{point_of};
@@ -19,8 +19,9 @@ use crate::marks::{Mark, bind, find_point, unbind};
 use crate::steps::{keep, step, take_back, walk};
 use circular_buffer::HeapCircularBuffer;
 use mvt_change::{Change, flip, join};
+use mvt_document::Document;
 use mvt_edit::{Command, Refusal, prepare};
-use mvt_wire::{Document, size};
+use mvt_write::size;
 use std::alloc::{AllocError, Global};
 use std::marker::Model;
 

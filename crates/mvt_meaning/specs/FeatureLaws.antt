@@ -1,7 +1,7 @@
 -- Laws of the commands on features of a layer, in the words of a tile.
 use Rattle.std.specs.Prelude.{◌≡◌, ℕ, ◌/◌, List, [], ◌∷◌, ◌++◌, Some, None, Ok, map, slice_get}
 use Rattle.std.specs.List.{filter_map, remove}
-use Rattle.mvt_wire.specs.Plain.{Feature, Layer, Document}
+use Rattle.mvt_document.specs.Plain.{Feature, Layer, Document}
 use Rattle.mvt_geometry.specs.Shapes.{Geometry, IsGeometry}
 use Rattle.mvt_numbers.specs.Numbers.{numbers}
 use Rattle.mvt_command.specs.Command.{LayerChoice, FeatureChoice, InsertFeature, MoveFeature, DropFeature, SetId, ClearId}

@@ -1,7 +1,7 @@
 -- A layer that was found, and a feature of a layer.
 use Rattle.std.specs.Prelude.{◌≡◌, ℕ, List, slice_get, Some, Ok}
-use Rattle.mvt_wire.specs.Plain as plain
-use Rattle.mvt_wire.specs.Stands.{feature_of, layer_of}
+use Rattle.mvt_document.specs.Plain as plain
+use Rattle.mvt_document.specs.Stands.{feature_of, layer_of}
 use Rattle.mvt_command.specs.Command.{LayerChoice, FeatureChoice}
 use Rattle.mvt_meaning.specs.Selection.{feature_positions, layer_positions, selected, selected_feature}
 use Rattle.mvt_meaning.specs.declared.find.FoundLayer.{FoundLayer}

@@ -1,6 +1,6 @@
 -- Laws of selection and of commands, in the words of a tile.
 use Rattle.std.specs.Prelude.{◌≡◌, ◌↔◌, ℕ, List, Some, option_map, slice_get, Ok, Err}
-use Rattle.mvt_wire.specs.Plain.{Document}
+use Rattle.mvt_document.specs.Plain.{Document}
 use Rattle.mvt_command.specs.Command.{Named}
 use Rattle.mvt_view.specs.Views.{layers, name_of}
 use Rattle.mvt_meaning.specs.Selection.{selected}

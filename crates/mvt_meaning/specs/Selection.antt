@@ -1,7 +1,7 @@
 -- Which layer is meant, and which feature of a layer. Vector Tile Specification 2.1, sections 4.1 and 4.2.
 use Rattle.std.specs.Prelude.{ℕ, Bool, List, length, slice_get, Result, Ok, Err, is_some, nat_lt, if◌then◌else◌}
 use Rattle.std.specs.Option.{option_map_or}
-use Rattle.mvt_wire.specs.Plain.{LayerItem, Layer, TileItem, Document}
+use Rattle.mvt_document.specs.Plain.{LayerItem, Layer, TileItem, Document}
 use Rattle.mvt_view.specs.Views.{feature_in, features, has_id, is_named, layer_in, layers, ordinals_of, the_one}
 use Rattle.mvt_view.specs.declared.select.LayerError.{LayerError}
 use Rattle.mvt_view.specs.declared.select.LayerError.TheVariants as layers_seen

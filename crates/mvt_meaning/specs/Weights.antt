@@ -2,8 +2,8 @@
 use Rattle.std.specs.Prelude.{ℕ, Bool, not, List, [], length, filter, slice_get, None, Result, Ok, Err}
 use Rattle.std.specs.List.{flat_map, last_or}
 use Rattle.std.specs.Option.{option_map_or}
-use Rattle.mvt_wire.specs.Plain.{Field, Document}
-use Rattle.mvt_wire.specs.Wire.{field_bytes, layer_item_bytes, tile_item_bytes}
+use Rattle.mvt_document.specs.Plain.{Field, Document}
+use Rattle.mvt_document.specs.Wire.{field_bytes, layer_item_bytes, tile_item_bytes}
 use Rattle.mvt_change.specs.Places.{fields_in}
 use Rattle.mvt_command.specs.Command.{LayerChoice, FeatureChoice, Command, RenameLayer, MoveLayer, DropLayer, KeepLayers, InsertFeature, MoveFeature, DropFeature, SetId, ClearId}
 use Rattle.mvt_meaning.specs.Selection.{is_feature, is_layer, selected, selected_in}

@@ -1,9 +1,9 @@
 -- Laws of packed bodies. Protocol Buffers encoding guide: "Packed Repeated Fields".
 use Rattle.std.specs.Prelude.{◌≡◌, ◌≢◌, ℕ, ◌+◌, List, [], ◌∷◌, ◌++◌, Some, None, Result, Ok, length}
 use Rattle.std.specs.List.{flat_map, AllByRecursion}
-use Rattle.mvt_wire.specs.Plain.{Number}
-use Rattle.mvt_wire.specs.Wire.{spelling}
-use Rattle.mvt_wire.specs.Groups.{IsNumber}
+use Rattle.mvt_document.specs.Plain.{Number}
+use Rattle.mvt_document.specs.Wire.{spelling}
+use Rattle.mvt_document.specs.Groups.{IsNumber}
 use Rattle.mvt_numbers.specs.Numbers.{Placed, pieces, packed, all_good, before_bad}
 
 -- the numbers of a field one behind the other, the first at this place

@@ -1,7 +1,7 @@
 -- The numbers that are left, where some have been taken.
 use Rattle.std.specs.Prelude.{ℕ, List, ◌++◌, Result, drop}
 use Rattle.std.specs.List.{flat_map, enumerate_from}
-use Rattle.mvt_wire.specs.Plain.{Field}
+use Rattle.mvt_document.specs.Plain.{Field}
 use Rattle.mvt_numbers.specs.Numbers.{Placed, pieces, packed, numbers_in, through_bad}
 
 -- those that a body packs from this place on

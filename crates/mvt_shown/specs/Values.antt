@@ -3,7 +3,7 @@
 -- Vector Tile Specification 2.1, section 4.1 "Layers" and its message Value; Protocol Buffers encoding guide: "Message Structure".
 use Rattle.std.specs.Prelude.{ℕ, ◌+◌, ◌*◌, ◌==◌, not, List, [], ◌∷◌, length, Option, Some, None, option_map, option_and_then, if◌then◌else◌}
 use Rattle.std.specs.List.{flat_map}
-use Rattle.mvt_wire.specs.Plain.{Number}
+use Rattle.mvt_document.specs.Plain.{Number}
 use Rattle.mvt_numbers.specs.Numbers.{pieces, number_in}
 use Rattle.mvt_value.specs.Values.{Value, OfText, OfFloat, OfDouble, OfInt, OfUint, OfSint, OfBool}
 use Rattle.mvt_shown.specs.Signed.{signed, unzigzag}

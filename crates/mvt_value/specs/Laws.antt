@@ -1,9 +1,9 @@
 -- Laws of values and their bytes.
 use Rattle.std.specs.Prelude.{◌≡◌, ℕ, List, [], ◌∷◌}
 use Rattle.std.specs.List.{flat_map, AllByRecursion}
-use Rattle.mvt_wire.specs.Plain.{Field}
-use Rattle.mvt_wire.specs.Wire.{field_bytes}
-use Rattle.mvt_wire.specs.Groups.{IsWholeFieldWith, IsGroup}
+use Rattle.mvt_document.specs.Plain.{Field}
+use Rattle.mvt_document.specs.Wire.{field_bytes}
+use Rattle.mvt_document.specs.Groups.{IsWholeFieldWith, IsGroup}
 use Rattle.mvt_value.specs.Values.{Value}
 use Rattle.mvt_value.specs.Messages.{FieldHas, HasValue, encoded, IsInRange}
 

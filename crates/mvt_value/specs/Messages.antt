@@ -2,10 +2,10 @@
 -- Vector Tile Specification 2.1, section 4.1 "Layers" and its message Value; Protocol Buffers encoding guide: "Message Structure".
 use Rattle.std.specs.Prelude.{◌≡◌, ℕ, ◌+◌, ◌*◌, ◌/◌, ◌^◌, ◌<◌, true, false, not, ◌==◌, FitsSigned, List, [], ◌∷◌, ◌++◌, length}
 use Rattle.std.specs.Int.{w64}
-use Rattle.mvt_wire.specs.Plain.{Body, Spelled, Eight, Four, Delimited, Field}
-use Rattle.mvt_wire.specs.Wire.{spell, minimal_width, field_bytes}
-use Rattle.mvt_wire.specs.Groups.{StoresField}
-use Rattle.mvt_wire.specs.Opens.{IsField}
+use Rattle.mvt_document.specs.Plain.{Body, Spelled, Eight, Four, Delimited, Field}
+use Rattle.mvt_document.specs.Wire.{spell, minimal_width, field_bytes}
+use Rattle.mvt_document.specs.Groups.{StoresField}
+use Rattle.mvt_document.specs.Opens.{IsField}
 use Rattle.mvt_zigzag.specs.Signed.{zigzag}
 use Rattle.mvt_value.specs.Values.{Value, OfText, OfFloat, OfDouble, OfInt, OfUint, OfSint, OfBool}
 use Rattle.mvt_value.specs.Signed.{twos_complement}

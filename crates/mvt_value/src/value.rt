@@ -1,6 +1,6 @@
 //! The values of a layer.
 
-use mvt_wire::Items;
+use mvt_document::Items;
 
 /// What the bytes of a value are. Floats are bytes in the order of the file.
 #[derive(Clone, Copy, Debug)]

@@ -2,7 +2,7 @@
 use Rattle.std.specs.Prelude.{ℕ, ◌^◌, ◌&&◌, Bool, List, [], ◌∷◌, Option, Some, None, Result, length, map, nat_lt, slice_index_or, option_map, if◌then◌else◌}
 use Rattle.std.specs.List.{list_all}
 use Rattle.std.specs.Option.{option_and_then}
-use Rattle.mvt_wire.specs.Plain.{Layer, Feature}
+use Rattle.mvt_document.specs.Plain.{Layer, Feature}
 use Rattle.mvt_numbers.specs.Numbers.{Placed, numbers, all_good, and_more}
 use Rattle.mvt_view.specs.Views.{keys, values}
 

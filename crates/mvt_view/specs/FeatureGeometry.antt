@@ -2,7 +2,7 @@
 use Rattle.std.specs.Prelude.{◌≡◌, ℕ, ◌^◌, Bool, List, Option, Some, None, Result, Ok, Err, nat_lt, if◌then◌else◌}
 use Rattle.std.specs.List.{list_all}
 use Rattle.std.specs.Option.{option_and_then}
-use Rattle.mvt_wire.specs.Plain.{Feature}
+use Rattle.mvt_document.specs.Plain.{Feature}
 use Rattle.mvt_numbers.specs.Numbers.{Placed, numbers}
 use Rattle.mvt_geometry.specs.Shapes.{Geometry}
 use Rattle.mvt_geometry.specs.Integers.{HasGeometry}

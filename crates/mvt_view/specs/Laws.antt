@@ -1,7 +1,7 @@
 -- Laws of a feature's attributes. Vector Tile Specification 2.1, section 4.4 Feature Attributes.
 use Rattle.std.specs.Prelude.{◌≡◌, ℕ, List, Some, slice_get}
 use Rattle.std.specs.List.{AllByRecursion}
-use Rattle.mvt_wire.specs.Plain.{Layer, Feature}
+use Rattle.mvt_document.specs.Plain.{Layer, Feature}
 use Rattle.mvt_view.specs.Views.{keys, values}
 use Rattle.mvt_view.specs.Attributes.{pairs_of, attribute_at}
 

@@ -1,7 +1,7 @@
 -- What a view is a view of.
 use Rattle.std.specs.Prelude.{ℕ}
-use Rattle.mvt_wire.specs.Plain as plain
-use Rattle.mvt_wire.specs.Stands.{layer_of, feature_of}
+use Rattle.mvt_document.specs.Plain as plain
+use Rattle.mvt_document.specs.Stands.{layer_of, feature_of}
 use Rattle.mvt_view.specs.declared.views.LayerView.{LayerView}
 use Rattle.mvt_view.specs.declared.views.FeatureView.{FeatureView}
 use Rattle.mvt_view.specs.declared.attributes.Pair.{Pair}

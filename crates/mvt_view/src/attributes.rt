@@ -10,8 +10,8 @@ ghost use Rattle.mvt_view.specs.Tags.{ordinal_in};
 ghost use Rattle.mvt_view.specs.declared.attributes.PairsError.TheVariants.{BadTags, NoMemory};
 
 use crate::views::{FeatureView, LayerView};
+use mvt_document::Items;
 use mvt_numbers::{BadChunk, Number, Numbers};
-use mvt_wire::Items;
 use std::alloc::{AllocError, AllocFailed, Global};
 use thiserror::Error;
 

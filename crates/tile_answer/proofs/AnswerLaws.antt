@@ -5,8 +5,8 @@ use Rattle.std.specs.Fmt.{signed_decimal}
 use Rattle.std.proofs.lemmas.Grind.{flat_map-append}
 use Rattle.std.proofs.lemmas.List.Elements.{All-append}
 use Rattle.std.specs.List.{flat_map}
-use Rattle.mvt_wire.specs.Plain.{Document}
-use Rattle.mvt_wire.specs.Wire.{bytes_of}
+use Rattle.mvt_document.specs.Plain.{Document}
+use Rattle.mvt_document.specs.Wire.{bytes_of}
 use Rattle.mvt_command.specs.Command.{Command}
 use Rattle.mvt_command.proofs.Others.{Other}
 use Rattle.mvt_meaning.specs.Meaning.{applied}

@@ -2,8 +2,8 @@
 use Rattle.std.specs.Prelude.{ℕ, ◌-◌, ℤ, pos, ◌-ℤ◌, List, [], ◌++◌, length, Option, Some, None, Result, Ok, Err, codes, decimal}
 use Rattle.std.specs.List.{flat_map}
 use Rattle.std.specs.Fmt.{signed_decimal}
-use Rattle.mvt_wire.specs.Plain.{Document}
-use Rattle.mvt_wire.specs.Wire.{bytes_of}
+use Rattle.mvt_document.specs.Plain.{Document}
+use Rattle.mvt_document.specs.Wire.{bytes_of}
 use Rattle.mvt_command.specs.Command.{Command}
 use Rattle.mvt_meaning.specs.declared.refusal.Refusal.{Refusal}
 use Rattle.tile_text.specs.Texts.{text_form}

@@ -1,6 +1,6 @@
 -- How a session answers a request.
 use Rattle.std.specs.Prelude.{◌≡◌, ◌⊎◌, ℕ, Result, Ok, Err}
-use Rattle.mvt_wire.specs.Held.{Held}
+use Rattle.mvt_document.specs.Held.{Held}
 use Rattle.tile_request.specs.Request.{Request, Edit, Undo, Redo, SetMark, TakeMark, GoBack, Begin, End, Cancel, ListMarks, TellHistory, Size, Lists}
 use Rattle.mvt_history.specs.History.{History}
 use Rattle.mvt_history.specs.Session.{StandsFor, StopsAt, StopsWithin}

@@ -1,6 +1,6 @@
 -- Laws of listings, in which nothing is said of what they show.
 use Rattle.std.specs.Prelude.{◌≡◌, ◌≢◌, ℕ, List, Ok, Err}
-use Rattle.mvt_wire.specs.Plain.{Document, Feature, Layer}
+use Rattle.mvt_document.specs.Plain.{Document, Feature, Layer}
 use Rattle.mvt_command.specs.Command.{FeatureChoice, LayerChoice}
 use Rattle.mvt_meaning.specs.Selection.{selected, selected_feature}
 use Rattle.mvt_meaning.specs.declared.refusal.Refusal.TheVariants.{NoMemory}

@@ -3,8 +3,8 @@
 use Rattle.std.specs.Prelude.{◌≡◌, ◌⊎◌, ℕ, ◌==◌, List, [], ◌∷◌, ◌++◌, Option, Result, Ok, Err, codes, decimal, length, map, slice_get, if◌then◌else◌}
 use Rattle.std.specs.List.{enumerate_from, flat_map, join_with_byte}
 use Rattle.std.specs.Option.{ok_or, option_and_then, option_map_or}
-use Rattle.mvt_wire.specs.Held.{Held}
-use Rattle.mvt_wire.specs.Plain.{Document, Feature, Layer}
+use Rattle.mvt_document.specs.Held.{Held}
+use Rattle.mvt_document.specs.Plain.{Document, Feature, Layer}
 use Rattle.mvt_numbers.specs.Numbers.{numbers}
 use Rattle.mvt_geometry.specs.Shapes.{Geometry}
 use Rattle.mvt_command.specs.Command.{FeatureChoice, LayerChoice}

@@ -2,7 +2,7 @@
 use Rattle.std.specs.Prelude.{ℕ, List, [], Result, map, slice_index_or}
 use Rattle.std.specs.Borrow.{Bor}
 use Rattle.std.specs.Result.{result_map_both}
-use Rattle.mvt_wire.specs.Plain.{Feature, Layer}
+use Rattle.mvt_document.specs.Plain.{Feature, Layer}
 use Rattle.mvt_view.specs.Seen.{feature_seen, layer_seen}
 use Rattle.mvt_view.specs.declared.views.FeatureView.{FeatureView}
 use Rattle.mvt_view.specs.declared.views.LayerView.{LayerView}

@@ -1,7 +1,7 @@
 //! What a line of a script can ask for.
 
 use mvt_command::{Command, FeatureChoice, LayerChoice};
-use mvt_wire::Items;
+use mvt_document::Items;
 
 /// What a listing shows.
 #[derive(Debug, Drop)]

@@ -1,7 +1,7 @@
 -- Lines that open a step and close it, and lines that set a mark and go back to it.
 use Rattle.std.proofs.Common.{◌≡◌, ℕ, false, List, [], ◌∷◌, ◌++◌, Some, None, Ok, refl, sym, ap, ap₂, ◌∙◌}
 use Rattle.std.proofs.lemmas.Grind.{flat_map-append}
-use Rattle.mvt_wire.specs.Wire.{bytes_of}
+use Rattle.mvt_document.specs.Wire.{bytes_of}
 use Rattle.mvt_history.specs.History.{History, with_group, standing_document, gone_back, opened}
 use Rattle.mvt_history.specs.Requests as asks
 use Rattle.mvt_history.specs.Requests.{or_before, asked, asked_all}

@@ -1,7 +1,7 @@
 -- A line with a command, and a line that takes it back.
 use Rattle.std.proofs.Common.{◌≡◌, ℕ, Bool, false, List, [], ◌∷◌, ◌++◌, Some, Ok, refl, ap, ◌∙◌, inl, append_assoc}
-use Rattle.mvt_wire.specs.Plain.{Document}
-use Rattle.mvt_wire.specs.Wire.{bytes_of}
+use Rattle.mvt_document.specs.Plain.{Document}
+use Rattle.mvt_document.specs.Wire.{bytes_of}
 use Rattle.tile_request.specs.Request.{Request, Edit, Undo}
 use Rattle.tile_script.specs.Line.{answer_to}
 use Rattle.tile_lines.specs.Lines.{lines_of, HasNoLineFeed, with_feed, EndsWithALine}

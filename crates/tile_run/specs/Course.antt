@@ -1,9 +1,9 @@
 -- What a run reads and writes, by how it ends.
 use Rattle.std.specs.Prelude.{◌≡◌, ℕ, ◌+◌, ◌<◌, ◌≤◌, Bool, true, false, List, [], ◌∷◌, ◌++◌, length, take, Some, None, IsSome, if◌then◌else◌, ◌⊎◌}
-use Rattle.mvt_wire.specs.TheConstants.{MAX_FILE}
-use Rattle.mvt_wire.specs.Plain.{Document}
-use Rattle.mvt_wire.specs.Opens.{OpensAs, IsPlace}
-use Rattle.mvt_wire.specs.Settle.{settle}
+use Rattle.mvt_document.specs.declared.TheConstants.{MAX_FILE}
+use Rattle.mvt_document.specs.Plain.{Document}
+use Rattle.mvt_document.specs.Opens.{OpensAs, IsPlace}
+use Rattle.mvt_document.specs.Settle.{settle}
 use Rattle.tile_device.specs.Seen.{Intake, Output, nothing_read, IsFront}
 use Rattle.tile_device.specs.declared.device.Trouble.TheVariants.{Interrupted}
 use Rattle.tile_lines.specs.Lines.{lines_of, whole_lines}

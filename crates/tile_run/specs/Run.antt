@@ -1,7 +1,7 @@
 -- What a script does to a tile, line by line.
 use Rattle.std.specs.Prelude.{◌≡◌, ℕ, ◌+◌, Bool, true, false, ◌&&◌, if◌then◌else◌, MatchBool, List, [], ◌∷◌, ◌++◌, Option, Some, None, Result, Ok, Err, ◌⊎◌}
-use Rattle.mvt_wire.specs.Plain.{Document}
-use Rattle.mvt_wire.specs.Wire.{bytes_of}
+use Rattle.mvt_document.specs.Plain.{Document}
+use Rattle.mvt_document.specs.Wire.{bytes_of}
 use Rattle.tile_request.specs.Request.{Request}
 use Rattle.tile_script.specs.Line.{answer_to, TakesMemory}
 use Rattle.tile_lines.specs.Lines.{lines_of}

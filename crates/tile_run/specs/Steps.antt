@@ -1,8 +1,8 @@
 -- What the steps of a run answer.
 use Rattle.std.specs.Prelude.{◌≡◌, ℕ, ◌+◌, ◌≤◌, Bool, true, false, List, [], ◌∷◌, ◌++◌, length, Option, Some, None, IsSome, Result, Ok, Err}
-use Rattle.mvt_wire.specs.declared.Document.{Document}
-use Rattle.mvt_wire.specs.Held.{Held}
-use Rattle.mvt_wire.specs.Stands.{document_of}
+use Rattle.mvt_document.specs.declared.Document.{Document}
+use Rattle.mvt_document.specs.Held.{Held}
+use Rattle.mvt_document.specs.Stands.{document_of}
 use Rattle.tile_device.specs.Seen.{Seen, Intake, Output, IsFront, Receives, Supplies, nothing_read, written}
 use Rattle.tile_device.specs.declared.device.Trouble.TheVariants.{Interrupted}
 use Rattle.tile_lines.specs.Cutting.{Holding, after_pushes, nothing_held}

@@ -8,7 +8,7 @@ ghost use Rattle.tile_text.specs.Extends.{Extends};
 ghost use Rattle.tile_text.specs.Texts.{is_escaped, quoted_byte, quoted, text_form};
 
 use hex::encode_to_slice;
-use mvt_wire::Items;
+use mvt_document::Items;
 use simdutf8::basic::from_utf8;
 use std::alloc::{AllocError, Global};
 

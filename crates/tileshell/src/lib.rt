@@ -7,9 +7,9 @@ mod program;
 
 pub use in_memory::{Edited, edit};
 pub use mvt_command::{Command, FeatureChoice, LayerChoice};
+pub use mvt_document::laws as wire_laws;
 pub use mvt_history::{HistoryError, MAX_DEPTH, MAX_MARKS, laws as history_laws};
 pub use mvt_meaning::{Refusal, laws as edit_laws};
-pub use mvt_wire::laws as wire_laws;
 pub use program::shell;
 pub use tile_device::{FromRead, FromWrite, Retries, Sink, Source, Trouble};
 pub use tile_lines::laws as line_laws;

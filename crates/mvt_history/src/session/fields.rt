@@ -2,7 +2,7 @@
 
 use super::Session;
 use crate::marks::Mark;
-use mvt_wire::read_document;
+use mvt_read::read_document;
 use std::test::Fail;
 
 #[test]

@@ -1,6 +1,6 @@
 use Rattle.std.proofs.Common.{◌≡◌, ◌-◌, ◌<◌, ◌≤◌, Ok, Err, length, map, ap, ◌∙◌, subst, sym, inl, arith, rules}
 use Rattle.std.specs.Result.{OnOk, IfErr, MatchResult}
-use Rattle.mvt_wire.specs.Stands.{document_of}
+use Rattle.mvt_document.specs.Stands.{document_of}
 use Rattle.mvt_history.specs.Marks.{point_of}
 use Rattle.mvt_history.specs.Moves.{Walk, walked}
 use Rattle.mvt_history.specs.Held.{from_last, mark_of}
