@@ -19,8 +19,8 @@ use Rattle.mvt_history.specs.History.{History, IsSound, after_all, after_steps, 
 use Rattle.mvt_history.specs.Requests.{Request, Edit, Undo, Redo, SetMark, TakeMark, GoBack, Begin, End, Cancel, SetsOther, or_before, asked, asked_all}
 use Rattle.mvt_history.specs.Laws.{StaysSound, BackToTheMark}
 use Rattle.mvt_history.specs.declared.TheConstants.{MAX_MARKS}
-use Rattle.mvt_history.specs.declared.error.HistoryError.{HistoryError}
-use Rattle.mvt_history.specs.declared.error.HistoryError.TheVariants.{NothingToUndo, NothingToRedo, NoMark, TooManyMarks, NoGroup}
+use Rattle.mvt_history_error.specs.declared.HistoryError.{HistoryError}
+use Rattle.mvt_history_error.specs.declared.HistoryError.TheVariants.{NothingToUndo, NothingToRedo, NoMark, TooManyMarks, NoGroup}
 use Rattle.mvt_history.proofs.MarkOrder.{all_filtered, all_passed, all_bound}
 use Rattle.mvt_history.proofs.UndosRedos.{none_open}
 

@@ -4,7 +4,7 @@ use Rattle.mvt_command.specs.Command.{Command}
 use Rattle.mvt_history.specs.Marks.{point_of}
 use Rattle.mvt_history.specs.History.{History, at_point, with_group, unless_open, gone_to, gone_back, cancelled}
 use Rattle.mvt_history.specs.Laws.{StoppedGoesOn}
-use Rattle.mvt_history.specs.declared.error.HistoryError.TheVariants.{NoGroup}
+use Rattle.mvt_history_error.specs.declared.HistoryError.TheVariants.{NoGroup}
 
 goes_to_mark : (name : List ℕ) (point : ℕ) (history : History) → history.group ≡ None → point_of name history.marks ≡ Some point → gone_back name history ≡ Ok (at_point point history)
 goes_to_mark name point history alone marks =

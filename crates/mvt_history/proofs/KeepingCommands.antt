@@ -19,8 +19,8 @@ use Rattle.mvt_edit.specs.Prepared.{IsPrepared}
 use Rattle.mvt_history.specs.Marks.{between, counted_from}
 use Rattle.mvt_history.specs.declared.marks.Mark.{Mark as HeldMark}
 use Rattle.mvt_history.specs.History.{History, after_all, present_document, commands_in, with_group, with_step, with_command, edited_to, edited, ended, closed, cancelled}
-use Rattle.mvt_history.specs.declared.error.HistoryError.{HistoryError}
-use Rattle.mvt_history.specs.declared.error.HistoryError.TheVariants.{NoMemory}
+use Rattle.mvt_history_error.specs.declared.HistoryError.{HistoryError}
+use Rattle.mvt_history_error.specs.declared.HistoryError.TheVariants.{NoMemory}
 use Rattle.mvt_history.specs.Reached.{LeadsBack, LeadOut}
 use Rattle.mvt_history.specs.Standing.{Standing, changes_in, closed_document}
 use Rattle.mvt_history.specs.Held.{mark_of, from_last, standing_of, IsHeld}

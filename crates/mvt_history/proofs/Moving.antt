@@ -18,8 +18,8 @@ use Rattle.mvt_history.specs.Reached.{LeadsBack, LeadsOn, LeadBack, LeadOn, Lead
 use Rattle.mvt_history.specs.Standing.{Standing, IsReady}
 use Rattle.mvt_history.specs.Held.{from_last, IsReached, IsHeld}
 use Rattle.mvt_history.specs.declared.TheConstants.{MAX_DEPTH}
-use Rattle.mvt_history.specs.declared.error.HistoryError.{HistoryError}
-use Rattle.mvt_history.specs.declared.error.HistoryError.TheVariants.{GroupOpen}
+use Rattle.mvt_history_error.specs.declared.HistoryError.{HistoryError}
+use Rattle.mvt_history_error.specs.declared.HistoryError.TheVariants.{GroupOpen}
 use Rattle.mvt_history.specs.Session.{StandsFor}
 use Rattle.mvt_history.proofs.Sound.{begins_sound, sound_at_point, sound_with_group}
 use Rattle.mvt_history.proofs.Following.{next_document}

@@ -6,8 +6,8 @@ use Rattle.mvt_command.specs.Command.{Command}
 use Rattle.mvt_history.specs.History.{History, at_point, unless_open, undone, redone}
 use Rattle.mvt_history.specs.Requests.{and_then, then_times}
 use Rattle.mvt_history.specs.Laws.{RedosUndoUndos, UndosUndoRedos}
-use Rattle.mvt_history.specs.declared.error.HistoryError.{HistoryError}
-use Rattle.mvt_history.specs.declared.error.HistoryError.TheVariants.{NothingToUndo, NothingToRedo}
+use Rattle.mvt_history_error.specs.declared.HistoryError.{HistoryError}
+use Rattle.mvt_history_error.specs.declared.HistoryError.TheVariants.{NothingToUndo, NothingToRedo}
 
 -- ---- where no step is open
 

@@ -7,8 +7,8 @@ use Rattle.mvt_meaning.specs.Meaning.{after, applied}
 use Rattle.mvt_meaning.specs.declared.refusal.Refusal.{Refusal}
 use Rattle.mvt_history.specs.Marks.{Mark, InOrder, point_of, bound, unbound, between}
 use Rattle.mvt_history.specs.declared.TheConstants.{MAX_MARKS}
-use Rattle.mvt_history.specs.declared.error.HistoryError.{HistoryError}
-use Rattle.mvt_history.specs.declared.error.HistoryError.TheVariants.{NothingToUndo, NothingToRedo, NoMark, TooManyMarks, GroupOpen, NoGroup}
+use Rattle.mvt_history_error.specs.declared.HistoryError.{HistoryError}
+use Rattle.mvt_history_error.specs.declared.HistoryError.TheVariants.{NothingToUndo, NothingToRedo, NoMark, TooManyMarks, GroupOpen, NoGroup}
 
 -- The tile at the start; the steps, each of one or more commands, with those that were undone;
 -- how many of them stand, which is the present point; the least point to which undo goes back;

@@ -2,7 +2,7 @@
 use Rattle.std.specs.Prelude.{◌≡◌, ℕ, zero, suc, List, [], ◌∷◌, Result, Ok, Err}
 use Rattle.mvt_command.specs.Command.{Command}
 use Rattle.mvt_history.specs.History.{History, edited, undone, redone, marked, unmarked, gone_back, opened, closed, cancelled}
-use Rattle.mvt_history.specs.declared.error.HistoryError.{HistoryError}
+use Rattle.mvt_history_error.specs.declared.HistoryError.{HistoryError}
 
 pub data Request : Type 0 where
   Edit : (command : Command) → Request

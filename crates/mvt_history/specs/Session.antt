@@ -12,11 +12,11 @@ use Rattle.mvt_history.specs.Standing.{Standing}
 use Rattle.mvt_document.specs.declared.document.Document as held
 use Rattle.mvt_document.specs.Stands.{document_of}
 use Rattle.std.specs.Borrow.{Bor}
-use Rattle.mvt_history.specs.declared.error.HistoryError.{HistoryError}
+use Rattle.mvt_history_error.specs.declared.HistoryError.{HistoryError}
 use Rattle.mvt_history.specs.declared.error.StartError.{StartError}
 use Rattle.mvt_history.specs.declared.error.StartError.TheVariants as start
 use Rattle.mvt_history.specs.declared.error.StartError.TheVariants.{TooLarge}
-use Rattle.mvt_history.specs.declared.error.HistoryError.TheVariants.{NothingToUndo, NothingToRedo, NoMark, TooManyMarks, Stopped, GroupOpen, NoGroup, NoMemory}
+use Rattle.mvt_history_error.specs.declared.HistoryError.TheVariants.{NothingToUndo, NothingToRedo, NoMark, TooManyMarks, Stopped, GroupOpen, NoGroup, NoMemory}
 
 -- ---- which history a session holds
 

@@ -7,7 +7,8 @@ mod marks;
 mod session;
 mod steps;
 
-pub use error::{HistoryError, StartError};
+pub use error::StartError;
+pub use mvt_history_error::HistoryError;
 pub use session::Session;
 
 /// The greatest depth that a session may have.

@@ -11,7 +11,7 @@ use Rattle.tile_request.specs.Request.{Request, Edit, Undo, Redo, SetMark, TakeM
 use Rattle.tile_listing.specs.Listing.{listed}
 use Rattle.mvt_history.specs.Marks.{Mark}
 use Rattle.mvt_history.specs.History.{History, standing_document, edited, undone, redone, marked, unmarked, gone_back, opened, closed, cancelled}
-use Rattle.mvt_history.specs.declared.error.HistoryError.{HistoryError}
+use Rattle.mvt_history_error.specs.declared.HistoryError.{HistoryError}
 use Rattle.tile_reply.specs.declared.refused.Refused.{Refused}
 use Rattle.tile_reply.specs.declared.refused.Refused.TheVariants as refused
 

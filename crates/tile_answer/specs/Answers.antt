@@ -5,7 +5,7 @@ use Rattle.tile_request.specs.Request.{Request, Edit, Undo, Redo, SetMark, TakeM
 use Rattle.mvt_history.specs.History.{History}
 use Rattle.mvt_history.specs.Session.{StandsFor, StopsAt, StopsWithin}
 use Rattle.mvt_history.specs.Standing.{Standing}
-use Rattle.mvt_history.specs.declared.error.HistoryError.TheVariants.{Stopped}
+use Rattle.mvt_history_error.specs.declared.HistoryError.TheVariants.{Stopped}
 use Rattle.tile_reply.specs.Replies.{refusal_number}
 use Rattle.tile_reply.specs.declared.refused.Refused.{Refused}
 use Rattle.tile_reply.specs.declared.refused.Refused.TheVariants as refused

@@ -17,7 +17,7 @@ use Rattle.tile_reply.specs.Replies.{accepted_reply, refused_front, refused_repl
 use Rattle.tile_run.specs.Run.{Progress, at_first, ran, settled_by, answered_by, after_line, is_over, after_lines}
 use Rattle.tile_run.specs.RunLaws.{RunsHaveNoWant}
 use Rattle.mvt_meaning.specs.declared.refusal.Refusal.TheVariants as edit
-use Rattle.mvt_history.specs.declared.error.HistoryError.TheVariants as history
+use Rattle.mvt_history_error.specs.declared.HistoryError.TheVariants as history
 use Rattle.tile_words.specs.declared.parse_error.ParseError.{ParseError}
 use Rattle.tile_words.specs.declared.parse_error.ParseError.TheVariants as parse
 use Rattle.tile_reply.specs.declared.refused.Refused.{Refused}

@@ -11,7 +11,7 @@ use Rattle.tile_answer.specs.Answering.{Told, carried_out}
 use Rattle.tile_answer.proofs.AnswerLaws.{looks_leave_history}
 use Rattle.tile_reply.specs.Replies.{accepted_reply, refused_reply, IsWant, HasNoWant}
 use Rattle.tile_run.specs.Run.{Progress, ran, tile_of, settled_by, answered_by, after_line, is_over, after_lines, MayFollow, Walk}
-use Rattle.mvt_history.specs.declared.error.HistoryError.TheVariants.{Stopped}
+use Rattle.mvt_history_error.specs.declared.HistoryError.TheVariants.{Stopped}
 use Rattle.tile_run.specs.RunLaws.{RepliesStand, RefusedLinesChangeNothing, SilentLinesChangeNothing, StrictRunsStop, AcceptedRunsAreAlike, WalksWithoutWantAreRuns, RunsAreWalks, LookingChangesNothing}
 use Rattle.tile_words.specs.declared.parse_error.ParseError.{ParseError}
 use Rattle.tile_words.specs.declared.parse_error.ParseError.TheVariants as parse

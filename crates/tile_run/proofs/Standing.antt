@@ -12,8 +12,8 @@ use Rattle.mvt_history.specs.Marks.{Mark, point_of, bound, unbound}
 use Rattle.mvt_history.specs.History.{History, IsSound, begun, after_all, after_steps, present_document, commands_in, standing_document, at_point, with_marks, with_group, with_step, with_command, edited_to, edited, unless_open, undone, redone, marked, unmarked, gone_to, gone_back, opened, ended, closed, cancelled}
 use Rattle.mvt_history.specs.Requests.{Request, Edit, Undo, Redo, SetMark, TakeMark, GoBack, Begin, End, Cancel, or_before, asked}
 use Rattle.mvt_history.specs.declared.TheConstants.{MAX_MARKS}
-use Rattle.mvt_history.specs.declared.error.HistoryError.{HistoryError}
-use Rattle.mvt_history.specs.declared.error.HistoryError.TheVariants.{NothingToUndo, NothingToRedo, NoMark, TooManyMarks, NoGroup}
+use Rattle.mvt_history_error.specs.declared.HistoryError.{HistoryError}
+use Rattle.mvt_history_error.specs.declared.HistoryError.TheVariants.{NothingToUndo, NothingToRedo, NoMark, TooManyMarks, NoGroup}
 use Rattle.mvt_history.proofs.Joined.{after_accepted}
 use Rattle.tile_lines.specs.Lines.{lines_of}
 use Rattle.tile_run.specs.Run.{at_first, ran}

@@ -6,7 +6,7 @@ use Rattle.tile_request.specs.Request.{Request}
 use Rattle.tile_script.specs.Line.{answer_to, TakesMemory}
 use Rattle.tile_lines.specs.Lines.{lines_of}
 use Rattle.mvt_history.specs.History.{History, begun, standing_document}
-use Rattle.mvt_history.specs.declared.error.HistoryError.TheVariants.{Stopped}
+use Rattle.mvt_history_error.specs.declared.HistoryError.TheVariants.{Stopped}
 use Rattle.tile_reply.specs.Replies.{accepted_reply, refused_reply}
 use Rattle.tile_answer.specs.Answering.{Told, carried_out}
 use Rattle.tile_answer.specs.Answers.{MayStop}
