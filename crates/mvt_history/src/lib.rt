@@ -2,7 +2,6 @@
 #![tactic(auto)]
 
 mod error;
-pub mod laws;
 mod marks;
 mod session;
 mod steps;

@@ -2,7 +2,6 @@
 #![tactic(auto)]
 
 mod editor;
-pub mod laws;
 mod outcome;
 mod runs;
 
