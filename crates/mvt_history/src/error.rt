@@ -1,4 +1,4 @@
-//! Why a session refuses.
+//! Why a request is refused, and why a session is not started.
 
 ghost use Rattle.std.specs.Prelude.{◌≡◌};
 ghost use Rattle.mvt_history.specs.declared.error.HistoryError.TheVariants.{NoMemory};
