@@ -1,4 +1,4 @@
--- Laws of histories and sessions, in the words of a tile and what is asked.
+-- Laws of histories and sessions, in the words of a tile and of what is asked.
 use Rattle.std.specs.Prelude.{◌≡◌, ℕ, zero, suc, ◌+◌, ◌-◌, ◌≤◌, List, [], ◌∷◌, length, take, get_or, Some, None, Ok, ◌*◌}
 use Rattle.std.specs.List.{AllByRecursion, sum_by}
 use Rattle.mvt_document.specs.declared.TheConstants.{MAX_FILE}
@@ -13,14 +13,14 @@ use Rattle.mvt_history.specs.Reached.{all_taken_by, all_put_by, step_allowance}
 use Rattle.mvt_history.specs.Standing.{Standing, changes_in, closed_document}
 use Rattle.mvt_history.specs.Session.{StandsFor, StopsAt, StopsWithin}
 
--- A history begins sound, and each request keeps it so.
+-- a history is sound when it begins, at a depth of at least 1, and stays sound under each request
 abbrev pub StaysSound : Type 0
 StaysSound =
     ((document : Document) (depth : ℕ) → 1 ≤ depth → IsSound (begun document depth))
     × ((request : Request) (history : History) → IsSound history → IsSound (asked request history))
 
--- Where a file can hold the tile at the start, it can hold each tile of the history, each within the open step, and the
--- one that stands.
+-- where a file can hold the tile at the start, it can hold the tile at each point of the history, each tile within the
+-- open step, and the one that stands
 abbrev pub HistoryFits : Type 0
 HistoryFits =
     (history : History) → length (bytes_of history.start) ≤ MAX_FILE →
@@ -29,7 +29,8 @@ HistoryFits =
     × ((count : ℕ) → length (bytes_of (after_all (take count commands) (present_document history))) ≤ MAX_FILE)
     × (length (bytes_of (standing_document history)) ≤ MAX_FILE)
 
--- Where no step is open, an undo right after an accepted command is accepted, and the document is the one before the command.
+-- where no step is open, an undo right after an accepted command is accepted, and the document is the one before the
+-- command
 abbrev pub UndoAtOnce : Type 0
 UndoAtOnce =
     (command : Command) (history after : History) → IsSound history
@@ -37,8 +38,8 @@ UndoAtOnce =
     → edited command history ≡ Ok after
     → (back : History) × (undone after ≡ Ok back) × (standing_document back ≡ standing_document history)
 
--- The end of an open step of some commands is accepted, and so is an undo right after it, and the document is the one
--- before all of them.
+-- the end of an open step of one or more commands is accepted, and so is an undo right after it, and the document is
+-- the one before all of them
 abbrev pub UndoAfterEnd : Type 0
 UndoAfterEnd =
     (command : Command) (commands : List Command) (history : History) → IsSound history
@@ -48,8 +49,8 @@ UndoAfterEnd =
     × (undone after ≡ Ok back)
     × (standing_document back ≡ present_document history)
 
--- A step is opened, whatever is asked then but to close it, and some command is accepted: its end is accepted, and so is
--- an undo right after it, and the document is the one that stood before the step was opened.
+-- a step is opened, then anything is asked but to end or cancel it, and one or more commands are accepted: its end is
+-- accepted, and so is an undo right after it, and the document is the one that stood when the step was opened
 abbrev pub StepUndoesWhole : Type 0
 StepUndoesWhole =
     (requests : List Request) (history opening : History) → IsSound history
@@ -61,8 +62,8 @@ StepUndoesWhole =
     × (undone after ≡ Ok back)
     × (standing_document back ≡ standing_document history)
 
--- A step is opened, whatever is asked then but to close it, and no command is accepted: its end is accepted, and leaves
--- the very history before it, what was undone and the marks included.
+-- a step is opened, then anything is asked but to end or cancel it, and no command is accepted: its end is accepted,
+-- and leaves the very history before it, with the steps that were undone and the marks
 abbrev pub EmptyStepLeavesNoTrace : Type 0
 EmptyStepLeavesNoTrace =
     (requests : List Request) (history opening : History)
@@ -71,22 +72,22 @@ EmptyStepLeavesNoTrace =
     → (asked_all requests opening).group ≡ Some []
     → closed (asked_all requests opening) ≡ Ok history
 
--- As many redos as there were undos lead to the very history before them.
+-- where a number of undos are accepted, as many redos after them are, and lead to the very history before
 abbrev pub RedosUndoUndos : Type 0
 RedosUndoUndos =
     (count : ℕ) (history after : History) → IsSound history
     → then_times count undone history ≡ Ok after
     → then_times count redone after ≡ Ok history
 
--- As many undos as there were redos lead to the very history before them.
+-- where a number of redos are accepted, as many undos after them are, and lead to the very history before
 abbrev pub UndosUndoRedos : Type 0
 UndosUndoRedos =
     (count : ℕ) (history after : History) → IsSound history
     → then_times count redone history ≡ Ok after
     → then_times count undone after ≡ Ok history
 
--- Whatever is asked after a mark was set, but to set it anew: where going back to it is accepted, the document is the
--- one that stood when it was set.
+-- a mark is set, then anything is asked but to set it anew: where going back to it is accepted, the document is the one
+-- that stood when it was set
 abbrev pub BackToTheMark : Type 0
 BackToTheMark =
     (name : List ℕ) (requests : List Request) (history set back : History) → IsSound history
@@ -95,8 +96,8 @@ BackToTheMark =
     → gone_back name (asked_all requests set) ≡ Ok back
     → standing_document back ≡ standing_document history
 
--- A step that is opened can be cancelled, whatever is asked in between but to close it, and that leaves the very history
--- before it.
+-- a step is opened, then anything is asked but to end or cancel it: cancelling it is accepted, and leaves the very
+-- history before it
 abbrev pub CancelLeavesNoTrace : Type 0
 CancelLeavesNoTrace =
     (requests : List Request) (history opening : History)
@@ -104,8 +105,7 @@ CancelLeavesNoTrace =
     → AllByRecursion LeavesOpen requests
     → cancelled (asked_all requests opening) ≡ Ok history
 
--- A `back` or a `cancel` that was stopped on the way for want of memory, asked again, is accepted and leads where it would
--- have led.
+-- a `back` or a `cancel` that was stopped on the way, asked again, is accepted and leads where it would have led
 abbrev pub StoppedGoesOn : Type 0
 StoppedGoesOn =
     ((name : List ℕ) (taken : ℕ) (history between : History) → StopsAt name history taken between
@@ -115,8 +115,8 @@ StoppedGoesOn =
 
 -- ---- what a session keeps
 
--- Its changes for undo lead to each document down to the floor, those for redo to each up to the end, and those of the
--- open step to each within it, back to the one that stood when it was opened.
+-- the changes that a session keeps for undo lead to each document down to the floor, those for redo to each up to the
+-- end, and those of the open step to each within it, back to the one that stood when it was opened
 abbrev pub ChangesLead : Type 0
 ChangesLead =
     (session : Standing) (history : History) → StandsFor session history →
@@ -131,31 +131,32 @@ ChangesLead =
     → go_along (take count pending) session.document ≡ after_all (take (length commands - count) commands) present)
     × (closed_document session ≡ present)
 
--- the numbers that this gives for so many points from one on, added up
+-- the sum of `number` at a number of points, from this one up
 abbrev pub sum_from : (ℕ → ℕ) → ℕ → ℕ → ℕ
 sum_from number point zero = 0
 sum_from number point (suc count) = number point + sum_from number (suc point) count
 
--- what the step at a point took out, and what it put in, on the document that it met
+-- how many bytes the step behind this point took out
 abbrev pub taken_at : History → ℕ → ℕ
 taken_at history point = all_taken_by (get_or history.steps point []) (document_at point history)
 
+-- how many bytes the step behind this point put in
 abbrev pub put_at : History → ℕ → ℕ
 put_at history point = all_put_by (get_or history.steps point []) (document_at point history)
 
--- What a session keeps weighs no more than what the steps from the floor to the present point took out, what those
--- after it put in, and what the open step's commands took out.
+-- the changes that a session keeps weigh no more than the sum of what the steps from the floor to the present point
+-- took out, what the steps that were undone put in, and what the commands of the open step took out
 abbrev pub KeptWithin : Type 0
 KeptWithin = (session : Standing) (history : History) → StandsFor session history →
     sum_by weight session.undo + sum_by weight session.redo + sum_by weight (changes_in session.pending)
     ≤ sum_from (taken_at history) history.floor (length session.undo) + sum_from (put_at history) history.present (length session.redo) + all_taken_by (commands_in history.group) (present_document history)
 
--- twice as many steps as the change of the step at a point may have
+-- twice the number of steps that the change of the step behind this point may have (`step_allowance`)
 abbrev pub step_allowance_at : History → ℕ → ℕ
 step_allowance_at history point = step_allowance (get_or history.steps point []) (document_at point history)
 
--- Nor are the steps of its changes many: at most one for each command of the steps from the floor on and of the open
--- step, and half as many as the bytes that those commands took out and put in.
+-- the changes that a session keeps have no more steps, all together, than the sum of one for each command of the steps
+-- from the floor to the end and of the open step, and half as many as the bytes that these commands took out and put in
 abbrev pub FewSteps : Type 0
 FewSteps = (session : Standing) (history : History) → StandsFor session history →
     2 * (sum_by length session.undo + sum_by length session.redo + sum_by length (changes_in session.pending))

@@ -1,4 +1,4 @@
-//! Changes as values.
+//! A place, a step and a change, as types.
 
 use mvt_document::{Field, Items, LayerItem, TileItem};
 

@@ -1,4 +1,4 @@
-//! Items that change places between a list of a document and a step.
+//! Items that change places between the list of a layer or of a feature and a step.
 
 ghost use Rattle.std.specs.Prelude.{◌≡◌, map, is_ok, if◌then◌else◌};
 ghost use Rattle.std.specs.Option.{IsSomeAnd, option_and_then};

@@ -1,4 +1,4 @@
-//! Steps on the fields of one feature, carried out in one pass over them.
+//! Steps on the fields of one feature, carried out in one pass.
 
 ghost use Rattle.std.specs.Prelude.{◌≡◌, ◌<◌, length, map, reverse, is_ok, if◌then◌else◌, OnOk, OnErr};
 ghost use Rattle.std.specs.List.{AllByRecursion};

@@ -1,4 +1,4 @@
-//! A change carried out in place, and turned into the change that leads back.
+//! `flip`: a change carried out in place, and turned into the change that leads back.
 
 ghost use Rattle.std.specs.Prelude.{◌≡◌, map, reverse, is_ok, if◌then◌else◌};
 ghost use Rattle.mvt_document.specs.Stands.{document_of};

@@ -1,4 +1,5 @@
-//! Several changes made one.
+//! `join`: a list of changes made one, from the last to the first; their steps move, and one growth
+//! makes the room.
 
 ghost use Rattle.std.specs.Prelude.{◌≡◌, ◌≤◌, [], ◌++◌, length, map, reverse, vec_len, IsOk, IfOk, OnOk, OnErr};
 ghost use Rattle.mvt_change.specs.ChangeStands.{change_of};

@@ -1,4 +1,4 @@
-//! Steps on one layer's list, carried out in one pass over it.
+//! Steps on the list of one layer, carried out in one pass.
 
 ghost use Rattle.std.specs.Prelude.{◌≡◌, ◌<◌, length, map, reverse, is_ok, if◌then◌else◌, OnOk, OnErr};
 ghost use Rattle.std.specs.List.{AllByRecursion};

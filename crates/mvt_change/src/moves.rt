@@ -1,4 +1,4 @@
-//! Items that move within a list of a document.
+//! An item that moves within a list of a document.
 
 ghost use Rattle.std.specs.Prelude.{◌≡◌, map};
 ghost use Rattle.std.specs.Option.{IsSomeAnd, option_and_then};

@@ -1,4 +1,5 @@
-//! Steps on one list of a document, carried out in one pass.
+//! Steps that follow each other on one list: as splices of their list, and those on the list of the
+//! tile in one pass.
 
 ghost use Rattle.std.specs.Prelude.{◌≡◌, ◌<◌, ◌≤◌, length, map, reverse, slice_range, is_ok, if◌then◌else◌, IsTrue, OnOk, OnErr};
 ghost use Rattle.std.specs.List.{AllByRecursion};

@@ -1,4 +1,4 @@
-//! Steps that were made and are taken back, with no growth.
+//! The steps that were made, taken back with no growth where memory runs out.
 
 ghost use Rattle.std.specs.Prelude.{◌≡◌, map, reverse};
 ghost use Rattle.mvt_document.specs.Stands.{document_of};

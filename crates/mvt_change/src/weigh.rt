@@ -1,4 +1,4 @@
-//! How much a change brings.
+//! `weight`: how many bytes a change puts.
 
 ghost use Rattle.std.specs.Prelude.{◌≡◌, ◌^◌, ◌<◌, ℕ, length};
 ghost use Rattle.std.specs.List.{flat_map};

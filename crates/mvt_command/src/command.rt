@@ -1,4 +1,4 @@
-//! The commands that change a tile.
+//! The commands with their arguments, and how a layer or a feature is selected.
 
 use mvt_document::Items;
 use mvt_geometry::Geometry;

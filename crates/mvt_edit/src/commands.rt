@@ -1,4 +1,4 @@
-//! The change of a command.
+//! `prepare`: the change of a command.
 
 ghost use Rattle.mvt_document.specs.Stands.{document_of};
 ghost use Rattle.mvt_command.specs.CommandStands.{command_of};

@@ -1,4 +1,5 @@
-//! Items of a list that go.
+//! The steps that take items out of a list, neighbours in one step, and the step that takes one
+//! item out.
 
 ghost use Rattle.std.specs.Prelude.{◌≡◌, ℕ, ◌+◌, ◌^◌, ◌<◌, ◌≤◌, Bool, List, [], ◌∷◌, ◌++◌, Some, None, IfOk, IfSome, is_ok, map, slice_get, drop, if◌then◌else◌};
 ghost use Rattle.std.specs.Fn.{FnReturnsAt};

@@ -1,4 +1,4 @@
-//! One item goes.
+//! A layer goes, and a feature goes.
 
 ghost use Rattle.mvt_document.specs.Stands.{document_of};
 ghost use Rattle.mvt_command.specs.Command.{DropLayer, DropFeature};

@@ -1,4 +1,4 @@
-//! Items that do not pass go.
+//! Layers of other names go; a feature loses its id.
 
 ghost use Rattle.std.specs.Prelude.{◌≡◌, map, false};
 ghost use Rattle.std.specs.List.{list_any};

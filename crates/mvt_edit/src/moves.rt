@@ -1,4 +1,4 @@
-//! One item comes to stand elsewhere among those of its kind.
+//! An item moves to another ordinal.
 
 ghost use Rattle.mvt_document.specs.Stands.{document_of};
 ghost use Rattle.mvt_command.specs.Command.{MoveLayer, MoveFeature};

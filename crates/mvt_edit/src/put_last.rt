@@ -1,4 +1,5 @@
-//! The last item that passes is replaced, or a new one comes at the end.
+//! The last item that passes is replaced, or one comes at the end: the name of a layer, the id of a
+//! feature.
 
 ghost use Rattle.std.specs.Prelude.{◌≡◌, Err, false, true, IfErr, IfOk, IfSome};
 ghost use Rattle.std.specs.Option.{option_map_or, unwrap_or};

@@ -1,4 +1,4 @@
-//! Changes of one step, and lists of one item.
+//! The change of one step, and the same where a file can hold what it makes; a list of one item.
 
 ghost use Rattle.std.specs.Prelude.{◌≡◌, ◌⊎◌, ◌<◌, ◌≤◌, [], ◌∷◌, IfErr, IfOk, length};
 ghost use Rattle.mvt_document.specs.declared.TheConstants.{MAX_FILE};

@@ -1,4 +1,4 @@
-//! Geometries.
+//! A geometry, whose type keeps that it is one.
 
 use crate::shapes::{Kind, Part};
 use crate::valid::is_geometry;

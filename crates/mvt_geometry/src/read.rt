@@ -1,4 +1,4 @@
-//! The geometry whose numbers these are.
+//! `geometry_of`: the geometry that numbers have.
 
 ghost use Rattle.std.specs.Prelude.{◌≡◌, ℕ, List, [], ◌∷◌, IfOk, IsErrOf};
 ghost use Rattle.mvt_geometry.specs.Shapes.{Point as PlainPoint, Geometry as PlainGeometry, number_of, least_points, IsPlaced};

@@ -1,4 +1,5 @@
-//! A document, and what undo, redo and the open step keep beside it.
+//! The session: its document, the changes for undo and redo, the marks and the open step; each
+//! request.
 
 #[cfg(test)]
 mod fields;

@@ -1,4 +1,5 @@
-//! Changes that are carried out from one list, and kept in another.
+//! Changes that are carried out from one list and kept in another, one or many; a new change that
+//! is kept; those of an open step that are taken back.
 
 ghost use Rattle.std.specs.Prelude.{◌≡◌, ◌+◌, ◌-◌, ◌<◌, ◌≤◌, [], ◌∷◌, map, length, drop, take, is_ok, IfErr, OnOk, OnErr, IfOk, if◌then◌else◌};
 ghost use Rattle.circular_buffer.specs.Buffer.{buffer};

@@ -5,6 +5,6 @@ use Rattle.mvt_command.specs.Command.{Command}
 use Rattle.mvt_meaning.specs.Meaning.{applied}
 use Rattle.mvt_meaning.specs.declared.refusal.Refusal.TheVariants.{NoMemory}
 
--- No command is refused for want of memory by its definition.
+-- no command is refused as out of memory by its definition
 abbrev pub CommandsHaveNoWant : Type 0
 CommandsHaveNoWant = (command : Command) (document : Document) → applied command document ≢ Err NoMemory

@@ -1,4 +1,4 @@
-//! The layer that is meant, and the feature of a layer, each with where it stands.
+//! The selected layer and the selected feature, each with where it stands.
 
 ghost use Rattle.std.specs.Prelude.{◌≡◌, Err, IfErr, IfOk, MatchOption, None, map, slice_get};
 ghost use Rattle.mvt_document.specs.Stands.{document_of, layer_item_of, layer_of, tile_item_of};

@@ -1,5 +1,5 @@
-//! Which layer is meant, and which feature of a layer; and where layers, features, names and ids
-//! stand.
+//! Which layer is selected, and which feature of a layer, by views; the positions of layers and
+//! features, and of the last name and the last id.
 
 ghost use Rattle.std.specs.Prelude.{◌≡◌, ℕ, List, [], ◌∷◌, ◌++◌, if◌then◌else◌, map, nat_lt, slice_get};
 ghost use Rattle.std.specs.List.{last_or};

@@ -1,4 +1,4 @@
-//! Which fields of a message have numbers.
+//! Which field is the next that has numbers, and whether they are packed.
 
 ghost use Rattle.std.specs.Prelude.{◌≡◌, ℕ, ◌+◌, ◌<◌, ◌≤◌, ◌++◌, [], length, map, IfSome, MatchOption};
 ghost use Rattle.mvt_document.specs.Stands.{body_of, field_of};

@@ -1,4 +1,4 @@
-//! What is found of a repeated number.
+//! What is found of repeated numbers: a number with its field and its place there, or a bad chunk.
 
 use mvt_document::Varint;
 use thiserror::Error;

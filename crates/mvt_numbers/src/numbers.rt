@@ -1,4 +1,4 @@
-//! The numbers of a field that may be repeated, one after the other.
+//! The numbers in the fields of one number, as an iterator.
 
 use crate::elements::{Elements, first_elements};
 use crate::number::{BadChunk, Number};

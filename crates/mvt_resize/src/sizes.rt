@@ -1,5 +1,6 @@
-//! How many bytes a tile takes once a step is carried out on it. Nothing is carried out: of a list
-//! whose size is kept, only the part that the step exchanges is measured.
+//! `fits_after`, by the sizes of a tile, of a layer and of a feature with a part of their items
+//! exchanged. Nothing is carried out: of a list whose size is kept, only the part that the step
+//! exchanges is measured.
 
 ghost use Rattle.std.specs.Prelude.{◌≡◌, ◌+◌, ◌<◌, ◌≤◌, length, map, nat_lt, not};
 ghost use Rattle.std.specs.List.{flat_map};

@@ -1,4 +1,4 @@
-//! The bytes of a new value.
+//! `encode_value`: the bytes of a new value.
 
 ghost use Rattle.std.specs.Prelude.{◌≡◌, ◌++◌, ◌∷◌, [], IfOk};
 ghost use Rattle.mvt_value.specs.Messages.{HasValue, shortest, encoded};

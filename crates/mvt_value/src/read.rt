@@ -1,4 +1,4 @@
-//! What the bytes of a value are.
+//! `value_of`: the value that bytes have.
 
 ghost use Rattle.std.specs.Prelude.{◌≡◌, ◌/◌, Some, IfSome, IsSomeAnd, IfNone};
 ghost use Rattle.mvt_document.specs.Plain.{Spelled};

@@ -1,4 +1,4 @@
-//! The values of a layer.
+//! The types of values: what is shown of a value of a layer, and a new one.
 
 use mvt_document::Items;
 

@@ -1,4 +1,4 @@
-//! The tags of a feature in pairs.
+//! `pairs`: the tags of a feature in pairs.
 
 ghost use Rattle.std.specs.Prelude.{◌≡◌, ◌<◌, [], Some, None, length, map, IfOk, IfErr, MatchOption, OnSome};
 ghost use Rattle.std.specs.Result.{IsErrOf};

@@ -1,4 +1,4 @@
-//! The layers of a tile, the features of a layer, and its keys and values, one after the other.
+//! The layers of a tile, and the features, keys and values of a layer, as iterators.
 
 use crate::fields::{first_content, first_feature, first_layer};
 use crate::views::{FeatureView, LayerView};

@@ -1,4 +1,4 @@
-//! The layers of a tile, and which layer a name means, or which feature an id.
+//! The layers of a document; the layer that a name selects, and the feature that an id selects.
 
 ghost use Rattle.std.specs.Prelude.{◌≡◌, ◌<◌, ◌^◌, ℕ, List, false, length, option_map, slice_get};
 ghost use Rattle.std.specs.Iterator.{AlwaysYields};

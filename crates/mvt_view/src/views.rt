@@ -1,4 +1,4 @@
-//! Views of a layer and of a feature.
+//! A layer and a feature, as they are seen.
 
 ghost use Rattle.std.specs.Prelude.{◌≡◌, ◌<◌, ◌^◌, length, option_map, slice_get};
 ghost use Rattle.std.specs.Option.{option_copied};

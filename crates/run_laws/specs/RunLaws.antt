@@ -19,7 +19,7 @@ use Rattle.tile_reply.specs.declared.refused.Refused.{Refused}
 
 -- ---- fronts
 
--- What was replied to such a front stays at the front of what is replied to the whole script.
+-- what was replied to such a prefix is a prefix of what is replied to the whole script
 abbrev pub RepliesStand : Type 0
 RepliesStand =
     (document : Document) (options : Options) (front rest : List ℕ) → EndsWithALine front
@@ -28,7 +28,7 @@ RepliesStand =
 
 -- ---- lines that change nothing
 
--- A line that is refused changes neither the tile nor what undo takes back. That it was refused is kept.
+-- a line that is refused leaves the tile and the history as they were; that one was refused is kept
 abbrev pub RefusedLinesChangeNothing : Type 0
 RefusedLinesChangeNothing =
     (p : Progress) (line : List ℕ) (reason : Refused)
@@ -37,12 +37,12 @@ RefusedLinesChangeNothing =
     × (tile_of (after_line p line) ≡ tile_of p)
     × ((after_line p line).any_refused ≡ true)
 
--- A line without a reply is counted, and changes nothing else.
+-- a line without a reply is counted, and changes nothing else
 abbrev pub SilentLinesChangeNothing : Type 0
 SilentLinesChangeNothing = (p : Progress) (line : List ℕ) → (after_line p line).replies ≡ p.replies → after_line p line ≡ record p { lines = p.lines + 1 }
 
--- A line that only looks, also one that is refused, changes neither the tile nor what undo takes back: it is counted and
--- replied to.
+-- a line that asks for the marks, the history, the size or a listing, also one that is refused, is counted, and leaves
+-- the tile and the history as they were
 abbrev pub LookingChangesNothing : Type 0
 LookingChangesNothing =
     (p : Progress) (line : List ℕ) (request : Request) → answer_to line ≡ Ok (Some request) → Looks request
@@ -50,39 +50,40 @@ LookingChangesNothing =
     × (tile_of (after_line p line) ≡ tile_of p)
     × ((after_line p line).lines ≡ p.lines + 1)
 
--- A strict run ends with the first line that is refused: what follows it changes nothing.
+-- where a strict run is over, no further line changes anything
 abbrev pub StrictRunsStop : Type 0
 StrictRunsStop = (p : Progress) (lines more : List (List ℕ)) → is_over true (after_lines true p lines) ≡ true → after_lines true p (lines ++ more) ≡ after_lines true p lines
 
--- Where no line is refused, a strict run comes to what one that is not strict comes to.
+-- where a run that is not strict refuses no line, a strict one comes to the same
 abbrev pub AcceptedRunsAreAlike : Type 0
 AcceptedRunsAreAlike = (p : Progress) (lines : List (List ℕ)) → (after_lines false p lines).any_refused ≡ false → after_lines true p lines ≡ after_lines false p lines
 
 -- ---- what stands
 
--- the commands make the second document of the first one, one after the other, and each is accepted
+-- the commands, one after the other and each accepted, make the second document of the first
 abbrev pub Makes : Document → List Command → Document → Type 0
 Makes document [] made = made ≡ document
 Makes document (command ∷ commands) made = (next : Document) × (applied command document ≡ Ok next) × Makes next commands made
 
--- the commands of the steps that stand, and those of the open one
+-- the commands of the steps that stand, and then those of the open step
 abbrev pub standing_commands : History → List Command
 standing_commands history = flat_map (λ step. step) (take history.present history.steps) ++ commands_in history.group
 
--- a history of a tile in which undo goes back at most depth steps
+-- a sound history of this tile at this depth, whose standing commands, each accepted, make the standing document
 pub record IsHistoryOf (document : Document) (depth : ℕ) (history : History) : Type 0 where
   pub start : history.start ≡ document
   pub keeps_depth : history.depth ≡ depth
   pub sound : IsSound history
   pub makes : Makes document (standing_commands history) (standing_document history)
 
--- After every script the tile is the one at the start with the standing commands carried out in order.
+-- after every script, at a depth of at least 1, the standing commands, each accepted in order, make the standing
+-- document of the tile at the start, and the history is sound
 abbrev pub StandingCommands : Type 0
 StandingCommands = (document : Document) (options : Options) (script : List ℕ) → 1 ≤ options.depth → IsHistoryOf document options.depth (ran document options script).history
 
 -- ---- what lines ask of a history
 
--- a look asks for nothing of it
+-- what a request asks of a history; a look asks nothing of it
 abbrev pub asked_of : Request → List asks.Request
 asked_of (Edit command) = asks.Edit command ∷ []
 asked_of Undo = asks.Undo ∷ []
@@ -98,7 +99,7 @@ asked_of TellHistory = []
 asked_of Size = []
 asked_of (Lists what) = []
 
--- and neither does a line that is blank, a comment or not understood
+-- what a line asks of a history; a line that asks for nothing, or is refused as it is read, asks nothing of it
 abbrev pub asked_in : Result (Option Request) ParseError → List asks.Request
 asked_in (Ok None) = []
 asked_in (Ok (Some request)) = asked_of request
@@ -108,15 +109,15 @@ asked_in (Err error) = []
 abbrev pub requests_of : List (List ℕ) → List asks.Request
 requests_of lines = flat_map (λ line. asked_in (answer_to line)) lines
 
--- Where a run goes on behind refused lines, the history after lines is what their requests make of the one before them.
--- So each law of histories holds of scripts.
+-- in a run that is not strict, the history after lines is what their requests make of the history before them, so each
+-- law of histories holds of such a run
 abbrev pub LinesAreRequests : Type 0
 LinesAreRequests = (p : Progress) (lines : List (List ℕ)) → (after_lines false p lines).history ≡ asked_all (requests_of lines) p.history
 
 -- ---- undo
 
--- Where no step is open, a line whose command is accepted and then a line that asks for undo: both are accepted, and the
--- tile is as before.
+-- where no step is open and the run is not over, a line with an accepted command and a line with an undo after it are
+-- both accepted, and the tile is as before
 abbrev pub UndoInARun : Type 0
 UndoInARun =
     (strict : Bool) (p : Progress) (line undo : List ℕ) (command : Command) (edited : Document) → IsSound p.history
@@ -125,7 +126,8 @@ UndoInARun =
     → ((after_lines strict p (line ∷ undo ∷ [])).replies ≡ p.replies ++ accepted_reply [] ++ accepted_reply [])
     × (tile_of (after_lines strict p (line ∷ undo ∷ [])) ≡ tile_of p)
 
--- The same of a script: these two lines behind it are accepted, and it makes the same tile.
+-- the same of two lines at the end of a script, at a depth of at least 1: they are accepted, and the tile is the one of
+-- the script without them
 abbrev pub UndoInAScript : Type 0
 UndoInAScript =
     (document : Document) (options : Options) (front line undo : List ℕ) (command : Command) (edited : Document)
@@ -139,20 +141,20 @@ UndoInAScript =
 
 -- ---- steps and marks
 
--- none of the lines closes an open step
+-- none of the lines asks to end or cancel a step
 abbrev pub LeaveOpen : List (List ℕ) → Type 0
 LeaveOpen lines = AllByRecursion asks.LeavesOpen (requests_of lines)
 
--- Where no step is open: a line that opens one, any lines that do not close it, and a line that cancels it leave the
--- history as it was, and so the tile.
+-- in a run that is not strict, where no step is open: a line that opens one, any lines that neither end nor cancel a
+-- step, and a line that cancels it leave the history as it was
 abbrev pub CancelInARun : Type 0
 CancelInARun =
     (p : Progress) (begin cancel : List ℕ) (lines : List (List ℕ)) → p.history.group ≡ None
     → answer_to begin ≡ Ok (Some Begin) → LeaveOpen lines → answer_to cancel ≡ Ok (Some Cancel)
     → (after_lines false p (begin ∷ lines ++ cancel ∷ [])).history ≡ p.history
 
--- The same with a line that ends the step, and then one that asks for undo: the tile is as before the step, where a
--- command of it was accepted.
+-- in a run that is not strict, where no step is open: a line that opens one, any lines that neither end nor cancel a
+-- step, with an accepted command among them, a line that ends it and a line that undoes it leave the tile as it was
 abbrev pub StepUndoneInARun : Type 0
 StepUndoneInARun =
     (p : Progress) (begin end undo : List ℕ) (lines : List (List ℕ)) → IsSound p.history → p.history.group ≡ None
@@ -160,8 +162,8 @@ StepUndoneInARun =
     → answer_to end ≡ Ok (Some End) → answer_to undo ≡ Ok (Some Undo)
     → tile_of (after_lines false p (begin ∷ lines ++ end ∷ undo ∷ [])) ≡ tile_of p
 
--- A line that sets a mark, any lines that do not set it anew, and a line that goes back to it, where both are accepted:
--- the tile is the one that stood when the mark was set.
+-- in a run that is not strict, where a line that sets a mark is accepted, and, after any lines that do not set it anew,
+-- a line that goes back to it: the tile is the one that stood when it was set
 abbrev pub BackInARun : Type 0
 BackInARun =
     (p : Progress) (name mark back : List ℕ) (lines : List (List ℕ)) (set gone : History) → IsSound p.history
@@ -172,10 +174,10 @@ BackInARun =
 
 -- ---- want of memory
 
--- The run with all memory is one of the walks.
+-- the run with all memory is one of those in which growths may be refused
 abbrev pub RunsAreWalks : Type 0
 RunsAreWalks = (strict : Bool) (p : Progress) (lines : List (List ℕ)) → Walk strict p lines (after_lines strict p lines)
 
--- With all memory no reply says that memory was refused. So a walk is the run exactly where none says so.
+-- with all memory no reply is 60 or 54
 abbrev pub RunsHaveNoWant : Type 0
 RunsHaveNoWant = (document : Document) (options : Options) (script : List ℕ) → HasNoWant (ran document options script).replies

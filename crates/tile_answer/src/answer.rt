@@ -1,4 +1,4 @@
-//! A request, carried out in a session.
+//! `carry_out`: a request, carried out in a session, with the lines that it prints.
 
 ghost use Rattle.std.specs.Prelude.{◌≡◌, ◌⊎◌, [], IfErr};
 ghost use Rattle.mvt_history.specs.History.{History};

@@ -1,4 +1,4 @@
-//! The lines that are told of a session.
+//! The lines of the marks, of the history and of the size.
 
 ghost use Rattle.std.specs.Prelude.{◌≡◌, ◌++◌, IfOk, IfErr, OnOk};
 ghost use Rattle.mvt_document.specs.Stands.{document_of};

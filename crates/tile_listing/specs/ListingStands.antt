@@ -8,15 +8,15 @@ use Rattle.mvt_view.specs.declared.views.FeatureView.{FeatureView}
 use Rattle.mvt_view.specs.declared.views.LayerView.{LayerView}
 use Rattle.mvt_meaning.specs.declared.refusal.Refusal.{Refusal}
 
--- a layer with its ordinal, or a refusal
+-- a layer with its ordinal, or a refusal, as plain values
 abbrev pub layer_found : Result (ℕ × LayerView) Refusal → Result (ℕ × Layer) Refusal
 layer_found answer = result_map_both (λ (found : ℕ × LayerView). (found.0, layer_seen found.1)) (λ refusal. refusal) answer
 
--- the same of a feature
+-- a feature with its ordinal, or a refusal, as plain values
 abbrev pub feature_found : Result (ℕ × FeatureView) Refusal → Result (ℕ × Feature) Refusal
 feature_found answer = result_map_both (λ (found : ℕ × FeatureView). (found.0, feature_seen found.1)) (λ refusal. refusal) answer
 
--- what slices hold
+-- what the slices hold
 abbrev pub contents_of : List (Bor (List ℕ)) → List (List ℕ)
 contents_of slices = map (λ (slice : Bor (List ℕ)). slice.now) slices
 

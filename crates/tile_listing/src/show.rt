@@ -1,4 +1,4 @@
-//! The lines of a listing.
+//! `listing`: the lines of a listing, and which layer or feature it is of.
 
 ghost use Rattle.std.specs.Prelude.{◌≡◌};
 ghost use Rattle.mvt_document.specs.Stands.{document_of};

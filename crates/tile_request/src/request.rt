@@ -1,4 +1,5 @@
-//! What a line of a script can ask for.
+//! What a line can ask for: a command, a move along the history, a mark, a step to open or to
+//! close, or something to print; what a listing shows.
 
 use mvt_command::{Command, FeatureChoice, LayerChoice};
 use mvt_document::Items;

@@ -17,17 +17,18 @@ use Rattle.tile_run.specs.Run.{Progress, after_line, after_lines, is_over, ran, 
 use Rattle.tile_run.specs.declared.outcome.Options.{Options}
 use Rattle.tile_reply.specs.declared.refused.Refused.{Refused}
 
--- The lines of such a front are the first lines of the script.
+-- the lines of a prefix that is empty or ends with a line feed are the first lines of the script
 abbrev pub FrontsHaveFirstLines : Type 0
 FrontsHaveFirstLines = (front rest : List ℕ) → EndsWithALine front → lines_of (front ++ rest) ≡ lines_of front ++ lines_of rest
 
--- The run on such a front comes to where the run on the whole script is after those lines, and the others go on from there.
+-- the run on such a prefix comes to where the run on the whole script is after those lines, and the others go on from
+-- there
 abbrev pub FrontsStand : Type 0
 FrontsStand =
     (document : Document) (options : Options) (front rest : List ℕ) → EndsWithALine front
     → ran document options (front ++ rest) ≡ after_lines options.strict (ran document options front) (lines_of rest)
 
--- Where growths may be refused, and no reply says that one was, all comes as where none is refused.
+-- where growths may be refused, and no reply says that one was, by 60 or 54, all comes as where none is refused
 abbrev pub WalksWithoutWantAreRuns : Type 0
 WalksWithoutWantAreRuns =
     (strict : Bool) (p q : Progress) (lines : List (List ℕ)) (added : List ℕ) → Walk strict p lines q

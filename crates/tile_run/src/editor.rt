@@ -1,4 +1,4 @@
-//! The lines of a script, carried out and replied to as they are read.
+//! The script read piece by piece, each line carried out and replied to when it is complete.
 
 ghost use Rattle.std.specs.Prelude.{◌≡◌, ℕ, ◌+◌, ◌^◌, ◌<◌, ◌≤◌, Bool, List, ◌++◌, false, length, IfSome};
 ghost use Rattle.mvt_document.specs.Plain.{Document as PlainDocument};

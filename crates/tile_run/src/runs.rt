@@ -1,4 +1,4 @@
-//! The whole product: a tile and a script are read, the replies and the edited tile are written.
+//! A whole run: a tile and a script are read, the replies and the edited tile are written.
 
 ghost use Rattle.std.specs.Prelude.{◌≡◌, ◌+◌, ◌≤◌, length, OnOk};
 ghost use Rattle.mvt_document.specs.Opens.{IsDocument, OpensAs};

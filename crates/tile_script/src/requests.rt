@@ -1,4 +1,4 @@
-//! The requests that words ask for.
+//! The requests that words ask for, each with its arguments.
 
 ghost use Rattle.std.specs.Prelude.{◌≡◌, map};
 ghost use Rattle.tile_request.specs.RequestStands.{request_of};

@@ -1,4 +1,4 @@
-//! Bytes as the texts of a script.
+//! Bytes as a quoted word or as hexadecimal digits.
 
 ghost use Rattle.std.specs.Prelude.{◌≡◌, ◌<◌, ◌≤◌, ◌++◌, length, IfOk, OnOk, IsTrue};
 ghost use Rattle.std.specs.List.{flat_map, position, position_or_len};

@@ -1,4 +1,4 @@
-//! The tests that cross crates: whole runs over memory, and the program over files.
+//! Tests that cross crates: whole runs over memory, and the program over files.
 #![tactic(auto)]
 
 #[cfg(test)]

@@ -1,4 +1,4 @@
-//! What a session and a mark hold: a further field would have to be named here.
+//! A test that takes a session and a mark apart: a further field would have to be named here.
 
 use super::Session;
 use crate::marks::Mark;
