@@ -1,4 +1,4 @@
-use Rattle.mvt_history.proofs.Sound.{stays_sound}
+use Rattle.history_laws.proofs.HistoryLaws.{stays_sound}
 use Rattle.history_laws.proofs.stays_sound.Goals as goal
 
 pub returns : goal.returns
