@@ -9,11 +9,11 @@ all: toolchain
 	mkdir -p build
 	cp crates/tileshell_program/out/tileshell_program build/tileshell
 
-# Every proof, test, wrong body and stored run, from nothing; before them that each definition has its row in docs/, and
-# after them that a document, a layer and a feature cannot be copied, and that calls and scripts to which a growth is
+# Every proof, test, wrong body and stored run, from nothing; before them that the pages of docs/ are those of the sources,
+# and after them that a document, a layer and a feature cannot be copied, and that calls and scripts to which a growth is
 # refused leave and answer what they should.
 check: toolchain
-	tools/definitions
+	tools/pages --check
 	rt ci
 	tools/no-copies
 	tools/refused-growths

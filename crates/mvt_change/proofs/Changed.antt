@@ -3,8 +3,8 @@ use Rattle.std.proofs.Common.{◌≡◌, ℕ, zero, suc, ◌+◌, ◌<◌, Bool,
 use Rattle.std.proofs.lemmas.List.{map-append, take-map, drop-map, take-set, drop-set-lt}
 use Rattle.std.specs.List.{flat_map}
 use Rattle.std.specs.Option.{IfSome, IsSomeAnd, option_and_then}
-use Rattle.mvt_wire.specs.Kept.{bytes_beside}
-use Rattle.mvt_wire.specs.Splicing.{part, splice, moved}
+use Rattle.mvt_document.specs.Kept.{bytes_beside}
+use Rattle.mvt_document.specs.Splicing.{part, splice, moved}
 use Rattle.mvt_change.specs.Lists.{change_at}
 
 pub map-part : {A B : Type 0} (g : A → B) (index count : ℕ) (items : List A) → map g (part index count items) ≡ part index count (map g items)

@@ -1,8 +1,8 @@
 -- What is kept of a list of which a part was exchanged or an item changed, and of what holds the list.
 use Rattle.std.proofs.Common.{◌≡◌, ℕ, zero, suc, ◌≤◌, Bool, true, false, cond, Some, List, [], ◌∷◌, length, slice_get, slice_set, refl, sym, ap, subst, arith}
 use Rattle.std.specs.List.{AllZip}
-use Rattle.mvt_wire.specs.Held.{Held}
-use Rattle.mvt_wire.specs.Splicing.{splice, moved}
+use Rattle.mvt_document.specs.Held.{Held}
+use Rattle.mvt_document.specs.Splicing.{splice, moved}
 use Rattle.mvt_document.specs.declared.document.Field.{Field}
 use Rattle.mvt_document.specs.declared.document.Feature.{Feature}
 use Rattle.mvt_document.specs.declared.document.LayerItem.{LayerItem}

@@ -2,10 +2,10 @@
 use Rattle.std.proofs.Common.{◌≡◌, ℕ, zero, suc, ◌+◌, ◌<◌, ◌≤◌, List, [], ◌∷◌, length, map, slice_get, Option, Some, None, option_map, refl, sym, ap, ◌∙◌, subst, arith}
 use Rattle.std.specs.Option.{IsSomeAnd, option_and_then}
 use Rattle.std.proofs.lemmas.List.{length-map}
-use Rattle.mvt_wire.specs.Held.{Held}
-use Rattle.mvt_wire.specs.Plain as plain
-use Rattle.mvt_wire.specs.Opens.{IsField, IsLayerItem}
-use Rattle.mvt_wire.specs.Stands.{field_of, layer_item_of, tile_item_of, document_of}
+use Rattle.mvt_document.specs.Held.{Held}
+use Rattle.mvt_document.specs.Plain as plain
+use Rattle.mvt_document.specs.Opens.{IsField, IsLayerItem}
+use Rattle.mvt_document.specs.Stands.{field_of, layer_item_of, tile_item_of, document_of}
 use Rattle.mvt_document.specs.declared.document.LayerItem.{LayerItem}
 use Rattle.mvt_document.specs.declared.document.LayerItem.TheVariants as in_layer
 use Rattle.mvt_document.specs.declared.document.TileItem.{TileItem}

@@ -1,7 +1,7 @@
 -- Changes joined are carried out one after the other, and another one at the end brings its steps.
 use Rattle.std.proofs.Common.{◌≡◌, ℕ, ◌+◌, ◌<◌, List, [], ◌∷◌, ◌++◌, append_assoc, length, length-append, get_or, take, map, reverse, refl, sym, ap, ◌∙◌}
 use Rattle.std.proofs.lemmas.List.{append-nil, length-map, map-append, reverse-append, take_more}
-use Rattle.mvt_wire.specs.Plain.{Document}
+use Rattle.mvt_document.specs.Plain.{Document}
 use Rattle.mvt_change.specs.declared.change.Change.{Change as HeldChange}
 use Rattle.mvt_change.specs.ChangeStands.{change_of, step_of}
 use Rattle.mvt_change.specs.Changes.{Change, go, Fits}

@@ -2,9 +2,9 @@
 use Rattle.std.proofs.Common.{◌≡◌, ℕ, zero, suc, List, [], ◌∷◌, length, slice_get, Option, Some, None, option_map, refl, sym, ap, ◌∙◌, subst, arith}
 use Rattle.std.specs.List.{AllByRecursion}
 use Rattle.std.specs.Option.{IfSome, IsSomeAnd, option_and_then}
-use Rattle.mvt_wire.specs.Plain.{Field, LayerItem, OfFeature, PlainInLayer, TileItem, OfLayer, PlainInTile, Document}
-use Rattle.mvt_wire.specs.Opens.{IsField, IsLayerItem, IsTileItem, IsDocument}
-use Rattle.mvt_wire.specs.Splicing.{splice, moved}
+use Rattle.mvt_document.specs.Plain.{Field, LayerItem, OfFeature, PlainInLayer, TileItem, OfLayer, PlainInTile, Document}
+use Rattle.mvt_document.specs.Opens.{IsField, IsLayerItem, IsTileItem, IsDocument}
+use Rattle.mvt_document.specs.Splicing.{splice, moved}
 use Rattle.mvt_change.specs.Lists.{change_at, CanSplice, CanMove}
 use Rattle.mvt_change.specs.Places.{items_in, fields_in, items_at, fields_at, in_layer, in_feature, change_items, change_fields}
 use Rattle.mvt_change.specs.Changes.{taken_out}

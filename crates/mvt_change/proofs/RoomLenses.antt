@@ -3,7 +3,7 @@ use Rattle.std.proofs.Common.{◌≡◌, ℕ, zero, suc, ◌+◌, ◌≤◌, Lis
 use Rattle.std.specs.List.{AllZip}
 use Rattle.std.specs.Option.{IfSome, IsSomeAnd, option_and_then}
 use Rattle.std.proofs.lemmas.List.Elements.{length_all_zip}
-use Rattle.mvt_wire.specs.Held.{Held}
+use Rattle.mvt_document.specs.Held.{Held}
 use Rattle.mvt_document.specs.declared.document.Field.{Field}
 use Rattle.mvt_document.specs.declared.document.LayerItem.{LayerItem}
 use Rattle.mvt_document.specs.declared.document.LayerItem.TheVariants as in_layer

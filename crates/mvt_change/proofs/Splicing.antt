@@ -2,7 +2,7 @@
 use Rattle.std.proofs.Common.{◌≡◌, ℕ, zero, suc, ◌+◌, ◌<◌, ◌≤◌, List, [], ◌∷◌, ◌++◌, length, length-append, length-drop, take, drop, take-append-drop, append_assoc, refl, sym, ap, ◌∙◌, arith}
 use Rattle.std.proofs.lemmas.List.{length-take-le, take_at, drop_at, drop-drop}
 use Rattle.std.specs.List.{AllByRecursion}
-use Rattle.mvt_wire.specs.Splicing.{part, splice, moved}
+use Rattle.mvt_document.specs.Splicing.{part, splice, moved}
 use Rattle.mvt_change.specs.Lists.{CanSplice, CanMove}
 
 pub length-part : {A : Type 0} (index count : ℕ) (items : List A) → index + count ≤ length items → length (part index count items) ≡ count

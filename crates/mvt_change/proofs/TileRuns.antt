@@ -3,9 +3,9 @@ use Rattle.std.proofs.Common.{◌≡◌, ◌+◌, ◌≤◌, List, [], ◌∷◌
 use Rattle.std.specs.Prelude.{Result, Ok, Err, is_ok, true, false, OnOk, OnErr}
 use Rattle.std.specs.List.{AllByRecursion, AllZip}
 use Rattle.std.proofs.lemmas.List.{length-map, map-append, reverse-append}
-use Rattle.mvt_wire.specs.Held.{Held}
-use Rattle.mvt_wire.specs.Splicing.{part, splice}
-use Rattle.mvt_wire.specs.Stands.{field_of, layer_item_of, tile_item_of}
+use Rattle.mvt_document.specs.Held.{Held}
+use Rattle.mvt_document.specs.Splicing.{part, splice}
+use Rattle.mvt_document.specs.Stands.{field_of, layer_item_of, tile_item_of}
 use Rattle.mvt_document.specs.declared.document.TileItem.{TileItem}
 use Rattle.mvt_document.specs.declared.document.Document.{Document}
 use Rattle.mvt_splices.specs.Splices.{FitAll, after_all, longest, turned_all, spliced_length}

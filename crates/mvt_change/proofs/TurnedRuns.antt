@@ -2,8 +2,8 @@
 use Rattle.std.proofs.Common.{arith, slice_index_or, slice_set, ◌≡◌, List, [], ◌∷◌, ◌++◌, length, map, reverse, refl, sym, ap, ◌∙◌, subst}
 use Rattle.std.specs.List.{AllZip}
 use Rattle.std.proofs.lemmas.List.{map-append, reverse-append}
-use Rattle.mvt_wire.specs.Plain as plain
-use Rattle.mvt_wire.specs.Stands.{number_of, field_of, layer_item_of, tile_item_of, document_of}
+use Rattle.mvt_document.specs.Plain as plain
+use Rattle.mvt_document.specs.Stands.{number_of, field_of, layer_item_of, tile_item_of, document_of}
 use Rattle.mvt_document.specs.declared.document.LayerItem.{LayerItem}
 use Rattle.mvt_document.specs.declared.document.LayerItem.TheVariants as in_layer_item
 use Rattle.mvt_document.specs.declared.document.TileItem.{TileItem}

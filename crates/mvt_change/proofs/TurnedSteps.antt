@@ -1,10 +1,10 @@
 -- Steps of the program that were turned: what they stand for, that they have room, and that they lead back.
 use Rattle.std.proofs.Common.{◌≡◌, ℕ, zero, suc, List, [], ◌∷◌, length, map, Option, Some, None, option_map, refl, sym, ap, ◌∙◌, subst}
 use Rattle.std.proofs.lemmas.List.{length-map}
-use Rattle.mvt_wire.specs.Held.{Held}
-use Rattle.mvt_wire.specs.Plain as plain
-use Rattle.mvt_wire.specs.Splicing.{splice, moved}
-use Rattle.mvt_wire.specs.Stands.{number_of, field_of, layer_item_of, tile_item_of, document_of}
+use Rattle.mvt_document.specs.Held.{Held}
+use Rattle.mvt_document.specs.Plain as plain
+use Rattle.mvt_document.specs.Splicing.{splice, moved}
+use Rattle.mvt_document.specs.Stands.{number_of, field_of, layer_item_of, tile_item_of, document_of}
 use Rattle.mvt_document.specs.declared.document.Field.{Field}
 use Rattle.mvt_document.specs.declared.document.LayerItem.{LayerItem}
 use Rattle.mvt_document.specs.declared.document.LayerItem.TheVariants as in_layer_item

@@ -2,8 +2,8 @@
 use Rattle.std.proofs.Common.{◌≡◌, ℕ, suc, ◌-◌, ◌≤◌, length, List, [], ◌∷◌, ◌++◌, map, reverse, take, drop, Some, slice_get, slice_set, append_assoc, sym, ap, ◌∙◌, subst}
 use Rattle.std.proofs.lemmas.List.{map-append, reverse-append}
 use borrow.Rule.Slice.PartMut.{put_mid}
-use Rattle.mvt_wire.specs.Plain as plain
-use Rattle.mvt_wire.specs.Stands.{document_of}
+use Rattle.mvt_document.specs.Plain as plain
+use Rattle.mvt_document.specs.Stands.{document_of}
 use Rattle.mvt_document.specs.declared.document.Document.{Document}
 use Rattle.mvt_change.specs.declared.change.Step.{Step}
 use Rattle.mvt_change.specs.ChangeStands.{step_of}

@@ -4,12 +4,12 @@ use Rattle.std.specs.List.{AllByRecursion, flat_map, sum_by}
 use Rattle.std.specs.Option.{IsSomeAnd}
 use Rattle.std.proofs.lemmas.List.{length-map, take-map, get_or-map}
 use Rattle.std.proofs.lemmas.List.Sums.{sum_by-cons, sum_by_more, sum_by-take-le}
-use Rattle.mvt_wire.specs.TheConstants.{MAX_GROUPS}
-use Rattle.mvt_wire.specs.Plain.{Number, Body, Spelled, Eight, Four, Delimited, Group, OfFeature, PlainInLayer, OfLayer, PlainInTile, Document}
-use Rattle.mvt_wire.specs.Wire.{spell, minimal_width, spelling, delimited, body_bytes, field_bytes, layer_item_bytes, tile_item_bytes}
-use Rattle.mvt_wire.specs.Groups.{IsNumber, IsBodyWith, IsGroupWithin, IsGroup}
-use Rattle.mvt_wire.specs.Opens.{IsField, IsLayerItem, IsTileItem}
-use Rattle.mvt_wire.proofs.Spelling.{length-spell, spelling_some, minimal_width_some}
+use Rattle.mvt_document.specs.declared.TheConstants.{MAX_GROUPS}
+use Rattle.mvt_document.specs.Plain.{Number, Body, Spelled, Eight, Four, Delimited, Group, OfFeature, PlainInLayer, OfLayer, PlainInTile, Document}
+use Rattle.mvt_document.specs.Wire.{spell, minimal_width, spelling, delimited, body_bytes, field_bytes, layer_item_bytes, tile_item_bytes}
+use Rattle.mvt_document.specs.Groups.{IsNumber, IsBodyWith, IsGroupWithin, IsGroup}
+use Rattle.mvt_document.specs.Opens.{IsField, IsLayerItem, IsTileItem}
+use Rattle.mvt_document.proofs.Spelling.{length-spell, spelling_some, minimal_width_some}
 use Rattle.mvt_change.specs.Lists.{CanSplice}
 use Rattle.mvt_change.specs.Places.{items_at, fields_at}
 use Rattle.mvt_change.specs.Changes.{Step, TileStep, LayerStep, FeatureStep, MoveStep, go_step, FitsStep, step_weight, put_count}

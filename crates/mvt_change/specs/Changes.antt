@@ -2,20 +2,21 @@
 use Rattle.std.specs.Prelude.{ℕ, List, [], ◌∷◌, ◌++◌, length, Option}
 use Rattle.std.specs.List.{flat_map, sum_by}
 use Rattle.std.specs.Option.{IsSomeAnd, option_map_or}
-use Rattle.mvt_wire.specs.Plain.{Field, LayerItem, TileItem, Document}
-use Rattle.mvt_wire.specs.Wire.{field_bytes, layer_item_bytes, tile_item_bytes}
-use Rattle.mvt_wire.specs.Opens.{IsField, IsLayerItem, IsTileItem}
-use Rattle.mvt_wire.specs.Splicing.{part, splice, moved}
+use Rattle.mvt_document.specs.Plain.{Field, LayerItem, TileItem, Document}
+use Rattle.mvt_document.specs.Wire.{field_bytes, layer_item_bytes, tile_item_bytes}
+use Rattle.mvt_document.specs.Opens.{IsField, IsLayerItem, IsTileItem}
+use Rattle.mvt_document.specs.Splicing.{part, splice, moved}
 use Rattle.mvt_change.specs.Lists.{CanSplice, CanMove, HasPart}
 use Rattle.mvt_change.specs.Places.{items_at, fields_at, change_items, change_fields}
 
--- which list of a document: that of the tile, of the layer at a position, or of the feature at a position of it
+-- a list of a document: that of the tile, of the layer at a position, or of the feature at a position of that layer
 pub data Place : Type 0 where
   OfTheTile : Place
   OfTheLayer : (layer : ℕ) → Place
   OfTheFeature : (layer item : ℕ) → Place
 
--- so many items of a list from an index on are taken out, and others put there; or an item of it moves
+-- a splice of a list: items from an index are taken out, and others put there; or a move of an item of a list to
+-- another position
 pub data Step : Type 0 where
   TileStep : (index taken : ℕ) (put : List TileItem) → Step
   LayerStep : (layer index taken : ℕ) (put : List LayerItem) → Step
@@ -28,29 +29,33 @@ Change = List Step
 
 -- ---- what they make
 
+-- the document with an item of that list moved
 abbrev pub move_at : Place → ℕ → ℕ → Document → Document
 move_at OfTheTile from to document = moved from to document
 move_at (OfTheLayer layer) from to document = change_items (moved from to) layer document
 move_at (OfTheFeature layer item) from to document = change_fields (moved from to) layer item document
 
+-- the document after a step
 abbrev pub go_step : Step → Document → Document
 go_step (TileStep index taken put) document = splice index taken put document
 go_step (LayerStep layer index taken put) document = change_items (splice index taken put) layer document
 go_step (FeatureStep layer item index taken put) document = change_fields (splice index taken put) layer item document
 go_step (MoveStep place from to) document = move_at place from to document
 
+-- the document after a change: its steps, one after the other
 abbrev pub go : Change → Document → Document
 go [] document = document
 go (step ∷ change) document = go change (go_step step document)
 
 -- ---- when they fit
 
+-- the list is there, and both positions are positions of its items
 abbrev pub FitsMove : Place → ℕ → ℕ → Document → Type 0
 FitsMove OfTheTile from to document = CanMove from to document
 FitsMove (OfTheLayer layer) from to document = IsSomeAnd (items_at layer document) (CanMove from to)
 FitsMove (OfTheFeature layer item) from to document = IsSomeAnd (fields_at layer item document) (CanMove from to)
 
--- the list is there, and so are the items that are taken out or move; what is put is valid
+-- the list is there, and so are the items that are taken out or move; the items that are put are valid
 abbrev pub FitsStep : Step → Document → Type 0
 FitsStep (TileStep index taken put) document = CanSplice IsTileItem index taken put document
 FitsStep (LayerStep layer index taken put) document = IsSomeAnd (items_at layer document) (CanSplice IsLayerItem index taken put)
@@ -71,35 +76,36 @@ Fits (step ∷ change) document = FitsStep step document × Fits change (go_step
 
 -- ---- what leads back
 
--- so many items of the list, where it is there, from an index on
+-- `taken` items from `index` of the list, where it is there; else none
 abbrev pub taken_out : {A : Type 0} → ℕ → ℕ → Option (List A) → List A
 taken_out index taken list = option_map_or (part index taken) list []
 
--- the items that the step takes out are put back, and as many taken out as it puts; an item moves back
+-- the step that leads back: it takes out what was put, and puts what was taken out; or it moves the item back
 abbrev pub turn_step : Step → Document → Step
 turn_step (TileStep index taken put) document = TileStep index (length put) (part index taken document)
 turn_step (LayerStep layer index taken put) document = LayerStep layer index (length put) (taken_out index taken (items_at layer document))
 turn_step (FeatureStep layer item index taken put) document = FeatureStep layer item index (length put) (taken_out index taken (fields_at layer item document))
 turn_step (MoveStep place from to) document = MoveStep place to from
 
--- the steps in reverse order, each turned on the document that it met
+-- the change that leads back: the steps in reverse order, each turned on the document that it met
 abbrev pub turn : Change → Document → Change
 turn [] document = []
 turn (step ∷ change) document = turn change (go_step step document) ++ turn_step step document ∷ []
 
 -- ---- how much they bring
 
--- the bytes of all items that the step puts
+-- the bytes of all items that a step puts
 abbrev pub step_weight : Step → ℕ
 step_weight (TileStep index taken put) = length (flat_map tile_item_bytes put)
 step_weight (LayerStep layer index taken put) = length (flat_map layer_item_bytes put)
 step_weight (FeatureStep layer item index taken put) = length (flat_map field_bytes put)
 step_weight (MoveStep place from to) = 0
 
+-- the bytes of all items that a change puts
 abbrev pub weight : Change → ℕ
 weight change = sum_by step_weight change
 
--- how many items the step puts
+-- how many items a step puts
 abbrev pub put_count : Step → ℕ
 put_count (TileStep index taken put) = length put
 put_count (LayerStep layer index taken put) = length put

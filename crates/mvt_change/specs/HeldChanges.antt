@@ -1,8 +1,8 @@
 -- What steps make of a document of the program, with the room of its lists, and when no list has to grow.
 use Rattle.std.specs.Prelude.{◌≡◌, ℕ, ◌+◌, ◌-◌, ◌≤◌, Bool, List, [], ◌∷◌, length, Option, Some, IsTrue, if◌then◌else◌}
 use Rattle.std.specs.Option.{IsSomeAnd, option_map_or}
-use Rattle.mvt_wire.specs.Held.{Held}
-use Rattle.mvt_wire.specs.Splicing.{part, splice, moved}
+use Rattle.mvt_document.specs.Held.{Held}
+use Rattle.mvt_document.specs.Splicing.{part, splice, moved}
 use Rattle.mvt_document.specs.declared.document.Field.{Field}
 use Rattle.mvt_document.specs.declared.document.LayerItem.{LayerItem}
 use Rattle.mvt_document.specs.declared.document.TileItem.{TileItem}
@@ -17,29 +17,32 @@ use Rattle.mvt_change.specs.Room.{capacity}
 
 -- ---- one list
 
--- so many items are exchanged for others; the list grows no more than it has to
+-- the list with `taken` items from `index` exchanged for others; it grows no more than it has to
 abbrev pub exchanged : {T : Type 0} → ℕ → ℕ → Held T → Held T → Held T
 exchanged index taken put list =
     let items = splice index taken put.items list.items in
     record { items = items; room = capacity list - length items }
 
+-- the list with an item moved, and the same room
 abbrev pub held_moved : {T : Type 0} → ℕ → ℕ → Held T → Held T
 held_moved from to list = record list { items = moved from to list.items }
 
--- the items are there, and each list has room for what comes to it
+-- the items are there, and each of the two lists has room for what comes to it
 pub record HasRoom {T : Type 0} (index taken : ℕ) (put list : Held T) : Type 0 where
   pub within : index + taken ≤ length list.items
   pub comes : length put.items ≤ list.room + taken
   pub goes : taken ≤ capacity put
 
+-- both positions are positions of items
 abbrev pub CanMoveHeld : {T : Type 0} → ℕ → ℕ → Held T → Type 0
 CanMoveHeld from to list = CanMove from to list.items
 
+-- `taken` items from `index` of the list, where it is there; else none
 abbrev pub held_taken_out : {T : Type 0} → ℕ → ℕ → Option (Held T) → List T
 held_taken_out index taken list = option_map_or (λ found. part index taken found.items) list []
 
--- What the list of items to put has after an exchange on a list that was found: what was taken out, if it was done, and no less
--- room. It was done if there was room.
+-- the list of items to put after an exchange: it has what was taken out, if the exchange was done, else what it had; it
+-- has no less capacity; and the exchange was done if there was room
 pub record TakesOut {T : Type 0} (index taken : ℕ) (done : Bool) (list : Option (Held T)) (old new : Held T) : Type 0 where
   pub items : new.items ≡ (if done then held_taken_out index taken list else old.items)
   pub room : capacity old ≤ capacity new
@@ -47,17 +50,20 @@ pub record TakesOut {T : Type 0} (index taken : ℕ) (done : Bool) (list : Optio
 
 -- ---- a document
 
+-- the document with an item of that list moved
 abbrev pub move_held_at : Place → ℕ → ℕ → Document → Document
 move_held_at Tile from to document = change_held_tile (held_moved from to) document
 move_held_at (Layer layer) from to document = change_held_items (held_moved from to) layer document
 move_held_at (Feature layer item) from to document = change_held_fields (held_moved from to) layer item document
 
+-- the document after a step, with the room of its lists
 abbrev pub go_held_step : Step → Document → Document
 go_held_step (InTile index taken put) document = change_held_tile (exchanged index taken put) document
 go_held_step (InLayer layer index taken put) document = change_held_items (exchanged index taken put) layer document
 go_held_step (InFeature layer item index taken put) document = change_held_fields (exchanged index taken put) layer item document
 go_held_step (Move place from to) document = move_held_at place from to document
 
+-- the list is there, and both positions are positions of its items
 abbrev pub CanMoveAt : Place → ℕ → ℕ → Document → Type 0
 CanMoveAt Tile from to document = CanMoveHeld from to document.items
 CanMoveAt (Layer layer) from to document = IsSomeAnd (held_items_at layer document) (CanMoveHeld from to)
@@ -70,23 +76,25 @@ StepHasRoom (InLayer layer index taken put) document = IsSomeAnd (held_items_at 
 StepHasRoom (InFeature layer item index taken put) document = IsSomeAnd (held_fields_at layer item document) (HasRoom index taken put)
 StepHasRoom (Move place from to) document = CanMoveAt place from to document
 
--- so can each of these, on what the steps before it made
+-- each step can be carried out on what those before it made, and no list has to grow
 abbrev pub HaveRoom : List Step → Document → Type 0
 HaveRoom [] document = Unit {0}
 HaveRoom (step ∷ steps) document = StepHasRoom step document × HaveRoom steps (go_held_step step document)
 
+-- the document after steps, one after the other
 abbrev pub go_held : List Step → Document → Document
 go_held [] document = document
 go_held (step ∷ steps) document = go_held steps (go_held_step step document)
 
 -- ---- what leads back
 
--- so many items are exchanged for what a list took out, which has no less room than what was put
+-- the items to put back are those that the list had at the place, in a list with no less capacity than that of the
+-- items that were put
 pub record IsBack {T : Type 0} (index taken : ℕ) (put back : Held T) (list : Option (Held T)) : Type 0 where
   pub items : back.items ≡ held_taken_out index taken list
   pub room : capacity put ≤ capacity back
 
--- the step that leads back from what the first one makes of the document
+-- `turned` is the step that leads back from what the first one makes of the document
 abbrev pub IsTurned : Step → Document → Step → Type 0
 IsTurned (InTile index taken put) document turned =
     (back : Held TileItem) × (turned ≡ InTile index (length put.items) back) × IsBack index taken put back (Some document.items)

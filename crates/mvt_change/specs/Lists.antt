@@ -8,7 +8,7 @@ change_at change at [] = []
 change_at change zero (x ∷ xs) = change x ∷ xs
 change_at change (suc at) (x ∷ xs) = x ∷ change_at change at xs
 
--- the items that are taken out are there, and those that are put are valid
+-- there are `taken` items from `index`, and the items to put are valid
 pub record CanSplice {A : Type 0} (valid : A → Type 0) (index taken : ℕ) (put items : List A) : Type 0 where
   pub within : index + taken ≤ length items
   pub valid_put : AllByRecursion valid put
@@ -18,6 +18,6 @@ pub record CanMove {A : Type 0} (from to : ℕ) (items : List A) : Type 0 where
   pub there : from < length items
   pub within : to < length items
 
--- there are so many items from this index on
+-- there are `count` items from `index`
 abbrev pub HasPart : {A : Type 0} → ℕ → ℕ → List A → Type 0
 HasPart index count items = index + count ≤ length items

@@ -1,7 +1,7 @@
 -- Values of the program that are the same and have no less room in any list.
 use Rattle.std.specs.Prelude.{◌≡◌, ℕ, ◌+◌, ◌≤◌, length}
 use Rattle.std.specs.List.{AllZip}
-use Rattle.mvt_wire.specs.Held.{Held}
+use Rattle.mvt_document.specs.Held.{Held}
 use Rattle.mvt_document.specs.declared.document.Field.{Field}
 use Rattle.mvt_document.specs.declared.document.Feature.{Feature}
 use Rattle.mvt_document.specs.declared.document.LayerItem.{LayerItem}
@@ -11,40 +11,45 @@ use Rattle.mvt_document.specs.declared.document.TileItem.{TileItem}
 use Rattle.mvt_document.specs.declared.document.TileItem.TheVariants as in_tile
 use Rattle.mvt_document.specs.declared.document.Document.{Document}
 
--- how many items the list can have with no growth
+-- how many items the list can have without growing
 abbrev pub capacity : {T : Type 0} → Held T → ℕ
 capacity list = length list.items + list.room
 
--- each item is kept, and so is the room
+-- each item is kept, as `Keeps` says, and the list has no less capacity
 pub record KeepsList {T : Type 0} (Keeps : T → T → Type 0) (old new : Held T) : Type 0 where
   pub items : AllZip Keeps old.items new.items
   pub room : capacity old ≤ capacity new
 
+-- the same field
 abbrev pub KeepsField : Field → Field → Type 0
 KeepsField old new = old ≡ new
 
+-- the same feature, with no less room
 pub record KeepsFeature (old new : Feature) : Type 0 where
   pub tag : old.tag ≡ new.tag
   pub width : old.width ≡ new.width
   pub fields : KeepsList KeepsField old.fields new.fields
 
+-- the same item of a layer, with no less room
 abbrev pub KeepsLayerItem : LayerItem → LayerItem → Type 0
 KeepsLayerItem (in_layer.Feature old) (in_layer.Feature new) = KeepsFeature old new
 KeepsLayerItem (in_layer.Plain old) (in_layer.Plain new) = KeepsField old new
 KeepsLayerItem (in_layer.Feature old) (in_layer.Plain new) = ⊥
 KeepsLayerItem (in_layer.Plain old) (in_layer.Feature new) = ⊥
 
+-- the same layer, with no less room in any of its lists
 pub record KeepsLayer (old new : Layer) : Type 0 where
   pub tag : old.tag ≡ new.tag
   pub width : old.width ≡ new.width
   pub items : KeepsList KeepsLayerItem old.items new.items
 
+-- the same item of a tile, with no less room in any of its lists
 abbrev pub KeepsTileItem : TileItem → TileItem → Type 0
 KeepsTileItem (in_tile.Layer old) (in_tile.Layer new) = KeepsLayer old new
 KeepsTileItem (in_tile.Plain old) (in_tile.Plain new) = KeepsField old new
 KeepsTileItem (in_tile.Layer old) (in_tile.Plain new) = ⊥
 KeepsTileItem (in_tile.Plain old) (in_tile.Layer new) = ⊥
 
--- the same document, and no list of it has less room
+-- the same document, with no less room in any of its lists
 abbrev pub KeepsDocument : Document → Document → Type 0
 KeepsDocument old new = KeepsList KeepsTileItem old.items new.items

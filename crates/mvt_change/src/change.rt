@@ -1,6 +1,6 @@
-//! Changes as values.
+//! A place, a step and a change, as types.
 
-use mvt_wire::{Field, Items, LayerItem, TileItem};
+use mvt_document::{Field, Items, LayerItem, TileItem};
 
 /// Which list of a document: that of the tile, of the layer at a position of the tile, or of the
 /// feature at a position of that layer. Positions count all items of a list.

@@ -1,9 +1,9 @@
-//! Steps on the fields of one feature, carried out in one pass over them.
+//! Steps on the fields of one feature, carried out in one pass.
 
 ghost use Rattle.std.specs.Prelude.{◌≡◌, ◌<◌, length, map, reverse, is_ok, if◌then◌else◌, OnOk, OnErr};
 ghost use Rattle.std.specs.List.{AllByRecursion};
 ghost use Rattle.std.specs.Option.{IsSomeAnd, option_and_then};
-ghost use Rattle.mvt_wire.specs.Stands.{document_of};
+ghost use Rattle.mvt_document.specs.Stands.{document_of};
 ghost use Rattle.mvt_splices.specs.Splices.{FitAll};
 ghost use Rattle.mvt_change.specs.ChangeStands.{step_of};
 ghost use Rattle.mvt_change.specs.Changes.{Fits, go, turn};
@@ -14,8 +14,8 @@ ghost use Rattle.mvt_change.specs.Room.{KeepsDocument, KeepsLayerItem, KeepsList
 ghost use Rattle.mvt_change.specs.Runs.{LeadsBack, feature_splice, turned_in_feature};
 
 use crate::change::Step;
+use mvt_document::{Document, LayerItem, Message, TileItem};
 use mvt_splices::splice_items;
-use mvt_wire::{Document, LayerItem, Message, TileItem};
 use std::alloc::{AllocError, Global};
 
 /// Carries steps on the fields of the feature at this position of a layer out in one pass over

@@ -1,14 +1,14 @@
-//! A change carried out in place, and turned into the change that leads back.
+//! `flip`: a change carried out in place, and turned into the change that leads back.
 
 ghost use Rattle.std.specs.Prelude.{◌≡◌, map, reverse, is_ok, if◌then◌else◌};
-ghost use Rattle.mvt_wire.specs.Stands.{document_of};
+ghost use Rattle.mvt_document.specs.Stands.{document_of};
 ghost use Rattle.mvt_change.specs.ChangeStands.{change_of, step_of};
 ghost use Rattle.mvt_change.specs.Changes.{Fits, go, turn};
 
 use crate::change::{Change, Step};
 use crate::run::{flip_run, run_end};
 use crate::taking_back::take_back;
-use mvt_wire::Document;
+use mvt_document::Document;
 use std::alloc::{AllocError, Global};
 
 /// Carries the change out, and makes it the change that leads back. Steps on one list that follow

@@ -1,11 +1,12 @@
-//! Several changes made one.
+//! `join`: a list of changes made one, from the last to the first; their steps move, and one growth
+//! makes the room.
 
 ghost use Rattle.std.specs.Prelude.{◌≡◌, ◌≤◌, [], ◌++◌, length, map, reverse, vec_len, IsOk, IfOk, OnOk, OnErr};
 ghost use Rattle.mvt_change.specs.ChangeStands.{change_of};
 ghost use Rattle.mvt_change.specs.Joining.{joined};
 
 use crate::change::Change;
-use mvt_wire::Items;
+use mvt_document::Items;
 use std::alloc::{AllocError, Global};
 
 /// One change with the steps of the last change, then of the one before it, and so on; the list is

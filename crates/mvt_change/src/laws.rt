@@ -2,31 +2,36 @@
 
 ghost use Rattle.mvt_change.specs.Laws.{ChangeMakesDocument, TurnedFits, TurnedLeadsBack, TurnedTwice, JoinedGo, JoinedFit, JoinedListGoes, JoinedListFits, FieldWeighs, LayerItemWeighs, TileItemWeighs, NothingPut};
 
-/// A change that fits a document makes a document, and what leads back fits that one.
+/// What a change that fits makes of a valid document is a valid document (`makes`), and the turned
+/// change fits that one (`fits`).
 pub fn turned_fits()
     ensures makes { ChangeMakesDocument }
     ensures fits { TurnedFits }
 {}
 
-/// What a change is turned into leads back, and turned again it is the change.
+/// After a change that fits, the turned change leads back to the document (`back`), and turned
+/// again it is the change (`twice`).
 pub fn turned_leads_back()
     ensures back { TurnedLeadsBack }
     ensures twice { TurnedTwice }
 {}
 
-/// Joined changes are carried out one after the other, and fit where each does.
+/// Two changes joined are carried out one after the other (`made`), and fit exactly where each of
+/// them does (`fit`).
 pub fn joined()
     ensures made { JoinedGo }
     ensures fit { JoinedFit }
 {}
 
-/// So are those of a list, and they fit where each fits what those before it made.
+/// A joined list of changes is carried out one change after the other (`made`), and fits exactly
+/// where each fits what those before it made (`fit`).
 pub fn joined_list()
     ensures made { JoinedListGoes }
     ensures fit { JoinedListFits }
 {}
 
-/// Items have at least two bytes, so a change that weighs nothing puts nothing.
+/// Valid fields, items of a layer and items of a tile have at least two bytes (`fields`,
+/// `layer_items`, `tile_items`), so a change that fits and weighs nothing puts no item (`nothing`).
 pub fn items_weigh()
     ensures fields { FieldWeighs }
     ensures layer_items { LayerItemWeighs }

@@ -1,9 +1,9 @@
-//! Steps on one layer's list, carried out in one pass over it.
+//! Steps on the list of one layer, carried out in one pass.
 
 ghost use Rattle.std.specs.Prelude.{◌≡◌, ◌<◌, length, map, reverse, is_ok, if◌then◌else◌, OnOk, OnErr};
 ghost use Rattle.std.specs.List.{AllByRecursion};
 ghost use Rattle.std.specs.Option.{IsSomeAnd};
-ghost use Rattle.mvt_wire.specs.Stands.{document_of};
+ghost use Rattle.mvt_document.specs.Stands.{document_of};
 ghost use Rattle.mvt_splices.specs.Splices.{FitAll};
 ghost use Rattle.mvt_change.specs.ChangeStands.{step_of};
 ghost use Rattle.mvt_change.specs.Changes.{Fits, go, turn};
@@ -13,8 +13,8 @@ ghost use Rattle.mvt_change.specs.Room.{KeepsDocument, KeepsTileItem};
 ghost use Rattle.mvt_change.specs.Runs.{LeadsBack, layer_splice, turned_in_layer};
 
 use crate::change::Step;
+use mvt_document::{Document, TileItem};
 use mvt_splices::splice_message;
-use mvt_wire::{Document, TileItem};
 use std::alloc::{AllocError, Global};
 
 /// Carries steps on the list of the layer at this position out in one pass over it, and makes each

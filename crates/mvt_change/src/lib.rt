@@ -1,4 +1,13 @@
-//! Changes of a document: their steps, what they make, and what leads back.
+//! Changes of a document as values: what they make, what leads back, and a change carried out in
+//! place.
+//!
+//! - A change is carried out in place as the definition says, and becomes the change that leads
+//!   back, every field and every width equal. Where memory runs out, neither the document nor the
+//!   change has changed: `flip`.
+//! - A list of changes becomes one change, which has the steps of the last one first and of the
+//!   first one last, and the list is then empty. Where memory runs out the list has what it had.
+//!   One change alone needs no memory: `join`.
+//! - The bytes of all items that a change puts are counted: `weight`.
 #![tactic(auto)]
 
 mod change;

@@ -1,9 +1,9 @@
-//! Items that move within a list of a document.
+//! An item that moves within a list of a document.
 
 ghost use Rattle.std.specs.Prelude.{◌≡◌, map};
 ghost use Rattle.std.specs.Option.{IsSomeAnd, option_and_then};
-ghost use Rattle.mvt_wire.specs.Stands.{document_of, layer_item_of, tile_item_of};
-ghost use Rattle.mvt_wire.specs.Splicing.{moved};
+ghost use Rattle.mvt_document.specs.Stands.{document_of, layer_item_of, tile_item_of};
+ghost use Rattle.mvt_document.specs.Splicing.{moved};
 ghost use Rattle.mvt_change.specs.ChangeStands.{place_of};
 ghost use Rattle.mvt_change.specs.Lists.{CanMove, change_at};
 ghost use Rattle.mvt_change.specs.Places.{change_fields, change_items, fields_at, fields_in, fields_in_at, in_feature, in_layer, items_at, items_in};
@@ -13,7 +13,7 @@ ghost use Rattle.mvt_change.specs.HeldPlaces.{change_held_at, change_held_fields
 ghost use Rattle.mvt_change.specs.HeldChanges.{held_moved, move_held_at};
 
 use crate::change::Place;
-use mvt_wire::{Document, LayerItem, Message, TileItem};
+use mvt_document::{Document, LayerItem, Message, TileItem};
 
 /// Moves an item of the list at this place.
 pub(crate) fn move_at(document: &mut Document, place: Place, from: usize, to: usize)

@@ -1,8 +1,9 @@
-//! Steps on one list of a document, carried out in one pass.
+//! Steps that follow each other on one list: as splices of their list, and those on the list of the
+//! tile in one pass.
 
 ghost use Rattle.std.specs.Prelude.{◌≡◌, ◌<◌, ◌≤◌, length, map, reverse, slice_range, is_ok, if◌then◌else◌, IsTrue, OnOk, OnErr};
 ghost use Rattle.std.specs.List.{AllByRecursion};
-ghost use Rattle.mvt_wire.specs.Stands.{document_of};
+ghost use Rattle.mvt_document.specs.Stands.{document_of};
 ghost use Rattle.mvt_change.specs.ChangeStands.{step_of};
 ghost use Rattle.mvt_change.specs.Changes.{Fits, go, turn};
 ghost use Rattle.mvt_change.specs.Room.{KeepsDocument};
@@ -12,8 +13,8 @@ use crate::change::Step;
 use crate::feature_run::run_in_feature;
 use crate::layer_run::run_in_layer;
 use crate::steps::flip_step;
+use mvt_document::{Document, Field, LayerItem, TileItem};
 use mvt_splices::{Gap, Splices, splice_message};
-use mvt_wire::{Document, Field, LayerItem, TileItem};
 use std::alloc::{AllocError, Global};
 
 impl Splices<TileItem> for Step {

@@ -1,7 +1,7 @@
 //! A step carried out in place, and turned into the step that leads back.
 
 ghost use Rattle.std.specs.Prelude.{◌≡◌, is_ok, if◌then◌else◌, IsOk, OnOk};
-ghost use Rattle.mvt_wire.specs.Stands.{document_of};
+ghost use Rattle.mvt_document.specs.Stands.{document_of};
 ghost use Rattle.mvt_change.specs.ChangeStands.{step_of};
 ghost use Rattle.mvt_change.specs.Changes.{Finds, go_step, turn_step};
 ghost use Rattle.mvt_change.specs.Room.{KeepsDocument};
@@ -10,7 +10,7 @@ ghost use Rattle.mvt_change.specs.HeldChanges.{IsTurned, StepHasRoom, go_held_st
 use crate::change::Step;
 use crate::exchange::{exchange_in_feature, exchange_in_layer};
 use crate::moves::move_at;
-use mvt_wire::Document;
+use mvt_document::Document;
 use std::alloc::AllocError;
 use std::mem;
 

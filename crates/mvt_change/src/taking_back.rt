@@ -1,14 +1,14 @@
-//! Steps that were made and are taken back, with no growth.
+//! The steps that were made, taken back with no growth where memory runs out.
 
 ghost use Rattle.std.specs.Prelude.{◌≡◌, map, reverse};
-ghost use Rattle.mvt_wire.specs.Stands.{document_of};
+ghost use Rattle.mvt_document.specs.Stands.{document_of};
 ghost use Rattle.mvt_change.specs.ChangeStands.{step_of};
 ghost use Rattle.mvt_change.specs.Changes.{go, turn};
 ghost use Rattle.mvt_change.specs.HeldChanges.{HaveRoom};
 
 use crate::change::Step;
 use crate::steps::flip_step;
-use mvt_wire::Document;
+use mvt_document::Document;
 
 /// Takes the steps back, from the last to the first. Each is turned where it stands.
 pub(crate) fn take_back(document: &mut Document, steps: &mut [Step])

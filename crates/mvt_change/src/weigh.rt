@@ -1,4 +1,4 @@
-//! How much a change brings.
+//! `weight`: how many bytes a change puts.
 
 ghost use Rattle.std.specs.Prelude.{◌≡◌, ◌^◌, ◌<◌, ℕ, length};
 ghost use Rattle.std.specs.List.{flat_map};
@@ -6,7 +6,7 @@ ghost use Rattle.mvt_change.specs.ChangeStands.{change_of, step_of};
 ghost use Rattle.mvt_change.specs.Changes.{step_weight, weight};
 
 use crate::change::{Change, Step};
-use mvt_wire::{Measured, size_of_all};
+use mvt_document::{Measured, size_of_all};
 
 /// How many bytes the items take that the change puts, over all its steps.
 pub fn weight(change: &Change) -> u64

@@ -2,17 +2,17 @@
 use Rattle.std.specs.Prelude.{ℕ, List}
 use Rattle.mvt_geometry.specs.Shapes.{Geometry}
 
--- the layer that is meant: the one of that ordinal among the layers, or the one of that name
+-- how a layer is selected: by its ordinal among the layers, or by its name
 pub data LayerChoice : Type 0 where
   AtOrdinal : (ordinal : ℕ) → LayerChoice
   Named : (name : List ℕ) → LayerChoice
 
--- the feature of a layer that is meant: the one of that ordinal among its features, or the one of that id
+-- how a feature of a layer is selected: by its ordinal among the features, or by its id
 pub data FeatureChoice : Type 0 where
   FeatureAtOrdinal : (ordinal : ℕ) → FeatureChoice
   WithId : (id : ℕ) → FeatureChoice
 
--- a command with its arguments; an index is an ordinal too
+-- a command with its arguments; an index is an ordinal
 pub data Command : Type 0 where
   RenameLayer : (layer : LayerChoice) (name : List ℕ) → Command
   MoveLayer : (layer : LayerChoice) (index : ℕ) → Command

@@ -8,16 +8,17 @@ use Rattle.mvt_command.specs.declared.command.FeatureChoice.TheVariants as featu
 use Rattle.mvt_command.specs.declared.command.Command.{Command}
 use Rattle.mvt_command.specs.declared.command.Command.TheVariants.{RenameLayer, MoveLayer, DropLayer, KeepLayers, InsertFeature, MoveFeature, DropFeature, SetId, ClearId}
 
--- the bytes of a name, without where they lie in memory
+-- the plain choice that a choice of a layer stands for
 abbrev pub layer_choice_of : LayerChoice → plain.LayerChoice
 layer_choice_of (Ordinal ordinal) = plain.AtOrdinal ordinal
 layer_choice_of (Name name) = plain.Named name.items
 
+-- the plain choice that a choice of a feature stands for
 abbrev pub feature_choice_of : FeatureChoice → plain.FeatureChoice
 feature_choice_of (features.Ordinal ordinal) = plain.FeatureAtOrdinal ordinal
 feature_choice_of (features.Id id) = plain.WithId id
 
--- the command with its arguments
+-- the plain command that a command of the program stands for
 abbrev pub command_of : Command → plain.Command
 command_of (RenameLayer layer name) = plain.RenameLayer (layer_choice_of layer) name.items
 command_of (MoveLayer layer index) = plain.MoveLayer (layer_choice_of layer) index

@@ -1,7 +1,7 @@
-//! The commands that change a tile.
+//! The commands with their arguments, and how a layer or a feature is selected.
 
+use mvt_document::Items;
 use mvt_geometry::Geometry;
-use mvt_wire::Items;
 
 /// The layer that is meant.
 #[derive(Debug, Drop)]

@@ -1,4 +1,4 @@
-//! The commands that change a tile, and what they choose, as types.
+//! The commands that change a tile, and how they select a layer or a feature, as types.
 #![tactic(auto)]
 
 mod command;

@@ -1,10 +1,10 @@
 -- What a field keeps of its body: its wire type, the width that is stored with a length, and that a group ends.
--- Protocol Buffers encoding guide: "Message Structure".
 use Rattle.std.specs.Prelude.{ℕ}
 use Rattle.mvt_document.specs.Groups.{IsGroup}
 use Rattle.mvt_document.specs.declared.body.Body.{Body}
 use Rattle.mvt_document.specs.declared.body.Body.TheVariants.{Number, Eight, Four, Bytes, Group}
 
+-- the wire type of a body of the program (guide, Message Structure)
 abbrev pub wire_type_of : Body → ℕ
 wire_type_of (Number number) = 0
 wire_type_of (Eight bytes) = 1
@@ -12,7 +12,7 @@ wire_type_of (Bytes width bytes) = 2
 wire_type_of (Group bytes) = 3
 wire_type_of (Four bytes) = 5
 
--- the width stored with the length; 1 where there is no length
+-- the width that is stored with the length of a body of the program; 1 where it has no length
 abbrev pub stored_width_of : Body → ℕ
 stored_width_of (Number number) = 1
 stored_width_of (Eight bytes) = 1
@@ -20,7 +20,7 @@ stored_width_of (Bytes width bytes) = width
 stored_width_of (Group bytes) = 1
 stored_width_of (Four bytes) = 1
 
--- the bytes of a group are those of one of this number; nothing of other bodies
+-- where the body is a group, its bytes are those of a group of this number (guide, Groups)
 abbrev pub EndsGroup : ℕ → Body → Type 0
 EndsGroup number (Number value) = Unit {0}
 EndsGroup number (Eight bytes) = Unit {0}

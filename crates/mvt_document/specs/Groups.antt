@@ -1,5 +1,4 @@
 -- What the bytes of a field are, and those of a group: fields, groups among them, and then its end tag.
--- Protocol Buffers encoding guide: "Message Structure" and "Groups".
 use Rattle.std.specs.Prelude.{◌≡◌, ℕ, zero, suc, ◌/◌, List, ◌++◌, length}
 use Rattle.std.specs.List.{flat_map, AllByRecursion}
 use Rattle.mvt_document.specs.declared.TheConstants.{MAX_GROUPS}
@@ -7,10 +6,11 @@ use Rattle.mvt_document.specs.Plain.{Number, Body, Spelled, Eight, Four, Delimit
 use Rattle.mvt_document.specs.Shape.{IsSpelling, IsTag, IsWidth}
 use Rattle.mvt_document.specs.Wire.{spelling, field_bytes}
 
+-- a number with a width in which it can be spelled (guide, Base 128 Varints)
 abbrev pub IsNumber : Number → Type 0
 IsNumber n = IsSpelling n.value n.width
 
--- a tag's wire type, for each body
+-- the wire type of a plain body (guide, Message Structure)
 abbrev pub wire_type : Body → ℕ
 wire_type (Spelled number) = 0
 wire_type (Eight bytes) = 1
@@ -20,6 +20,7 @@ wire_type (Four bytes) = 5
 
 -- ---- each length is spelled in its stored width
 
+-- the length of a body, where it has one, can be spelled in the stored width
 abbrev pub StoresBody : Body → Type 0
 StoresBody (Spelled number) = Unit {0}
 StoresBody (Eight bytes) = Unit {0}
@@ -27,13 +28,15 @@ StoresBody (Four bytes) = Unit {0}
 StoresBody (Delimited width bytes) = IsSpelling (length bytes) width
 StoresBody (Group bytes) = Unit {0}
 
+-- the length of a field, where it has one, can be spelled in the stored width
 abbrev pub StoresField : Field → Type 0
 StoresField f = StoresBody f.body
 
 -- ---- fields, where it is said which bytes are those of a group of a number
 
 module _ (is_group : ℕ → List ℕ → Type 0) where
-  -- a body of a field of this number
+  -- a body of a field of this number: a valid number, 8 bytes, 4 bytes, a valid stored width, or a group of this number
+  -- as `is_group` says (guide, Message Structure)
   abbrev pub IsBodyWith : ℕ → Body → Type 0
   IsBodyWith number (Spelled value) = IsNumber value
   IsBodyWith number (Eight bytes) = length bytes ≡ 8
@@ -41,6 +44,8 @@ module _ (is_group : ℕ → List ℕ → Type 0) where
   IsBodyWith number (Delimited width bytes) = IsWidth width
   IsBodyWith number (Group bytes) = is_group number bytes
 
+  -- a field whose tag is valid and names the wire type of its body, and whose body is valid (`IsBodyWith`)
+  -- (guide, Message Structure)
   pub record IsFieldWith (f : Field) : Type 0 where
     pub number : IsNumber f.tag
     pub tag : IsTag f.tag.value (wire_type f.body)
@@ -48,23 +53,25 @@ module _ (is_group : ℕ → List ℕ → Type 0) where
 
   -- ---- the same with each length spelled in its stored width
 
-  -- a body of this wire type, of a field of this number
+  -- a valid body of this wire type, of a field of this number, whose length can be spelled in its stored width
+  -- (guide, Message Structure)
   pub record IsWholeBodyWith (kind number : ℕ) (body : Body) : Type 0 where
     pub typed : wire_type body ≡ kind
     pub valid : IsBodyWith number body
     pub stored : StoresBody body
 
+  -- a valid field whose length can be spelled in its stored width (guide, Message Structure)
   pub record IsWholeFieldWith (f : Field) : Type 0 where
     pub valid : IsFieldWith f
     pub stored : StoresField f
 
--- an end tag of this number
+-- an end tag of a group of this number: wire type 4 (guide, Groups)
 pub record IsEnd (number : ℕ) (last : Number) : Type 0 where
   pub spelled : IsNumber last
   pub tag : IsTag last.value 4
   pub same : last.value / 8 ≡ number
 
--- fields whose groups are such groups, and then the end tag of this number
+-- the bytes are fields, whose own groups are as `is_group` says, and then the end tag of this number (guide, Groups)
 pub record IsGroupWith (is_group : ℕ → List ℕ → Type 0) (number : ℕ) (bytes : List ℕ) : Type 0 where
   pub fields : List Field
   pub whole : AllByRecursion (IsWholeFieldWith is_group) fields
@@ -72,20 +79,23 @@ pub record IsGroupWith (is_group : ℕ → List ℕ → Type 0) (number : ℕ) (
   pub ends : IsEnd number last
   pub spelled : bytes ≡ flat_map field_bytes fields ++ spelling last
 
--- a group in which at most so many are open at one place, itself counted
+-- a group of this number in which no more groups are open at one place, itself counted, than levels are given
+-- (guide, Groups)
 unfoldable pub IsGroupWithin : ℕ → ℕ → List ℕ → Type 0
 IsGroupWithin zero number bytes = ⊥
 IsGroupWithin (suc levels) number bytes = IsGroupWith (IsGroupWithin levels) number bytes
 
--- a group of this number
+-- the bytes behind the start tag of a group of this number: fields and its end tag, with at most 100 groups open at one
+-- place (guide, Groups)
 abbrev pub IsGroup : ℕ → List ℕ → Type 0
 IsGroup number bytes = IsGroupWithin MAX_GROUPS number bytes
 
 -- ---- fields that are no groups
 
+-- no bytes are a group
 abbrev pub NoGroup : ℕ → List ℕ → Type 0
 NoGroup number bytes = ⊥
 
--- a body of this wire type that is no group, with its length spelled in its stored width
+-- a body of this wire type that is no group, whose length can be spelled in its stored width (guide, Message Structure)
 abbrev pub IsFlatBody : ℕ → Body → Type 0
 IsFlatBody kind body = IsWholeBodyWith NoGroup kind 0 body

@@ -1,7 +1,7 @@
 -- What contracts see of a list of the program.
 use Rattle.std.specs.Prelude.{ℕ, List}
 
--- the items, and how many more go in with no growth
+-- a list as contracts see it: its items, and how many more it takes without growing
 pub record Held (T : Type 0) : Type 0 where
   pub items : List T
   pub room : ℕ

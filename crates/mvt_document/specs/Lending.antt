@@ -1,4 +1,4 @@
--- What a list ends as, where a `&mut` to one of its items or to its vector is returned.
+-- What a list ends as where a `&mut` to one of its items, or to its vector, is returned.
 use Rattle.std.specs.Prelude.{ℕ, ◌-◌, Option, slice_set, vec_len, vec_capacity}
 use Rattle.std.specs.Borrow.{Lends, LendsIf, Fml, RattleType, MutBor}
 use Rattle.std.specs.declared.alloc.Global.{Global}
@@ -9,27 +9,27 @@ use Rattle.std.specs.contracts.impls.GlobalAllocator.TheImpl.{ghosts}
 use Rattle.mvt_document.specs.Held.{Held}
 use Rattle.mvt_document.specs.contracts.items.Items.{the_row}
 
--- the list with this item at a place; its room stays
+-- the list with another item at this index, and the same room
 abbrev pub with_item : {T : Type 0} → Held T → ℕ → T → Held T
 with_item list at item = record list { items = slice_set list.items at item }
 
--- what contracts see of the list that a vector is
+-- the list that a vector is, as contracts see it
 abbrev pub held_in : {T : Type 0} → Vec T Global → Held T
 held_in list = record { items = list.items; room = vec_capacity list - vec_len list }
 
--- a vector, as the logic names its type
+-- a vector over the global allocator, as the logic names its type
 abbrev pub vec_row : RattleType → RattleType
 vec_row T = vec.the_row T global.the_row ghosts
 
--- once the borrow r ends, the list is what the vector is
+-- once the borrow `r` ends, the list is what the vector is
 abbrev pub LendsVec : (T : RattleType) → MutBor (Held T.Denot) → MutBor (vec_row T).Denot → Fml
 LendsVec T list r = Lends (the_row T) (vec_row T) list r held_in
 
 module _ (T : RattleType) (list : MutBor (Held T.Denot)) (at : ℕ) where
-  -- once the borrow r ends, the place has the last value written through r
+  -- once the borrow `r` ends, the item at this index is the last value written through `r`, and all else is as it was
   abbrev pub LendsItem : MutBor T.Denot → Fml
   LendsItem r = Lends (the_row T) T list r (with_item list.now at)
 
-  -- the same where r is a reference, and at `None` the list stays as it is
+  -- the same where `r` is a reference; where there is none the list stays as it is
   abbrev pub LendsItemIf : Option (MutBor T.Denot) → Fml
   LendsItemIf r = LendsIf (the_row T) T list r (with_item list.now at) list.now

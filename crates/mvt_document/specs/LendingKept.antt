@@ -1,4 +1,4 @@
--- What a message ends as, where a `&mut` to one of its items is returned.
+-- What a message ends as where a `&mut` to one of its items, or to its vector, is returned.
 use Rattle.std.specs.Prelude.{ℕ, Option}
 use Rattle.std.specs.Borrow.{Lends, LendsIf, Fml, RattleType, MutBor}
 use Rattle.mvt_document.specs.Held.{Held}
@@ -7,14 +7,15 @@ use Rattle.mvt_document.specs.contracts.message.Message.{the_row}
 use Rattle.mvt_document.specs.declared.measure.Measured.{Ghosts}
 
 module _ (T : RattleType) (measured : Ghosts T.Denot) (list : MutBor (Held T.Denot)) (at : ℕ) where
-  -- once the borrow r ends, the place has the last value written through r
+  -- once the borrow `r` ends, the item at this index of the message is the last value written through `r`, and all else
+  -- is as it was
   abbrev pub LendsKept : MutBor T.Denot → Fml
   LendsKept r = Lends (the_row T measured) T list r (with_item list.now at)
 
-  -- the same where r is a reference, and at `None` the list stays as it is
+  -- the same where `r` is a reference; where there is none the message stays as it is
   abbrev pub LendsKeptIf : Option (MutBor T.Denot) → Fml
   LendsKeptIf r = LendsIf (the_row T measured) T list r (with_item list.now at) list.now
 
--- once the borrow r ends, the message is what the vector is
+-- once the borrow `r` ends, the message is what the vector is
 abbrev pub LendsVecKept : (T : RattleType) → Ghosts T.Denot → MutBor (Held T.Denot) → MutBor (vec_row T).Denot → Fml
 LendsVecKept T measured list r = Lends (the_row T measured) (vec_row T) list r held_in

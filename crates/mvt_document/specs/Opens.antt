@@ -1,4 +1,4 @@
--- What a file opens as.
+-- Which document a file opens as.
 use Rattle.std.specs.Prelude.{◌≡◌, ◌≢◌, ℕ, ◌<◌, ◌≤◌, List, length, take}
 use Rattle.std.specs.List.{flat_map, AllByRecursion}
 use Rattle.mvt_document.specs.declared.TheConstants.{MAX_FILE}
@@ -9,64 +9,75 @@ use Rattle.mvt_document.specs.Groups.{IsNumber, IsFieldWith, IsGroup, StoresFiel
 
 -- ---- what holds of each value of the types
 
+-- a valid field: a tag that can be spelled and names the wire type of the body, and a valid body, which is a group of
+-- the tag's number where it is one (guide, Message Structure)
 abbrev pub IsField : Field → Type 0
 IsField = IsFieldWith IsGroup
 
--- Vector Tile Specification 2.1, section 4: a tile's layers are field 3 and a layer's features field 2, both LEN
+-- a valid feature: its tag is 18, field 2 with wire type LEN, the stored width is 1 to 10, and its fields are valid
+-- (tiles 4.2)
 pub record IsFeature (f : Feature) : Type 0 where
   pub number : IsNumber f.tag
   pub tag : f.tag.value ≡ 18
   pub width : IsWidth f.width
   pub fields : AllByRecursion IsField f.fields
 
--- no plain item of a layer has a feature's tag
+-- a valid item of a layer: a valid feature, or a valid field whose tag is not that of a feature (tiles 4.1)
 abbrev pub IsLayerItem : LayerItem → Type 0
 IsLayerItem (OfFeature feature) = IsFeature feature
 IsLayerItem (PlainInLayer field) = IsField field × (field.tag.value ≢ 18)
 
+-- a valid layer: its tag is 26, field 3 with wire type LEN, the stored width is 1 to 10, and its items are valid
+-- (tiles 4.1)
 pub record IsLayer (l : Layer) : Type 0 where
   pub number : IsNumber l.tag
   pub tag : l.tag.value ≡ 26
   pub width : IsWidth l.width
   pub items : AllByRecursion IsLayerItem l.items
 
--- no plain item of a tile has a layer's tag
+-- a valid item of a tile: a valid layer, or a valid field whose tag is not that of a layer (tiles 4.1)
 abbrev pub IsTileItem : TileItem → Type 0
 IsTileItem (OfLayer layer) = IsLayer layer
 IsTileItem (PlainInTile field) = IsField field × (field.tag.value ≢ 26)
 
+-- a valid document: all its items are valid (tiles 4.1)
 abbrev pub IsDocument : Document → Type 0
 IsDocument document = AllByRecursion IsTileItem document
 
 -- ---- each length is spelled in its stored width
 
+-- the lengths of a feature and of its fields can be spelled in their stored widths
 pub record StoresFeature (f : Feature) : Type 0 where
   pub own : IsSpelling (length (flat_map field_bytes f.fields)) f.width
   pub fields : AllByRecursion StoresField f.fields
 
+-- the lengths in an item of a layer can be spelled in their stored widths
 abbrev pub StoresLayerItem : LayerItem → Type 0
 StoresLayerItem (OfFeature feature) = StoresFeature feature
 StoresLayerItem (PlainInLayer field) = StoresField field
 
+-- the lengths of a layer and in its items can be spelled in their stored widths
 pub record StoresLayer (l : Layer) : Type 0 where
   pub own : IsSpelling (length (flat_map layer_item_bytes l.items)) l.width
   pub items : AllByRecursion StoresLayerItem l.items
 
+-- the lengths in an item of a tile can be spelled in their stored widths
 abbrev pub StoresTileItem : TileItem → Type 0
 StoresTileItem (OfLayer layer) = StoresLayer layer
 StoresTileItem (PlainInTile field) = StoresField field
 
+-- a valid document in which each length can be spelled in its stored width
 pub record IsSettled (document : Document) : Type 0 where
   pub valid : IsDocument document
   pub stored : AllByRecursion StoresTileItem document
 
--- the file is the bytes of this document
+-- the file has at most 67,108,864 bytes, and is the bytes of this document, which is settled
 pub record OpensAs (file : List ℕ) (document : Document) : Type 0 where
   pub within : length file ≤ MAX_FILE
   pub settled : IsSettled document
   pub spelled : bytes_of document ≡ file
 
--- the longest front of the file that opens as a document has this length
+-- `place` is the length of the longest prefix of the file that opens as a document
 pub record IsPlace (file : List ℕ) (place : ℕ) : Type 0 where
   pub within : place ≤ length file
   pub document : Document

@@ -1,11 +1,11 @@
--- Lists of which a part is replaced, or an item goes elsewhere.
+-- Lists in which a part is replaced, or an item moved.
 use Rattle.std.specs.Prelude.{ℕ, ◌+◌, List, [], ◌++◌, take, drop}
 
--- so many items from an index on
+-- `count` items of the list from `index`, or those that there are
 abbrev pub part : {A : Type 0} → ℕ → ℕ → List A → List A
 part index count items = take count (drop index items)
 
--- the list with so many items from an index on taken out, and others in their place
+-- the list with `taken` items from `index` replaced by the items `put`
 abbrev pub splice : {A : Type 0} → ℕ → ℕ → List A → List A → List A
 splice index taken put items = take index items ++ put ++ drop (index + taken) items
 

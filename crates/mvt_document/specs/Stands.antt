@@ -13,9 +13,11 @@ use Rattle.mvt_document.specs.declared.document.TileItem.{TileItem}
 use Rattle.mvt_document.specs.declared.document.TileItem.TheVariants as in_tile
 use Rattle.mvt_document.specs.declared.document.Document.{Document}
 
+-- the plain number that a number of the program stands for
 abbrev pub number_of : Varint → plain.Number
 number_of n = record { value = n.value; width = n.width }
 
+-- the plain body that a body of the program stands for
 abbrev pub body_of : Body → plain.Body
 body_of (Number number) = plain.Spelled (number_of number)
 body_of (Eight bytes) = plain.Eight bytes
@@ -23,22 +25,28 @@ body_of (Four bytes) = plain.Four bytes
 body_of (Bytes width bytes) = plain.Delimited width bytes.items
 body_of (Group bytes) = plain.Group bytes.items
 
+-- the plain field that a field of the program stands for
 abbrev pub field_of : Field → plain.Field
 field_of f = record { tag = number_of f.tag; body = body_of f.body }
 
+-- the plain feature that a feature of the program stands for
 abbrev pub feature_of : Feature → plain.Feature
 feature_of f = record { tag = number_of f.tag; width = f.width; fields = map field_of f.fields.items }
 
+-- the plain item that an item of a layer stands for
 abbrev pub layer_item_of : LayerItem → plain.LayerItem
 layer_item_of (in_layer.Feature feature) = plain.OfFeature (feature_of feature)
 layer_item_of (in_layer.Plain field) = plain.PlainInLayer (field_of field)
 
+-- the plain layer that a layer of the program stands for
 abbrev pub layer_of : Layer → plain.Layer
 layer_of l = record { tag = number_of l.tag; width = l.width; items = map layer_item_of l.items.items }
 
+-- the plain item that an item of a tile stands for
 abbrev pub tile_item_of : TileItem → plain.TileItem
 tile_item_of (in_tile.Layer layer) = plain.OfLayer (layer_of layer)
 tile_item_of (in_tile.Plain field) = plain.PlainInTile (field_of field)
 
+-- the plain document that a document of the program stands for
 abbrev pub document_of : Document → plain.Document
 document_of d = map tile_item_of d.items.items

@@ -1,4 +1,4 @@
-//! What stands behind a tag.
+//! The body of a field: what stands behind a tag.
 
 use crate::items::Items;
 use crate::varint::Varint;

@@ -1,4 +1,5 @@
-//! The messages of a tile, with all that is needed to write each byte again.
+//! The messages of a tile, with all that is needed to write each byte again: fields, features,
+//! layers, the tile.
 
 ghost use Rattle.std.specs.Prelude.{◌≡◌, ◌/◌};
 ghost use Rattle.mvt_document.specs.Shape.{IsTag, IsWidth};

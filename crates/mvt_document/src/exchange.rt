@@ -1,4 +1,5 @@
-//! Items that change places between a list and another, with nothing copied.
+//! Items that change places between two vectors, and an item that moves within one, with nothing
+//! copied.
 
 ghost use Rattle.std.specs.Prelude.{◌≡◌, ◌+◌, ◌-◌, ◌<◌, ◌≤◌, ◌++◌, length, take, drop, reverse, vec_len, vec_capacity, is_ok, if◌then◌else◌, OnOk, IsOk};
 ghost use Rattle.mvt_document.specs.Splicing.{moved, part, splice};

@@ -1,4 +1,4 @@
-//! The lists that a document is made of.
+//! The list type of bytes and of the fields of a feature, over a `Vec`.
 
 ghost use Rattle.std.specs.Prelude.{◌≡◌, length};
 

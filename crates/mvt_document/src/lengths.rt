@@ -1,4 +1,4 @@
-//! The sizes of the messages of a tile.
+//! The sizes of the messages of a tile. That of a layer comes from the size that its message keeps.
 
 ghost use Rattle.mvt_document.specs.Wire.{body_bytes, field_bytes, feature_bytes, layer_item_bytes, layer_bytes, tile_item_bytes};
 ghost use Rattle.mvt_document.specs.Stands.{body_of, field_of, feature_of, layer_item_of, layer_of, tile_item_of};

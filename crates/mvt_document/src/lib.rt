@@ -1,4 +1,25 @@
-//! A vector tile as a document: the types, their numbers, and the laws of a document's bytes.
+//! A tile as a document that keeps every byte: the types, their numbers, and the laws of the bytes
+//! of a document.
+//!
+//! - A number is read in the width in which it is spelled, and nothing is found only where there is
+//!   none: `read_varint`. It is written in the width that is asked for, at the end of a room that
+//!   has as many bytes: `put_number`. The shortest spelling of a number is the least width in which
+//!   it fits: `Varint::minimal`.
+//! - How many bytes a value takes, where a file may have as many, or where they are within any
+//!   limit: `Measured::size` and `size_within`, those of `Message`, and `size_of_all`. So are those
+//!   beside a part of a list (`size_beside_part`), and those of a message with a content of a given
+//!   length (`message_size`). A message may keep that number; where it does, it is the right one
+//!   after every change, which its type keeps (`IsKept`).
+//! - Items of a list change places with those of another, as many for as many or for more or fewer,
+//!   and an item moves within its list: `exchange` and `move_item` of `Items` and of `Message`.
+//!   Where memory runs out nothing has changed, and it does not where both lists have the room
+//!   (`succeeds`).
+//! - A list makes room for a number of items and for no more, or lends the vector that it is in,
+//!   and ends as what that does (`writes_back`): `reserve_exact` and `as_vec_mut` of `Items`, and
+//!   `as_vec_mut`, `known_size` and `know_size` of `Message`, whose size is given back with it.
+//! - The bytes of a group are fields, groups among them, and then an end tag of its own number,
+//!   with at most 100 groups open at one place (`IsGroup`); the type of a field keeps that
+//!   (`is_group`).
 #![tactic(auto)]
 
 mod body;

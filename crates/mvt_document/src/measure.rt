@@ -1,4 +1,4 @@
-//! How values of a document are measured.
+//! How many bytes a value takes, by one trait that each type of a document has.
 
 ghost use Rattle.std.specs.Prelude.{ℕ, ◌+◌, ◌≤◌, List, [], ◌++◌, length, max};
 ghost use Rattle.std.specs.Option.{SomeIff};

@@ -1,5 +1,5 @@
-//! The lists of a document whose sizes are kept: those of a tile and of its layers. A feature is
-//! small, and is measured where it has to be.
+//! The items of a tile or of a layer, with how many bytes they take: known from where they were
+//! read, and kept over changes. A feature is small, and is measured where it has to be.
 
 ghost use Rattle.std.specs.Prelude.{◌≡◌, ◌≤◌, ◌+◌, ◌++◌, ℕ, length, Some, IfSome};
 ghost use Rattle.std.specs.List.{flat_map};

@@ -1,4 +1,4 @@
-//! The wire types of fields, and the field numbers of a tile's messages.
+//! The wire types of fields, and the field numbers and tags of the messages of a tile.
 
 /// The wire type of a number.
 pub const VARINT: u64 = 0;

@@ -1,4 +1,4 @@
-//! Numbers in base 128.
+//! Numbers in base 128, each with the width of its spelling: read and written.
 
 ghost use Rattle.std.specs.Prelude.{◌≡◌, ℕ, ◌*◌, ◌^◌, ◌<◌, ◌≤◌, ◌++◌, List, length, take, IfSome, IfNone, nat_lt, position};
 ghost use Rattle.mvt_document.specs.Shape.{IsSpelling};

@@ -3,9 +3,9 @@ use Rattle.std.proofs.Common.{◌≡◌, ℕ, zero, suc, ◌+◌, ◌*◌, ◌�
 use Rattle.std.proofs.lemmas.List.{append-nil, drop-drop}
 use Rattle.std.specs.List.{flat_map}
 use Rattle.std.specs.Option.{option_map_or}
-use Rattle.mvt_wire.specs.Plain.{Feature, OfFeature, Layer, OfLayer, Document}
-use Rattle.mvt_wire.specs.Wire.{field_bytes, layer_item_bytes, tile_item_bytes}
-use Rattle.mvt_wire.specs.Splicing.{part, splice}
+use Rattle.mvt_document.specs.Plain.{Feature, OfFeature, Layer, OfLayer, Document}
+use Rattle.mvt_document.specs.Wire.{field_bytes, layer_item_bytes, tile_item_bytes}
+use Rattle.mvt_document.specs.Splicing.{part, splice}
 use Rattle.mvt_change.specs.Changes.{Place, OfTheTile, OfTheLayer, OfTheFeature, Change}
 use Rattle.mvt_command.specs.Command.{LayerChoice, FeatureChoice, DropLayer, DropFeature, ClearId}
 use Rattle.mvt_meaning.specs.Ordinals.{without}

@@ -4,7 +4,7 @@ use Rattle.std.proofs.lemmas.Bool.{cases_Bool, cases_lt, le-ltb, lt-ltb, or_from
 use Rattle.std.proofs.lemmas.Bool.Decides.{nat_tests}
 use Rattle.std.proofs.lemmas.List.{append-nil, at_drop_more, drop_all, length-append}
 use Rattle.std.specs.List.{list_any}
-use Rattle.mvt_wire.specs.Splicing.{splice}
+use Rattle.mvt_document.specs.Splicing.{splice}
 use Rattle.mvt_meaning.specs.Ordinals.{count}
 use Rattle.mvt_edit.proofs.Nth.{Apart, count_append, count_pass, count_skip, from_nth_at}
 use Rattle.mvt_edit.specs.Placing.{IsPlaceFor}

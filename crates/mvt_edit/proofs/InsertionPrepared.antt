@@ -3,11 +3,11 @@ use Rattle.std.proofs.Common.{◌≡◌, ℕ, ◌<◌, ◌≤◌, nat_lt, true, 
 use Rattle.std.proofs.lemmas.Bool.{le-ltb, lt-ltb, false_from_ne_true}
 use Rattle.std.proofs.lemmas.List.{append-nil}
 use Rattle.std.specs.List.{flat_map}
-use Rattle.mvt_wire.specs.TheConstants.{MAX_FILE}
-use Rattle.mvt_wire.specs.Plain.{Layer, OfLayer, Document}
-use Rattle.mvt_wire.specs.Opens.{IsLayerItem}
-use Rattle.mvt_wire.specs.Splicing.{part}
-use Rattle.mvt_wire.specs.Wire.{bytes_of, layer_item_bytes}
+use Rattle.mvt_document.specs.declared.TheConstants.{MAX_FILE}
+use Rattle.mvt_document.specs.Plain.{Layer, OfLayer, Document}
+use Rattle.mvt_document.specs.Opens.{IsLayerItem}
+use Rattle.mvt_document.specs.Splicing.{part}
+use Rattle.mvt_document.specs.Wire.{bytes_of, layer_item_bytes}
 use Rattle.mvt_geometry.specs.Shapes.{Geometry}
 use Rattle.mvt_geometry.specs.Integers.{IsInRange}
 use Rattle.mvt_geometry.specs.declared.EncodeError.{EncodeError}

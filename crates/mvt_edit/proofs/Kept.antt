@@ -3,8 +3,8 @@ use Rattle.std.proofs.Common.{◌≡◌, ◌≢◌, ℕ, suc, ◌*◌, ◌<◌, 
 use Rattle.std.proofs.lemmas.Bool.{cases_Bool, or_parts, false_from_ne_true, true_from_ne_false}
 use Rattle.std.proofs.lemmas.List.Elements.{filter_agree}
 use Rattle.std.specs.List.{flat_map, list_any}
-use Rattle.mvt_wire.specs.Plain.{TileItem, OfLayer, PlainInTile, Document}
-use Rattle.mvt_wire.specs.Wire.{tile_item_bytes}
+use Rattle.mvt_document.specs.Plain.{TileItem, OfLayer, PlainInTile, Document}
+use Rattle.mvt_document.specs.Wire.{tile_item_bytes}
 use Rattle.mvt_view.specs.Views.{layers}
 use Rattle.mvt_change.specs.Changes.{Change, OfTheTile}
 use Rattle.mvt_command.specs.Command.{KeepLayers}

@@ -1,7 +1,7 @@
 -- A list of a document that is changed: twice, alike, or not at all.
 use Rattle.std.proofs.Common.{◌≡◌, ℕ, zero, suc, List, [], ◌∷◌, slice_get, Option, Some, None, refl, ap, ◌∙◌}
 use Rattle.std.specs.Option.{IfSome, option_and_then}
-use Rattle.mvt_wire.specs.Plain.{Field, LayerItem, OfFeature, PlainInLayer, TileItem, OfLayer, PlainInTile, Document}
+use Rattle.mvt_document.specs.Plain.{Field, LayerItem, OfFeature, PlainInLayer, TileItem, OfLayer, PlainInTile, Document}
 use Rattle.mvt_change.specs.Lists.{change_at}
 use Rattle.mvt_change.specs.Places.{items_in, fields_in, items_at, fields_at, in_layer, in_feature, change_items, change_fields}
 

@@ -2,8 +2,8 @@
 use Rattle.std.proofs.Common.{◌≡◌, ℕ, suc, ◌<◌, nat_lt, Bool, true, false, Some, None, Ok, Err, List, [], ◌∷◌, length, slice_get, refl, sym, ap, ◌∙◌, subst, arith}
 use Rattle.std.proofs.lemmas.Bool.{le-ltb, lt-ltb}
 use Rattle.std.specs.Option.{IsSomeAnd}
-use Rattle.mvt_wire.specs.Plain.{LayerItem, OfFeature, PlainInLayer, Layer, OfLayer, PlainInTile, Document}
-use Rattle.mvt_wire.specs.Splicing.{moved}
+use Rattle.mvt_document.specs.Plain.{LayerItem, OfFeature, PlainInLayer, Layer, OfLayer, PlainInTile, Document}
+use Rattle.mvt_document.specs.Splicing.{moved}
 use Rattle.mvt_view.specs.Views.{feature_in, features_in, layer_in, layers}
 use Rattle.mvt_change.specs.Lists.{CanMove}
 use Rattle.mvt_change.specs.Changes.{MoveStep, OfTheLayer, OfTheTile}

@@ -3,7 +3,7 @@ use Rattle.std.proofs.Common.{◌≡◌, ℕ, suc, ◌+◌, ◌-◌, nat_lt, Boo
 use Rattle.std.proofs.lemmas.Bool.{cases_order}
 use Rattle.std.proofs.lemmas.Bool.Decides.{nat_tests}
 use Rattle.std.proofs.lemmas.List.{append-nil, length-append, take_at, drop_at}
-use Rattle.mvt_wire.specs.Splicing.{splice, moved}
+use Rattle.mvt_document.specs.Splicing.{splice, moved}
 use Rattle.mvt_meaning.specs.Ordinals.{before, behind, count, move_nth, positions_of, without}
 use Rattle.mvt_edit.proofs.Nth.{apart_from, count_append, count_pass, from_nth_at, nth_is, two_apart}
 

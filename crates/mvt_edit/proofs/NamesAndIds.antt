@@ -2,10 +2,10 @@
 use Rattle.std.proofs.Common.{◌≡◌, ℕ, ◌<◌, ◌≤◌, true, false, Ok, Err, Some, List, [], ◌∷◌, length, nat_lt, slice_get, refl, sym, ap, ◌∙◌, subst, arith}
 use Rattle.std.proofs.lemmas.Bool.{le-ltb, lt-ltb}
 use Rattle.std.specs.Result.{result_unwrap_or}
-use Rattle.mvt_wire.specs.TheConstants.{MAX_FILE}
-use Rattle.mvt_wire.specs.Plain.{Feature, OfFeature, Layer, OfLayer, Document}
-use Rattle.mvt_wire.specs.Opens.{IsField, IsLayerItem}
-use Rattle.mvt_wire.specs.Wire.{bytes_of, field_bytes, layer_item_bytes}
+use Rattle.mvt_document.specs.declared.TheConstants.{MAX_FILE}
+use Rattle.mvt_document.specs.Plain.{Feature, OfFeature, Layer, OfLayer, Document}
+use Rattle.mvt_document.specs.Opens.{IsField, IsLayerItem}
+use Rattle.mvt_document.specs.Wire.{bytes_of, field_bytes, layer_item_bytes}
 use Rattle.mvt_change.specs.Changes.{FeatureStep, FitsStep, LayerStep, Step, go_step, step_weight, turn_step}
 use Rattle.mvt_command.specs.Command.{FeatureChoice, LayerChoice, RenameLayer, SetId}
 use Rattle.mvt_meaning.specs.Selection.{feature_positions, layer_positions, selected, selected_feature, selected_in}

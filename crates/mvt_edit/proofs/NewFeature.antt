@@ -1,7 +1,7 @@
 -- A new feature is valid.
 use Rattle.std.proofs.Common.{ℕ, ◌^◌, ◌<◌, List, refl, arith}
-use Rattle.mvt_wire.specs.Opens.{IsField, IsLayerItem}
-use Rattle.mvt_wire.proofs.Spelling.{minimal_spelling}
+use Rattle.mvt_document.specs.Opens.{IsField, IsLayerItem}
+use Rattle.mvt_document.proofs.Spelling.{minimal_spelling}
 use Rattle.mvt_geometry.specs.Shapes.{Geometry, number_of}
 use Rattle.mvt_geometry.specs.declared.Kind.{Kind}
 use Rattle.mvt_geometry.specs.declared.Kind.TheVariants.{Dots, Lines, Areas}

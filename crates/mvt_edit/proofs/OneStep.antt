@@ -4,11 +4,11 @@ use Rattle.std.proofs.lemmas.List.Sums.{sum_by-cons}
 use Rattle.std.specs.Prelude.{IfErr, IfOk}
 use Rattle.std.specs.List.{flat_map}
 use Rattle.std.specs.Option.{IsSomeAnd}
-use Rattle.mvt_wire.specs.TheConstants.{MAX_FILE}
-use Rattle.mvt_wire.specs.Plain.{Field, Feature, LayerItem, OfFeature, Layer, OfLayer, Document}
-use Rattle.mvt_wire.specs.Wire.{bytes_of, field_bytes, layer_item_bytes}
-use Rattle.mvt_wire.specs.Opens.{IsField, IsLayerItem}
-use Rattle.mvt_wire.specs.Splicing.{part, splice}
+use Rattle.mvt_document.specs.declared.TheConstants.{MAX_FILE}
+use Rattle.mvt_document.specs.Plain.{Field, Feature, LayerItem, OfFeature, Layer, OfLayer, Document}
+use Rattle.mvt_document.specs.Wire.{bytes_of, field_bytes, layer_item_bytes}
+use Rattle.mvt_document.specs.Opens.{IsField, IsLayerItem}
+use Rattle.mvt_document.specs.Splicing.{part, splice}
 use Rattle.mvt_change.specs.Lists.{CanSplice}
 use Rattle.mvt_change.specs.Places.{change_fields, change_items, fields_at, items_at}
 use Rattle.mvt_change.specs.Changes.{Step, FeatureStep, LayerStep, FitsStep, go_step, step_weight, taken_out, turn_step, weight}

@@ -2,17 +2,17 @@
 use Rattle.std.proofs.Common.{◌≡◌, ℕ, suc, ◌+◌, ◌*◌, ◌/◌, ◌≤◌, ◌==◌, Bool, true, false, cond, max, Option, None, is_some, List, [], ◌∷◌, ◌++◌, length, length-append, map, filter, refl, ap, inl, inr, arith}
 use Rattle.std.proofs.lemmas.Bool.{cases_Bool}
 use Rattle.std.specs.List.{flat_map}
-use Rattle.mvt_wire.specs.Wire.{spell, minimal_width, delimited, body_bytes, field_bytes, layer_item_bytes, tile_item_bytes}
-use Rattle.mvt_wire.specs.Shape.{IsSpelling}
-use Rattle.mvt_wire.specs.Stands.{body_of, field_of, layer_item_of, tile_item_of}
-use Rattle.mvt_wire.proofs.Spelling.{length-spell, spelling_some, minimal_width_some}
-use Rattle.mvt_wire.specs.declared.Body.{Body}
-use Rattle.mvt_wire.specs.declared.Body.TheVariants.{Number, Eight, Four, Bytes, Group}
-use Rattle.mvt_wire.specs.declared.Varint.{Varint}
+use Rattle.mvt_document.specs.Wire.{spell, minimal_width, delimited, body_bytes, field_bytes, layer_item_bytes, tile_item_bytes}
+use Rattle.mvt_document.specs.Shape.{IsSpelling}
+use Rattle.mvt_document.specs.Stands.{body_of, field_of, layer_item_of, tile_item_of}
+use Rattle.mvt_document.proofs.Spelling.{length-spell, spelling_some, minimal_width_some}
+use Rattle.mvt_document.specs.declared.Body.{Body}
+use Rattle.mvt_document.specs.declared.Body.TheVariants.{Number, Eight, Four, Bytes, Group}
+use Rattle.mvt_document.specs.declared.Varint.{Varint}
 use Rattle.mvt_view.specs.Views.{value_of}
-use Rattle.mvt_wire.specs.declared.Field.{Field}
-use Rattle.mvt_wire.specs.declared.TileItem.{TileItem}
-use Rattle.mvt_wire.specs.declared.TileItem.TheVariants as in_tile
+use Rattle.mvt_document.specs.declared.Field.{Field}
+use Rattle.mvt_document.specs.declared.TileItem.{TileItem}
+use Rattle.mvt_document.specs.declared.TileItem.TheVariants as in_tile
 use Rattle.mvt_meaning.specs.Meaning.{is_id}
 use Rattle.mvt_edit.specs.Cuts.{and_item, runs_from}
 use Rattle.mvt_edit.proofs.Kept.{goes}

@@ -6,7 +6,7 @@ use Rattle.std.proofs.lemmas.List.Elements.{filter-append}
 use Rattle.std.proofs.lemmas.Option.{slice_get_past}
 use Rattle.std.specs.List.{flat_map, last_or, list_any}
 use Rattle.std.specs.Option.{IfSome, option_map_or, unwrap_or}
-use Rattle.mvt_wire.specs.Splicing.{part, splice}
+use Rattle.mvt_document.specs.Splicing.{part, splice}
 use Rattle.mvt_meaning.specs.Ordinals.{change_last, put_last}
 use Rattle.mvt_meaning.specs.Weights.{weigh_last}
 use Rattle.mvt_meaning.proofs.Positions.{change_here, change_later, last_here, last_later, no_last, positions_from}

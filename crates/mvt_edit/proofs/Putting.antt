@@ -5,7 +5,7 @@ use Rattle.std.proofs.lemmas.List.{length-map}
 use Rattle.std.proofs.lemmas.Option.{slice_get-map, slice_get_past, slice_get_read}
 use Rattle.std.specs.Option.{IfSome, option_copied, option_map_or, unwrap_or}
 use Rattle.std.specs.Slice.{IsItemAt}
-use Rattle.mvt_wire.specs.Plain.{Number, Body, Spelled, Eight, Four, Delimited, Group, Field, LayerItem, OfFeature, PlainInLayer}
+use Rattle.mvt_document.specs.Plain.{Number, Body, Spelled, Eight, Four, Delimited, Group, Field, LayerItem, OfFeature, PlainInLayer}
 use Rattle.mvt_change.specs.Changes.{Step}
 use Rattle.mvt_meaning.specs.Meaning.{is_id, is_name, with_content, with_id, with_text, with_value}
 use Rattle.mvt_meaning.specs.Ordinals.{put_last}

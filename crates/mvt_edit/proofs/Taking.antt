@@ -4,10 +4,10 @@ use Rattle.std.specs.List.{flat_map}
 use Rattle.std.specs.Option.{IfSome, IsSomeAnd}
 use Rattle.std.proofs.lemmas.List.Concat.{flat_map-append}
 use Rattle.std.proofs.lemmas.List.Sums.{sum_by_push}
-use Rattle.mvt_wire.specs.Plain.{Document}
-use Rattle.mvt_wire.specs.Wire.{field_bytes, layer_item_bytes, tile_item_bytes}
-use Rattle.mvt_wire.specs.Opens.{IsField, IsLayerItem}
-use Rattle.mvt_wire.specs.Splicing.{part, splice}
+use Rattle.mvt_document.specs.Plain.{Document}
+use Rattle.mvt_document.specs.Wire.{field_bytes, layer_item_bytes, tile_item_bytes}
+use Rattle.mvt_document.specs.Opens.{IsField, IsLayerItem}
+use Rattle.mvt_document.specs.Splicing.{part, splice}
 use Rattle.mvt_change.specs.Lists.{CanSplice, HasPart}
 use Rattle.mvt_change.specs.Places.{items_at, fields_at, change_items, change_fields}
 use Rattle.mvt_change.specs.Changes.{Place, OfTheTile, OfTheLayer, OfTheFeature, Step, Change, go_step, go, FitsStep, Fits, turn_step, turn, taken_out, step_weight, weight}

@@ -8,37 +8,39 @@ use Rattle.mvt_edit.specs.declared.cut.Run.{Run}
 
 -- ---- runs
 
--- the runs with one item more that goes, before all of them; right before the first run it is part of that one
+-- the runs with one more item that goes, at this index before all of them; right before the first run it is part of
+-- that run
 abbrev pub and_item : ℕ → List Run → List Run
 and_item index [] = record { index = index; count = 1 } ∷ []
 and_item index (run ∷ runs) = if run.index == index + 1 then record { index = index; count = run.count + 1 } ∷ runs else record { index = index; count = 1 } ∷ run ∷ runs
 
--- the runs of the items that go, where the first item of the list stands at this index
+-- the runs of the items that go, in a list whose first item has this index
 abbrev pub runs_from : {A : Type 0} → (A → Bool) → ℕ → List A → List Run
 runs_from goes index [] = []
 runs_from goes index (x ∷ xs) = if goes x then and_item index (runs_from goes (index + 1) xs) else runs_from goes (index + 1) xs
 
+-- the runs of the items of a list that go
 abbrev pub runs_of : {A : Type 0} → (A → Bool) → List A → List Run
 runs_of goes items = runs_from goes 0 items
 
 -- ---- steps
 
--- the step that takes a run out of the list at a place
+-- the step that takes a run out of the list at this place
 abbrev pub step_out : Place → Run → Step
 step_out OfTheTile run = TileStep run.index run.count []
 step_out (OfTheLayer layer) run = LayerStep layer run.index run.count []
 step_out (OfTheFeature layer item) run = FeatureStep layer item run.index run.count []
 
--- a step for each run, the last one first
+-- the steps that take the runs out of the list at this place, the last run first
 abbrev pub steps_out : Place → List Run → plain.Change
 steps_out place [] = []
 steps_out place (run ∷ runs) = steps_out place runs ++ step_out place run ∷ []
 
--- the change takes the items out that go, and it is known how many they are
+-- the steps of the cut take out the items that go, and it counts them
 pub record IsCut {A : Type 0} (place : Place) (goes : A → Bool) (items : List A) (cut : Cut) : Type 0 where
   pub steps : change_of cut.change ≡ steps_out place (runs_of goes items)
   pub counted : cut.gone ≡ length (filter goes items)
 
--- what the code answers is what the test is
+-- the answer of the code is that of the test, for each item
 abbrev pub Tells : {A : Type 0} → (A → Bool → Type 0) → (A → Bool) → Type 0
 Tells {A} answers test = (item : A) (answer : Bool) → answers item answer → answer ≡ test item

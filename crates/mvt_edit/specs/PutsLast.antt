@@ -1,12 +1,13 @@
 -- Steps that put one item in place of the last that passes, or at the end of a list.
 use Rattle.std.specs.Prelude.{◌≡◌, ℕ, Bool, List, length}
 use Rattle.std.specs.List.{flat_map}
-use Rattle.mvt_wire.specs.Splicing.{part, splice}
+use Rattle.mvt_document.specs.Splicing.{part, splice}
 use Rattle.mvt_change.specs.Lists.{CanSplice}
 use Rattle.mvt_change.specs.Changes.{Step}
 use Rattle.mvt_meaning.specs.Weights.{weigh_last}
 
--- the step makes the list `after` of the items; what it puts there, and what it takes out, is the last item that passes
+-- the step can be carried out on `items` and makes `after` of them; the bytes that it puts are those of the last item
+-- that passes in `after`, and those that it takes out are those of the last that passes in `items`
 pub record PutsLast {A : Type 0} (valid : A → Type 0) (bytes : A → List ℕ) (passes : A → Bool) (step_with : ℕ → ℕ → List A → Step) (items after : List A) (step : Step) : Type 0 where
   pub index : ℕ
   pub taken : ℕ

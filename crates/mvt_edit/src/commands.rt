@@ -1,6 +1,6 @@
-//! The change of a command.
+//! `prepare`: the change of a command.
 
-ghost use Rattle.mvt_wire.specs.Stands.{document_of};
+ghost use Rattle.mvt_document.specs.Stands.{document_of};
 ghost use Rattle.mvt_command.specs.CommandStands.{command_of};
 ghost use Rattle.mvt_edit.specs.Prepared.{Prepares};
 
@@ -10,8 +10,8 @@ use crate::keep::{clear_id, keep_layers};
 use crate::moves::{move_feature, move_layer};
 use crate::put_last::{rename_layer, set_id};
 use mvt_change::Change;
+use mvt_document::Document;
 use mvt_meaning::{Command, Refusal};
-use mvt_wire::Document;
 use std::alloc::Global;
 
 /// The change that carries the command out on this document.

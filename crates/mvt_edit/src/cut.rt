@@ -1,4 +1,5 @@
-//! Items of a list that go.
+//! The steps that take items out of a list, neighbours in one step, and the step that takes one
+//! item out.
 
 ghost use Rattle.std.specs.Prelude.{◌≡◌, ℕ, ◌+◌, ◌^◌, ◌<◌, ◌≤◌, Bool, List, [], ◌∷◌, ◌++◌, Some, None, IfOk, IfSome, is_ok, map, slice_get, drop, if◌then◌else◌};
 ghost use Rattle.std.specs.Fn.{FnReturnsAt};
@@ -9,7 +10,7 @@ ghost use Rattle.mvt_edit.specs.declared.cut.Run.{Run};
 
 use crate::steps::one_step;
 use mvt_change::{Change, Place, Step};
-use mvt_wire::Items;
+use mvt_document::Items;
 use std::alloc::{AllocError, AllocFailed, Global};
 
 /// So many items of a list from an index on.

@@ -1,14 +1,14 @@
-//! One item goes.
+//! A layer goes, and a feature goes.
 
-ghost use Rattle.mvt_wire.specs.Stands.{document_of};
+ghost use Rattle.mvt_document.specs.Stands.{document_of};
 ghost use Rattle.mvt_command.specs.Command.{DropLayer, DropFeature};
 ghost use Rattle.mvt_command.specs.CommandStands.{feature_choice_of, layer_choice_of};
 ghost use Rattle.mvt_edit.specs.Prepared.{Prepares};
 
 use crate::cut::item_out;
 use mvt_change::{Change, Place};
+use mvt_document::Document;
 use mvt_meaning::{FeatureChoice, LayerChoice, Refusal, find_feature, find_layer};
-use mvt_wire::Document;
 use std::alloc::Global;
 
 /// The layer goes.

@@ -1,7 +1,7 @@
 //! A new item comes to stand at an ordinal.
 
 ghost use Rattle.std.specs.Prelude.{◌≡◌, ◌<◌, [], ◌∷◌, map, IfNone, IfOk, IfSome, IsErrOf, OnOk, length};
-ghost use Rattle.mvt_wire.specs.Stands.{document_of, field_of, layer_item_of};
+ghost use Rattle.mvt_document.specs.Stands.{document_of, field_of, layer_item_of};
 ghost use Rattle.mvt_geometry.specs.Shapes.{number_of};
 ghost use Rattle.mvt_geometry.specs.Integers.{IsInRange};
 ghost use Rattle.mvt_view.specs.Views.{features_in};
@@ -14,10 +14,10 @@ ghost use Rattle.mvt_edit.specs.Prepared.{Prepares};
 
 use crate::steps::{one_item, one_step_within_limit};
 use mvt_change::{Change, Step};
+use mvt_document::tags::{FEATURE_TAG, GEOMETRY_TAG, KIND_TAG};
+use mvt_document::{Body, Document, Feature, Field, Items, LayerItem, Varint};
 use mvt_geometry::{EncodeError, Geometry, Kind, encode_geometry};
 use mvt_meaning::{LayerChoice, Refusal, find_layer};
-use mvt_wire::tags::{FEATURE_TAG, GEOMETRY_TAG, KIND_TAG};
-use mvt_wire::{Body, Document, Feature, Field, Items, LayerItem, Varint};
 use std::alloc::{AllocError, Global};
 
 /// A feature with this geometry comes into the layer.

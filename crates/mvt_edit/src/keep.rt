@@ -1,10 +1,10 @@
-//! Items that do not pass go.
+//! Layers of other names go; a feature loses its id.
 
 ghost use Rattle.std.specs.Prelude.{◌≡◌, map, false};
 ghost use Rattle.std.specs.List.{list_any};
 ghost use Rattle.std.specs.Option.{option_copied, option_map_or};
 ghost use Rattle.std.specs.Str.{bytes_eq};
-ghost use Rattle.mvt_wire.specs.Stands.{document_of, field_of, tile_item_of};
+ghost use Rattle.mvt_document.specs.Stands.{document_of, field_of, tile_item_of};
 ghost use Rattle.mvt_command.specs.Command.{KeepLayers, ClearId};
 ghost use Rattle.mvt_command.specs.CommandStands.{feature_choice_of, layer_choice_of};
 ghost use Rattle.mvt_meaning.specs.Meaning.{is_id, is_kept};
@@ -12,10 +12,10 @@ ghost use Rattle.mvt_edit.specs.Prepared.{Prepares};
 
 use crate::cut::cut_out;
 use mvt_change::{Change, Place};
+use mvt_document::tags::ID;
+use mvt_document::{Body, Document, Field, Items, TileItem};
 use mvt_meaning::{FeatureChoice, LayerChoice, Refusal, find_feature, find_layer};
 use mvt_view::{LayerView, layer_count};
-use mvt_wire::tags::ID;
-use mvt_wire::{Body, Document, Field, Items, TileItem};
 use std::alloc::Global;
 
 /// The layers stay that have one of the names. Each layer's name is looked for once.

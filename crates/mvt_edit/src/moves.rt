@@ -1,16 +1,16 @@
-//! One item comes to stand elsewhere among those of its kind.
+//! An item moves to another ordinal.
 
-ghost use Rattle.mvt_wire.specs.Stands.{document_of};
+ghost use Rattle.mvt_document.specs.Stands.{document_of};
 ghost use Rattle.mvt_command.specs.Command.{MoveLayer, MoveFeature};
 ghost use Rattle.mvt_command.specs.CommandStands.{feature_choice_of, layer_choice_of};
 ghost use Rattle.mvt_edit.specs.Prepared.{Prepares};
 
 use crate::steps::one_step;
 use mvt_change::{Change, Place, Step};
+use mvt_document::Document;
 use mvt_meaning::{
     FeatureChoice, LayerChoice, Refusal, feature_at, find_feature, find_layer, layer_at,
 };
-use mvt_wire::Document;
 use std::alloc::Global;
 
 /// The layer comes to stand at this ordinal.

@@ -1,11 +1,12 @@
-//! The last item that passes is replaced, or a new one comes at the end.
+//! The last item that passes is replaced, or one comes at the end: the name of a layer, the id of a
+//! feature.
 
 ghost use Rattle.std.specs.Prelude.{◌≡◌, Err, false, true, IfErr, IfOk, IfSome};
 ghost use Rattle.std.specs.Option.{option_map_or, unwrap_or};
-ghost use Rattle.mvt_wire.specs.Opens.{IsField, IsLayerItem};
-ghost use Rattle.mvt_wire.specs.Plain as plain;
-ghost use Rattle.mvt_wire.specs.Stands.{document_of, feature_of, field_of, layer_item_of, layer_of, number_of};
-ghost use Rattle.mvt_wire.specs.Wire.{field_bytes, layer_item_bytes};
+ghost use Rattle.mvt_document.specs.Opens.{IsField, IsLayerItem};
+ghost use Rattle.mvt_document.specs.Plain as plain;
+ghost use Rattle.mvt_document.specs.Stands.{document_of, feature_of, field_of, layer_item_of, layer_of, number_of};
+ghost use Rattle.mvt_document.specs.Wire.{field_bytes, layer_item_bytes};
 ghost use Rattle.mvt_change.specs.Changes.{FeatureStep, LayerStep};
 ghost use Rattle.mvt_change.specs.ChangeStands.{step_of};
 ghost use Rattle.mvt_command.specs.Command.{RenameLayer, SetId};
@@ -17,12 +18,12 @@ ghost use Rattle.mvt_edit.specs.PutsLast.{PutsLast};
 
 use crate::steps::{one_item, one_step_within_limit};
 use mvt_change::{Change, Step};
+use mvt_document::tags::{ID_TAG, NAME_TAG};
+use mvt_document::{Body, Document, Feature, Field, Items, Layer, LayerItem, Varint};
 use mvt_meaning::{
     FeatureChoice, FoundLayer, LayerChoice, Refusal, find_feature, find_layer, is_other, last_id,
     last_name, layer_at, selected_and_named,
 };
-use mvt_wire::tags::{ID_TAG, NAME_TAG};
-use mvt_wire::{Body, Document, Feature, Field, Items, Layer, LayerItem, Varint};
 use std::alloc::{AllocError, Global};
 
 /// Where an item is put, and how many it takes the place of.

@@ -1,17 +1,17 @@
-//! Changes of one step, and lists of one item.
+//! The change of one step, and the same where a file can hold what it makes; a list of one item.
 
 ghost use Rattle.std.specs.Prelude.{◌≡◌, ◌⊎◌, ◌<◌, ◌≤◌, [], ◌∷◌, IfErr, IfOk, length};
-ghost use Rattle.mvt_wire.specs.TheConstants.{MAX_FILE};
-ghost use Rattle.mvt_wire.specs.Stands.{document_of};
-ghost use Rattle.mvt_wire.specs.Wire.{bytes_of};
+ghost use Rattle.mvt_document.specs.declared.TheConstants.{MAX_FILE};
+ghost use Rattle.mvt_document.specs.Stands.{document_of};
+ghost use Rattle.mvt_document.specs.Wire.{bytes_of};
 ghost use Rattle.mvt_change.specs.Changes.{FitsStep, go_step};
 ghost use Rattle.mvt_change.specs.ChangeStands.{change_of, step_of};
 ghost use Rattle.mvt_meaning.specs.declared.refusal.Refusal.TheVariants.{NoMemory, TooLarge};
 
 use mvt_change::{Change, Step};
+use mvt_document::{Document, Items};
 use mvt_meaning::Refusal;
 use mvt_resize::fits_after;
-use mvt_wire::{Document, Items};
 use std::alloc::{AllocError, Global};
 
 /// The change of this step alone.

@@ -1,33 +1,36 @@
 -- Laws of geometries and their integers.
 use Rattle.std.specs.Prelude.{◌≡◌, ℕ, ◌^◌, ◌<◌, List, map}
 use Rattle.std.specs.List.{flat_map, AllByRecursion}
-use Rattle.mvt_wire.specs.Plain.{Number}
-use Rattle.mvt_wire.specs.Wire.{minimal_width, spelling}
-use Rattle.mvt_wire.specs.Groups.{IsNumber}
+use Rattle.mvt_document.specs.Plain.{Number}
+use Rattle.mvt_document.specs.Wire.{minimal_width, spelling}
+use Rattle.mvt_document.specs.Groups.{IsNumber}
 use Rattle.mvt_geometry.specs.Shapes.{Geometry, number_of, IsGeometry}
 use Rattle.mvt_geometry.specs.Integers.{integers, IsInRange, HasGeometry, encoded}
 
--- numbers have one geometry of a kind at most
+-- numbers have at most one geometry of a kind
 abbrev pub OneGeometry : Type 0
 OneGeometry = (kind : ℕ) (numbers : List ℕ) (g h : Geometry) → HasGeometry kind numbers g → HasGeometry kind numbers h → g ≡ h
 
--- the integers of a geometry in range have it, and no other of its kind
+-- the integers of a geometry have it, and no other of its kind
 pub record HasItself (g : Geometry) : Type 0 where
   pub has : HasGeometry (number_of g.kind) (integers g) g
   pub only : (h : Geometry) → HasGeometry (number_of g.kind) (integers g) h → h ≡ g
 
+-- the integers of a valid geometry in range have it, and no other of its kind
 abbrev pub IntegersHaveTheirs : Type 0
 IntegersHaveTheirs = (g : Geometry) → IsGeometry g → IsInRange g → HasItself g
 
--- a number with the width of its shortest spelling
+-- a number in its shortest spelling (guide, Base 128 Varints)
 abbrev pub minimal : ℕ → Number
 minimal value = record { value = value; width = minimal_width value }
 
--- the bytes of a geometry are the spellings of its integers, each of which is a number of 32 bits
+-- the bytes of a geometry are the shortest spellings of its integers, each of which is a number of 32 bits
 pub record PacksIntegers (g : Geometry) : Type 0 where
   pub spelled : encoded g ≡ flat_map spelling (map minimal (integers g))
   pub valid : AllByRecursion IsNumber (map minimal (integers g))
   pub short : AllByRecursion (λ integer. integer < 2 ^ 32) (integers g)
 
+-- the bytes of a valid geometry in range are the shortest spellings of its integers, each of which is a number of 32
+-- bits (guide, Packed Repeated Fields)
 abbrev pub EncodedArePacked : Type 0
 EncodedArePacked = (g : Geometry) → IsGeometry g → IsInRange g → PacksIntegers g

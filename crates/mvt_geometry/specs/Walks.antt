@@ -5,7 +5,7 @@ use Rattle.mvt_zigzag.specs.Signed.{zigzag}
 use Rattle.mvt_geometry.specs.Shapes.{Point, Kind, Dots, Lines, Areas, IsPlaced}
 use Rattle.mvt_geometry.specs.Integers.{command, ways, parameters, last_from, closing_of, path, paths, IsWay, IsRepeated}
 
--- a parameter leads from one coordinate to another
+-- the parameter leads from one coordinate to another, which is placed, by a way in range
 pub record IsStep (from : ℤ) (number : ℕ) (to : ℤ) : Type 0 where
   pub spelled : number ≡ zigzag (to -ℤ from)
   pub short : IsWay (to -ℤ from)
@@ -16,40 +16,40 @@ pub record IsMove (from : Point) (x y : ℕ) (to : Point) : Type 0 where
   pub along : IsStep from.x x to.x
   pub down : IsStep from.y y to.y
 
--- parameters lead from a point through others
+-- the parameters lead from `from` through these points, which are placed, by ways in range
 pub record Leads (from : Point) (numbers : List ℕ) (points : List Point) : Type 0 where
   pub spelled : numbers ≡ parameters from points
   pub short : AllByRecursion IsWay (ways from points)
   pub placed : AllByRecursion IsPlaced points
 
--- points that begin with the first, and go on as the parameters lead
+-- points that begin with `first` and go on as the parameters lead
 abbrev pub GoesOn : Point → List ℕ → List Point → Type 0
 GoesOn first numbers [] = ⊥
 GoesOn first numbers (point ∷ points) = (point ≡ first) × Leads first numbers points
 
--- a part that has a path from this point on
+-- the points are a part with a path from `from`: enough of them, all placed, ways and count in range
 pub record IsPath (least : ℕ) (from : Point) (points : List Point) : Type 0 where
   pub enough : least ≤ length points
   pub placed : AllByRecursion IsPlaced points
   pub short : AllByRecursion IsWay (ways from points)
   pub repeated : length points - 1 < 2 ^ 29
 
--- numbers begin with the path of a part, and so many are behind it
+-- the numbers begin with the path of a part, and `rest` is behind it
 pub record Begins (least : ℕ) (closing : List ℕ) (from : Point) (numbers : List ℕ) (points : List Point) (rest : List ℕ) : Type 0 where
   pub valid : IsPath least from points
   pub spelled : numbers ≡ path closing from points ++ rest
 
--- parts that have paths one after the other
+-- the parts have paths, each from where the one before it ended
 abbrev pub ArePaths : ℕ → Point → List (List Point) → Type 0
 ArePaths least from [] = Unit {0}
 ArePaths least from (part ∷ parts) = IsPath least from part × ArePaths least (last_from from part) parts
 
--- numbers are the paths of parts
+-- the numbers are the paths of the parts, one after the other
 pub record Goes (least : ℕ) (closing : List ℕ) (from : Point) (numbers : List ℕ) (parts : List (List Point)) : Type 0 where
   pub valid : ArePaths least from parts
   pub spelled : numbers ≡ paths closing from parts
 
--- lines and areas are drawn by paths
+-- the kind is drawn by paths: lines and areas
 abbrev pub IsDrawn : Kind → Type 0
 IsDrawn Dots = ⊥
 IsDrawn Lines = Unit {0}
@@ -57,20 +57,23 @@ IsDrawn Areas = Unit {0}
 
 -- ---- part after part, of any kind
 
--- the integers of a part
+-- the integers of one part, from this point
 abbrev pub integers_of_part : Kind → Point → List Point → List ℕ
 integers_of_part Dots from points = command 1 (length points) ∷ parameters from points
 integers_of_part Lines from points = path (closing_of Lines) from points
 integers_of_part Areas from points = path (closing_of Areas) from points
 
+-- the integers of parts, each from where the one before it ended
 abbrev pub integers_from : Kind → Point → List (List Point) → List ℕ
 integers_from kind from [] = []
 integers_from kind from (part ∷ parts) = integers_of_part kind from part ++ integers_from kind (last_from from part) parts
 
+-- the ways of a part from `from`, and the count of its longest command, are in range
 pub record IsPartInRange (kind : Kind) (from : Point) (points : List Point) : Type 0 where
   pub short : AllByRecursion IsWay (ways from points)
   pub repeated : IsRepeated kind points
 
+-- each part is in range from where the one before it ended
 abbrev pub AreInRange : Kind → Point → List (List Point) → Type 0
 AreInRange kind from [] = Unit {0}
 AreInRange kind from (part ∷ parts) = IsPartInRange kind from part × AreInRange kind (last_from from part) parts

@@ -1,4 +1,4 @@
-//! The bytes of a geometry.
+//! `encode_geometry`: the bytes of a geometry, in one pass over its points.
 
 ghost use Rattle.std.specs.Prelude.{◌≡◌, ◌+◌, ◌*◌, ◌^◌, ◌<◌, ◌≤◌, ◌-ℤ◌, [], ◌∷◌, ◌++◌, length, IfOk, OnOk, IsErrOf};
 ghost use Rattle.std.specs.List.{AllByRecursion};
@@ -11,7 +11,7 @@ use crate::geometry::Geometry;
 use crate::path::{LINE_TO, MOVE_TO_ONE};
 use crate::read::{CLOSE_PATH, MOVE_TO};
 use crate::shapes::{Kind, ORIGIN, Point};
-use mvt_wire::{Items, least_width, put_number};
+use mvt_document::{Items, least_width, put_number};
 use mvt_zigzag::to_zigzag;
 use std::alloc::{AllocError, Global};
 

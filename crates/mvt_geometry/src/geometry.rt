@@ -1,8 +1,8 @@
-//! Geometries.
+//! A geometry, whose type keeps that it is one.
 
 use crate::shapes::{Kind, Part};
 use crate::valid::is_geometry;
-use mvt_wire::Items;
+use mvt_document::Items;
 use std::marker::Model;
 
 /// A geometry whose parts have as many points as their kind asks for. Contracts see its points.

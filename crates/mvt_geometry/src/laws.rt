@@ -7,12 +7,13 @@ pub fn one_geometry()
     ensures { OneGeometry }
 {}
 
-/// The integers of a geometry in range have that geometry, and no other of its kind.
+/// The integers of a valid geometry in range have it, and no other of its kind.
 pub fn integers_have_theirs()
     ensures { IntegersHaveTheirs }
 {}
 
-/// The bytes of a geometry are the spellings of its integers, so a reader of packed numbers finds just these.
+/// The bytes of a valid geometry in range are the shortest spellings of its integers, each a number
+/// of 32 bits, so a reader of packed numbers finds just these.
 pub fn encoded_are_packed()
     ensures { EncodedArePacked }
 {}

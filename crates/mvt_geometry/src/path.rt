@@ -1,4 +1,4 @@
-//! The path of a part, at the front of numbers.
+//! The path of one part, at the beginning of numbers.
 
 ghost use Rattle.std.specs.Prelude.{◌≡◌, ℕ, ◌≤◌, List, [], IfOk, IsErrOf};
 ghost use Rattle.mvt_geometry.specs.Shapes.{Point as PlainPoint, IsPlaced};

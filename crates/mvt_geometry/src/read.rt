@@ -1,4 +1,4 @@
-//! The geometry whose numbers these are.
+//! `geometry_of`: the geometry that numbers have.
 
 ghost use Rattle.std.specs.Prelude.{◌≡◌, ℕ, List, [], ◌∷◌, IfOk, IsErrOf};
 ghost use Rattle.mvt_geometry.specs.Shapes.{Point as PlainPoint, Geometry as PlainGeometry, number_of, least_points, IsPlaced};
@@ -11,7 +11,7 @@ use crate::geometry::Geometry;
 use crate::path::{Front, path_at_front};
 use crate::shapes::{Kind, ORIGIN, Part, Point};
 use crate::steps::{moved, points_from};
-use mvt_wire::Items;
+use mvt_document::Items;
 use std::alloc::Global;
 
 pub(crate) const MOVE_TO: u32 = 1;

@@ -3,7 +3,7 @@
 ghost use Rattle.std.specs.Prelude.{◌≡◌, IfSome, IfNone};
 ghost use Rattle.mvt_geometry.specs.Shapes.{number_of, least_points};
 
-use mvt_wire::Items;
+use mvt_document::Items;
 
 /// A place in a tile. The y axis goes down.
 #[derive(Clone, Copy, Debug, PartialEq, Eq)]

@@ -3,8 +3,8 @@ use Rattle.std.proofs.Common.{◌≡◌, ℕ, ◌+◌, ◌-◌, ◌<◌, ◌≤�
 use Rattle.std.proofs.lemmas.List.{take_all}
 use Rattle.std.proofs.lemmas.Bool.Decides.{nat_tests}
 use Rattle.std.specs.Result.{IsErrAnd, IsOk, is_ok}
-use Rattle.mvt_wire.specs.Plain.{Document}
-use Rattle.mvt_wire.specs.Opens.{IsDocument}
+use Rattle.mvt_document.specs.Plain.{Document}
+use Rattle.mvt_document.specs.Opens.{IsDocument}
 use Rattle.mvt_document.specs.declared.document.Document.{Document as HeldDocument}
 use Rattle.mvt_command.specs.Command.{Command}
 use Rattle.mvt_meaning.specs.Meaning.{after, applied}
@@ -19,8 +19,8 @@ use Rattle.mvt_edit.specs.Prepared.{IsPrepared}
 use Rattle.mvt_history.specs.Marks.{between, counted_from}
 use Rattle.mvt_history.specs.declared.marks.Mark.{Mark as HeldMark}
 use Rattle.mvt_history.specs.History.{History, after_all, present_document, commands_in, with_group, with_step, with_command, edited_to, edited, ended, closed, cancelled}
-use Rattle.mvt_history.specs.declared.error.HistoryError.{HistoryError}
-use Rattle.mvt_history.specs.declared.error.HistoryError.TheVariants.{NoMemory}
+use Rattle.mvt_history_error.specs.declared.HistoryError.{HistoryError}
+use Rattle.mvt_history_error.specs.declared.HistoryError.TheVariants.{NoMemory}
 use Rattle.mvt_history.specs.Reached.{LeadsBack, LeadOut}
 use Rattle.mvt_history.specs.Standing.{Standing, changes_in, closed_document}
 use Rattle.mvt_history.specs.Held.{mark_of, from_last, standing_of, IsHeld}

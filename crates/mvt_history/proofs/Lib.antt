@@ -4,13 +4,6 @@ pub mod Lowered
 pub mod Stepping
 pub mod MarkOrder
 pub mod Sound
-pub mod HistoryLaws
-pub mod Reaching
-pub mod UndosRedos
-pub mod OpenStep
-pub mod NoTrace
-pub mod GoingOn
-pub mod BackToMark
 pub mod Turned
 pub mod Closed
 pub mod Moving

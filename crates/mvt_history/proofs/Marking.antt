@@ -11,8 +11,8 @@ use Rattle.mvt_history.specs.Standing.{Standing, IsReady}
 use Rattle.mvt_history.specs.Held.{IsReached, IsHeld}
 use Rattle.mvt_history.specs.Session.{StandsFor, Answers, StopsAt, AnswersBack}
 use Rattle.mvt_history.specs.declared.TheConstants.{MAX_MARKS}
-use Rattle.mvt_history.specs.declared.error.HistoryError.{HistoryError}
-use Rattle.mvt_history.specs.declared.error.HistoryError.TheVariants.{NoMark, TooManyMarks, Stopped}
+use Rattle.mvt_history_error.specs.declared.HistoryError.{HistoryError}
+use Rattle.mvt_history_error.specs.declared.HistoryError.TheVariants.{NoMark, TooManyMarks, Stopped}
 use Rattle.mvt_history.proofs.Counting.{counted_length, counted_point_of, counted_bound, counted_unbound}
 use Rattle.mvt_history.proofs.MarkOrder.{all_bound, all_filtered, order_bound, order_unbound, few_bound, length_filtered, point_holds}
 use Rattle.mvt_history.proofs.Sound.{sound_bound, sound_unbound}

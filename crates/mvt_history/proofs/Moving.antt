@@ -3,10 +3,10 @@ use Rattle.std.proofs.Common.{◌≡◌, ℕ, zero, suc, ◌+◌, ◌-◌, ◌�
 use Rattle.std.specs.List.{AllByRecursion}
 use Rattle.std.specs.List.Sorted.{IsStrictlySortedBy}
 use Rattle.std.proofs.lemmas.Bool.Decides.{nat_tests}
-use Rattle.mvt_wire.specs.TheConstants.{MAX_FILE}
-use Rattle.mvt_wire.specs.Plain.{Document}
-use Rattle.mvt_wire.specs.Wire.{bytes_of}
-use Rattle.mvt_wire.specs.Opens.{IsDocument}
+use Rattle.mvt_document.specs.declared.TheConstants.{MAX_FILE}
+use Rattle.mvt_document.specs.Plain.{Document}
+use Rattle.mvt_document.specs.Wire.{bytes_of}
+use Rattle.mvt_document.specs.Opens.{IsDocument}
 use Rattle.mvt_command.specs.Command.{Command}
 use Rattle.mvt_change.specs.Changes.{Change, go, turn}
 use Rattle.mvt_change.specs.declared.change.Change.{Change as HeldChange}
@@ -18,8 +18,8 @@ use Rattle.mvt_history.specs.Reached.{LeadsBack, LeadsOn, LeadBack, LeadOn, Lead
 use Rattle.mvt_history.specs.Standing.{Standing, IsReady}
 use Rattle.mvt_history.specs.Held.{from_last, IsReached, IsHeld}
 use Rattle.mvt_history.specs.declared.TheConstants.{MAX_DEPTH}
-use Rattle.mvt_history.specs.declared.error.HistoryError.{HistoryError}
-use Rattle.mvt_history.specs.declared.error.HistoryError.TheVariants.{GroupOpen}
+use Rattle.mvt_history_error.specs.declared.HistoryError.{HistoryError}
+use Rattle.mvt_history_error.specs.declared.HistoryError.TheVariants.{GroupOpen}
 use Rattle.mvt_history.specs.Session.{StandsFor}
 use Rattle.mvt_history.proofs.Sound.{begins_sound, sound_at_point, sound_with_group}
 use Rattle.mvt_history.proofs.Following.{next_document}

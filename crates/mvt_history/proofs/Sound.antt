@@ -3,17 +3,16 @@ use Rattle.std.proofs.Common.{◌≡◌, ℕ, ◌+◌, ◌-◌, ◌<◌, ◌≤�
 use Rattle.std.specs.List.{AllByRecursion}
 use Rattle.std.proofs.lemmas.Bool.{cases_Bool}
 use Rattle.std.proofs.lemmas.Bool.Decides.{nat_tests}
-use Rattle.mvt_wire.specs.Plain.{Document}
+use Rattle.mvt_document.specs.Plain.{Document}
 use Rattle.mvt_command.specs.Command.{Command}
 use Rattle.mvt_meaning.specs.Meaning.{applied}
 use Rattle.mvt_meaning.specs.declared.refusal.Refusal.{Refusal}
 use Rattle.mvt_history.specs.Marks.{Mark, InOrder, bound, unbound, has_name, point_of}
 use Rattle.mvt_history.specs.History.{History, IsSound, IsWithin, begun, standing_document, at_point, with_marks, with_group, with_step, with_command, edited_to, edited, unless_open, undone, redone, marked, unmarked, gone_to, gone_back, opened, ended, closed, cancelled}
 use Rattle.mvt_history.specs.Requests.{Request, Edit, Undo, Redo, SetMark, TakeMark, GoBack, Begin, End, Cancel, or_before, asked}
-use Rattle.mvt_history.specs.Laws.{StaysSound}
 use Rattle.mvt_history.specs.declared.TheConstants.{MAX_MARKS}
-use Rattle.mvt_history.specs.declared.error.HistoryError.{HistoryError}
-use Rattle.mvt_history.specs.declared.error.HistoryError.TheVariants.{NothingToUndo, NothingToRedo, NoMark, TooManyMarks}
+use Rattle.mvt_history_error.specs.declared.HistoryError.{HistoryError}
+use Rattle.mvt_history_error.specs.declared.HistoryError.TheVariants.{NothingToUndo, NothingToRedo, NoMark, TooManyMarks}
 use Rattle.mvt_history.proofs.MarkOrder.{all_filtered, all_passed, all_bound, order_filtered, order_bound, order_unbound, length_filtered, few_bound, point_holds}
 
 pub begins_sound : (start : Document) (depth : ℕ) → 1 ≤ depth → IsSound (begun start depth)
@@ -172,6 +171,3 @@ sound_asked (GoBack name) history sound = sound_or_before history (gone_back nam
 sound_asked Begin history sound = sound_or_before history (opened history) sound (sound_opened history sound)
 sound_asked End history sound = sound_or_before history (closed history) sound (sound_ended history.group history sound)
 sound_asked Cancel history sound = sound_or_before history (cancelled history) sound (sound_cancelled history sound)
-
-pub stays_sound : StaysSound
-stays_sound = (begins_sound, sound_asked)

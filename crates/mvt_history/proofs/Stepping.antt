@@ -4,7 +4,7 @@ use Rattle.std.proofs.lemmas.List.{length-drop, length-map, length-reverse, leng
 use Rattle.std.proofs.lemmas.Bool.{false≢true}
 use Rattle.std.proofs.lemmas.Option.{slice_get_within, slice_get-get_or, slice_get_read, get_or_from_slice_get, same_Some, none-some}
 use Rattle.circular_buffer.specs.Buffer.{keep_last, last_item}
-use Rattle.mvt_wire.specs.Plain.{Document}
+use Rattle.mvt_document.specs.Plain.{Document}
 use Rattle.mvt_change.specs.Changes as plain
 use Rattle.mvt_change.specs.Changes.{Fits, go, turn}
 use Rattle.mvt_change.specs.ChangeStands.{change_of}

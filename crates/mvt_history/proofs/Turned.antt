@@ -1,7 +1,7 @@
 -- A change that leads back over a step leads on over it once it is turned, and the other way round.
 use Rattle.std.proofs.Common.{◌≡◌, ◌≤◌, List, [], ◌∷◌, length, length-append, refl, sym, ap, subst, ◌∙◌, arith}
-use Rattle.mvt_wire.specs.Plain.{Document}
-use Rattle.mvt_wire.specs.Opens.{IsDocument}
+use Rattle.mvt_document.specs.Plain.{Document}
+use Rattle.mvt_document.specs.Opens.{IsDocument}
 use Rattle.mvt_command.specs.Command.{Command}
 use Rattle.mvt_change.specs.Changes.{Change, Fits, go, go_step, turn, turn_step, weight}
 use Rattle.mvt_change.proofs.Turning.{turned_back, turned_fits, turned_twice}

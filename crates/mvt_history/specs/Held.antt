@@ -1,7 +1,7 @@
 -- How a session keeps what contracts see of it.
 use Rattle.std.specs.Prelude.{◌≡◌, ℕ, ◌+◌, ◌≤◌, List, map, reverse, length, Option, option_map}
 use Rattle.std.specs.List.{AllByRecursion}
-use Rattle.mvt_wire.specs.Stands.{document_of}
+use Rattle.mvt_document.specs.Stands.{document_of}
 use Rattle.mvt_document.specs.declared.document.Document.{Document}
 use Rattle.mvt_change.specs.Changes as plain
 use Rattle.mvt_change.specs.ChangeStands.{change_of}
@@ -12,6 +12,7 @@ use Rattle.mvt_history.specs.Standing.{Standing, IsReady}
 use Rattle.mvt_history.specs.declared.TheConstants.{MAX_DEPTH, MAX_MARKS}
 use Rattle.mvt_history.specs.declared.marks.Mark.{Mark}
 
+-- the plain mark that a mark of the program stands for
 abbrev pub mark_of : Mark → marks.Mark
 mark_of mark = record { name = mark.name.items; point = mark.point }
 
@@ -19,7 +20,7 @@ mark_of mark = record { name = mark.name.items; point = mark.point }
 abbrev pub from_last : List Change → List plain.Change
 from_last changes = map change_of (reverse changes)
 
--- what is seen of these fields
+-- what contracts see of the fields of a session
 abbrev pub standing_of : Document → List Change → List Change → ℕ → List Mark → Option (List Change) → Standing
 standing_of document undo redo depth marks pending = record {
   document = document_of document;
@@ -30,12 +31,13 @@ standing_of document undo redo depth marks pending = record {
   pending = option_map from_last pending;
 }
 
--- the point is one that undo or redo reaches
+-- the point of the mark is at most `reach`
 abbrev pub IsReached : ℕ → marks.Mark → Type 0
 IsReached reach mark = mark.point ≤ reach
 
--- both buffers, which have so much room, have it for all steps that are kept; the marks are few, in order, and of points
--- that are reached
+-- what the fields of a session keep: its changes fit (`IsReady`), the depth is 1 to 10,000, both lists of changes have
+-- room for that many and together hold no more, and the marks are in order, at most 256, and of points that undo or
+-- redo reaches
 pub record IsHeld (undo_room redo_room : ℕ) (session : Standing) : Type 0 where
   pub ready : IsReady session
   pub some_depth : 1 ≤ session.depth

@@ -1,18 +1,19 @@
--- Which steps of commands stand, and the document that they make of the tile at the start.
+-- Which steps of commands stand, and the document that they make of the tile at the start. No change and no inverse is
+-- in it. The point is how many steps stand; the floor is the least point to which undo goes back.
 use Rattle.std.specs.Prelude.{ℕ, ◌+◌, ◌-◌, ◌≤◌, max, List, [], ◌∷◌, ◌++◌, length, take, Option, Some, None, Result, Ok, Err, ◌==◌, ◌||◌, nat_lt, is_some, if◌then◌else◌}
 use Rattle.std.specs.List.{AllByRecursion}
-use Rattle.mvt_wire.specs.Plain.{Document}
+use Rattle.mvt_document.specs.Plain.{Document}
 use Rattle.mvt_command.specs.Command.{Command}
 use Rattle.mvt_meaning.specs.Meaning.{after, applied}
 use Rattle.mvt_meaning.specs.declared.refusal.Refusal.{Refusal}
 use Rattle.mvt_history.specs.Marks.{Mark, InOrder, point_of, bound, unbound, between}
 use Rattle.mvt_history.specs.declared.TheConstants.{MAX_MARKS}
-use Rattle.mvt_history.specs.declared.error.HistoryError.{HistoryError}
-use Rattle.mvt_history.specs.declared.error.HistoryError.TheVariants.{NothingToUndo, NothingToRedo, NoMark, TooManyMarks, GroupOpen, NoGroup}
+use Rattle.mvt_history_error.specs.declared.HistoryError.{HistoryError}
+use Rattle.mvt_history_error.specs.declared.HistoryError.TheVariants.{NothingToUndo, NothingToRedo, NoMark, TooManyMarks, GroupOpen, NoGroup}
 
--- The tile at the start; the steps, each of one or more commands, with those that were undone;
--- how many of them stand, which is the present point; the least point to which undo goes back;
--- how many steps it goes back at most; the marks; and the commands of the open step.
+-- the tile at the start; the steps, each of one or more commands, those that were undone included; how many of them
+-- stand; the floor; how many steps undo goes back at most; the marks; and the commands of the open step, where one is
+-- open
 pub record History : Type 0 where
   pub start : Document
   pub steps : List (List Command)
@@ -22,43 +23,47 @@ pub record History : Type 0 where
   pub marks : List Mark
   pub group : Option (List Command)
 
+-- the history of a tile at the start, with this depth of undo
 abbrev pub begun : Document → ℕ → History
 begun start depth = record { start = start; steps = []; present = 0; floor = 0; depth = depth; marks = []; group = None }
 
 -- ---- documents
 
--- the commands one after the other
+-- the document after commands, one after the other; a refused command changes nothing
 abbrev pub after_all : List Command → Document → Document
 after_all [] document = document
 after_all (command ∷ commands) document = after_all commands (after command document)
 
--- the steps one after the other
+-- the document after the commands of steps, one step after the other
 abbrev pub after_steps : List (List Command) → Document → Document
 after_steps [] document = document
 after_steps (step ∷ steps) document = after_steps steps (after_all step document)
 
--- the document in which the first so many steps stand
+-- the document after the first steps, `point` of them
 abbrev pub document_at : ℕ → History → Document
 document_at point history = after_steps (take point history.steps) history.start
 
--- the one of the present point
+-- the document after the steps that stand
 abbrev pub present_document : History → Document
 present_document history = document_at history.present history
 
--- the commands of the open step, or none
+-- the commands of the open step; none where no step is open
 abbrev pub commands_in : Option (List Command) → List Command
 commands_in None = []
 commands_in (Some commands) = commands
 
--- the document as it stands: the open step's commands come last
+-- the document as it stands: after the steps that stand, and then the commands of the open step
 abbrev pub standing_document : History → Document
 standing_document history = after_all (commands_in history.group) (present_document history)
 
 -- ---- how its numbers and marks lie to one another
 
+-- the mark is of a point from `low` to `high`
 abbrev pub IsWithin : ℕ → ℕ → Mark → Type 0
 IsWithin low high mark = (low ≤ mark.point) × (mark.point ≤ high)
 
+-- the depth is at least 1; the floor is not above the present point, nor that above the end; from the floor to the end
+-- there are no more steps than the depth; the marks are in order, at most 256, and of points from the floor to the end
 pub record IsSound (history : History) : Type 0 where
   pub some_depth : 1 ≤ history.depth
   pub above_floor : history.floor ≤ history.present
@@ -70,18 +75,20 @@ pub record IsSound (history : History) : Type 0 where
 
 -- ---- what a request makes of it
 
--- the history at another point
+-- the history with another present point
 abbrev pub at_point : ℕ → History → History
 at_point point history = record { start = history.start; steps = history.steps; present = point; floor = history.floor; depth = history.depth; marks = history.marks; group = history.group }
 
+-- the history with other marks
 abbrev pub with_marks : List Mark → History → History
 with_marks marks history = record { start = history.start; steps = history.steps; present = history.present; floor = history.floor; depth = history.depth; marks = marks; group = history.group }
 
+-- the history with another open step, or none
 abbrev pub with_group : Option (List Command) → History → History
 with_group group history = record { start = history.start; steps = history.steps; present = history.present; floor = history.floor; depth = history.depth; marks = history.marks; group = group }
 
--- The steps that were undone are forgotten and the new one stands; undo goes back no further than
--- depth; marks of points that are gone go too. No step is open.
+-- the history with one more step, which stands: steps that were undone are forgotten, undo goes back no further than
+-- the depth, marks of points that are gone go too, and no step is open
 abbrev pub with_step : List Command → History → History
 with_step step history =
     let floor = max history.floor (history.present + 1 - history.depth) in
@@ -95,63 +102,66 @@ with_step step history =
       group = None;
     }
 
--- a command alone is a step; in an open step it is the last of that
+-- the history with one more command: a step of its own, or the last command of the open step
 abbrev pub with_command : Command → Option (List Command) → History → History
 with_command command None history = with_step (command ∷ []) history
 with_command command (Some commands) history = with_group (Some (commands ++ command ∷ [])) history
 
--- the history after a command that makes this document, or that is refused so
+-- the history after a command that made this document, or its refusal
 abbrev pub edited_to : Command → History → Result Document Refusal → Result History Refusal
 edited_to command history (Ok document) = Ok (with_command command history.group history)
 edited_to command history (Err refusal) = Err refusal
 
+-- the history after a command, applied to the standing document, or its refusal
 abbrev pub edited : Command → History → Result History Refusal
 edited command history = edited_to command history (applied command (standing_document history))
 
--- while a step is open, this is refused before all else
+-- the answer; while a step is open, the refusal that one is
 abbrev pub unless_open : Option (List Command) → Result History HistoryError → Result History HistoryError
 unless_open None answer = answer
 unless_open (Some commands) answer = Err GroupOpen
 
--- the last step that stands is taken back
+-- the history with the last step that stands taken back; refused at the floor, and while a step is open
 abbrev pub undone : History → Result History HistoryError
 undone history = unless_open history.group (if history.present == history.floor then Err NothingToUndo else Ok (at_point (history.present - 1) history))
 
--- the step that was undone last stands again
+-- the history with the first of the steps that were undone standing again; refused at the end, and while a step is open
 abbrev pub redone : History → Result History HistoryError
 redone history = unless_open history.group (if history.present == length history.steps then Err NothingToRedo else Ok (at_point (history.present + 1) history))
 
--- the name marks the present point; there may be so many names
+-- the history where the name marks the present point; a new name is refused where there are 256, and each while a step
+-- is open
 abbrev pub marked : List ℕ → History → Result History HistoryError
 marked name history = unless_open history.group (if is_some (point_of name history.marks) || nat_lt (length history.marks) MAX_MARKS then Ok (with_marks (bound name history.present history.marks) history) else Err TooManyMarks)
 
--- the name marks nothing from now on
+-- the history where the name marks nothing; refused where it marks no point, and while a step is open
 abbrev pub unmarked : List ℕ → History → Result History HistoryError
 unmarked name history = unless_open history.group (if is_some (point_of name history.marks) then Ok (with_marks (unbound name history.marks) history) else Err NoMark)
 
--- the history at this point, if there is one
+-- the history at this point; refused where there is none
 abbrev pub gone_to : Option ℕ → History → Result History HistoryError
 gone_to None history = Err NoMark
 gone_to (Some point) history = Ok (at_point point history)
 
--- the marked point is the present one
+-- the history at the point that the name marks; refused where it marks none, and while a step is open
 abbrev pub gone_back : List ℕ → History → Result History HistoryError
 gone_back name history = unless_open history.group (gone_to (point_of name history.marks) history)
 
--- a step of no commands is open
+-- the history with an open step of no commands; refused while a step is open
 abbrev pub opened : History → Result History HistoryError
 opened history = unless_open history.group (Ok (with_group (Some []) history))
 
--- the history when a step of these commands ends; without one it is as if no step had been opened
+-- the history after a step of these commands; a step without commands leaves none, and where no step is open it is
+-- refused
 abbrev pub ended : Option (List Command) → History → Result History HistoryError
 ended None history = Err NoGroup
 ended (Some []) history = Ok (with_group None history)
 ended (Some (command ∷ commands)) history = Ok (with_step (command ∷ commands) history)
 
--- the open step stands as one
+-- the history with the open step as one step; refused where none is open
 abbrev pub closed : History → Result History HistoryError
 closed history = ended history.group history
 
--- the open step's commands are taken back
+-- the history without the open step and its commands; refused where none is open
 abbrev pub cancelled : History → Result History HistoryError
 cancelled history = if is_some history.group then Ok (with_group None history) else Err NoGroup

@@ -7,4 +7,3 @@ pub mod Inside
 pub mod Moves
 pub mod Reached
 pub mod Session
-pub mod Laws

@@ -1,6 +1,6 @@
 -- Where the changes that are kept lead, and how much they hold.
 use Rattle.std.specs.Prelude.{◌≡◌, ℕ, zero, suc, ◌+◌, ◌*◌, ◌≤◌, List, [], ◌∷◌, map, length, get_or, take, Option, Some, None}
-use Rattle.mvt_wire.specs.Plain.{Document}
+use Rattle.mvt_document.specs.Plain.{Document}
 use Rattle.mvt_change.specs.Changes.{Change, Fits, go, turn, weight}
 use Rattle.mvt_command.specs.Command.{Command}
 use Rattle.mvt_meaning.specs.Meaning.{after}
@@ -9,24 +9,26 @@ use Rattle.mvt_history.specs.History.{after_all, after_steps}
 
 -- ---- what commands take out and put in, each on the document that it meets
 
+-- how many bytes commands take out, each from the document that it meets
 abbrev pub all_taken_by : List Command → Document → ℕ
 all_taken_by [] document = 0
 all_taken_by (command ∷ commands) document = taken_by command document + all_taken_by commands (after command document)
 
+-- how many bytes commands put in, each into the document that it meets
 abbrev pub all_put_by : List Command → Document → ℕ
 all_put_by [] document = 0
 all_put_by (command ∷ commands) document = put_by command document + all_put_by commands (after command document)
 
--- twice as many steps as the changes of these commands may have: two for each command, and one for each byte that they
--- take out or put in
+-- twice the number of steps that the changes of these commands may have: two for each command, and one for each byte
+-- that they take out or put in
 abbrev pub step_allowance : List Command → Document → ℕ
 step_allowance commands document = 2 * length commands + all_taken_by commands document + all_put_by commands document
 
 -- ---- one change
 
--- The change leads from the document after the step to the one before it. It holds no more than the step took out, and
--- what it becomes no more than the step put in. Its own steps are at most one for each command, and half as many as
--- the bytes taken out and put in.
+-- the change leads from the document after the step to the one before it, holds no more bytes than the step took out,
+-- and turned no more than it put in; its steps are at most one for each command of the step plus half as many as these
+-- bytes together
 pub record LeadsBack (step : List Command) (before : Document) (change : Change) : Type 0 where
   pub fits : Fits change (after_all step before)
   pub leads : go change (after_all step before) ≡ before
@@ -34,8 +36,9 @@ pub record LeadsBack (step : List Command) (before : Document) (change : Change)
   pub becomes : weight (turn change (after_all step before)) ≤ all_put_by step before
   pub few_steps : 2 * length change ≤ step_allowance step before
 
--- The change leads from the document before the step to the one after it. It holds no more than the step put in, and
--- what it becomes no more than the step took out. Its own steps are as few.
+-- the change leads from the document before the step to the one after it, holds no more bytes than the step put in, and
+-- turned no more than it took out; its steps are at most one for each command of the step plus half as many as these
+-- bytes together
 pub record LeadsOn (step : List Command) (before : Document) (change : Change) : Type 0 where
   pub fits : Fits change before
   pub leads : go change before ≡ after_all step before
@@ -45,13 +48,13 @@ pub record LeadsOn (step : List Command) (before : Document) (change : Change) :
 
 -- ---- lists of changes, the next one first
 
--- each leads back over one step, from this point on down
+-- the changes lead back over one step each, from this point down
 abbrev pub LeadBack : List (List Command) → Document → ℕ → List Change → Type 0
 LeadBack steps start point [] = Unit {0}
 LeadBack steps start zero (change ∷ changes) = ⊥
 LeadBack steps start (suc point) (change ∷ changes) = LeadsBack (get_or steps point []) (after_steps (take point steps) start) change × LeadBack steps start point changes
 
--- each leads on over one step, from this point on up
+-- the changes lead on over one step each, from this point up
 abbrev pub LeadOn : List (List Command) → Document → ℕ → List Change → Type 0
 LeadOn steps start point [] = Unit {0}
 LeadOn steps start point (change ∷ changes) = LeadsOn (get_or steps point []) (after_steps (take point steps) start) change × LeadOn steps start (suc point) changes
@@ -60,7 +63,8 @@ LeadOn steps start point (change ∷ changes) = LeadsOn (get_or steps point []) 
 abbrev pub singles : List Command → List (List Command)
 singles commands = map (λ command. command ∷ []) commands
 
--- they lead out of an open step of these commands, a command each, to this document; where none is open there are none
+-- the changes lead out of an open step of these commands, back to this document, one for each command; there are none
+-- where no step is open
 abbrev pub LeadOut : Option (List Command) → Document → Option (List Change) → Type 0
 LeadOut None document None = Unit {0}
 LeadOut None document (Some changes) = ⊥

@@ -1,9 +1,11 @@
--- Requests one after the other.
+-- Requests on a history, one after the other.
 use Rattle.std.specs.Prelude.{◌≡◌, ℕ, zero, suc, List, [], ◌∷◌, Result, Ok, Err}
 use Rattle.mvt_command.specs.Command.{Command}
 use Rattle.mvt_history.specs.History.{History, edited, undone, redone, marked, unmarked, gone_back, opened, closed, cancelled}
-use Rattle.mvt_history.specs.declared.error.HistoryError.{HistoryError}
+use Rattle.mvt_history_error.specs.declared.HistoryError.{HistoryError}
 
+-- a request on a history: a command, an undo or redo, a mark to set, to take away or to go back to, a step to open, to
+-- end or to cancel
 pub data Request : Type 0 where
   Edit : (command : Command) → Request
   Undo : Request
@@ -15,12 +17,12 @@ pub data Request : Type 0 where
   End : Request
   Cancel : Request
 
--- the history that is answered, or the one before where it is refused
+-- the history that is answered, or the one before where the request is refused
 abbrev pub or_before : {E : Type 0} → History → Result History E → History
 or_before before (Ok after) = after
 or_before before (Err error) = before
 
--- the history after a request; one that is refused changes nothing
+-- the history after a request; a refused request changes nothing
 abbrev pub asked : Request → History → History
 asked (Edit command) history = or_before history (edited command history)
 asked Undo history = or_before history (undone history)
@@ -32,6 +34,7 @@ asked Begin history = or_before history (opened history)
 asked End history = or_before history (closed history)
 asked Cancel history = or_before history (cancelled history)
 
+-- the history after requests, one after the other
 abbrev pub asked_all : List Request → History → History
 asked_all [] history = history
 asked_all (request ∷ requests) history = asked_all requests (asked request history)
@@ -48,7 +51,7 @@ SetsOther name Begin = Unit {0}
 SetsOther name End = Unit {0}
 SetsOther name Cancel = Unit {0}
 
--- the request does not close the open step
+-- the request neither ends nor cancels the open step
 abbrev pub LeavesOpen : Request → Type 0
 LeavesOpen (Edit command) = Unit {0}
 LeavesOpen Undo = Unit {0}
@@ -60,12 +63,12 @@ LeavesOpen Begin = Unit {0}
 LeavesOpen End = ⊥
 LeavesOpen Cancel = ⊥
 
--- what is answered to a further request, where the one before was accepted
+-- what is answered to a further request, where the one before was accepted; else its refusal
 abbrev pub and_then : Result History HistoryError → (History → Result History HistoryError) → Result History HistoryError
 and_then (Ok after) more = more after
 and_then (Err error) more = Err error
 
--- the same request so many times, each of them accepted
+-- the history after the same request, a number of times, each of them accepted; else the first refusal
 abbrev pub then_times : ℕ → (History → Result History HistoryError) → History → Result History HistoryError
 then_times zero ask history = Ok history
 then_times (suc count) ask history = and_then (ask history) (then_times count ask)

@@ -1,7 +1,7 @@
 -- What a session answers, and the history that it holds.
 use Rattle.std.specs.Prelude.{◌≡◌, ℕ, ◌+◌, ◌-◌, ◌<◌, ◌≤◌, ℤ, pos, ◌-ℤ◌, ◌⊎◌, List, map, length, take, Option, Some, None, Result, Ok, Err, IsOk}
-use Rattle.mvt_wire.specs.TheConstants.{MAX_FILE}
-use Rattle.mvt_wire.specs.Wire.{bytes_of}
+use Rattle.mvt_document.specs.declared.TheConstants.{MAX_FILE}
+use Rattle.mvt_document.specs.Wire.{bytes_of}
 use Rattle.mvt_command.specs.Command.{Command}
 use Rattle.mvt_meaning.specs.declared.refusal.Refusal.{Refusal}
 use Rattle.mvt_meaning.specs.declared.refusal.Refusal.TheVariants as edit
@@ -10,16 +10,18 @@ use Rattle.mvt_history.specs.History.{History, IsSound, standing_document, prese
 use Rattle.mvt_history.specs.Reached.{LeadBack, LeadOn, LeadOut}
 use Rattle.mvt_history.specs.Standing.{Standing}
 use Rattle.mvt_document.specs.declared.document.Document as held
-use Rattle.mvt_wire.specs.Stands.{document_of}
+use Rattle.mvt_document.specs.Stands.{document_of}
 use Rattle.std.specs.Borrow.{Bor}
-use Rattle.mvt_history.specs.declared.error.HistoryError.{HistoryError}
+use Rattle.mvt_history_error.specs.declared.HistoryError.{HistoryError}
 use Rattle.mvt_history.specs.declared.error.StartError.{StartError}
 use Rattle.mvt_history.specs.declared.error.StartError.TheVariants as start
 use Rattle.mvt_history.specs.declared.error.StartError.TheVariants.{TooLarge}
-use Rattle.mvt_history.specs.declared.error.HistoryError.TheVariants.{NothingToUndo, NothingToRedo, NoMark, TooManyMarks, Stopped, GroupOpen, NoGroup, NoMemory}
+use Rattle.mvt_history_error.specs.declared.HistoryError.TheVariants.{NothingToUndo, NothingToRedo, NoMark, TooManyMarks, Stopped, GroupOpen, NoGroup, NoMemory}
 
 -- ---- which history a session holds
 
+-- the session holds this history, which is sound, and whose start a file can hold: its document, its depth, its marks
+-- and how far undo and redo go are those of the history, and its changes lead to the documents of the history
 pub record StandsFor (session : Standing) (history : History) : Type 0 where
   pub sound : IsSound history
   pub fits_in_file : length (bytes_of history.start) ≤ MAX_FILE
@@ -34,28 +36,31 @@ pub record StandsFor (session : Standing) (history : History) : Type 0 where
 
 -- ---- answers
 
--- The history is what was asked for, or it is refused so and as before.
+-- the session holds the history that was asked for; or the request is refused as it is defined, and the session holds
+-- the history before
 abbrev pub Answers : Result History HistoryError → History → Result (Unit {0}) HistoryError → Standing → Type 0
 Answers asked history (Ok done) new = (after : History) × (asked ≡ Ok after) × StandsFor new after
 Answers asked history (Err error) new = (asked ≡ Err error) × StandsFor new history
 
--- The same, where want of memory may come in place of what was asked for, and never in place of a refusal.
+-- the session holds the history that was asked for, or out of memory is answered in place of that; or the request is
+-- refused as it is defined; where it is not accepted the session holds the history before
 abbrev pub AnswersWithMemory : Result History HistoryError → History → Result (Unit {0}) HistoryError → Standing → Type 0
 AnswersWithMemory asked history (Ok done) new = (after : History) × (asked ≡ Ok after) × StandsFor new after
 AnswersWithMemory asked history (Err error) new = (((error ≡ NoMemory) × IsOk asked) ⊎ (asked ≡ Err error)) × StandsFor new history
 
--- The same of a command.
+-- the session holds the history after the command; or it is refused as it is defined, or out of memory is answered in
+-- place of either, and the session holds the history before
 abbrev pub AnswersCommand : Command → History → Result (Unit {0}) Refusal → Standing → Type 0
 AnswersCommand command history (Ok done) new = (after : History) × (edited command history ≡ Ok after) × StandsFor new after
 AnswersCommand command history (Err refusal) new = ((refusal ≡ edit.NoMemory) ⊎ (edited command history ≡ Err refusal)) × StandsFor new history
 
 -- ---- requests that may stop halfway
 
--- so many steps were made from one point towards another, and more are left
+-- the point `at` lies `taken` steps on the way from one point to another, and more are left
 abbrev pub IsOnTheWay : ℕ → ℕ → ℕ → ℕ → Type 0
 IsOnTheWay from to taken at = ((at + taken ≡ from) × (to < at)) ⊎ ((from + taken ≡ at) × (at < to))
 
--- the second history stands so many steps nearer to the mark than the first, and not at it
+-- the history `between` stands `taken` steps nearer to the mark than the other, and not at it; no step is open
 pub record StopsAt (name : List ℕ) (history : History) (taken : ℕ) (between : History) : Type 0 where
   pub is_closed : history.group ≡ None
   pub to : ℕ
@@ -64,24 +69,26 @@ pub record StopsAt (name : List ℕ) (history : History) (taken : ℕ) (between 
   pub on_the_way : IsOnTheWay history.present to taken at
   pub stands : between ≡ at_point at history
 
--- The history is at the marked point, or it is refused so and as before, or want of memory stopped it on the way.
+-- the session holds the history at the mark; or the request is refused as it is defined, and the session holds the
+-- history before; or it was stopped on the way, and the session holds the history there
 abbrev pub AnswersBack : List ℕ → History → Result (Unit {0}) HistoryError → Standing → Type 0
 AnswersBack name history (Ok done) new = (after : History) × (gone_back name history ≡ Ok after) × StandsFor new after
 AnswersBack name history (Err error) new = ((gone_back name history ≡ Err error) × StandsFor new history) ⊎ ((taken : ℕ) × (between : History) × (error ≡ Stopped taken) × StopsAt name history taken between × StandsFor new between)
 
--- so many commands of the open step, the last ones, are taken back in the second history, and others are left
+-- in the history `between` the last commands of the open step are taken back, `taken` of them, and others are left
 pub record StopsWithin (history : History) (taken : ℕ) (between : History) : Type 0 where
   pub commands : List Command
   pub is_open : history.group ≡ Some commands
   pub some_left : taken < length commands
   pub stands : between ≡ with_group (Some (take (length commands - taken) commands)) history
 
--- No step is open any more, or it is refused so and as before, or want of memory stopped it within the step.
+-- the session holds the history without the open step; or the request is refused as it is defined, and the session
+-- holds the history before; or it was stopped within the step, and the session holds the history there
 abbrev pub AnswersCancel : History → Result (Unit {0}) HistoryError → Standing → Type 0
 AnswersCancel history (Ok done) new = (after : History) × (cancelled history ≡ Ok after) × StandsFor new after
 AnswersCancel history (Err error) new = ((cancelled history ≡ Err error) × StandsFor new history) ⊎ ((taken : ℕ) × (between : History) × (error ≡ Stopped taken) × StopsWithin history taken between × StandsFor new between)
 
--- the error says that a request was stopped halfway
+-- the error says that a request was stopped on the way
 abbrev pub IsStop : HistoryError → Type 0
 IsStop (Stopped taken) = Unit {0}
 IsStop NothingToUndo = ⊥
@@ -94,14 +101,14 @@ IsStop NoMemory = ⊥
 
 -- ---- start
 
--- the document comes back as it was; it is too large where no file can hold it
+-- the document comes back as it was, as too large, where no file can hold it, or out of memory
 abbrev pub NotStarted : held.Document → StartError → Type 0
 NotStarted document (TooLarge refused) = (refused ≡ document) × (MAX_FILE < length (bytes_of (document_of document)))
 NotStarted document (start.NoMemory refused) = refused ≡ document
 
 -- ---- marks
 
--- what is told of a mark: its name, and its point less the present one
+-- what is returned of a mark, where there is one: its name, and its point less the present one
 abbrev pub SeesMark : ℕ → Option (Bor (List ℕ) × ℤ) → Option Mark → Type 0
 SeesMark present None None = Unit {0}
 SeesMark present None (Some mark) = ⊥

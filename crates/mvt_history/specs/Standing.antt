@@ -1,14 +1,13 @@
 -- What contracts see of a session.
 use Rattle.std.specs.Prelude.{ℕ, List, [], Option, Some, None}
-use Rattle.mvt_wire.specs.Plain.{Document}
-use Rattle.mvt_wire.specs.Opens.{IsDocument}
+use Rattle.mvt_document.specs.Plain.{Document}
+use Rattle.mvt_document.specs.Opens.{IsDocument}
 use Rattle.mvt_change.specs.Changes.{Change}
 use Rattle.mvt_change.specs.Joining.{go_along, FitAlong}
 use Rattle.mvt_history.specs.Marks.{Mark}
 
--- The document as it stands; the changes kept for undo, for redo and to take the open step's
--- commands back, each list with the next one first; how many steps undo goes back at most; and the
--- marks, whose points are counted from the least to which undo goes back.
+-- the standing document; the changes kept for undo, for redo, and to take back the commands of the open step, each list
+-- with the next one first; the depth of undo; and the marks, whose points are counted from the floor
 pub record Standing : Type 0 where
   pub document : Document
   pub undo : List Change
@@ -17,12 +16,12 @@ pub record Standing : Type 0 where
   pub marks : List Mark
   pub pending : Option (List Change)
 
--- the changes that take the open step's commands back
+-- the changes that take back the commands of the open step; none where no step is open
 abbrev pub changes_in : Option (List Change) → List Change
 changes_in None = []
 changes_in (Some changes) = changes
 
--- the document before the open step's commands
+-- the document before the commands of the open step
 abbrev pub closed_document : Standing → Document
 closed_document session = go_along (changes_in session.pending) session.document
 

@@ -1,13 +1,32 @@
-//! A document that commands edit, with undo and redo, marks, and steps of several commands.
+//! A document that commands edit, with undo and redo to any depth, marks, and steps of several
+//! commands.
+//!
+//! - A session begins with the document and no history (`ok`), or hands the document back: as too
+//!   large only where no file can hold it, or out of memory (`err`): `Session::start`. It holds the
+//!   standing document of its history: the tile at the start with the steps that stand applied in
+//!   order, those of an open step last: `Session::document`.
+//! - Each request makes exactly the step of the definition, or is refused with exactly its refusal
+//!   (`answer`): `command`, `undo`, `redo`, `mark`, `unmark`, `back`, `begin`, `end`, `cancel`. Out
+//!   of memory alone may come in place of that, and only at `command`, `undo`, `redo`, `mark` and
+//!   `end`: at the last four never in place of a refusal, at `mark` only for a new name, at `end`
+//!   only for a step of two commands or more (`no_memory`). `back` and `cancel` are stopped on the
+//!   way instead, and say how many steps they made, or how many commands they took back; that
+//!   stands. After every other refusal the session is as it was (`err`).
+//! - What there is: `undo_len`, `redo_len`, `depth`, `mark_count`, `mark_at` and `open_len`.
+//! - What is kept for undo and redo are changes, one for each step, and never a second document:
+//!   each fits where it is carried out, and leads to the next document (`StandsFor`). Each of the
+//!   two lists of changes has room for as many as the depth from the start of a session, and
+//!   together they never have more: that its type keeps. How much memory a change takes is said by
+//!   no contract; what it weighs is the bytes of the items that it holds, as they are written.
 #![tactic(auto)]
 
 mod error;
-pub mod laws;
 mod marks;
 mod session;
 mod steps;
 
-pub use error::{HistoryError, StartError};
+pub use error::StartError;
+pub use mvt_history_error::HistoryError;
 pub use session::Session;
 
 /// The greatest depth that a session may have.

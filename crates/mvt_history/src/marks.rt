@@ -1,4 +1,5 @@
-//! Names of points, in the order of the names' bytes.
+//! Names of points, in the order of the bytes of the names: looked up, bound, taken away, and those
+//! that stay.
 
 ghost use Rattle.std.specs.Prelude.{◌≡◌, ◌↔◌, map, is_ok, None, IsSome, IsErr, if◌then◌else◌};
 ghost use Rattle.mvt_history.specs.Held.{mark_of};

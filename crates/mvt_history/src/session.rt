@@ -1,12 +1,13 @@
-//! A document, and what undo, redo and the open step keep beside it.
+//! The session: its document, the changes for undo and redo, the marks and the open step; each
+//! request.
 
 #[cfg(test)]
 mod fields;
 
 ghost use Rattle.std.specs.Prelude.{◌≡◌, ◌≤◌, ◌⊎◌, if◌then◌else◌, is_some, None, Ok, Err, OnErr, IfOk, IfErr, IsSomeAnd, length, option_map, slice_get};
-ghost use Rattle.mvt_history.specs.declared.error.HistoryError.TheVariants.{GroupOpen, NoMemory};
-ghost use Rattle.mvt_wire.specs.Stands.{document_of};
-ghost use Rattle.mvt_wire.specs.Opens.{IsDocument};
+ghost use Rattle.mvt_history_error.specs.declared.HistoryError.TheVariants.{GroupOpen, NoMemory};
+ghost use Rattle.mvt_document.specs.Stands.{document_of};
+ghost use Rattle.mvt_document.specs.Opens.{IsDocument};
 ghost use Rattle.mvt_command.specs.CommandStands.{command_of};
 ghost use Rattle.mvt_history.specs.declared.TheConstants.{MAX_DEPTH};
 ghost use Rattle.mvt_history.specs.Marks.{point_of};
@@ -14,13 +15,15 @@ ghost use Rattle.mvt_history.specs.History.{History, begun, closed, marked, open
 ghost use Rattle.mvt_history.specs.Session.{Answers, AnswersBack, AnswersCancel, AnswersCommand, AnswersWithMemory, IsStop, NotStarted, SeesMark, StandsFor};
 
 use crate::MAX_MARKS;
-use crate::error::{HistoryError, StartError};
+use crate::error::StartError;
 use crate::marks::{Mark, bind, find_point, unbind};
 use crate::steps::{keep, step, take_back, walk};
 use circular_buffer::HeapCircularBuffer;
 use mvt_change::{Change, flip, join};
+use mvt_document::Document;
 use mvt_edit::{Command, Refusal, prepare};
-use mvt_wire::{Document, size};
+use mvt_history_error::HistoryError;
+use mvt_write::size;
 use std::alloc::{AllocError, Global};
 use std::marker::Model;
 

@@ -1,8 +1,9 @@
-//! Changes that are carried out from one list, and kept in another.
+//! Changes that are carried out from one list and kept in another, one or many; a new change that
+//! is kept; those of an open step that are taken back.
 
 ghost use Rattle.std.specs.Prelude.{◌≡◌, ◌+◌, ◌-◌, ◌<◌, ◌≤◌, [], ◌∷◌, map, length, drop, take, is_ok, IfErr, OnOk, OnErr, IfOk, if◌then◌else◌};
 ghost use Rattle.circular_buffer.specs.Buffer.{buffer};
-ghost use Rattle.mvt_wire.specs.Stands.{document_of};
+ghost use Rattle.mvt_document.specs.Stands.{document_of};
 ghost use Rattle.mvt_change.specs.ChangeStands.{change_of};
 ghost use Rattle.mvt_change.specs.Joining.{FitAlong, go_along};
 ghost use Rattle.mvt_history.specs.declared.TheConstants.{MAX_DEPTH};
@@ -13,7 +14,7 @@ ghost use Rattle.mvt_history.specs.Moves.{Walk, stepped, taken_of, walked};
 use crate::marks::{Mark, keep_between};
 use circular_buffer::HeapCircularBuffer;
 use mvt_change::{Change, flip};
-use mvt_wire::Document;
+use mvt_document::Document;
 use std::alloc::{AllocError, Global};
 
 /// Keeps the change for undo, and none for redo any more. Where undo has no room for one more, the

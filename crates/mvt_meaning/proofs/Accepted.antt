@@ -2,9 +2,9 @@
 use Rattle.std.proofs.Common.{◌≡◌, ℕ, ◌<◌, Bool, true, false, Result, Ok, Err, Some, List, [], ◌∷◌, length, slice_get, nat_lt, refl, ap, inl, inr, arith}
 use Rattle.std.proofs.lemmas.Bool.{cases_Bool}
 use Rattle.std.proofs.lemmas.Bool.Decides.{nat_tests}
-use Rattle.mvt_wire.specs.TheConstants.{MAX_FILE}
-use Rattle.mvt_wire.specs.Plain.{Layer, Document}
-use Rattle.mvt_wire.specs.Wire.{bytes_of}
+use Rattle.mvt_document.specs.declared.TheConstants.{MAX_FILE}
+use Rattle.mvt_document.specs.Plain.{Layer, Document}
+use Rattle.mvt_document.specs.Wire.{bytes_of}
 use Rattle.mvt_view.specs.Views.{features, has_id, layers, ordinals_of, the_one}
 use Rattle.mvt_command.specs.Command.{FeatureChoice, FeatureAtOrdinal, WithId}
 use Rattle.mvt_meaning.specs.Selection.{selected_feature, selected_in}

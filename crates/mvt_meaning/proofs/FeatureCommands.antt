@@ -2,7 +2,7 @@
 use Rattle.std.proofs.Common.{◌≡◌, ℕ, ◌/◌, ◌<◌, ◌≤◌, true, not, ◌==◌, Option, Some, None, Ok, List, [], ◌∷◌, length, slice_get, nat_lt, refl, ap, inl, inr, subst}
 use Rattle.std.proofs.lemmas.Bool.{cases_Bool, eqb-true, ltb-false, ltb-true, not-false}
 use Rattle.std.specs.List.{filter_map, last_or}
-use Rattle.mvt_wire.specs.Plain.{Number, Body, Spelled, Eight, Four, Delimited, Group, Field, Feature, LayerItem, Layer, Document}
+use Rattle.mvt_document.specs.Plain.{Number, Body, Spelled, Eight, Four, Delimited, Group, Field, Feature, LayerItem, Layer, Document}
 use Rattle.mvt_geometry.specs.Shapes.{Geometry, IsGeometry}
 use Rattle.mvt_command.specs.Command.{FeatureChoice}
 use Rattle.mvt_change.specs.Places.{in_feature}

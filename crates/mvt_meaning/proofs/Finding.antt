@@ -4,8 +4,8 @@ use Rattle.std.proofs.lemmas.Bool.Decides.{nat_tests}
 use Rattle.std.proofs.lemmas.Option.{slice_get-map, slice_get_within}
 use Rattle.std.specs.Option.{MatchOption, ok_or, option_and_then}
 use Rattle.std.specs.Result.{IfErr, IfOk}
-use Rattle.mvt_wire.specs.Plain as plain
-use Rattle.mvt_wire.specs.Stands.{feature_of, layer_of}
+use Rattle.mvt_document.specs.Plain as plain
+use Rattle.mvt_document.specs.Stands.{feature_of, layer_of}
 use Rattle.mvt_command.specs.Command.{LayerChoice, AtOrdinal, FeatureChoice, FeatureAtOrdinal}
 use Rattle.mvt_view.specs.Views.{feature_in, features, layer_in, layers, the_one}
 use Rattle.mvt_meaning.specs.Selection.{feature_positions, layer_positions, selected, selected_feature}

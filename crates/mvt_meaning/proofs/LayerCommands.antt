@@ -2,7 +2,7 @@
 use Rattle.std.proofs.Common.{◌≡◌, ◌≢◌, ℕ, ◌<◌, Bool, true, not, Ok, List, [], ◌∷◌, filter, length, nat_lt, refl, sym, ap, ◌∙◌, inl, inr, subst}
 use Rattle.std.proofs.lemmas.Bool.{cases_Bool, not-false, ltb-true}
 use Rattle.std.specs.List.{list_any}
-use Rattle.mvt_wire.specs.Plain.{OfLayer, PlainInTile, Document}
+use Rattle.mvt_document.specs.Plain.{OfLayer, PlainInTile, Document}
 use Rattle.mvt_view.specs.Views.{layer_in, layers}
 use Rattle.mvt_meaning.specs.Ordinals.{move_nth, without}
 use Rattle.mvt_meaning.specs.Selection.{is_layer, selected}

@@ -4,10 +4,10 @@ use Rattle.std.specs.Prelude.{filter}
 use Rattle.std.specs.List.{flat_map, list_any}
 use Rattle.std.specs.Option.{option_map_or}
 use Rattle.std.proofs.lemmas.Bool.{cases_Bool, cond_both, ltb-false, ne_eqb}
-use Rattle.mvt_wire.specs.TheConstants.{MAX_FILE}
-use Rattle.mvt_wire.specs.Plain.{Field, LayerItem, OfFeature, PlainInLayer, TileItem, OfLayer, PlainInTile, Document}
-use Rattle.mvt_wire.specs.Wire.{field_bytes, layer_item_bytes, tile_item_bytes, bytes_of}
-use Rattle.mvt_wire.proofs.Sizes.{length-message_grows}
+use Rattle.mvt_document.specs.declared.TheConstants.{MAX_FILE}
+use Rattle.mvt_document.specs.Plain.{Field, LayerItem, OfFeature, PlainInLayer, TileItem, OfLayer, PlainInTile, Document}
+use Rattle.mvt_document.specs.Wire.{field_bytes, layer_item_bytes, tile_item_bytes, bytes_of}
+use Rattle.mvt_document.proofs.Sizes.{length-message_grows}
 use Rattle.mvt_change.specs.Places.{in_layer, in_feature}
 use Rattle.mvt_command.specs.Command.{Command, RenameLayer, MoveLayer, DropLayer, KeepLayers, InsertFeature, MoveFeature, DropFeature, SetId, ClearId}
 use Rattle.mvt_meaning.specs.Ordinals.{from_nth, change_first, change_nth, without, before, behind, move_nth, insert_nth}

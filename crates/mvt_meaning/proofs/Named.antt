@@ -8,7 +8,7 @@ use Rattle.std.proofs.lemmas.Slice.Eq.{bytes_eq-Decides}
 use Rattle.std.specs.List.{list_any}
 use Rattle.std.specs.Option.{option_copied, option_eq, option_map_or}
 use Rattle.std.specs.Str.{bytes_eq}
-use Rattle.mvt_wire.specs.Plain as plain
+use Rattle.mvt_document.specs.Plain as plain
 use Rattle.mvt_view.specs.Views.{is_named, layers, name_of, ordinals_of}
 use Rattle.mvt_view.specs.Seen.{layer_seen}
 use Rattle.mvt_view.specs.declared.views.LayerView.{LayerView}

@@ -3,8 +3,8 @@ use Rattle.std.proofs.Common.{◌≡◌, ℕ, ◌+◌, ◌-◌, ◌^◌, Bool, t
 use Rattle.std.proofs.lemmas.Bool.{and_parts, ltb-false, not-true, or_parts}
 use Rattle.std.proofs.lemmas.List.{append-nil}
 use Rattle.std.specs.List.{AllByRecursion, list_any}
-use Rattle.mvt_wire.specs.Plain.{Feature}
-use Rattle.mvt_wire.specs.Wire.{spelling}
+use Rattle.mvt_document.specs.Plain.{Feature}
+use Rattle.mvt_document.specs.Wire.{spelling}
 use Rattle.mvt_geometry.specs.Shapes.{Geometry, IsGeometry, number_of}
 use Rattle.mvt_geometry.specs.Integers.{IsInRange, IsRepeated, IsWay, encoded, integers, joined, origin, repeats, ways}
 use Rattle.mvt_geometry.specs.Laws as geometry_laws

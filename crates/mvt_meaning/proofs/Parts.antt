@@ -1,7 +1,7 @@
 -- The layers of a tile and the features of a layer, where one of them changes.
 use Rattle.std.proofs.Common.{◌≡◌, ℕ, Some, None, Ok, List, ◌∷◌, ◌++◌, slice_get, refl, ap, ◌∙◌, subst}
 use Rattle.std.specs.List.{filter_map}
-use Rattle.mvt_wire.specs.Plain.{Field, Feature, LayerItem, OfFeature, PlainInLayer, Layer, TileItem, OfLayer, PlainInTile, Document}
+use Rattle.mvt_document.specs.Plain.{Field, Feature, LayerItem, OfFeature, PlainInLayer, Layer, TileItem, OfLayer, PlainInTile, Document}
 use Rattle.mvt_command.specs.Command.{LayerChoice, FeatureChoice}
 use Rattle.mvt_change.specs.Places.{in_feature, in_layer}
 use Rattle.mvt_view.specs.Views.{feature_in, layer_in, layers, plain_in}

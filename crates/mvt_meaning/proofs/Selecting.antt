@@ -1,7 +1,7 @@
 -- The layer that is selected stands in the tile, and the feature in its layer.
 use Rattle.std.proofs.Common.{◌≡◌, ℕ, ◌<◌, Some, None, Ok, List, [], ◌∷◌, length, slice_get, ap, arith}
 use Rattle.std.proofs.lemmas.Bool.Decides.{nat_tests}
-use Rattle.mvt_wire.specs.Plain.{Layer, Document}
+use Rattle.mvt_document.specs.Plain.{Layer, Document}
 use Rattle.mvt_command.specs.Command.{LayerChoice, AtOrdinal, Named, FeatureChoice, FeatureAtOrdinal, WithId}
 use Rattle.mvt_view.specs.Views.{feature_in, features, has_id, is_named, layer_in, layers, ordinals_of, the_one}
 use Rattle.mvt_meaning.specs.Selection.{feature_positions, is_layer, layer_positions, selected, selected_feature}

@@ -4,7 +4,7 @@ use Rattle.std.proofs.lemmas.Bool.{cases_Bool}
 use Rattle.std.proofs.lemmas.Slice.Eq.{bytes_eq-Decides}
 use Rattle.std.specs.Option.{option_map_or}
 use Rattle.std.specs.Str.{bytes_eq}
-use Rattle.mvt_wire.specs.Plain.{Layer}
+use Rattle.mvt_document.specs.Plain.{Layer}
 use Rattle.mvt_view.specs.Views.{is_named, layers, name_of, the_one}
 use Rattle.mvt_meaning.specs.Laws.{NameMeansTheOne, NameMeansNone}
 use Rattle.mvt_meaning.specs.declared.refusal.Refusal.{Refusal}

@@ -1,20 +1,19 @@
 -- What stays of a tile where one of its layers changes, and of a layer where one of its features does.
--- Vector Tile Specification 2.1, sections 4.1 and 4.2.
 use Rattle.std.specs.Prelude.{◌≡◌, ◌≢◌, ℕ, ◌-◌, List, Option, Some, None, Ok, length, option_map, slice_get, take}
 use Rattle.std.specs.List.{filter_map, remove}
-use Rattle.mvt_wire.specs.Plain.{Field, Feature, LayerItem, Layer, TileItem, OfLayer, PlainInTile, Document}
+use Rattle.mvt_document.specs.Plain.{Field, Feature, LayerItem, Layer, TileItem, OfLayer, PlainInTile, Document}
 use Rattle.mvt_view.specs.Views.{layers, features, plain_fields}
 use Rattle.mvt_command.specs.Command.{LayerChoice, FeatureChoice}
 use Rattle.mvt_meaning.specs.Selection.{layer_positions, feature_positions, selected, selected_feature}
 
 -- ---- one layer of a tile
 
--- a field of the tile that is no layer
+-- the field that an item of a tile is, or none where it is a layer (tiles 4.1)
 abbrev pub field_in : TileItem → Option Field
 field_in (OfLayer layer) = None
 field_in (PlainInTile field) = Some field
 
--- the fields of a tile that are no layers, in order
+-- the fields of a tile other than its layers, in order (tiles 4.1)
 abbrev pub tile_fields : Document → List Field
 tile_fields document = filter_map field_in document
 
@@ -22,13 +21,14 @@ tile_fields document = filter_map field_in document
 abbrev pub without_layer : ℕ → Document → Option Document
 without_layer ordinal document = option_map (remove document) (slice_get (layer_positions document) ordinal)
 
--- the layer of this ordinal alone differs
+-- the two tiles are alike but for the layer of this ordinal: the other layers, the other fields, and the positions of
+-- the layers are the same
 pub record LayerAloneDiffers (ordinal : ℕ) (old new : Document) : Type 0 where
   pub others : (other : ℕ) → other ≢ ordinal → slice_get (layers new) other ≡ slice_get (layers old) other
   pub fields : tile_fields new ≡ tile_fields old
   pub positions : layer_positions new ≡ layer_positions old
 
--- The layer that is meant has become another in this way, with its tag and the stored width of its length. It alone differs.
+-- the selected layer has become another in this way, with its tag and its stored width, and it alone differs
 pub record ChangesLayer (choice : LayerChoice) (way : Layer → Layer → Type 0) (old new : Document) : Type 0 where
   pub ordinal : ℕ
   pub meant : selected choice old ≡ Ok ordinal
@@ -47,13 +47,15 @@ pub record ChangesLayer (choice : LayerChoice) (way : Layer → Layer → Type 0
 abbrev pub without_feature : ℕ → Layer → Option (List LayerItem)
 without_feature ordinal layer = option_map (remove layer.items) (slice_get (feature_positions layer.items) ordinal)
 
--- the feature of this ordinal alone differs
+-- the two layers are alike but for the feature of this ordinal: the other features, the other fields, and the positions
+-- of the features are the same
 pub record FeatureAloneDiffers (ordinal : ℕ) (old new : Layer) : Type 0 where
   pub others : (other : ℕ) → other ≢ ordinal → slice_get (features new) other ≡ slice_get (features old) other
   pub fields : plain_fields new.items ≡ plain_fields old.items
   pub positions : feature_positions new.items ≡ feature_positions old.items
 
--- The feature that is meant has become another in this way, with its tag and the stored width of its length. It alone differs.
+-- the selected feature has become another in this way, with its tag and its stored width, and it alone differs in its
+-- layer
 pub record ChangesFeature (choice : FeatureChoice) (way : Feature → Feature → Type 0) (old new : Layer) : Type 0 where
   pub ordinal : ℕ
   pub meant : selected_feature choice old ≡ Ok ordinal

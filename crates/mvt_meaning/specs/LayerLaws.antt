@@ -1,7 +1,7 @@
--- Laws of the commands on layers, in the words of a tile.
+-- Laws of the commands on layers, in the words of a tile: what an accepted command makes.
 use Rattle.std.specs.Prelude.{◌≡◌, ◌≢◌, ◌⊎◌, ℕ, not, Bool, List, [], ◌∷◌, filter, Some, option_map, slice_get, Ok}
 use Rattle.std.specs.List.{filter_map, list_any, remove}
-use Rattle.mvt_wire.specs.Plain.{Layer, Document}
+use Rattle.mvt_document.specs.Plain.{Layer, Document}
 use Rattle.mvt_command.specs.Command.{LayerChoice, Named, RenameLayer, MoveLayer, DropLayer, KeepLayers}
 use Rattle.mvt_view.specs.Views.{is_named, layers, name_of}
 use Rattle.mvt_meaning.specs.Selection.{layer_positions, selected}
@@ -10,11 +10,12 @@ use Rattle.mvt_meaning.specs.Kept.{field_in, tile_fields, without_layer}
 
 -- ---- a new name
 
--- a layer without its names
+-- a layer without its name fields (tiles 4.1)
 abbrev pub without_names : Layer → Layer
 without_names layer = record { tag = layer.tag; width = layer.width; items = filter (λ item. not (is_name item)) layer.items }
 
--- a tile and the tile in which the layer of this ordinal has this name, and no other layer has it
+-- the layer of this ordinal has the name, and no other layer has it; that layer without its names, the other layers,
+-- the other fields of the tile, and the positions of the layers are as they were (tiles 4.1)
 pub record IsRenamed (name : List ℕ) (ordinal : ℕ) (old new : Document) : Type 0 where
   pub named : option_map name_of (slice_get (layers new) ordinal) ≡ Some (Some name)
   pub alone : selected (Named name) new ≡ Ok ordinal
@@ -23,52 +24,56 @@ pub record IsRenamed (name : List ℕ) (ordinal : ℕ) (old new : Document) : Ty
   pub fields : filter_map field_in new ≡ filter_map field_in old
   pub positions : layer_positions new ≡ layer_positions old
 
--- A rename that is accepted names the layer that was meant, and keeps all but the names of that layer.
+-- an accepted rename selects a layer, and the tile is renamed at its ordinal; which of the names of the layer changes
+-- is said by `applied`
 abbrev pub RenameNames : Type 0
 RenameNames = (choice : LayerChoice) (name : List ℕ) (old new : Document) → applied (RenameLayer choice name) old ≡ Ok new → (ordinal : ℕ) × (selected choice old ≡ Ok ordinal) × IsRenamed name ordinal old new
 
 -- ---- another order
 
--- the layer of one ordinal has another now; the other layers keep their order, so do the fields of the tile, and so do both together
+-- the layer of ordinal `from` has ordinal `to` now; the other layers, the other fields of the tile, and both together
+-- keep their order (tiles 4.1)
 pub record IsMoved (from to : ℕ) (old new : Document) : Type 0 where
   pub there : slice_get (layers new) to ≡ slice_get (layers old) from
   pub others : remove (layers new) to ≡ remove (layers old) from
   pub fields : tile_fields new ≡ tile_fields old
   pub items : without_layer to new ≡ without_layer from old
 
--- A move that is accepted brings the layer that was meant to the ordinal that was asked for.
+-- an accepted move brings the selected layer to the given ordinal
 abbrev pub MoveLayerMoves : Type 0
 MoveLayerMoves = (choice : LayerChoice) (index : ℕ) (old new : Document) → applied (MoveLayer choice index) old ≡ Ok new → (ordinal : ℕ) × (selected choice old ≡ Ok ordinal) × IsMoved ordinal index old new
 
 -- ---- fewer layers
 
--- the layer of this ordinal is gone; the other layers are there in their order, so are the fields of the tile, and so are both together
+-- the layer of this ordinal is gone; the other layers, the other fields of the tile, and both together are there in
+-- their order (tiles 4.1)
 pub record IsDropped (ordinal : ℕ) (old new : Document) : Type 0 where
   pub others : layers new ≡ remove (layers old) ordinal
   pub fields : tile_fields new ≡ tile_fields old
   pub items : Some new ≡ without_layer ordinal old
 
--- A drop that is accepted takes out the layer that was meant, and nothing else.
+-- an accepted drop takes out the selected layer, and nothing else
 abbrev pub DropLayerDrops : Type 0
 DropLayerDrops = (choice : LayerChoice) (old new : Document) → applied (DropLayer choice) old ≡ Ok new → (ordinal : ℕ) × (selected choice old ≡ Ok ordinal) × IsDropped ordinal old new
 
--- the layer has one of the names
+-- the layer has one of these names (tiles 4.1)
 abbrev pub has_one_of : List (List ℕ) → Layer → Bool
 has_one_of names layer = list_any (λ name. is_named name layer) names
 
--- some items of a list, in their order
+-- the first list is some items of the second, in their order
 abbrev pub IsPartOf : {A : Type 0} → List A → List A → Type 0
 IsPartOf [] ys = Unit {0}
 IsPartOf (x ∷ xs) [] = ⊥
 IsPartOf (x ∷ xs) (y ∷ ys) = ((x ≡ y) × IsPartOf xs ys) ⊎ IsPartOf (x ∷ xs) ys
 
--- the layers with one of the names are left, in their order; so are the fields of the tile, and so are both together
+-- the layers that have one of the names are left, at least one; they, the other fields of the tile, and both together
+-- are in their order (tiles 4.1)
 pub record AreKept (names : List (List ℕ)) (old new : Document) : Type 0 where
   pub kept : layers new ≡ filter (has_one_of names) (layers old)
   pub some : layers new ≢ []
   pub fields : tile_fields new ≡ tile_fields old
   pub items : IsPartOf new old
 
--- What is kept of a tile, where that is accepted, are the layers with the names, at least one of them.
+-- what an accepted `keep` leaves of the layers are those that have one of the names
 abbrev pub KeepLayersKeeps : Type 0
 KeepLayersKeeps = (names : List (List ℕ)) (old new : Document) → applied (KeepLayers names) old ≡ Ok new → AreKept names old new

@@ -1,11 +1,13 @@
--- What a command makes of a document, and when it is refused. Vector Tile Specification 2.1, sections 4.1 to 4.3.
+-- What a command makes of a document, and when it is refused. `applied` has a line for each refusal, in their order,
+-- and one for the meaning: a list of the tile, of a layer or of a feature in which one item is changed, left out, moved
+-- or new, or which is filtered.
 use Rattle.std.specs.Prelude.{ℕ, ◌-◌, ◌^◌, ◌==◌, nat_lt, Bool, true, ◌&&◌, not, unsigned_abs, List, [], ◌∷◌, length, filter, slice_get, Option, None, Result, Ok, Err, is_some, if◌then◌else◌}
 use Rattle.std.specs.List.{list_any}
 use Rattle.std.specs.Option.{option_map_or}
 use Rattle.std.specs.Result.{result_unwrap_or}
-use Rattle.mvt_wire.specs.TheConstants.{MAX_FILE}
-use Rattle.mvt_wire.specs.Plain.{Number, Body, Spelled, Eight, Four, Delimited, Group, Field, LayerItem, OfFeature, PlainInLayer, TileItem, OfLayer, PlainInTile, Document}
-use Rattle.mvt_wire.specs.Wire.{bytes_of, minimal_width}
+use Rattle.mvt_document.specs.declared.TheConstants.{MAX_FILE}
+use Rattle.mvt_document.specs.Plain.{Number, Body, Spelled, Eight, Four, Delimited, Group, Field, LayerItem, OfFeature, PlainInLayer, TileItem, OfLayer, PlainInTile, Document}
+use Rattle.mvt_document.specs.Wire.{bytes_of, minimal_width}
 use Rattle.mvt_geometry.specs.Shapes.{Geometry, number_of}
 use Rattle.mvt_geometry.specs.Integers.{encoded, joined, origin, repeats, ways}
 use Rattle.mvt_geometry.specs.declared.faults.EncodeError.{EncodeError}
@@ -18,6 +20,7 @@ use Rattle.mvt_meaning.specs.Selection.{is_feature, is_layer, selected, selected
 use Rattle.mvt_meaning.specs.declared.refusal.Refusal.{Refusal}
 use Rattle.mvt_meaning.specs.declared.refusal.Refusal.TheVariants.{BadPlace, NameTaken, NoLayer, NoMemory, OutOfRange, TooLarge}
 
+-- what follows a step that was accepted; the refusal of one that was refused
 infixl 10 ◌>>=◌
 abbrev pub ◌>>=◌ : {A B : Type 0} → Result A Refusal → (A → Result B Refusal) → Result B Refusal
 (Ok x) >>= f = f x
@@ -25,15 +28,15 @@ abbrev pub ◌>>=◌ : {A B : Type 0} → Result A Refusal → (A → Result B R
 
 -- ---- numbers and fields
 
--- a number in its shortest spelling
+-- a number in its shortest spelling (guide, Base 128 Varints)
 abbrev pub minimal : ℕ → Number
 minimal value = record { value = value; width = minimal_width value }
 
--- a number that stays what it is keeps its spelling
+-- the old number as it is spelled, where it has this value; else this value in its shortest spelling
 abbrev pub with_number : ℕ → Number → Number
 with_number value old = if old.value == value then old else minimal value
 
--- a VARINT body with another number
+-- a VARINT body with this number; another body as it is
 abbrev pub with_value : ℕ → Body → Body
 with_value value (Spelled number) = Spelled (with_number value number)
 with_value value (Eight eight) = Eight eight
@@ -41,7 +44,7 @@ with_value value (Four four) = Four four
 with_value value (Delimited width bytes) = Delimited width bytes
 with_value value (Group group) = Group group
 
--- a LEN body with another content, which keeps its stored width
+-- a LEN body with this content, and its stored width; another body as it is
 abbrev pub with_content : List ℕ → Body → Body
 with_content bytes (Spelled number) = Spelled number
 with_content bytes (Eight eight) = Eight eight
@@ -49,57 +52,66 @@ with_content bytes (Four four) = Four four
 with_content bytes (Delimited width old) = Delimited width bytes
 with_content bytes (Group group) = Group group
 
--- a field in its shortest spelling, behind this tag
+-- a VARINT field with this tag, in its shortest spelling (guide, Message Structure)
 abbrev pub new_number : ℕ → ℕ → Field
 new_number tag value = record { tag = minimal tag; body = Spelled (minimal value) }
 
+-- a LEN field with this tag, in its shortest spelling (guide, Message Structure)
 abbrev pub new_content : ℕ → List ℕ → Field
 new_content tag bytes = record { tag = minimal tag; body = Delimited 1 bytes }
 
 -- ---- the name of a layer: field 1, LEN
 
--- the content of an item of a layer that is a name field
+-- the content of an item of a layer that is a name field: a LEN field of number 1 (tiles 4.1)
 abbrev pub name_in : LayerItem → Option (List ℕ)
 name_in (OfFeature feature) = None
 name_in (PlainInLayer field) = content_in 1 field
 
+-- the item of a layer is a name field (tiles 4.1)
 abbrev pub is_name : LayerItem → Bool
 is_name item = is_some (name_in item)
 
+-- an item of a layer with this content, where it is a LEN field
 abbrev pub with_text : List ℕ → LayerItem → LayerItem
 with_text bytes (OfFeature feature) = OfFeature feature
 with_text bytes (PlainInLayer field) = PlainInLayer (record { tag = field.tag; body = with_content bytes field.body })
 
--- the last name field gets the name, or a name field comes at the end where there is none
+-- the items of a layer with this name in the last name field, or in a new one at the end where there is none
+-- (tiles 4.1)
 abbrev pub named_items : List ℕ → List LayerItem → List LayerItem
 named_items name items = put_last is_name (with_text name) (PlainInLayer (new_content 10 name)) items
 
--- the name is that of a layer of another ordinal
+-- a layer of another ordinal has the name (tiles 4.1)
 abbrev pub is_taken : List ℕ → ℕ → Document → Bool
 is_taken name ordinal document = list_any (λ other. not (other == ordinal)) (ordinals_of (is_named name) (layers document))
 
--- an item of the tile that is no layer, or a layer that has one of the names
+-- the item of the tile is no layer, or a layer that has one of the names (tiles 4.1)
 abbrev pub is_kept : List (List ℕ) → TileItem → Bool
 is_kept names (OfLayer layer) = list_any (λ name. is_named name layer) names
 is_kept names (PlainInTile field) = true
 
 -- ---- the id of a feature: field 1, VARINT
 
+-- the field is an id field: a VARINT field of number 1 (tiles 4.2)
 abbrev pub is_id : Field → Bool
 is_id field = is_some (value_in 1 field)
 
+-- the field with this number, where it is a VARINT field
 abbrev pub with_id : ℕ → Field → Field
 with_id id field = record { tag = field.tag; body = with_value id field.body }
 
--- the last id field gets the number, or an id field comes at the end where there is none
+-- the fields of a feature with this id in the last id field, or in a new one at the end where there is none (tiles 4.2)
 abbrev pub identified : ℕ → List Field → List Field
 identified id fields = put_last is_id (with_id id) (new_number 8 id) fields
 
+-- the fields of a feature without its id fields (tiles 4.2)
 abbrev pub without_id : List Field → List Field
 without_id fields = filter (λ field. not (is_id field)) fields
 
 -- ---- a new feature: its kind is field 3, VARINT, its geometry field 4, LEN
 
+-- a feature of the kind of this geometry, with the geometry and no other field, in its shortest spelling
+-- (tiles 4.2, 4.3)
 abbrev pub new_feature : Geometry → LayerItem
 new_feature geometry = OfFeature (record {
   tag = minimal 18;
@@ -107,7 +119,8 @@ new_feature geometry = OfFeature (record {
   fields = new_number 24 (number_of geometry.kind) ∷ new_content 34 (encoded geometry) ∷ [];
 })
 
--- each way from a point to the next is from -(2^31 - 1) to 2^31 - 1, and no command is repeated 2^29 times
+-- each way of the geometry is from -(2^31 - 1) to 2^31 - 1, and each command is carried out fewer than 2^29 times
+-- (tiles 4.3)
 abbrev pub is_in_range : Geometry → Bool
 is_in_range geometry =
     not (list_any (λ way. nat_lt (2 ^ 31 - 1) (unsigned_abs way)) (ways origin (joined geometry.parts)))
@@ -115,43 +128,44 @@ is_in_range geometry =
 
 -- ---- places in a document
 
+-- how many layers the tile has (tiles 4.1)
 abbrev pub layer_count : Document → ℕ
 layer_count document = length (layers document)
 
--- the items of the layer of this ordinal
+-- the items of the layer of this ordinal (tiles 4.1)
 abbrev pub items_of : ℕ → Document → List LayerItem
 items_of ordinal document = option_map_or (λ layer. layer.items) (slice_get (layers document) ordinal) []
 
--- how many features that layer has
+-- how many features the layer of this ordinal has (tiles 4.2)
 abbrev pub feature_count : ℕ → Document → ℕ
 feature_count ordinal document = length (features_in (items_of ordinal document))
 
--- the tile with the items of that layer changed
+-- the tile with the items of the layer of this ordinal changed
 abbrev pub change_layer : (List LayerItem → List LayerItem) → ℕ → Document → Document
 change_layer change ordinal document = change_nth is_layer (in_layer change) ordinal document
 
--- the tile with the fields of the feature of an ordinal of that layer changed
+-- the tile with the fields of the feature of this ordinal changed, in the layer of that ordinal
 abbrev pub change_feature : (List Field → List Field) → ℕ → ℕ → Document → Document
 change_feature change ordinal feature document = change_layer (change_nth is_feature (in_feature change) feature) ordinal document
 
 -- ---- refusals
 
--- this refusal where it applies
+-- the refusal, where it applies
 abbrev pub refuse_if : Bool → Refusal → Result (Unit {0}) Refusal
 refuse_if applies refusal = if applies then Err refusal else Ok tt
 
--- why a geometry has no bytes
+-- the refusal for a geometry that has no bytes: it is out of range, or there is no memory
 abbrev pub geometry_refusal : EncodeError → Refusal
 geometry_refusal encode_errors.OutOfRange = OutOfRange
 geometry_refusal encode_errors.NoMemory = NoMemory
 
--- a tile that a file can hold
+-- the document, where it has at most 67,108,864 bytes; else the refusal that it is too large
 abbrev pub within_limit : Document → Result Document Refusal
 within_limit document = if nat_lt MAX_FILE (length (bytes_of document)) then Err TooLarge else Ok document
 
 -- ---- commands
 
--- what the command makes of the document, or the first of its refusals, in this order
+-- what the command makes of the document, or the first of its refusals
 abbrev pub applied : Command → Document → Result Document Refusal
 applied (RenameLayer choice name) document = do
   ordinal ← selected choice document
@@ -190,6 +204,6 @@ applied (ClearId choice feature) document = do
   meant ← selected_in feature ordinal document
   Ok (change_feature without_id ordinal meant document)
 
--- the document after the command; a refused one changes nothing
+-- the document after the command; a refused command changes nothing
 abbrev pub after : Command → Document → Document
 after command document = result_unwrap_or (applied command document) document

@@ -1,10 +1,10 @@
 -- A law of commands and memory.
 use Rattle.std.specs.Prelude.{◌≢◌, Err}
-use Rattle.mvt_wire.specs.Plain.{Document}
+use Rattle.mvt_document.specs.Plain.{Document}
 use Rattle.mvt_command.specs.Command.{Command}
 use Rattle.mvt_meaning.specs.Meaning.{applied}
 use Rattle.mvt_meaning.specs.declared.refusal.Refusal.TheVariants.{NoMemory}
 
--- No command is refused for want of memory by its definition.
+-- no command is refused as out of memory by its definition
 abbrev pub CommandsHaveNoWant : Type 0
 CommandsHaveNoWant = (command : Command) (document : Document) → applied command document ≢ Err NoMemory

@@ -6,51 +6,54 @@ use Rattle.mvt_view.specs.Views.{ordinals_of}
 
 -- ---- positions
 
--- the positions of the items that pass: their ordinals among all items
+-- the positions among all items of those that pass, in order
 abbrev pub positions_of : {A : Type 0} → (A → Bool) → List A → List ℕ
 positions_of passes items = ordinals_of passes items
 
+-- how many items pass
 abbrev pub count : {A : Type 0} → (A → Bool) → List A → ℕ
 count passes items = length (filter passes items)
 
 -- ---- one item
 
--- the list with its rest changed, from the item of this ordinal on
+-- the list with all changed from the item of this ordinal among those that pass; as it is where there is none
 abbrev pub from_nth : {A : Type 0} → (A → Bool) → (List A → List A) → ℕ → List A → List A
 from_nth passes change ordinal [] = []
 from_nth passes change ordinal (x ∷ xs) = if passes x && (ordinal == 0) then change (x ∷ xs) else x ∷ from_nth passes change (if passes x then ordinal - 1 else ordinal) xs
 
+-- the list with its first item changed
 abbrev pub change_first : {A : Type 0} → (A → A) → List A → List A
 change_first change [] = []
 change_first change (x ∷ xs) = change x ∷ xs
 
--- the list with the item of this ordinal changed
+-- the list with the item of this ordinal among those that pass changed
 abbrev pub change_nth : {A : Type 0} → (A → Bool) → (A → A) → ℕ → List A → List A
 change_nth passes change ordinal items = from_nth passes (change_first change) ordinal items
 
--- the list without it
+-- the list without the item of this ordinal among those that pass
 abbrev pub without : {A : Type 0} → (A → Bool) → ℕ → List A → List A
 without passes ordinal items = from_nth passes (λ rest. drop 1 rest) ordinal items
 
--- the list with a new item right before it
+-- the list with a new item right before the item of this ordinal among those that pass
 abbrev pub before : {A : Type 0} → (A → Bool) → ℕ → A → List A → List A
 before passes ordinal new items = from_nth passes (λ rest. new ∷ rest) ordinal items
 
--- the list with a new item right behind it
+-- the list with a new item right behind the item of this ordinal among those that pass
 abbrev pub behind : {A : Type 0} → (A → Bool) → ℕ → A → List A → List A
 behind passes ordinal new items = from_nth passes (λ rest. take 1 rest ++ new ∷ drop 1 rest) ordinal items
 
 -- ---- moves and insertions
 
--- The item comes to stand right behind the one that has the ordinal `to` now, where that is greater than its own, and right
--- before that one where it is smaller. In the list without the item the former has one ordinal less.
+-- the list with the item of ordinal `from`, among those that pass, moved to ordinal `to`: right behind the item that
+-- has that ordinal now, where it is greater, and right before it, where it is smaller
 abbrev pub move_nth : {A : Type 0} → (A → Bool) → ℕ → ℕ → List A → List A
 move_nth passes from to items = option_map_or (λ item.
     if nat_lt from to then behind passes (to - 1) item (without passes from items)
     else if nat_lt to from then before passes to item (without passes from items)
     else items) (slice_get (filter passes items) from) items
 
--- A new item right before the one of this ordinal; where there is none so far, right behind the last that passes, or at the end.
+-- the list with a new item right before the item of this ordinal among those that pass; where there is none, right
+-- behind the last that passes, or at the end
 abbrev pub insert_nth : {A : Type 0} → (A → Bool) → ℕ → A → List A → List A
 insert_nth passes ordinal new items =
     if nat_lt ordinal (count passes items) then before passes ordinal new items
@@ -59,11 +62,11 @@ insert_nth passes ordinal new items =
 
 -- ---- the last item
 
--- the list with the last item that passes changed, and the others as they were
+-- the list with the last item that passes changed
 abbrev pub change_last : {A : Type 0} → (A → Bool) → (A → A) → List A → List A
 change_last passes change [] = []
 change_last passes change (x ∷ xs) = if passes x && not (list_any passes xs) then change x ∷ xs else x ∷ change_last passes change xs
 
--- the last item that passes changed, or a new one at the end where none passes
+-- the list with the last item that passes changed, or with a new item at the end where none passes
 abbrev pub put_last : {A : Type 0} → (A → Bool) → (A → A) → A → List A → List A
 put_last passes change new items = if list_any passes items then change_last passes change items else items ++ new ∷ []

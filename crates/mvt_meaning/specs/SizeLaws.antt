@@ -1,12 +1,12 @@
 -- Laws of how long a tile is after a command.
 use Rattle.std.specs.Prelude.{◌≡◌, ◌≤◌, Bool, true, false, length, Ok}
-use Rattle.mvt_wire.specs.TheConstants.{MAX_FILE}
-use Rattle.mvt_wire.specs.Plain.{Document}
-use Rattle.mvt_wire.specs.Wire.{bytes_of}
+use Rattle.mvt_document.specs.declared.TheConstants.{MAX_FILE}
+use Rattle.mvt_document.specs.Plain.{Document}
+use Rattle.mvt_document.specs.Wire.{bytes_of}
 use Rattle.mvt_command.specs.Command.{Command, RenameLayer, MoveLayer, DropLayer, KeepLayers, InsertFeature, MoveFeature, DropFeature, SetId, ClearId}
 use Rattle.mvt_meaning.specs.Meaning.{applied}
 
--- the kinds that may make a tile longer: these are refused where no file can hold it then
+-- the kinds of command that may make a tile longer: a rename, an insertion, and a new id
 abbrev pub may_lengthen : Command → Bool
 may_lengthen (RenameLayer choice name) = true
 may_lengthen (MoveLayer choice index) = false
@@ -18,10 +18,10 @@ may_lengthen (DropFeature choice feature) = false
 may_lengthen (SetId choice feature id) = true
 may_lengthen (ClearId choice feature) = false
 
--- An accepted command of another kind makes no tile longer.
+-- an accepted command of another kind leaves a tile with no more bytes than it had
 abbrev pub NeverLonger : Type 0
 NeverLonger = (command : Command) (document after : Document) → may_lengthen command ≡ false → applied command document ≡ Ok after → length (bytes_of after) ≤ length (bytes_of document)
 
--- An accepted command on a tile that a file can hold makes one that a file can hold.
+-- an accepted command on a tile of at most 67,108,864 bytes leaves one of at most 67,108,864 bytes
 abbrev pub CommandFits : Type 0
 CommandFits = (command : Command) (document after : Document) → length (bytes_of document) ≤ MAX_FILE → applied command document ≡ Ok after → length (bytes_of after) ≤ MAX_FILE

@@ -2,8 +2,8 @@
 use Rattle.std.specs.Prelude.{ℕ, Bool, not, List, [], length, filter, slice_get, None, Result, Ok, Err}
 use Rattle.std.specs.List.{flat_map, last_or}
 use Rattle.std.specs.Option.{option_map_or}
-use Rattle.mvt_wire.specs.Plain.{Field, Document}
-use Rattle.mvt_wire.specs.Wire.{field_bytes, layer_item_bytes, tile_item_bytes}
+use Rattle.mvt_document.specs.Plain.{Field, Document}
+use Rattle.mvt_document.specs.Wire.{field_bytes, layer_item_bytes, tile_item_bytes}
 use Rattle.mvt_change.specs.Places.{fields_in}
 use Rattle.mvt_command.specs.Command.{LayerChoice, FeatureChoice, Command, RenameLayer, MoveLayer, DropLayer, KeepLayers, InsertFeature, MoveFeature, DropFeature, SetId, ClearId}
 use Rattle.mvt_meaning.specs.Selection.{is_feature, is_layer, selected, selected_in}
@@ -12,39 +12,40 @@ use Rattle.mvt_meaning.specs.declared.refusal.Refusal.{Refusal}
 
 -- ---- the bytes of some items
 
+-- the bytes of all items (guide, Message Structure)
 abbrev pub weigh : {A : Type 0} → (A → List ℕ) → List A → ℕ
 weigh bytes items = length (flat_map bytes items)
 
--- those of the last item that passes
+-- the bytes of the last item that passes, 0 where none does (guide, Message Structure)
 abbrev pub weigh_last : {A : Type 0} → (A → List ℕ) → (A → Bool) → List A → ℕ
 weigh_last bytes passes items = option_map_or (λ item. length (bytes item)) (last_or None (filter passes items)) 0
 
--- those of the item of this ordinal among those that pass
+-- the bytes of the item of this ordinal among those that pass, 0 where there is none (guide, Message Structure)
 abbrev pub weigh_nth : {A : Type 0} → (A → List ℕ) → (A → Bool) → ℕ → List A → ℕ
 weigh_nth bytes passes ordinal items = option_map_or (λ item. length (bytes item)) (slice_get (filter passes items) ordinal) 0
 
 -- ---- the layer and the feature that a command means
 
--- so many bytes as this says of the ordinal, and none where the command is refused
+-- the weight of the selected ordinal, 0 where the selection is refused
 abbrev pub of_meant : Result ℕ Refusal → (ℕ → ℕ) → ℕ
 of_meant (Ok ordinal) weight = weight ordinal
 of_meant (Err refusal) weight = 0
 
--- the fields of the feature of an ordinal, in the layer of an ordinal
+-- the fields of the feature of this ordinal, in the layer of that ordinal
 abbrev pub fields_of : ℕ → ℕ → Document → List Field
 fields_of ordinal feature document = option_map_or (λ item. option_map_or (λ fields. fields) (fields_in item) []) (slice_get (filter is_feature (items_of ordinal document)) feature) []
 
--- the bytes of the last name field of the layer that is meant in one document, as it stands in another
+-- the bytes, in the document `seen`, of the last name field of the layer that is selected in `document`
 abbrev pub name_weight : LayerChoice → Document → Document → ℕ
 name_weight choice document seen = of_meant (selected choice document) (λ ordinal. weigh_last layer_item_bytes is_name (items_of ordinal seen))
 
--- those of the last id field of the feature that is meant
+-- the bytes, in the document `seen`, of the last id field of the feature that is selected in `document`
 abbrev pub id_weight : LayerChoice → FeatureChoice → Document → Document → ℕ
 id_weight choice feature document seen = of_meant (selected choice document) (λ ordinal. of_meant (selected_in feature ordinal document) (λ meant. weigh_last field_bytes is_id (fields_of ordinal meant seen)))
 
 -- ---- commands
 
--- the items that go or are replaced, as they stand before the command
+-- the bytes of the items that a command takes out or replaces, as they stand before it
 abbrev pub taken_by : Command → Document → ℕ
 taken_by (RenameLayer choice name) document = name_weight choice document document
 taken_by (MoveLayer choice index) document = 0
@@ -56,7 +57,7 @@ taken_by (DropFeature choice feature) document = of_meant (selected choice docum
 taken_by (SetId choice feature id) document = id_weight choice feature document document
 taken_by (ClearId choice feature) document = of_meant (selected choice document) (λ ordinal. of_meant (selected_in feature ordinal document) (λ meant. weigh field_bytes (filter is_id (fields_of ordinal meant document))))
 
--- the items that are new or replace others, as they stand after it
+-- the bytes of the items that a command puts in, new ones or those that replace others, as they stand after it
 abbrev pub put_by : Command → Document → ℕ
 put_by (RenameLayer choice name) document = name_weight choice document (after (RenameLayer choice name) document)
 put_by (MoveLayer choice index) document = 0

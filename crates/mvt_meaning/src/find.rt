@@ -1,15 +1,15 @@
-//! The layer that is meant, and the feature of a layer, each with where it stands.
+//! The selected layer and the selected feature, each with where it stands.
 
 ghost use Rattle.std.specs.Prelude.{◌≡◌, Err, IfErr, IfOk, MatchOption, None, map, slice_get};
-ghost use Rattle.mvt_wire.specs.Stands.{document_of, layer_item_of, layer_of, tile_item_of};
+ghost use Rattle.mvt_document.specs.Stands.{document_of, layer_item_of, layer_of, tile_item_of};
 ghost use Rattle.mvt_command.specs.CommandStands.{feature_choice_of, layer_choice_of};
 ghost use Rattle.mvt_meaning.specs.Selection.{feature_positions, layer_positions, selected, selected_feature};
 ghost use Rattle.mvt_meaning.specs.Found.{IsFeatureAt, IsFoundFeature, IsFoundLayer, IsLayerAt};
 
 use crate::refusal::Refusal;
 use mvt_command::{FeatureChoice, LayerChoice};
+use mvt_document::{Document, Feature, Layer, LayerItem, TileItem};
 use mvt_view::{LayerView, feature_by_id, layer_named};
-use mvt_wire::{Document, Feature, Layer, LayerItem, TileItem};
 
 /// A layer of a tile.
 #[derive(Clone, Copy, Debug)]

@@ -6,72 +6,82 @@ ghost use Rattle.mvt_meaning.specs.Laws.{NameMeansTheOne, NameMeansNone};
 ghost use Rattle.mvt_meaning.specs.MemoryLaws.{CommandsHaveNoWant};
 ghost use Rattle.mvt_meaning.specs.SizeLaws.{CommandFits, NeverLonger};
 
-/// A rename gives the name to the layer that is meant, and to that layer alone.
+/// An accepted rename names the selected layer, and no other layer has the name then; the other
+/// layers, the other fields of the tile, and all of that layer but its names are as they were. By
+/// this law all names of that layer might change; `applied` says which one does.
 pub fn rename_names()
     ensures { RenameNames }
 {}
 
-/// A move brings the layer that is meant to another ordinal, and leaves all else in its order.
+/// An accepted move brings the selected layer to the ordinal asked for; the other layers, the other
+/// fields of the tile, and both together keep their order.
 pub fn move_layer_moves()
     ensures { MoveLayerMoves }
 {}
 
-/// A drop takes out the layer that is meant, and nothing else.
+/// An accepted drop takes out the selected layer; all else of the tile is there in its order.
 pub fn drop_layer_drops()
     ensures { DropLayerDrops }
 {}
 
-/// What is kept are the layers with the names.
+/// An accepted `keep` leaves of the layers those that have one of the names, at least one, in their
+/// order; the other fields of the tile are there in their order.
 pub fn keep_layers_keeps()
     ensures { KeepLayersKeeps }
 {}
 
-/// A feature that is inserted has the geometry, and is the only one that is new.
+/// An accepted insertion of a valid geometry puts a new feature at the ordinal asked for in the
+/// selected layer, with the geometry, no id, no tags and no other field; all else of the layer is
+/// there in its order, and no other layer or field of the tile differs.
 pub fn insert_feature_inserts()
     ensures { InsertFeatureInserts }
 {}
 
-/// A move brings the feature that is meant to another ordinal, and leaves all else in its order.
+/// An accepted move brings the selected feature to the ordinal asked for in its layer; all else of
+/// the layer keeps its order, and no other layer or field of the tile differs.
 pub fn move_feature_moves()
     ensures { MoveFeatureMoves }
 {}
 
-/// A drop takes out the feature that is meant, and nothing else.
+/// An accepted drop takes the selected feature out of its layer; all else of the layer is there in
+/// its order, and no other layer or field of the tile differs.
 pub fn drop_feature_drops()
     ensures { DropFeatureDrops }
 {}
 
-/// The feature that is meant gets the id, and nothing but its ids changes.
+/// An accepted id is that of the selected feature, in place of its last one; no other field of it,
+/// and no other feature, layer or field of the tile differs.
 pub fn set_id_sets()
     ensures { SetIdSets }
 {}
 
-/// The feature that is meant loses its ids, and nothing else changes.
+/// Where it is accepted that an id is cleared, the selected feature has none; no other field of it,
+/// and no other feature, layer or field of the tile differs.
 pub fn clear_id_clears()
     ensures { ClearIdClears }
 {}
 
-/// A name means a layer where that layer alone has it.
+/// A name selects the layer of an ordinal exactly where that layer alone has it.
 pub fn name_means_the_one()
     ensures { NameMeansTheOne }
 {}
 
-/// A name means no layer where none has it; otherwise several have it.
+/// A name is refused as that of no layer exactly where none has it.
 pub fn name_means_none()
     ensures { NameMeansNone }
 {}
 
-/// An accepted command on a tile that a file can hold makes one that a file can hold.
+/// An accepted command on a tile that a file can hold makes such a tile.
 pub fn command_fits()
     ensures { CommandFits }
 {}
 
-/// A command that is never refused for the size of the tile makes no tile longer.
+/// An accepted command other than a rename, an insertion and a new id makes no tile longer.
 pub fn never_longer()
     ensures { NeverLonger }
 {}
 
-/// Where there is memory no command is refused for want of it.
+/// With all memory no command is refused as out of memory.
 pub fn commands_have_no_want()
     ensures { CommandsHaveNoWant }
 {}

@@ -1,4 +1,8 @@
-//! What the commands make of a tile, and when they are refused.
+//! What the commands make of a tile, as definitions, which layer or feature is selected, and laws
+//! of the commands.
+//!
+//! - A layer is selected, by its ordinal or its name, as the definition says, and so is a feature
+//!   of a layer, by its ordinal or its id: `selected_layer`, `selected_feature`.
 #![tactic(auto)]
 
 mod find;

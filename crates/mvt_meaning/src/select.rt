@@ -1,10 +1,10 @@
-//! Which layer is meant, and which feature of a layer; and where layers, features, names and ids
-//! stand.
+//! Which layer is selected, and which feature of a layer, by views; the positions of layers and
+//! features, and of the last name and the last id.
 
 ghost use Rattle.std.specs.Prelude.{◌≡◌, ℕ, List, [], ◌∷◌, ◌++◌, if◌then◌else◌, map, nat_lt, slice_get};
 ghost use Rattle.std.specs.List.{last_or};
-ghost use Rattle.mvt_wire.specs.Plain as plain;
-ghost use Rattle.mvt_wire.specs.Stands.{document_of, field_of, layer_item_of, tile_item_of};
+ghost use Rattle.mvt_document.specs.Plain as plain;
+ghost use Rattle.mvt_document.specs.Stands.{document_of, field_of, layer_item_of, tile_item_of};
 ghost use Rattle.mvt_view.specs.Views.{the_one};
 ghost use Rattle.mvt_view.specs.Seen.{layer_seen};
 ghost use Rattle.mvt_command.specs.CommandStands.{feature_choice_of, layer_choice_of};
@@ -16,9 +16,9 @@ ghost use Rattle.mvt_meaning.specs.declared.refusal.Refusal.TheVariants.{Ambiguo
 
 use crate::refusal::Refusal;
 use mvt_command::{FeatureChoice, LayerChoice};
+use mvt_document::tags::{ID, NAME};
+use mvt_document::{Body, Document, Field, LayerItem, TileItem};
 use mvt_view::{LayerView, feature_by_id, layer_count, layer_named, layers};
-use mvt_wire::tags::{ID, NAME};
-use mvt_wire::{Body, Document, Field, LayerItem, TileItem};
 
 /// The ordinal of the layer that is meant.
 pub fn selected_layer(document: &Document, choice: &LayerChoice) -> Result<usize, Refusal>

@@ -2,9 +2,9 @@
 use Rattle.std.proofs.Common.{◌≡◌, ℕ, ◌+◌, ◌<◌, List, ◌++◌, length, get_or, map, sym, ap, ◌∙◌, arith}
 use Rattle.std.specs.List.{flat_map, enumerate_from}
 use Rattle.std.proofs.lemmas.List.{drop_more, length-map, get_or-map}
-use Rattle.mvt_wire.specs.Plain as plain
-use Rattle.mvt_wire.specs.Stands.{field_of}
-use Rattle.mvt_wire.specs.declared.Field.{Field}
+use Rattle.mvt_document.specs.Plain as plain
+use Rattle.mvt_document.specs.Stands.{field_of}
+use Rattle.mvt_document.specs.declared.Field.{Field}
 use Rattle.mvt_numbers.specs.Numbers.{numbers_in}
 use Rattle.mvt_numbers.specs.Left.{numbers_from}
 

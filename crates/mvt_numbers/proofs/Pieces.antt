@@ -5,11 +5,11 @@ use Rattle.std.proofs.lemmas.Bool.{cond-true, cond-false, cond_both, lt-ltb, le-
 use Rattle.std.proofs.lemmas.Option.{cond_some}
 use Rattle.std.proofs.lemmas.List.{take-append-drop}
 use Rattle.std.proofs.lemmas.Slice.Eq.{bytes_eq-Decides}
-use Rattle.mvt_wire.specs.Plain.{Number}
-use Rattle.mvt_wire.specs.Wire.{spell, spelling}
-use Rattle.mvt_wire.specs.Shape.{IsSpelling}
-use Rattle.mvt_wire.specs.Groups.{IsNumber}
-use Rattle.mvt_wire.proofs.Spelling.{pow_more, rest_below, spelling_from, spelling_some, spelling_below, length-spell}
+use Rattle.mvt_document.specs.Plain.{Number}
+use Rattle.mvt_document.specs.Wire.{spell, spelling}
+use Rattle.mvt_document.specs.Shape.{IsSpelling}
+use Rattle.mvt_document.specs.Groups.{IsNumber}
+use Rattle.mvt_document.proofs.Spelling.{pow_more, rest_below, spelling_from, spelling_some, spelling_below, length-spell}
 use Rattle.mvt_numbers.specs.Numbers.{Placed, with_first, pieces, unspelled, is_spelled, number_in, chunk_at, packed, all_good, and_more, before_bad}
 use Rattle.mvt_numbers.specs.Laws.{spellings, AreNumbers, SpelledIsRead, ReadIsSpelled, EndsBadly, BadIsNoNumber}
 

@@ -1,33 +1,33 @@
--- Laws of packed bodies. Protocol Buffers encoding guide: "Packed Repeated Fields".
+-- Laws of packed bodies.
 use Rattle.std.specs.Prelude.{◌≡◌, ◌≢◌, ℕ, ◌+◌, List, [], ◌∷◌, ◌++◌, Some, None, Result, Ok, length}
 use Rattle.std.specs.List.{flat_map, AllByRecursion}
-use Rattle.mvt_wire.specs.Plain.{Number}
-use Rattle.mvt_wire.specs.Wire.{spelling}
-use Rattle.mvt_wire.specs.Groups.{IsNumber}
+use Rattle.mvt_document.specs.Plain.{Number}
+use Rattle.mvt_document.specs.Wire.{spelling}
+use Rattle.mvt_document.specs.Groups.{IsNumber}
 use Rattle.mvt_numbers.specs.Numbers.{Placed, pieces, packed, all_good, before_bad}
 
--- the numbers of a field one behind the other, the first at this place
+-- the numbers of a field one after the other, the first at this place
 abbrev pub in_a_row : ℕ → ℕ → List Number → List (Result Placed ℕ)
 in_a_row field place [] = []
 in_a_row field place (number ∷ more) = Ok (record { number = number; field = field; place = place }) ∷ in_a_row field (place + length (spelling number)) more
 
--- the spellings of these, joined
+-- the spellings of the numbers, joined
 abbrev pub spellings : List Placed → List ℕ
 spellings found = flat_map (λ (p : Placed). spelling p.number) found
 
--- what numbers are spelled one after the other is read as these numbers
+-- a packed body of numbers spelled one after the other is read as these numbers (guide, Packed Repeated Fields)
 abbrev pub SpelledIsRead : Type 0
 SpelledIsRead = (field place : ℕ) (list : List Number) → AllByRecursion IsNumber list → packed field place (pieces (flat_map spelling list)) ≡ in_a_row field place list
 
--- each number that is found is one
+-- each of the numbers can be spelled in its width
 abbrev pub AreNumbers : List Placed → Type 0
 AreNumbers found = AllByRecursion (λ (p : Placed). IsNumber p.number) found
 
--- where no chunk is bad, the body is the joined spellings of the numbers
+-- a packed body that is read with no bad chunk is the joined spellings of its numbers (guide, Packed Repeated Fields)
 abbrev pub ReadIsSpelled : Type 0
 ReadIsSpelled = (field place : ℕ) (body : List ℕ) (found : List Placed) → all_good (packed field place (pieces body)) ≡ Some found → (body ≡ spellings found) × AreNumbers found
 
--- the body begins with the joined spellings of these numbers, and goes on with no number
+-- the body begins with the joined spellings of these numbers, and what follows is not empty and begins with no number
 pub record EndsBadly (body : List ℕ) (found : List Placed) : Type 0 where
   pub numbers : AreNumbers found
   pub rest : List ℕ
@@ -35,6 +35,7 @@ pub record EndsBadly (body : List ℕ) (found : List Placed) : Type 0 where
   pub some : rest ≢ []
   pub none : (number : Number) (more : List ℕ) → IsNumber number → rest ≡ spelling number ++ more → ⊥
 
--- where a chunk is bad, the numbers before it are all up to a place at which no number begins
+-- a packed body with a bad chunk is the joined spellings of the numbers before it, and behind them no number begins
+-- (guide, Packed Repeated Fields)
 abbrev pub BadIsNoNumber : Type 0
 BadIsNoNumber = (field place : ℕ) (body : List ℕ) → all_good (packed field place (pieces body)) ≡ None → EndsBadly body (before_bad (packed field place (pieces body)))

@@ -1,13 +1,13 @@
 -- The numbers of a field that may be repeated, in order: one of each VARINT field of that number, and those that each
--- of its LEN fields packs. Protocol Buffers encoding guide: "Repeated Elements", "Packed Repeated Fields".
+-- of its LEN fields packs.
 use Rattle.std.specs.Prelude.{ℕ, ◌+◌, ◌*◌, ◌/◌, ◌%◌, ◌^◌, ◌&&◌, ◌==◌, Bool, List, [], ◌∷◌, Option, Some, None, Result, Ok, Err, length, nat_lt, nat_le, if◌then◌else◌}
 use Rattle.std.specs.List.{flat_map, enumerate_from}
 use Rattle.std.specs.Str.{bytes_eq}
-use Rattle.mvt_wire.specs.Plain.{Number, Body, Spelled, Eight, Four, Delimited, Group, Field}
-use Rattle.mvt_wire.specs.Wire.{spell}
+use Rattle.mvt_document.specs.Plain.{Number, Body, Spelled, Eight, Four, Delimited, Group, Field}
+use Rattle.mvt_document.specs.Wire.{spell}
 
--- a number, the position of its field among those of the message, and the place in a packed body at which it begins:
--- 0 where it is not packed
+-- a number, the position of its field among those of the message, and the place in a packed body at which it begins, 0
+-- where it is not packed
 pub record Placed : Type 0 where
   pub number : Number
   pub field : ℕ
@@ -15,41 +15,46 @@ pub record Placed : Type 0 where
 
 -- ---- a packed body: "Base 128 Varints", "Packed Repeated Fields"
 
--- a body cut behind each byte without the top bit; the last piece may lack such a byte
+-- the pieces with a byte put before the first of them
 abbrev pub with_first : ℕ → List (List ℕ) → List (List ℕ)
 with_first byte [] = (byte ∷ []) ∷ []
 with_first byte (piece ∷ more) = (byte ∷ piece) ∷ more
 
+-- a packed body cut behind each byte without the top bit; the last piece may lack such a byte (guide, Base 128 Varints)
 abbrev pub pieces : List ℕ → List (List ℕ)
 pieces [] = []
 pieces (byte ∷ more) = if nat_lt byte 128 then (byte ∷ []) ∷ pieces more else with_first byte (pieces more)
 
--- what bytes of 7 bits each stand for, the lowest first
+-- the number that bytes of 7 bits each stand for, the lowest first (guide, Base 128 Varints)
 abbrev pub unspelled : List ℕ → ℕ
 unspelled [] = 0
 unspelled (byte ∷ more) = byte % 128 + 128 * unspelled more
 
--- the piece spells this value of at most 64 bits in this width of at most ten bytes
+-- the piece is the spelling of this value, which is below 2 ^ 64, in this width, which is 1 to 10
+-- (guide, Base 128 Varints)
 abbrev pub is_spelled : ℕ → ℕ → List ℕ → Bool
 is_spelled value width piece = nat_lt value (2 ^ 64) && (nat_le 1 width && (nat_le width 10 && bytes_eq (spell value width) piece))
 
--- the number that a piece spells, where it spells one
+-- the number that a piece spells, where it spells one (guide, Base 128 Varints)
 unfoldable pub number_in : List ℕ → Option Number
 number_in piece = if is_spelled (unspelled piece) (length piece) piece then Some (record { value = unspelled piece; width = length piece }) else None
 
--- a number of this field at this place, or the field alone where there is none: a bad chunk
+-- a number with its field and its place; where there is none, a bad chunk, which is the field alone
+-- (guide, Packed Repeated Fields)
 abbrev pub chunk_at : ℕ → ℕ → Option Number → Result Placed ℕ
 chunk_at field place None = Err field
 chunk_at field place (Some number) = Ok (record { number = number; field = field; place = place })
 
--- what a body packs, from its first piece on, which begins at this place
+-- what the pieces of a packed body spell, each with its field and place, the first piece at this place
+-- (guide, Packed Repeated Fields)
 abbrev pub packed : ℕ → ℕ → List (List ℕ) → List (Result Placed ℕ)
 packed field place [] = []
 packed field place (piece ∷ more) = chunk_at field place (number_in piece) ∷ packed field (place + length piece) more
 
 -- ---- a message: "Repeated Elements"
 
--- the numbers in the body of a field at this position
+-- the numbers in the body of the field at this position: the one of a VARINT body, those that a LEN body packs, none of
+-- another (guide, Repeated Elements)
 abbrev pub numbers_of : ℕ → Body → List (Result Placed ℕ)
 numbers_of position (Spelled number) = Ok (record { number = number; field = position; place = 0 }) ∷ []
 numbers_of position (Eight bytes) = []
@@ -57,27 +62,28 @@ numbers_of position (Four bytes) = []
 numbers_of position (Delimited width bytes) = packed position 0 (pieces bytes)
 numbers_of position (Group bytes) = []
 
--- the numbers in a field, with its position, where it has this number
+-- the numbers in a field, given with its position, where it has this number; else none (guide, Repeated Elements)
 abbrev pub numbers_in : ℕ → ℕ × Field → List (Result Placed ℕ)
 numbers_in number at = if at.1.tag.value / 8 == number then numbers_of at.0 at.1.body else []
 
--- the items up to the first bad one, that one too
+-- the items up to the first bad one, which is among them
 abbrev pub through_bad : {A E : Type 0} → List (Result A E) → List (Result A E)
 through_bad [] = []
 through_bad (Ok item ∷ more) = Ok item ∷ through_bad more
 through_bad (Err bad ∷ more) = Err bad ∷ []
 
--- the numbers of the fields of this number; they end with the first bad chunk
+-- the numbers in the fields of this number, in order, up to the first bad chunk (guide, Repeated Elements)
 abbrev pub numbers : ℕ → List Field → List (Result Placed ℕ)
 numbers number fields = through_bad (flat_map (numbers_in number) (enumerate_from 0 fields))
 
 -- ---- good items and bad ones
 
--- the items, where none of them is bad
+-- an item before a list, where there is a list
 abbrev pub and_more : {A : Type 0} → A → Option (List A) → Option (List A)
 and_more item None = None
 and_more item (Some more) = Some (item ∷ more)
 
+-- the items, where none of them is bad
 abbrev pub all_good : {A E : Type 0} → List (Result A E) → Option (List A)
 all_good [] = Some []
 all_good (Ok item ∷ more) = and_more item (all_good more)

@@ -1,12 +1,12 @@
-//! Which fields of a message have numbers.
+//! Which field is the next that has numbers, and whether they are packed.
 
 ghost use Rattle.std.specs.Prelude.{◌≡◌, ℕ, ◌+◌, ◌<◌, ◌≤◌, ◌++◌, [], length, map, IfSome, MatchOption};
-ghost use Rattle.mvt_wire.specs.Stands.{body_of, field_of};
+ghost use Rattle.mvt_document.specs.Stands.{body_of, field_of};
 ghost use Rattle.mvt_numbers.specs.Numbers.{numbers_in};
 ghost use Rattle.mvt_numbers.specs.Left.{numbers_from};
 ghost use Rattle.mvt_numbers.specs.Seen.{elements_seen, HasNumbers};
 
-use mvt_wire::{Body, Field, Varint};
+use mvt_document::{Body, Field, Varint};
 
 /// What a field has of numbers.
 #[derive(Clone, Copy, Debug)]

@@ -2,17 +2,18 @@
 
 ghost use Rattle.mvt_numbers.specs.Laws.{BadIsNoNumber, ReadIsSpelled, SpelledIsRead};
 
-/// Numbers that are spelled one after the other are read as these numbers.
+/// A packed body of numbers spelled one after the other is read as these numbers.
 pub fn spelled_is_read()
     ensures { SpelledIsRead }
 {}
 
-/// A body that is read with no bad chunk is the spellings of its numbers.
+/// A packed body that is read with no bad chunk is the spellings of its numbers.
 pub fn read_is_spelled()
     ensures { ReadIsSpelled }
 {}
 
-/// A bad chunk is where no number begins, behind the spellings of the numbers before it.
+/// Where a chunk of a packed body is bad, the spellings of the numbers before it are a prefix of
+/// the body, and behind them no number begins.
 pub fn bad_is_no_number()
     ensures { BadIsNoNumber }
 {}

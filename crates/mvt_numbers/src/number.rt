@@ -1,6 +1,6 @@
-//! What is found of a repeated number.
+//! What is found of repeated numbers: a number with its field and its place there, or a bad chunk.
 
-use mvt_wire::Varint;
+use mvt_document::Varint;
 use thiserror::Error;
 
 /// A number of a field that may be repeated. `field` is the position of its field among those of the message, and

@@ -1,9 +1,9 @@
-//! The numbers of a field that may be repeated, one after the other.
+//! The numbers in the fields of one number, as an iterator.
 
 use crate::elements::{Elements, first_elements};
 use crate::number::{BadChunk, Number};
 use crate::packed::Packed;
-use mvt_wire::Field;
+use mvt_document::Field;
 use std::marker::Model;
 
 /// The numbers in the fields of one number, in order, packed or not. Behind a bad chunk there is none.
@@ -20,7 +20,7 @@ pub struct Numbers<'a> {
 
 impl<'a> Model for Numbers<'a> {
     ghost use Rattle.std.specs.Prelude.{ℕ, ◌≤◌, List, Result, length, map};
-    ghost use Rattle.mvt_wire.specs.Stands.{field_of};
+    ghost use Rattle.mvt_document.specs.Stands.{field_of};
     ghost use Rattle.mvt_numbers.specs.Numbers.{Placed};
     ghost use Rattle.mvt_numbers.specs.Left.{left};
     ghost use Rattle.mvt_numbers.specs.Seen.{left_of};
@@ -34,7 +34,7 @@ impl<'a> Model for Numbers<'a> {
 
 impl<'a> Numbers<'a> {
     ghost use Rattle.std.specs.Prelude.{◌≡◌, map};
-    ghost use Rattle.mvt_wire.specs.Stands.{field_of};
+    ghost use Rattle.mvt_document.specs.Stands.{field_of};
     ghost use Rattle.mvt_numbers.specs.Numbers.{numbers};
 
     pub fn of(fields: &'a [Field], number: u64) -> Numbers<'a>

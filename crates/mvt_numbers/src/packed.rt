@@ -3,7 +3,7 @@
 ghost use Rattle.std.specs.Prelude.{◌≤◌, length};
 
 use crate::number::{BadChunk, Number};
-use mvt_wire::read_varint;
+use mvt_document::read_varint;
 
 /// What is left of a packed body: all from `place` on.
 #[derive(Clone, Copy, Debug)]

@@ -3,13 +3,14 @@ use Rattle.std.specs.Prelude.{◌≡◌, ℕ, ◌-◌, List, [], ◌∷◌, ◌+
 use Rattle.mvt_document.specs.declared.TheConstants.{MAX_GROUPS}
 use Rattle.mvt_document.specs.Groups.{IsGroupWithin}
 
--- the bytes are what is left of each open group of these numbers, that of the innermost first
+-- the bytes are what is left of each open group of these numbers, the innermost first (guide, Groups)
 abbrev pub Closes : List ℕ → List ℕ → Type 0
 Closes [] bytes = bytes ≡ []
 Closes (number ∷ numbers) bytes = (left rest : List ℕ) × IsGroupWithin (MAX_GROUPS - length numbers) number left × Closes numbers rest × (bytes ≡ left ++ rest)
 
--- Where these groups are open, they are those after the piece: what closes the latter closes, behind the
--- piece, the former, and what closes the former and begins with the piece goes on with what closes the latter.
+-- the piece leads from the open groups `old` to the open groups `new`: what closes `new`, with the piece before it,
+-- closes `old`; and where the piece begins what closes `old`, or goes beyond it into what follows, the bytes behind the
+-- piece begin with what closes `new` (guide, Groups)
 pub record LeadsTo (piece old new : List ℕ) : Type 0 where
   pub closes : (left : List ℕ) → Closes new left → Closes old (piece ++ left)
   pub goes_on : (bytes after rest : List ℕ) → Closes old bytes → piece ++ after ≡ bytes ++ rest → (left : List ℕ) × Closes new left × (after ≡ left ++ rest)

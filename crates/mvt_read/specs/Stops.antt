@@ -7,7 +7,8 @@ use Rattle.mvt_document.specs.Parts.{IsWholeField}
 use Rattle.mvt_read.specs.declared.faults.ReadError.{ReadError}
 use Rattle.mvt_read.specs.declared.faults.ReadError.TheVariants.{BadWire, FileTooLarge, NoMemory}
 
--- The content up to this place is made of items, and up to no later place.
+-- a proper prefix of this length is the bytes of whole items, and no longer prefix is the bytes of whole fields each of
+-- which makes an item
 pub record StopsAt {T : Type 0} (as_field : T → Field) (is_whole : T → Type 0) (makes : Field → Type 0) (content : List ℕ) (place : ℕ) : Type 0 where
   pub before : place < length content
   pub items : List T
@@ -15,7 +16,7 @@ pub record StopsAt {T : Type 0} (as_field : T → Field) (is_whole : T → Type 
   pub spelled : take place content ≡ flat_map (λ i. field_bytes (as_field i)) items
   pub longest : (n : ℕ) (fields : List Field) → place < n → n ≤ length content → AllByRecursion IsWholeField fields → AllByRecursion makes fields → take n content ≡ flat_map field_bytes fields → ⊥
 
--- a reader's refusal: the wire is bad at a place of this kind, or memory ran out
+-- the error of a reader of items: the wire is bad at a place for which `stops` holds, or memory ran out
 abbrev pub IsStop : (ℕ → Type 0) → ReadError → Type 0
 IsStop stops (BadWire place) = stops place
 IsStop stops FileTooLarge = ⊥

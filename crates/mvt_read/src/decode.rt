@@ -1,4 +1,4 @@
-//! How the items of a message are read from its bytes.
+//! The items of a message, read in one pass by one loop for all three kinds of message.
 
 ghost use Rattle.std.specs.Prelude.{◌≡◌, ℕ, ◌++◌, List, length, refl, IfOk, IfErr, IsErrOf};
 ghost use Rattle.std.specs.List.{flat_map, AllByRecursion};

@@ -1,4 +1,4 @@
-//! Why a tile could not be read.
+//! Why a tile was not read.
 
 ghost use Rattle.std.specs.Prelude.{◌≡◌};
 ghost use Rattle.mvt_read.specs.declared.faults.ReadError.TheVariants as read_errors;

@@ -1,4 +1,4 @@
-//! The field at the front of a message, with its bytes where they lie.
+//! The field at the beginning of some bytes, with its body where it lies.
 
 ghost use Rattle.std.specs.Prelude.{◌≡◌, ℕ, ◌^◌, ◌<◌, ◌≤◌, ◌++◌, List, length, take, IfSome, IfNone, OnOk, IfOk};
 ghost use Rattle.mvt_document.specs.Plain.{Number as PlainNumber, Field as PlainField, Body as PlainBody};

@@ -1,4 +1,4 @@
-//! Groups: fields, groups among them, and then an end tag of the start tag's number.
+//! How far a group goes: the numbers of the open groups, and the way through their fields and tags.
 
 ghost use Rattle.std.specs.Prelude.{◌≡◌, ◌≢◌, ℕ, ◌<◌, ◌≤◌, ◌++◌, [], ◌∷◌, List, length, take, IfSome, IfNone};
 ghost use Rattle.mvt_document.specs.declared.TheConstants.{MAX_GROUPS};

@@ -4,12 +4,12 @@ use Rattle.std.specs.List.{flat_map}
 use Rattle.std.specs.Option.{SomeIff, IsSomeAnd, option_and_then}
 use Rattle.std.proofs.lemmas.Bool.{cases_lt, lt-ltb, le-ltb}
 use Rattle.std.proofs.lemmas.List.Folds.{flat_map-map}
-use Rattle.mvt_wire.specs.Plain.{Field, LayerItem, OfFeature, PlainInLayer, TileItem, OfLayer, PlainInTile, Document}
-use Rattle.mvt_wire.specs.Wire.{spell, minimal_width, delimited, field_bytes, layer_item_bytes, tile_item_bytes, bytes_of}
-use Rattle.mvt_wire.specs.Kept.{bytes_beside}
-use Rattle.mvt_wire.specs.Splicing.{splice, moved}
-use Rattle.mvt_wire.proofs.Beside.{spliced_size, moved_size}
-use Rattle.mvt_wire.proofs.Sizes.{length-message}
+use Rattle.mvt_document.specs.Plain.{Field, LayerItem, OfFeature, PlainInLayer, TileItem, OfLayer, PlainInTile, Document}
+use Rattle.mvt_document.specs.Wire.{spell, minimal_width, delimited, field_bytes, layer_item_bytes, tile_item_bytes, bytes_of}
+use Rattle.mvt_document.specs.Kept.{bytes_beside}
+use Rattle.mvt_document.specs.Splicing.{splice, moved}
+use Rattle.mvt_document.proofs.Beside.{spliced_size, moved_size}
+use Rattle.mvt_document.proofs.Sizes.{length-message}
 use Rattle.mvt_change.specs.Lists.{change_at}
 use Rattle.mvt_change.specs.Places.{in_layer, in_feature}
 use Rattle.mvt_change.specs.Changes.{Place, OfTheTile, OfTheLayer, OfTheFeature, move_at}

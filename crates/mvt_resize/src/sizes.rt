@@ -1,21 +1,22 @@
-//! How many bytes a tile takes once a step is carried out on it. Nothing is carried out: of a list
-//! whose size is kept, only the part that the step exchanges is measured.
+//! `fits_after`, by the sizes of a tile, of a layer and of a feature with a part of their items
+//! exchanged. Nothing is carried out: of a list whose size is kept, only the part that the step
+//! exchanges is measured.
 
 ghost use Rattle.std.specs.Prelude.{◌≡◌, ◌+◌, ◌<◌, ◌≤◌, length, map, nat_lt, not};
 ghost use Rattle.std.specs.List.{flat_map};
 ghost use Rattle.std.specs.Option.{IsSomeAnd, SomeIff, option_and_then};
-ghost use Rattle.mvt_wire.specs.TheConstants.{MAX_FILE};
-ghost use Rattle.mvt_wire.specs.Wire.{bytes_of, layer_item_bytes, tile_item_bytes};
-ghost use Rattle.mvt_wire.specs.Stands.{document_of, field_of, layer_item_of, tile_item_of};
-ghost use Rattle.mvt_wire.specs.Kept.{bytes_beside};
-ghost use Rattle.mvt_wire.specs.Splicing.{splice};
+ghost use Rattle.mvt_document.specs.declared.TheConstants.{MAX_FILE};
+ghost use Rattle.mvt_document.specs.Wire.{bytes_of, layer_item_bytes, tile_item_bytes};
+ghost use Rattle.mvt_document.specs.Stands.{document_of, field_of, layer_item_of, tile_item_of};
+ghost use Rattle.mvt_document.specs.Kept.{bytes_beside};
+ghost use Rattle.mvt_document.specs.Splicing.{splice};
 ghost use Rattle.mvt_change.specs.ChangeStands.{step_of};
 ghost use Rattle.mvt_change.specs.Lists.{HasPart, change_at};
 ghost use Rattle.mvt_change.specs.Places.{change_fields, change_items, fields_at, fields_in, fields_in_at, in_feature, in_layer, items_at, items_in};
 ghost use Rattle.mvt_change.specs.Changes.{FitsStep, go_step};
 
 use mvt_change::Step;
-use mvt_wire::{
+use mvt_document::{
     Document, Field, LayerItem, MAX_FILE, Measured, Message, TileItem, message_size,
     size_beside_part, size_of_all, sum_within,
 };

@@ -4,12 +4,12 @@ use Rattle.std.specs.Prelude.{option_map, option_and_then, IfSome}
 use Rattle.std.specs.List.{flat_map}
 use Rattle.std.proofs.lemmas.Bool.{cond-true, cond_both, eq-eqb, eqb-true}
 use Rattle.std.proofs.lemmas.Option.{cond_some, option_and_then_some, same_Some, none-some}
-use Rattle.mvt_wire.specs.Plain.{Number, Body, Spelled, Eight, Four, Delimited, Field}
-use Rattle.mvt_wire.specs.Shape.{IsSpelling, IsTag}
-use Rattle.mvt_wire.specs.Wire.{spell, spelling, delimited, body_bytes, field_bytes}
-use Rattle.mvt_wire.specs.Groups.{IsNumber, wire_type, IsBodyWith, IsGroup, StoresBody, StoresField}
-use Rattle.mvt_wire.specs.Opens.{IsField}
-use Rattle.mvt_wire.proofs.Spelling.{max_spelling, spelling_some}
+use Rattle.mvt_document.specs.Plain.{Number, Body, Spelled, Eight, Four, Delimited, Field}
+use Rattle.mvt_document.specs.Shape.{IsSpelling, IsTag}
+use Rattle.mvt_document.specs.Wire.{spell, spelling, delimited, body_bytes, field_bytes}
+use Rattle.mvt_document.specs.Groups.{IsNumber, wire_type, IsBodyWith, IsGroup, StoresBody, StoresField}
+use Rattle.mvt_document.specs.Opens.{IsField}
+use Rattle.mvt_document.proofs.Spelling.{max_spelling, spelling_some}
 use Rattle.mvt_numbers.specs.Numbers.{pieces, number_in}
 use Rattle.mvt_numbers.proofs.Pieces.{pieces-joined, pieces-spelling, number_in-spell, spelling_of_piece}
 use Rattle.mvt_value.specs.Values.{Value, OfText, OfFloat, OfDouble, OfInt, OfUint, OfSint, OfBool}

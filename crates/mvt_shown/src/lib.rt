@@ -1,4 +1,4 @@
-//! The meaning of a value's bytes and of a geometry's numbers, as functions: definitions and laws alone.
+//! The value of bytes and the geometry of numbers as functions: definitions and laws alone.
 #![tactic(auto)]
 
 pub mod laws;

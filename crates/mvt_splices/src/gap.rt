@@ -1,4 +1,4 @@
-//! A list that is open at a gap.
+//! A list that is open at a gap: what stands before it, and in reverse order what stands behind it.
 
 ghost use Rattle.std.specs.Prelude.{◌≡◌, ◌+◌, ◌-◌, ◌≤◌, [], ◌++◌, length, take, drop, reverse, vec_len, vec_capacity, OnOk, OnErr, IfOk};
 ghost use Rattle.mvt_document.specs.Splicing.{part, splice};

@@ -1,4 +1,13 @@
-//! Many splices of one list in one pass.
+//! Many splices of one list, carried out in one pass.
+//!
+//! - A list that is open at a gap has what it had (`Gap::open`, which needs memory), exchanges a
+//!   part as the definition says (`Gap::exchange`), and is closed as what it is then
+//!   (`Gap::close`).
+//! - Steps on one list, each on what the ones before it made, are carried out (`items`), and each
+//!   is turned into the one that leads back, with no less room (`steps`); the list has the room for
+//!   its greatest length on the way (`longest`). All memory is asked for before the first item
+//!   moves, so where it runs out nothing has changed but room: `splice_items`, and
+//!   `splice_message`, where a size that is kept is the right one after it (`IsKept`).
 #![tactic(auto)]
 
 mod gap;

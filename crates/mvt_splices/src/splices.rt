@@ -1,4 +1,4 @@
-//! Steps that exchange a part of a list.
+//! What a step on a list has to say of itself, as a trait.
 
 ghost use Rattle.std.specs.Prelude.{◌≡◌, ◌+◌, ◌≤◌, List, length, OnOk};
 ghost use Rattle.mvt_document.specs.Splicing.{part};

@@ -1,4 +1,5 @@
-//! Tests of bytes and geometries, and the tiles, commands and changes that all tests share.
+//! Tests of bytes and geometries; for other tests the tiles, the commands, and documents with a
+//! change that fits.
 #![tactic(auto)]
 
 pub mod asked;

@@ -4,11 +4,11 @@ use Rattle.std.specs.Prelude.{Option, Some, None, IfSome, IfNone, IsSomeAnd}
 use Rattle.std.specs.Option.{unwrap_or}
 use Rattle.std.specs.List.{flat_map, AllByRecursion}
 use Rattle.std.proofs.lemmas.List.{append-nil, take-append-drop, length-drop}
-use Rattle.mvt_wire.specs.Plain.{Number, Body, Spelled, Eight, Four, Delimited, Group, Field}
-use Rattle.mvt_wire.specs.Wire.{field_bytes}
-use Rattle.mvt_wire.specs.Groups.{IsBodyWith, IsWholeFieldWith, IsGroup, StoresBody, StoresField}
-use Rattle.mvt_wire.specs.Opens.{IsField}
-use Rattle.mvt_wire.proofs.Prefixes as prefixes
+use Rattle.mvt_document.specs.Plain.{Number, Body, Spelled, Eight, Four, Delimited, Group, Field}
+use Rattle.mvt_document.specs.Wire.{field_bytes}
+use Rattle.mvt_document.specs.Groups.{IsBodyWith, IsWholeFieldWith, IsGroup, StoresBody, StoresField}
+use Rattle.mvt_document.specs.Opens.{IsField}
+use Rattle.mvt_document.proofs.Prefixes as prefixes
 use Rattle.mvt_zigzag.specs.Signed.{zigzag}
 use Rattle.mvt_zigzag.proofs.Apart.{one_in_zigzag}
 use Rattle.mvt_value.specs.Values.{Value, OfText, OfFloat, OfDouble, OfInt, OfUint, OfSint, OfBool}

@@ -1,9 +1,9 @@
 -- Laws of values and their bytes.
 use Rattle.std.specs.Prelude.{◌≡◌, ℕ, List, [], ◌∷◌}
 use Rattle.std.specs.List.{flat_map, AllByRecursion}
-use Rattle.mvt_wire.specs.Plain.{Field}
-use Rattle.mvt_wire.specs.Wire.{field_bytes}
-use Rattle.mvt_wire.specs.Groups.{IsWholeFieldWith, IsGroup}
+use Rattle.mvt_document.specs.Plain.{Field}
+use Rattle.mvt_document.specs.Wire.{field_bytes}
+use Rattle.mvt_document.specs.Groups.{IsWholeFieldWith, IsGroup}
 use Rattle.mvt_value.specs.Values.{Value}
 use Rattle.mvt_value.specs.Messages.{FieldHas, HasValue, encoded, IsInRange}
 
@@ -11,14 +11,15 @@ use Rattle.mvt_value.specs.Messages.{FieldHas, HasValue, encoded, IsInRange}
 abbrev pub EncodedIsRead : Type 0
 EncodedIsRead = (value : Value) → IsInRange value → HasValue (encoded value) value
 
--- bytes have one value at most
+-- bytes have at most one value
 abbrev pub OneValue : Type 0
 OneValue = (bytes : List ℕ) (v w : Value) → HasValue bytes v → HasValue bytes w → v ≡ w
 
--- what is read is in range, so it can be written
+-- a value that bytes have is in range, so it can be written
 abbrev pub ReadIsInRange : Type 0
 ReadIsInRange = (bytes : List ℕ) (value : Value) → HasValue bytes value → IsInRange value
 
--- fields whose bytes have a value are one field, which has it
+-- valid fields, with each length in its stored width, whose bytes have a value are a single field, and it has that
+-- value
 abbrev pub OneField : Type 0
 OneField = (fields : List Field) (value : Value) → AllByRecursion (IsWholeFieldWith IsGroup) fields → HasValue (flat_map field_bytes fields) value → (f : Field) × (fields ≡ f ∷ []) × FieldHas f value

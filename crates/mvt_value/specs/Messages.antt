@@ -1,18 +1,18 @@
--- What bytes a value has.
--- Vector Tile Specification 2.1, section 4.1 "Layers" and its message Value; Protocol Buffers encoding guide: "Message Structure".
+-- What value bytes have, and how a new value is written.
 use Rattle.std.specs.Prelude.{◌≡◌, ℕ, ◌+◌, ◌*◌, ◌/◌, ◌^◌, ◌<◌, true, false, not, ◌==◌, FitsSigned, List, [], ◌∷◌, ◌++◌, length}
 use Rattle.std.specs.Int.{w64}
-use Rattle.mvt_wire.specs.Plain.{Body, Spelled, Eight, Four, Delimited, Field}
-use Rattle.mvt_wire.specs.Wire.{spell, minimal_width, field_bytes}
-use Rattle.mvt_wire.specs.Groups.{StoresField}
-use Rattle.mvt_wire.specs.Opens.{IsField}
+use Rattle.mvt_document.specs.Plain.{Body, Spelled, Eight, Four, Delimited, Field}
+use Rattle.mvt_document.specs.Wire.{spell, minimal_width, field_bytes}
+use Rattle.mvt_document.specs.Groups.{StoresField}
+use Rattle.mvt_document.specs.Opens.{IsField}
 use Rattle.mvt_zigzag.specs.Signed.{zigzag}
 use Rattle.mvt_value.specs.Values.{Value, OfText, OfFloat, OfDouble, OfInt, OfUint, OfSint, OfBool}
 use Rattle.mvt_value.specs.Signed.{twos_complement}
 
 -- ---- what is read
 
--- a field of this number with this body has the value
+-- a field of this number with this body has this value: the table of field numbers and wire types of the message Value
+-- (tiles 4.1)
 abbrev pub BodyHas : ℕ → Body → Value → Type 0
 BodyHas number (Delimited width bytes) (OfText text) = (number ≡ 1) × (bytes ≡ text)
 BodyHas number (Four bytes) (OfFloat float) = (number ≡ 2) × (bytes ≡ float)
@@ -23,10 +23,12 @@ BodyHas number (Spelled n) (OfSint sint) = (number ≡ 6) × (n.value ≡ zigzag
 BodyHas number (Spelled n) (OfBool truth) = (number ≡ 7) × (truth ≡ not (n.value == 0))
 BodyHas number body value = ⊥
 
+-- a field, whose number is in its tag, has this value (tiles 4.1)
 abbrev pub FieldHas : Field → Value → Type 0
 FieldHas f value = BodyHas (f.tag.value / 8) f.body value
 
--- the bytes are those of one field, and it has the value
+-- the bytes are those of one valid field, with its length, where it has one, spelled in its stored width, and the field
+-- has this value (tiles 4.1)
 pub record HasValue (bytes : List ℕ) (value : Value) : Type 0 where
   pub field : Field
   pub valid : IsField field
@@ -36,11 +38,13 @@ pub record HasValue (bytes : List ℕ) (value : Value) : Type 0 where
 
 -- ---- what is written
 
--- a number in its shortest spelling
+-- the bytes of a number in its shortest spelling (guide, Base 128 Varints)
 abbrev pub shortest : ℕ → List ℕ
 shortest value = spell value (minimal_width value)
 
--- a tag is 8 times the field's number, and the wire type: LEN is 2, I32 is 5, I64 is 1, VARINT is 0
+-- the bytes of a new value: the tag, which is 8 times the field's number and the wire type, then a number in its
+-- shortest spelling, or a length in its shortest spelling and a text, or the bytes of a float
+-- (tiles 4.1; guide, Message Structure)
 abbrev pub encoded : Value → List ℕ
 encoded (OfText text) = (8 * 1 + 2) ∷ (shortest (length text) ++ text)
 encoded (OfFloat float) = (8 * 2 + 5) ∷ float
@@ -51,7 +55,7 @@ encoded (OfSint sint) = (8 * 6 + 0) ∷ shortest (zigzag sint)
 encoded (OfBool false) = (8 * 7 + 0) ∷ 0 ∷ []
 encoded (OfBool true) = (8 * 7 + 0) ∷ 1 ∷ []
 
--- floats of 4 and of 8 bytes, numbers of 64 bits
+-- the value can be written: a float has 4 or 8 bytes, numbers have 64 bits, and the length of a text is below 2 ^ 64
 abbrev pub IsInRange : Value → Type 0
 IsInRange (OfText text) = length text < 2 ^ 64
 IsInRange (OfFloat float) = length float ≡ 4

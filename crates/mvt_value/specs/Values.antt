@@ -1,8 +1,8 @@
--- A value of a layer as plain values: lists and numbers, with nothing of where they lie in memory.
--- Vector Tile Specification 2.1, section 4.1 "Layers".
+-- The values of a layer as plain values: lists and numbers, with nothing of where they lie in memory.
 use Rattle.std.specs.Prelude.{ℕ, ℤ, Bool, List}
 
--- floats are their bytes in the order of the file; Int and Sint are the same numbers, written differently
+-- a value of a layer: a text, a float of 4 or of 8 bytes, a signed number, an unsigned one, one stored in ZigZag, or a
+-- truth value; a float is its bytes in the order of the file (tiles 4.1)
 pub data Value : Type 0 where
   OfText : (text : List ℕ) → Value
   OfFloat : (bytes : List ℕ) → Value

@@ -1,4 +1,4 @@
-//! The bytes of a new value.
+//! `encode_value`: the bytes of a new value.
 
 ghost use Rattle.std.specs.Prelude.{◌≡◌, ◌++◌, ◌∷◌, [], IfOk};
 ghost use Rattle.mvt_value.specs.Messages.{HasValue, shortest, encoded};
@@ -6,7 +6,7 @@ ghost use Rattle.mvt_value.specs.Stands.{new_value_of};
 
 use crate::tags::{BOOL_TAG, DOUBLE_TAG, FLOAT_TAG, INT_TAG, SINT_TAG, STRING_TAG, UINT_TAG};
 use crate::value::NewValue;
-use mvt_wire::{Items, least_width, put_number};
+use mvt_document::{Items, least_width, put_number};
 use mvt_zigzag::to_zigzag;
 use std::alloc::{AllocError, Global};
 

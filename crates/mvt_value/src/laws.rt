@@ -2,22 +2,23 @@
 
 ghost use Rattle.mvt_value.specs.Laws.{EncodedIsRead, OneValue, ReadIsInRange, OneField};
 
-/// The bytes of a value in range are read as that value.
+/// The bytes of a value in range have that value.
 pub fn encoded_is_read()
     ensures { EncodedIsRead }
 {}
 
-/// Bytes are those of one value at most.
+/// Bytes have one value at most.
 pub fn one_value()
     ensures { OneValue }
 {}
 
-/// A value that is read can be written.
+/// A value that bytes have is in range, so it can be written.
 pub fn read_is_in_range()
     ensures { ReadIsInRange }
 {}
 
-/// Fields whose bytes are a value are one field.
+/// Valid fields, with each length in its stored width, whose bytes have a value are a single field,
+/// and it has that value.
 pub fn one_field()
     ensures { OneField }
 {}

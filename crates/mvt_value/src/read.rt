@@ -1,16 +1,17 @@
-//! What the bytes of a value are.
+//! `value_of`: the value that bytes have.
 
 ghost use Rattle.std.specs.Prelude.{◌≡◌, ◌/◌, Some, IfSome, IsSomeAnd, IfNone};
-ghost use Rattle.mvt_wire.specs.Plain.{Spelled};
-ghost use Rattle.mvt_wire.specs.Stands.{number_of};
-ghost use Rattle.mvt_wire.specs.Fronts.{front_of};
+ghost use Rattle.mvt_document.specs.Plain.{Spelled};
+ghost use Rattle.mvt_document.specs.Stands.{number_of};
+ghost use Rattle.mvt_read.specs.Fronts.{front_of};
 ghost use Rattle.mvt_value.specs.Values.{Value as PlainValue};
 ghost use Rattle.mvt_value.specs.Messages.{BodyHas, FieldHas, HasValue};
 ghost use Rattle.mvt_value.specs.Stands.{shown_by, raw_of};
 
 use crate::tags::{BOOL, DOUBLE, FLOAT, INT, SINT, STRING, UINT};
 use crate::value::Value;
-use mvt_wire::{BodyRef, FieldRef, Varint, field_at_front};
+use mvt_document::Varint;
+use mvt_read::{BodyRef, FieldRef, field_at_front};
 use mvt_zigzag::from_zigzag;
 
 /// The value whose bytes these are: those of one field with a number and a wire type that a value

@@ -1,6 +1,6 @@
 //! The field numbers of a value, and the tags of a new one.
 
-use mvt_wire::tags::{I32, I64, LEN, VARINT};
+use mvt_document::tags::{I32, I64, LEN, VARINT};
 
 /// The number of a text.
 pub const STRING: u64 = 1;

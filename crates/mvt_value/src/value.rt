@@ -1,6 +1,6 @@
-//! The values of a layer.
+//! The types of values: what is shown of a value of a layer, and a new one.
 
-use mvt_wire::Items;
+use mvt_document::Items;
 
 /// What the bytes of a value are. Floats are bytes in the order of the file.
 #[derive(Clone, Copy, Debug)]

@@ -4,7 +4,7 @@ use Rattle.std.specs.List.{list_all, AllByRecursion}
 use Rattle.std.specs.Option.{option_and_then}
 use Rattle.std.proofs.lemmas.Bool.{and_parts, ltb-true}
 use Rattle.std.proofs.lemmas.Option.{cond_some, slice_get-get_or}
-use Rattle.mvt_wire.specs.Plain.{Layer}
+use Rattle.mvt_document.specs.Plain.{Layer}
 use Rattle.mvt_numbers.specs.Numbers.{numbers, and_more}
 use Rattle.mvt_view.specs.Views.{keys, values}
 use Rattle.mvt_view.specs.Attributes.{values_in, in_pairs, is_ordinal, is_pair, if_pairs}

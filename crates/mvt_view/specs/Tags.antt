@@ -3,7 +3,7 @@ use Rattle.std.specs.Prelude.{ℕ, Option, Some, None, Result, Ok, Err, if◌the
 use Rattle.mvt_numbers.specs.Numbers.{Placed}
 use Rattle.mvt_view.specs.Attributes.{is_ordinal}
 
--- the ordinal that a number is, where there are so many and it has 32 bits
+-- the ordinal that a number is, where it is below the count and below 2^32
 abbrev pub ordinal_in : ℕ → Result Placed ℕ → Option ℕ
 ordinal_in count (Ok placed) = if is_ordinal count placed.number.value then Some placed.number.value else None
 ordinal_in count (Err bad) = None

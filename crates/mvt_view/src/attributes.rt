@@ -1,4 +1,4 @@
-//! The tags of a feature in pairs.
+//! `pairs`: the tags of a feature in pairs.
 
 ghost use Rattle.std.specs.Prelude.{◌≡◌, ◌<◌, [], Some, None, length, map, IfOk, IfErr, MatchOption, OnSome};
 ghost use Rattle.std.specs.Result.{IsErrOf};
@@ -10,8 +10,8 @@ ghost use Rattle.mvt_view.specs.Tags.{ordinal_in};
 ghost use Rattle.mvt_view.specs.declared.attributes.PairsError.TheVariants.{BadTags, NoMemory};
 
 use crate::views::{FeatureView, LayerView};
+use mvt_document::Items;
 use mvt_numbers::{BadChunk, Number, Numbers};
-use mvt_wire::Items;
 use std::alloc::{AllocError, AllocFailed, Global};
 use thiserror::Error;
 

@@ -2,10 +2,10 @@
 
 ghost use Rattle.std.specs.Prelude.{◌≡◌, ◌∷◌, [], map, MatchOption};
 ghost use Rattle.std.specs.Option.{option_copied};
-ghost use Rattle.mvt_wire.specs.Stands.{feature_of, field_of, layer_item_of, layer_of, tile_item_of};
+ghost use Rattle.mvt_document.specs.Stands.{feature_of, field_of, layer_item_of, layer_of, tile_item_of};
 ghost use Rattle.mvt_view.specs.Views.{content_in, contents, features_in, last_value, layers, plain_fields, value_in};
 
-use mvt_wire::{Body, Feature, Field, Layer, LayerItem, TileItem};
+use mvt_document::{Body, Feature, Field, Layer, LayerItem, TileItem};
 
 /// The value of a VARINT field of this number.
 fn value_in(field: &Field, number: u64) -> Option<u64>

@@ -1,4 +1,4 @@
-//! The geometry of a feature.
+//! `geometry`: the geometry that the numbers of a feature have.
 
 ghost use Rattle.std.specs.Prelude.{◌≡◌, Some, None, IfOk};
 ghost use Rattle.std.specs.Result.{IsErrOf};

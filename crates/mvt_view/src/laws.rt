@@ -2,7 +2,7 @@
 
 ghost use Rattle.mvt_view.specs.Laws.{PairsName};
 
-/// Each pair of a feature names a key and a value of the layer.
+/// Each pair that the tags of a feature make names a key and a value of the layer.
 pub fn pairs_name()
     ensures { PairsName }
 {}

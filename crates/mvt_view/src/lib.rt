@@ -1,4 +1,26 @@
-//! Views of a document. They borrow from it and copy nothing. A feature's pairs and its geometry alone take memory.
+//! Views of a document: they borrow from it and copy nothing.
+//!
+//! - The layers of a document, the features of a layer, its keys and its values are those of the
+//!   definitions, in order, by ordinal (none past the last), and counted: `layers`, `layer`,
+//!   `layer_count`, and the calls of `LayerView`.
+//! - The name, version and extent of a layer, and the id and kind of a feature, are those of the
+//!   last field of the number and wire type, or the default: the calls of `LayerView` and
+//!   `FeatureView`.
+//! - A name selects the one layer that has it, and an id the one feature; else the error says
+//!   whether none has it or several: `layer_named`, `feature_by_id`.
+//! - The tags of a feature are the numbers of its fields of number 2, those of its geometry of
+//!   number 4: `FeatureView::tags`, `FeatureView::geometry_numbers`.
+//! - The tags of a feature are read as pairs of the ordinals of a key and of a value of its layer
+//!   (`pairs`). They are refused only where they are no such pairs (`bad_tags`): a chunk is bad, a
+//!   key has no value, or an ordinal names no key, no value, or has more than 32 bits. Out of
+//!   memory alone may come in place of either: `pairs`.
+//! - The geometry of a feature is read from its numbers, for its kind (`found`), and refused only
+//!   where there is none (`bad`): a chunk is bad, or the numbers are those of no geometry of the
+//!   kind. Out of memory alone may come in place of either: `geometry`.
+//!
+//! Only `pairs` and `geometry` are given an allocator. The crate passes on the names of
+//! `mvt_value`, `mvt_numbers` and `mvt_geometry`, so it has all that is seen of a tile, with the
+//! encoders of values and geometries.
 #![tactic(auto)]
 
 mod attributes;

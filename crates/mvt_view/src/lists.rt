@@ -1,8 +1,8 @@
-//! The layers of a tile, the features of a layer, and its keys and values, one after the other.
+//! The layers of a tile, and the features, keys and values of a layer, as iterators.
 
 use crate::fields::{first_content, first_feature, first_layer};
 use crate::views::{FeatureView, LayerView};
-use mvt_wire::{LayerItem, TileItem};
+use mvt_document::{LayerItem, TileItem};
 use std::marker::Model;
 
 /// The layers of a tile, in order. Contracts see those that are left.
@@ -13,8 +13,8 @@ pub struct LayerViews<'a> {
 
 impl<'a> Model for LayerViews<'a> {
     ghost use Rattle.std.specs.Prelude.{List, map};
-    ghost use Rattle.mvt_wire.specs.Plain.{Layer};
-    ghost use Rattle.mvt_wire.specs.Stands.{tile_item_of};
+    ghost use Rattle.mvt_document.specs.Plain.{Layer};
+    ghost use Rattle.mvt_document.specs.Stands.{tile_item_of};
     ghost use Rattle.mvt_view.specs.Views.{layers};
 
     ghost Value = { List Layer };
@@ -24,7 +24,7 @@ impl<'a> Model for LayerViews<'a> {
 
 impl<'a> LayerViews<'a> {
     ghost use Rattle.std.specs.Prelude.{◌≡◌, ◌<◌, ◌^◌, length, map};
-    ghost use Rattle.mvt_wire.specs.Stands.{tile_item_of};
+    ghost use Rattle.mvt_document.specs.Stands.{tile_item_of};
     ghost use Rattle.mvt_view.specs.Views.{layers};
 
     pub(crate) fn of(items: &'a [TileItem]) -> LayerViews<'a>
@@ -60,8 +60,8 @@ pub struct FeatureViews<'a> {
 
 impl<'a> Model for FeatureViews<'a> {
     ghost use Rattle.std.specs.Prelude.{List, map};
-    ghost use Rattle.mvt_wire.specs.Plain.{Feature};
-    ghost use Rattle.mvt_wire.specs.Stands.{layer_item_of};
+    ghost use Rattle.mvt_document.specs.Plain.{Feature};
+    ghost use Rattle.mvt_document.specs.Stands.{layer_item_of};
     ghost use Rattle.mvt_view.specs.Views.{features_in};
 
     ghost Value = { List Feature };
@@ -71,7 +71,7 @@ impl<'a> Model for FeatureViews<'a> {
 
 impl<'a> FeatureViews<'a> {
     ghost use Rattle.std.specs.Prelude.{◌≡◌, ◌<◌, ◌^◌, length, map};
-    ghost use Rattle.mvt_wire.specs.Stands.{layer_item_of};
+    ghost use Rattle.mvt_document.specs.Stands.{layer_item_of};
     ghost use Rattle.mvt_view.specs.Views.{features_in};
 
     pub(crate) fn of(items: &'a [LayerItem]) -> FeatureViews<'a>
@@ -109,7 +109,7 @@ pub struct Contents<'a> {
 
 impl<'a> Model for Contents<'a> {
     ghost use Rattle.std.specs.Prelude.{ℕ, List, map};
-    ghost use Rattle.mvt_wire.specs.Stands.{layer_item_of};
+    ghost use Rattle.mvt_document.specs.Stands.{layer_item_of};
     ghost use Rattle.mvt_view.specs.Views.{contents, plain_fields};
 
     ghost Value = { List (List ℕ) };
@@ -119,7 +119,7 @@ impl<'a> Model for Contents<'a> {
 
 impl<'a> Contents<'a> {
     ghost use Rattle.std.specs.Prelude.{◌≡◌, ◌<◌, ◌^◌, length, map};
-    ghost use Rattle.mvt_wire.specs.Stands.{layer_item_of};
+    ghost use Rattle.mvt_document.specs.Stands.{layer_item_of};
     ghost use Rattle.mvt_view.specs.Views.{contents, plain_fields};
 
     pub(crate) fn of(items: &'a [LayerItem], number: u64) -> Contents<'a>

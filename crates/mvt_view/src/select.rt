@@ -1,10 +1,10 @@
-//! The layers of a tile, and which layer a name means, or which feature an id.
+//! The layers of a document; the layer that a name selects, and the feature that an id selects.
 
 ghost use Rattle.std.specs.Prelude.{◌≡◌, ◌<◌, ◌^◌, ℕ, List, false, length, option_map, slice_get};
 ghost use Rattle.std.specs.Iterator.{AlwaysYields};
 ghost use Rattle.std.specs.Option.{option_copied, option_map_or};
 ghost use Rattle.std.specs.Str.{bytes_eq};
-ghost use Rattle.mvt_wire.specs.Stands.{document_of};
+ghost use Rattle.mvt_document.specs.Stands.{document_of};
 ghost use Rattle.mvt_view.specs.Views.{features, has_id, is_named, layers, ordinals_of, the_one};
 ghost use Rattle.mvt_view.specs.Seen.{feature_seen, layer_seen};
 ghost use Rattle.mvt_view.specs.declared.select.LayerError.TheVariants.{AmbiguousLayer, NoLayer};
@@ -12,7 +12,7 @@ ghost use Rattle.mvt_view.specs.declared.select.FeatureError.TheVariants.{Ambigu
 
 use crate::lists::LayerViews;
 use crate::views::{FeatureView, LayerView};
-use mvt_wire::Document;
+use mvt_document::Document;
 use thiserror::Error;
 
 /// Why a name means no layer.

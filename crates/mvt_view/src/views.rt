@@ -1,17 +1,17 @@
-//! Views of a layer and of a feature.
+//! A layer and a feature, as they are seen.
 
 ghost use Rattle.std.specs.Prelude.{◌≡◌, ◌<◌, ◌^◌, length, option_map, slice_get};
 ghost use Rattle.std.specs.Option.{option_copied};
-ghost use Rattle.mvt_wire.specs.Stands.{feature_of, layer_of};
+ghost use Rattle.mvt_document.specs.Stands.{feature_of, layer_of};
 ghost use Rattle.mvt_numbers.specs.Numbers.{numbers};
 ghost use Rattle.mvt_view.specs.Views.{extent_of, features, id_of, keys, kind_of, name_of, values, version_of};
 ghost use Rattle.mvt_view.specs.Seen.{feature_seen, layer_seen};
 
 use crate::fields::{last_value, last_value_in_layer};
 use crate::lists::{Contents, FeatureViews};
+use mvt_document::tags::{EXTENT, GEOMETRY, ID, KEYS, KIND, NAME, TAGS, VALUES, VERSION};
+use mvt_document::{Feature, Layer};
 use mvt_numbers::Numbers;
-use mvt_wire::tags::{EXTENT, GEOMETRY, ID, KEYS, KIND, NAME, TAGS, VALUES, VERSION};
-use mvt_wire::{Feature, Layer};
 
 const DEFAULT_VERSION: u64 = 1;
 

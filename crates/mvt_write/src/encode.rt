@@ -1,5 +1,5 @@
-//! How values of a document are written: from the last byte to the first, so that a message's
-//! length is known where it has to be written.
+//! How the values of a document are written, by one trait that each of its types has: from the last
+//! byte to the first, so that the length of a message is known where it has to be written.
 
 ghost use Rattle.std.specs.Prelude.{◌≤◌, ◌++◌, length, max};
 ghost use Rattle.std.specs.List.{flat_map};

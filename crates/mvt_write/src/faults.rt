@@ -1,4 +1,4 @@
-//! Why a tile could not be written.
+//! Why a tile was not written.
 
 ghost use Rattle.std.specs.Prelude.{◌≡◌};
 ghost use Rattle.mvt_write.specs.declared.faults.WriteError.TheVariants as write_errors;

@@ -1,4 +1,8 @@
-//! How a document is measured and written.
+//! The writer of documents: the size of a document, and its bytes.
+//!
+//! - A document is written as its bytes (`bytes`), so one that was read is written as the file that
+//!   it was read from. It is refused as too large exactly where these are more than 67,108,864
+//!   (`too_large`): `write_document`. Its size is theirs, where they are no more: `size`.
 #![tactic(auto)]
 
 mod encode;

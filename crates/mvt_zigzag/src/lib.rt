@@ -1,4 +1,4 @@
-//! Signed numbers in ZigZag, there and back.
+//! Signed numbers in ZigZag, there and back: `to_zigzag`, `from_zigzag`.
 #![tactic(auto)]
 
 mod zigzag;

@@ -1,4 +1,4 @@
-//! The ZigZag of a number.
+//! The ZigZag of a number, and the number of a ZigZag.
 
 ghost use Rattle.std.specs.Prelude.{◌≡◌};
 ghost use Rattle.mvt_zigzag.specs.Signed.{zigzag};

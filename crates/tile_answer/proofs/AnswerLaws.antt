@@ -5,8 +5,8 @@ use Rattle.std.specs.Fmt.{signed_decimal}
 use Rattle.std.proofs.lemmas.Grind.{flat_map-append}
 use Rattle.std.proofs.lemmas.List.Elements.{All-append}
 use Rattle.std.specs.List.{flat_map}
-use Rattle.mvt_wire.specs.Plain.{Document}
-use Rattle.mvt_wire.specs.Wire.{bytes_of}
+use Rattle.mvt_document.specs.Plain.{Document}
+use Rattle.mvt_document.specs.Wire.{bytes_of}
 use Rattle.mvt_command.specs.Command.{Command}
 use Rattle.mvt_command.proofs.Others.{Other}
 use Rattle.mvt_meaning.specs.Meaning.{applied}
@@ -23,8 +23,8 @@ use Rattle.tile_listing.proofs.Telling.{uncut-append, decimal_uncut, none_to_tel
 use Rattle.tile_listing.proofs.ListingLaws.{listings_are_lines, listings_have_no_want}
 use Rattle.mvt_history.specs.Marks.{Mark}
 use Rattle.mvt_history.specs.History.{History, standing_document, unless_open, gone_to, ended, edited_to, edited, undone, redone, marked, unmarked, gone_back, opened, closed, cancelled}
-use Rattle.mvt_history.specs.declared.error.HistoryError.{HistoryError}
-use Rattle.mvt_history.specs.declared.error.HistoryError.TheVariants as history_errors
+use Rattle.mvt_history_error.specs.declared.HistoryError.{HistoryError}
+use Rattle.mvt_history_error.specs.declared.HistoryError.TheVariants as history_errors
 use Rattle.tile_reply.specs.Replies.{IsWant}
 use Rattle.tile_reply.specs.declared.refused.Refused.{Refused}
 use Rattle.tile_reply.specs.declared.refused.Refused.TheVariants as refused

@@ -3,7 +3,7 @@ use Rattle.std.proofs.Common.{ℕ, List, Err, ap, inl, inr}
 use Rattle.mvt_history.specs.History.{History}
 use Rattle.mvt_history.specs.Session.{AnswersBack, AnswersCancel}
 use Rattle.mvt_history.specs.Standing.{Standing}
-use Rattle.mvt_history.specs.declared.error.HistoryError.{HistoryError}
+use Rattle.mvt_history_error.specs.declared.HistoryError.{HistoryError}
 use Rattle.tile_request.specs.Request.{GoBack, Cancel}
 use Rattle.tile_reply.specs.declared.refused.Refused.TheVariants as refused
 use Rattle.tile_answer.specs.Answering.{told_by_move}

@@ -1,17 +1,18 @@
 -- How a session answers a request.
 use Rattle.std.specs.Prelude.{◌≡◌, ◌⊎◌, ℕ, Result, Ok, Err}
-use Rattle.mvt_wire.specs.Held.{Held}
+use Rattle.mvt_document.specs.Held.{Held}
 use Rattle.tile_request.specs.Request.{Request, Edit, Undo, Redo, SetMark, TakeMark, GoBack, Begin, End, Cancel, ListMarks, TellHistory, Size, Lists}
 use Rattle.mvt_history.specs.History.{History}
 use Rattle.mvt_history.specs.Session.{StandsFor, StopsAt, StopsWithin}
 use Rattle.mvt_history.specs.Standing.{Standing}
-use Rattle.mvt_history.specs.declared.error.HistoryError.TheVariants.{Stopped}
+use Rattle.mvt_history_error.specs.declared.HistoryError.TheVariants.{Stopped}
 use Rattle.tile_reply.specs.Replies.{refusal_number}
 use Rattle.tile_reply.specs.declared.refused.Refused.{Refused}
 use Rattle.tile_reply.specs.declared.refused.Refused.TheVariants as refused
 use Rattle.tile_answer.specs.Answering.{carried_out}
 
--- The request may be refused for want of memory: not one that takes none, nor one that is stopped in that case.
+-- the request may be refused with 60, out of memory: all but those that take no memory (to take a mark away, to open a
+-- step) and those that are stopped instead (to go back, to cancel)
 abbrev pub MayWant : Request → Type 0
 MayWant (Edit command) = Unit {0}
 MayWant Undo = Unit {0}
@@ -27,7 +28,8 @@ MayWant TellHistory = Unit {0}
 MayWant Size = Unit {0}
 MayWant (Lists what) = Unit {0}
 
--- The request may be stopped with so many steps, or commands of the open step, taken, and the second history stands then.
+-- the request is to go back or to cancel, and may be stopped with `taken` steps, or commands, taken, where the history
+-- `between` stands
 abbrev pub MayStop : Request → History → ℕ → History → Type 0
 MayStop (Edit command) history taken between = ⊥
 MayStop Undo history taken between = ⊥
@@ -43,12 +45,12 @@ MayStop TellHistory history taken between = ⊥
 MayStop Size history taken between = ⊥
 MayStop (Lists what) history taken between = ⊥
 
--- it is refused as it is defined, or, where it may be, for want of memory
+-- the request is refused as it is defined, or with 60 where it may be
 abbrev pub IsRefused : Request → History → Refused → Type 0
 IsRefused request history reason = (MayWant request × (refusal_number reason ≡ 60)) ⊎ (carried_out request history ≡ Err reason)
 
--- The request is carried out on the history as it is defined, or it is refused, and the history is as before, or it was
--- stopped.
+-- these lines are printed, and the session holds the history after the request; or the request is refused, and the
+-- session holds the history before; or it was stopped, and the session holds the history at which it was
 abbrev pub Answers : Request → History → Result (Held ℕ) Refused → Standing → Type 0
 Answers request history (Ok lines) new = (after : History) × (carried_out request history ≡ Ok (record { lines = lines.items; history = after })) × StandsFor new after
 Answers request history (Err reason) new =

@@ -1,4 +1,4 @@
--- Laws of what requests tell.
+-- Laws of what requests print.
 use Rattle.std.specs.Prelude.{◌≡◌, Ok, Err}
 use Rattle.tile_request.specs.Request.{Request, Edit, Undo, Redo, SetMark, TakeMark, GoBack, Begin, End, Cancel, ListMarks, TellHistory, Size, Lists}
 use Rattle.tile_listing.specs.Told.{AreLinesToTell}
@@ -7,15 +7,15 @@ use Rattle.tile_reply.specs.Replies.{IsWant}
 use Rattle.tile_reply.specs.declared.refused.Refused.{Refused}
 use Rattle.tile_answer.specs.Answering.{Told, carried_out}
 
--- What a request tells is whole lines, and none of them looks like a refusal.
+-- what a request prints is whole lines, and none of them looks like a refusal
 abbrev pub RequestsTellLines : Type 0
 RequestsTellLines = (request : Request) (history : History) (told : Told) → carried_out request history ≡ Ok told → AreLinesToTell told.lines
 
--- No request is refused for want of memory by its definition, or stopped.
+-- no request is refused as out of memory, or stopped, by its definition
 abbrev pub RequestsHaveNoWant : Type 0
 RequestsHaveNoWant = (request : Request) (history : History) (reason : Refused) → carried_out request history ≡ Err reason → ¬ (IsWant reason)
 
--- a request that only looks
+-- the request asks for the marks, the history, the size or a listing
 abbrev pub Looks : Request → Type 0
 Looks (Edit command) = ⊥
 Looks Undo = ⊥
@@ -31,6 +31,6 @@ Looks TellHistory = Unit {0}
 Looks Size = Unit {0}
 Looks (Lists what) = Unit {0}
 
--- A look leaves the history as it was, and so what undo takes back.
+-- a look that is accepted leaves the history as it was, and so the tile and what undo takes back
 abbrev pub LooksLeaveHistory : Type 0
 LooksLeaveHistory = (request : Request) (history : History) (told : Told) → Looks request → carried_out request history ≡ Ok told → told.history ≡ history

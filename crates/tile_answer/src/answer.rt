@@ -1,4 +1,4 @@
-//! A request, carried out in a session.
+//! `carry_out`: a request, carried out in a session, with the lines that it prints.
 
 ghost use Rattle.std.specs.Prelude.{◌≡◌, ◌⊎◌, [], IfErr};
 ghost use Rattle.mvt_history.specs.History.{History};
@@ -8,8 +8,8 @@ ghost use Rattle.tile_reply.specs.Replies.{refusal_number};
 ghost use Rattle.tile_answer.specs.Answers.{Answers};
 
 use crate::told::{history_lines, mark_lines, size_line};
+use mvt_document::Items;
 use mvt_history::Session;
-use mvt_wire::Items;
 use std::alloc::Global;
 use tile_listing::listing;
 use tile_reply::Refused;

@@ -2,17 +2,18 @@
 
 ghost use Rattle.tile_answer.specs.Laws.{RequestsTellLines, RequestsHaveNoWant, LooksLeaveHistory};
 
-/// What a request tells is whole lines, and no line of it can be taken for a refusal.
+/// What a request prints before `ok` is whole lines, and none of them begins as a refusal does.
 pub fn requests_tell_lines()
     ensures { RequestsTellLines }
 {}
 
-/// Where there is memory no request is refused for want of it.
+/// With all memory no request is refused with 60, or stopped with 54.
 pub fn requests_have_no_want()
     ensures { RequestsHaveNoWant }
 {}
 
-/// A look (the marks, the history, the size, a listing) leaves the tile as it was, and what undo takes back.
+/// The size, a listing, the marks and the history, where they are printed, leave the history as it
+/// was, and so the tile and what undo takes back.
 pub fn looks_leave_history()
     ensures { LooksLeaveHistory }
 {}

@@ -1,15 +1,16 @@
-//! The lines that are told of a session.
+//! The lines of the marks, of the history and of the size.
 
 ghost use Rattle.std.specs.Prelude.{◌≡◌, ◌++◌, IfOk, IfErr, OnOk};
-ghost use Rattle.mvt_wire.specs.Stands.{document_of};
+ghost use Rattle.mvt_document.specs.Stands.{document_of};
 ghost use Rattle.mvt_history.specs.History.{History};
 ghost use Rattle.mvt_history.specs.Session.{StandsFor};
 ghost use Rattle.mvt_meaning.specs.declared.refusal.Refusal.TheVariants.{NoMemory};
 ghost use Rattle.tile_answer.specs.Answering.{history_lines, mark_lines, offset_line, open_line, reach_line, size_line};
 
+use mvt_document::{Document, Items};
 use mvt_history::Session;
 use mvt_meaning::Refusal;
-use mvt_wire::{Document, Items, size};
+use mvt_write::size;
 use std::alloc::{AllocError, Global};
 use tile_text::{put_decimal, put_signed_decimal, put_text};
 

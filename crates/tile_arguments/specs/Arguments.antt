@@ -23,72 +23,72 @@ behind mark bytes = if starts_with nat_eq bytes mark then Some (drop (length mar
 
 -- ---- numbers
 
--- one or more decimal digits, leading zeros too
+-- the bytes are one or more decimal digits; leading zeros count as digits
 abbrev pub are_digits : List ℕ → Bool
 are_digits bytes = not (length bytes == 0) && all_ascii_digits bytes
 
--- a number: digits, below 2 ^ 64
+-- the bytes are a number: decimal digits of a number below 2^64
 abbrev pub is_number : List ℕ → Bool
 is_number bytes = are_digits bytes && nat_lt (digits_value 10 bytes) (2 ^ 64)
 
--- the number that the digits write
+-- the number that the bytes write; else BadNumber
 unfoldable pub number_of : List ℕ → Result ℕ ParseError
 number_of bytes = if is_number bytes then Ok (digits_value 10 bytes) else Err BadNumber
 
--- the same of a bare word
+-- the number that a bare word writes; else BadNumber
 unfoldable pub number_in : Word → Result ℕ ParseError
 number_in (Bare digits) = number_of digits
 number_in (Quoted text) = Err BadNumber
 
--- the number that the digits write, where it is at most so great
+-- the number that decimal digits write, where it is at most `most`
 unfoldable pub number_up_to : ℕ → List ℕ → Option ℕ
 number_up_to most bytes = if are_digits bytes && nat_le (digits_value 10 bytes) most then Some (digits_value 10 bytes) else None
 
--- the number below 0 of the digits behind a sign, or that of all bytes
+-- the number below 0 of the digits behind a minus sign, or the number of all bytes where there is no sign
 abbrev pub signed_by : ℕ → ℕ → Option (List ℕ) → List ℕ → Option ℤ
 signed_by least greatest (Some digits) bytes = option_map (λ n. neg_ℤ (pos n)) (number_up_to least digits)
 signed_by least greatest None bytes = option_map pos (number_up_to greatest bytes)
 
--- a signed number: an optional `-`, then digits; from -least to greatest
+-- the signed number that the bytes write: an optional `-`, then digits; from -least to greatest
 unfoldable pub signed_of : ℕ → ℕ → List ℕ → Option ℤ
 signed_of least greatest bytes = signed_by least greatest (behind (codes "-") bytes) bytes
 
--- a signed number of 64 bits
+-- a signed number of 64 bits: from -2^63 to 2^63 - 1
 abbrev pub integer_of : List ℕ → Option ℤ
 integer_of bytes = signed_of (2 ^ 63) (2 ^ 63 - 1) bytes
 
--- how far a point moves or lies
+-- a coordinate: a signed number from -2147483647 to 2147483647
 abbrev pub way_of : List ℕ → Option ℤ
 way_of bytes = signed_of 2147483647 2147483647 bytes
 
--- the same of a word
+-- the coordinate that a bare word writes; else BadNumber
 unfoldable pub distance_of : Word → Result ℤ ParseError
 distance_of (Bare bytes) = ok_or (way_of bytes) BadNumber
 distance_of (Quoted text) = Err BadNumber
 
 -- ---- texts
 
--- the bytes of a bare word
+-- the bytes of a bare word; none of a quoted one
 abbrev pub bare_in : Word → Option (List ℕ)
 bare_in (Bare bytes) = Some bytes
 bare_in (Quoted text) = None
 
--- the bytes of pairs of hexadecimal digits, of either case
+-- the bytes that pairs of hexadecimal digits of either case write
 unfoldable pub bytes_in : List ℕ → Option (List ℕ)
 bytes_in digits = result_ok (decode_of digits)
 
--- the text that a word says: a quoted word says its own, and a bare one, behind `x:`, the bytes of its digits
+-- the text that a word says: that of a quoted word, or the bytes that the digits behind `x:` write
 unfoldable pub text_in : Word → Option (List ℕ)
 text_in (Quoted text) = Some text
 text_in (Bare bytes) = option_and_then bytes_in (behind (codes "x:") bytes)
 
--- else BadArguments
+-- the text that a word says; else BadArguments
 unfoldable pub text_of : Word → Result (List ℕ) ParseError
 text_of word = ok_or (text_in word) BadArguments
 
 -- ---- several arguments
 
--- what f reads of each, or the first refusal
+-- what `f` reads of each item, or the first refusal
 unfoldable pub each : {A B : Type 0} → (A → Result B ParseError) → List A → Result (List B) ParseError
 each f [] = Ok []
 each f (x ∷ xs) = do
@@ -96,47 +96,47 @@ each f (x ∷ xs) = do
   ys ← each f xs
   Ok (y ∷ ys)
 
--- texts, one after the other
+-- the texts that several words say, or the first refusal
 unfoldable pub texts_of : List Word → Result (List (List ℕ)) ParseError
 texts_of words = each text_of words
 
 -- ---- layers and features
 
--- the ordinal behind a mark, or the text of the whole word
+-- the layer of the ordinal behind a mark, or, where there is no mark, of the name that the word says
 abbrev pub layer_by : Option (List ℕ) → Word → Result LayerChoice ParseError
 layer_by (Some digits) word = number_of digits >>= λ n. Ok (AtOrdinal n)
 layer_by None word = text_of word >>= λ name. Ok (Named name)
 
--- a layer: `#` and its ordinal, or its name as a text
+-- how a word selects a layer: `#` and an ordinal, or a name as a text
 unfoldable pub layer_of : Word → Result LayerChoice ParseError
 layer_of (Quoted text) = layer_by None (Quoted text)
 layer_of (Bare bytes) = layer_by (behind (codes "#") bytes) (Bare bytes)
 
--- the id behind a mark, or the ordinal of all bytes
+-- the feature of the id behind a mark, or, where there is no mark, of the ordinal that the bytes write
 abbrev pub feature_by : Option (List ℕ) → List ℕ → Result FeatureChoice ParseError
 feature_by (Some digits) bytes = number_of digits >>= λ id. Ok (WithId id)
 feature_by None bytes = number_of bytes >>= λ n. Ok (FeatureAtOrdinal n)
 
--- a feature: its ordinal, or `@` and its id
+-- how a word selects a feature: an ordinal, or `@` and an id; a quoted word is refused with BadNumber
 unfoldable pub feature_of : Word → Result FeatureChoice ParseError
 feature_of (Quoted text) = Err BadNumber
 feature_of (Bare bytes) = feature_by (behind (codes "@") bytes) bytes
 
 -- ---- values
 
--- the bytes of so many pairs of hexadecimal digits, of either case
+-- the bytes that pairs of hexadecimal digits of either case write, where there are `count` pairs
 unfoldable pub pairs_in : ℕ → List ℕ → Option (List ℕ)
 pairs_in count digits = result_ok (decode_sized digits count)
 
--- `true` and `false`, and no other spelling
+-- `true` or `false`, in no other spelling
 abbrev pub truth_in : List ℕ → Option Bool
 truth_in bytes =
     if bytes_eq bytes (codes "true") then Some true
     else (if bytes_eq bytes (codes "false") then Some false
     else None)
 
--- The value of a type that a bare word says: a float by the digits of its bytes in the order of the file, a number, or
--- a truth.
+-- the value of a type that a bare word says: a float by the digits of its bytes in the order of the file, a number, or
+-- a truth value
 unfoldable pub bare_value : List ℕ → List ℕ → Option Value
 bare_value name bytes =
     if bytes_eq name (codes "float") then option_map OfFloat (pairs_in 4 bytes)
@@ -147,43 +147,43 @@ bare_value name bytes =
     else (if bytes_eq name (codes "bool") then option_map OfBool (truth_in bytes)
     else None)))))
 
--- the value of a type that a word says: a text, quoted or not, or a bare value
+-- the value of a type that a word says: a text, or the value of a bare word
 unfoldable pub value_in : List ℕ → Word → Option Value
 value_in name word = if bytes_eq name (codes "string") then option_map OfText (text_in word) else option_and_then (bare_value name) (bare_in word)
 
--- a type, which is a bare word, and a value
+-- the value that two words say: its type, a bare word, and the value; else BadValue
 unfoldable pub value_of : Word → Word → Result Value ParseError
 value_of (Quoted text) word = Err BadValue
 value_of (Bare name) word = ok_or (value_in name word) BadValue
 
 -- ---- geometries
 
--- x and y, where both are there
+-- the point of two coordinates, where both are there
 abbrev pub point_at : Option ℤ → Option ℤ → Option Point
 point_at x y = option_map (λ at. record { x = at.0; y = at.1 }) (option_zip x y)
 
--- two ways with one comma between them
+-- the point that the bytes write: two coordinates with one comma between them
 unfoldable pub point_in : List ℕ → Option Point
 point_in bytes = point_at (way_of (before_first (λ b. b == 44) bytes)) (way_of (after_first (λ b. b == 44) bytes))
 
--- a point: x and y
+-- the point that a bare word writes; else BadGeometryText
 unfoldable pub point_of : Word → Result Point ParseError
 point_of word = ok_or (option_and_then point_in (bare_in word)) BadGeometryText
 
--- a part: its points
+-- the points that words write, or the first refusal
 unfoldable pub part_of : List Word → Result (List Point) ParseError
 part_of words = each point_of words
 
--- the bar that stands between two parts
+-- the word is the bar `/` that stands between two parts
 abbrev pub is_bar : Word → Bool
 is_bar (Bare bytes) = bytes_eq bytes (codes "/")
 is_bar (Quoted text) = false
 
--- parts with a bar between each two
+-- the parts that words write, with a bar between each two, or the first refusal
 unfoldable pub parts_of : List Word → Result (List (List Point)) ParseError
 parts_of words = each part_of (slice_split is_bar words)
 
--- the names of the kinds
+-- the kind that the bytes name: `point`, `line` or `polygon`; else BadGeometryText
 unfoldable pub kind_of : List ℕ → Result Kind ParseError
 kind_of name =
     if bytes_eq name (codes "point") then Ok Dots
@@ -191,21 +191,21 @@ kind_of name =
     else (if bytes_eq name (codes "polygon") then Ok Areas
     else Err BadGeometryText))
 
--- dots are one part; lines and rings may be several
+-- dots are one part; there is at least one line or ring
 abbrev pub is_part_count : Kind → ℕ → Bool
 is_part_count Dots count = count == 1
 is_part_count Lines count = nat_le 1 count
 is_part_count Areas count = nat_le 1 count
 
--- parts as the kind asks for them: as many as it may have, and each with so many points as it needs
+-- a geometry of this kind may have this many parts, and each part has enough points
 abbrev pub are_parts : Kind → List (List Point) → Bool
 are_parts kind parts = is_part_count kind (length parts) && list_all (λ points. nat_le (least_points kind) (length points)) parts
 
--- the geometry of these parts, where they are as its kind asks for them
+-- the geometry of these parts, where they are parts of one; else BadGeometryText
 unfoldable pub shaped : Kind → List (List Point) → Result Geometry ParseError
 shaped kind parts = if are_parts kind parts then Ok (record { kind = kind; parts = parts }) else Err BadGeometryText
 
--- a geometry: the name of its kind, and its parts
+-- the geometry that words say: the name of its kind, and its parts; or the first refusal
 unfoldable pub geometry_of : List Word → Result Geometry ParseError
 geometry_of [] = Err BadGeometryText
 geometry_of (Quoted text ∷ words) = Err BadGeometryText

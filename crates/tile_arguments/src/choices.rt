@@ -1,4 +1,4 @@
-//! The layer and the feature that are meant.
+//! How a word selects a layer or a feature.
 
 ghost use Rattle.mvt_command.specs.CommandStands.{layer_choice_of, feature_choice_of};
 ghost use Rattle.tile_words.specs.Answers.{Gives, GivesAlways};

@@ -9,8 +9,8 @@ ghost use Rattle.tile_words.specs.WordStands.{word_of};
 ghost use Rattle.tile_arguments.specs.Arguments.{point_in, point_of, part_of, is_bar, parts_of, shaped, kind_of, geometry_of};
 
 use crate::numbers::way;
+use mvt_document::Items;
 use mvt_geometry::{Geometry, Kind, Part, Point};
-use mvt_wire::Items;
 use std::alloc::Global;
 use tile_words::{ParseError, Word};
 

@@ -1,4 +1,4 @@
-//! Marks that bare words begin with.
+//! What stands behind a mark with which a bare word begins.
 
 ghost use Rattle.std.specs.Prelude.{◌≡◌, option_copied};
 ghost use Rattle.tile_arguments.specs.Arguments.{behind};

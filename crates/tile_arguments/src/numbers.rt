@@ -1,4 +1,4 @@
-//! Numbers in decimal digits.
+//! Numbers in decimal digits, with and without a sign, and coordinates.
 
 ghost use Rattle.std.specs.Prelude.{◌≡◌, ◌+◌, ◌*◌, ◌^◌, ◌<◌, ◌≤◌, neg_ℤ, pos, IfSome};
 ghost use Rattle.std.specs.Option.{SomeIff};

@@ -7,7 +7,7 @@ ghost use Rattle.tile_arguments.specs.Arguments.{text_in, text_of, texts_of, byt
 
 use crate::marks::behind;
 use hex::FromHexError;
-use mvt_wire::Items;
+use mvt_document::Items;
 use std::alloc::{AllocError, Global};
 use tile_words::{ParseError, Word, text};
 

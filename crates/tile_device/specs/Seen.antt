@@ -8,13 +8,15 @@ use Rattle.tile_device.specs.declared.device.Trouble.TheVariants.{Interrupted}
 use Rattle.tile_device.specs.declared.device.Source.{Ghosts as SourceMembers}
 use Rattle.tile_device.specs.declared.device.Sink.{Ghosts as SinkMembers}
 
--- the bytes that are left or that were written, where they are known, whether it still tells them, and its counts
+-- a device at one moment: the bytes that are left to read, or that were written, where they are known; whether it still
+-- tells what its calls do to them; and its counts of interruptions and failures
 pub record Seen : Type 0 where
   pub bytes : Option (List ℕ)
   pub tells : Bool
   pub interruptions : ℕ
   pub failures : ℕ
 
+-- a source at one moment
 abbrev pub source_at : {S : Type 0} → SourceMembers S → S → Seen
 source_at members source = record {
   bytes = members.left source;
@@ -23,6 +25,7 @@ source_at members source = record {
   failures = members.failures source;
 }
 
+-- a sink at one moment
 abbrev pub sink_at : {S : Type 0} → SinkMembers S → S → Seen
 sink_at members sink = record {
   bytes = members.written sink;
@@ -31,53 +34,59 @@ sink_at members sink = record {
   failures = members.failures sink;
 }
 
--- between two moments so many interrupted calls were made again, then this trouble was met, or none; one that no longer tells never tells again
+-- between two moments `retries` interrupted calls were made again, and then this trouble was met, or none: the counts
+-- say so; a device that no longer tells its bytes never tells them again
 pub record Meets (old new : Seen) (retries : ℕ) (trouble : Option Trouble) : Type 0 where
   pub interruptions : new.interruptions ≡ counted (retries + interruptions_in trouble) old.interruptions
   pub failures : new.failures ≡ counted (failures_in trouble) old.failures
   pub still_tells : IsTrue new.tells → IsTrue old.tells
 
--- what was read of a source, whether that was all it had, how many calls were made again, and the trouble that ended the reading
+-- what was read of a source: the bytes, whether they are all that it had, how many calls were made again, and the
+-- trouble that ended the reading, or none
 pub record Intake : Type 0 where
   pub bytes : List ℕ
   pub is_whole : Bool
   pub retries : ℕ
   pub trouble : Option Trouble
 
--- what was written to a sink, how many calls were made again, and the trouble that ended the writing
+-- what was written to a sink: the bytes, how many calls were made again, and the trouble that ended the writing, or
+-- none
 pub record Output : Type 0 where
   pub bytes : List ℕ
   pub retries : ℕ
   pub trouble : Option Trouble
 
+-- an intake of no bytes, with no trouble
 abbrev pub nothing_read : Intake
 nothing_read = record { bytes = []; is_whole = false; retries = 0; trouble = None }
 
--- these bytes, without trouble, with so many calls made again
+-- an output of these bytes, with no trouble, and this many calls made again
 abbrev pub written : ℕ → List ℕ → Output
 written retries bytes = record { bytes = bytes; retries = retries; trouble = None }
 
--- a source gave this
+-- between two moments a source gave this intake: where it still tells its bytes, they lost those read as a prefix, and
+-- are at their end where the intake is whole
 pub record Supplies (old new : Seen) (intake : Intake) : Type 0 where
   pub meets : Meets old new intake.retries intake.trouble
   pub bytes : IsTrue new.tells → Consumes old.bytes new.bytes intake.bytes
   pub whole : IsTrue new.tells → IsTrue intake.is_whole → IsAtEnd new.bytes
 
--- a sink took this
+-- between two moments a sink took this output: where it still tells its bytes, they grew by those written
 pub record Receives (old new : Seen) (output : Output) : Type 0 where
   pub meets : Meets old new output.retries output.trouble
   pub bytes : IsTrue new.tells → Appends old.bytes new.bytes output.bytes
 
--- the whole begins with the front
+-- `front` is a prefix of `whole`
 abbrev pub IsFront : List ℕ → List ℕ → Type 0
 IsFront front whole = (rest : List ℕ) × (whole ≡ front ++ rest)
 
--- a sink was sent these bytes: it took all of them, or before a trouble a front of them
+-- a sink was sent these bytes: it took all of them, or, before a trouble, a prefix of them
 abbrev pub Sends : {A : Type 0} → Seen → Seen → List ℕ → ℕ → Result A Trouble → Type 0
 Sends old new bytes retries (Ok done) = Receives old new (written retries bytes)
 Sends old new bytes retries (Err trouble) = (front : List ℕ) × IsFront front bytes × Receives old new (record { bytes = front; retries = retries; trouble = Some trouble })
 
--- a budget of retries before and after, with the trouble that ended the calls: an interruption ends them only where none is left
+-- a budget of retries before and after some calls: no more is left than before, and an interruption ended the calls
+-- only where none is left
 pub record Spends (before after : ℕ) (trouble : Option Trouble) : Type 0 where
   pub within : after ≤ before
   pub last : trouble ≡ Some Interrupted → after ≡ 0

@@ -8,18 +8,20 @@ use Rattle.tile_device.specs.declared.device.Trouble.{Trouble}
 use Rattle.tile_device.specs.declared.transfer.ReadFault.{ReadFault}
 use Rattle.tile_device.specs.declared.transfer.ReadFault.TheVariants.{Device, NoMemory}
 
--- what a reading into this buffer gave: all that was left exactly where it gave none and there was room for one
+-- what one reading into a buffer gave; it is the end exactly where the reading gave no byte and the buffer had room for
+-- one
 abbrev pub piece_of : Result ℕ Trouble → List ℕ → ℕ → Intake
 piece_of (Ok n) buffer retries = record { bytes = take n buffer; is_whole = (n == 0) && nat_lt 0 (length buffer); retries = retries; trouble = None }
 piece_of (Err trouble) buffer retries = record { bytes = []; is_whole = false; retries = retries; trouble = Some trouble }
 
--- the trouble of its source with which a reading to the end stopped
+-- the trouble of its source with which a reading up to a limit stopped, or none
 abbrev pub read_trouble_of : {A : Type 0} → Result A ReadFault → Option Trouble
 read_trouble_of (Ok value) = None
 read_trouble_of (Err (Device trouble)) = Some trouble
 read_trouble_of (Err NoMemory) = None
 
--- a reading of at most so many bytes answered this for what it took: fewer are all, and a fault loses them
+-- a reading of at most `limit` bytes returned this for what it took: fewer bytes are all that there were, and a fault
+-- loses them
 pub record ReadsUpTo (limit : ℕ) (result : Result (Vec ℕ Global) ReadFault) (intake : Intake) : Type 0 where
   pub bytes : IfOk result (λ read. intake.bytes ≡ read.items)
   pub at_most : length intake.bytes ≤ limit

@@ -1,4 +1,4 @@
-//! How often a device met trouble.
+//! How often a device was interrupted and failed.
 
 ghost use Rattle.std.specs.Prelude.{◌≡◌, Some};
 ghost use Rattle.tile_device.specs.Device.{failures_after, interruptions_after};

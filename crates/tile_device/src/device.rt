@@ -1,4 +1,4 @@
-//! What is read and written: devices, and the troubles that they meet.
+//! The traits `Source` and `Sink`, and the troubles that a call may meet.
 
 ghost use Rattle.std.specs.Prelude.{◌≡◌, ◌≢◌, ℕ, ◌<◌, ◌≤◌, List, Bool, IfOk, IsTrue, length};
 ghost use Rattle.std.specs.declared.option.Option.{Option};

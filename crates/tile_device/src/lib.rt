@@ -1,4 +1,19 @@
-//! What is read and written: devices, the troubles that they meet, and whole inputs and outputs.
+//! What is read and written: sources and sinks, calls that are made again, whole inputs and
+//! outputs, and the readers and writers of the standard library as devices.
+//!
+//! - Readers and writers of the standard library keep the laws of `Source` and `Sink`: what they
+//!   gave or took until their first trouble, where they tell it, and how often they were in
+//!   trouble: `FromRead`, `FromWrite`.
+//! - A device counts its interruptions and its failures, each up to 2^64 - 1: `Counts::count`. A
+//!   budget of retries begins with a number of them, and says how many are left: `Retries::new`,
+//!   `left`.
+//! - A piece is read into a buffer, and is known to be the end only where nothing came and there
+//!   was room: `read_some` (`supplies`). An input is read up to a limit: fewer bytes are all that
+//!   there were, and a fault loses them: `read_to_limit` (`supplies`). Bytes are written, and
+//!   passed on, as a whole, or a prefix of them before a trouble: `write_all` and `write_and_flush`
+//!   (`sends`); the trouble of a write comes before the last byte (`front` of `write_all`).
+//! - In all four an interrupted call is made again as long as the budget has a retry left, and
+//!   takes one; an interruption ends the calls only where none is left (`spends`).
 #![tactic(auto)]
 
 mod counts;

@@ -1,4 +1,4 @@
-//! How often interrupted calls may be made again.
+//! How many interrupted calls may still be made again.
 
 ghost use Rattle.std.specs.Prelude.{◌≡◌, ◌+◌, ◌<◌, ◌↔◌, IfErr, IsOk, OnErr, OnOk};
 

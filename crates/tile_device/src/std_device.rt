@@ -1,4 +1,4 @@
-//! Devices over the readers and writers of std.
+//! Readers and writers of the standard library as devices.
 
 ghost use Rattle.std.specs.Prelude.{◌≡◌, ◌↔◌};
 ghost use Rattle.std.specs.IoError.{error_kind};

@@ -1,5 +1,6 @@
-//! Whole inputs and outputs, over devices that give and take a few bytes a call. A call that was
-//! interrupted is made again, as long as there are retries left.
+//! A piece read, an input read up to a limit, bytes written and passed on, over calls that give and
+//! take a few bytes each. A call that was interrupted is made again, as long as there are retries
+//! left.
 
 ghost use Rattle.std.specs.Prelude.{◌≡◌, ℕ, ◌-◌, ◌<◌, ◌≤◌, IfOk, IsTrue, OnErr, length, take};
 ghost use Rattle.std.specs.Io.KnownBytes.{Appends};

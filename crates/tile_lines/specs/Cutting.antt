@@ -4,12 +4,12 @@ use Rattle.std.specs.List.{fold, cons_option}
 use Rattle.tile_lines.specs.Lines.{is_line_feed}
 use Rattle.tile_lines.specs.declared.TheConstants.{LINE_LIMIT}
 
--- a line that was cut from a script, or one that has more bytes than a line may have
+-- a line cut from a script, or one that has more bytes than a line may have
 pub data Cut : Type 0 where
   Whole : (line : List ℕ) → Cut
   TooLong : Cut
 
--- the line as it is cut
+-- the line, or `TooLong` where it has more than 65,536 bytes
 abbrev pub cut_of : List ℕ → Cut
 cut_of line = if nat_lt LINE_LIMIT (length line) then TooLong else Whole line
 
@@ -18,11 +18,11 @@ pub record Holding : Type 0 where
   pub cut : Cut
   pub is_complete : Bool
 
--- at first: no byte
+-- what a new cutter holds: a line of no bytes
 abbrev pub nothing_held : Holding
 nothing_held = record { cut = Whole []; is_complete = false }
 
--- what the next byte joins: a new line, where the one held is complete
+-- the line that the next byte joins: the one held, or a new one where that is complete
 abbrev pub line_to_join : Holding → Cut
 line_to_join held = if held.is_complete then Whole [] else held.cut
 
@@ -31,7 +31,8 @@ abbrev pub joined : Cut → ℕ → Cut
 joined (Whole line) byte = cut_of (line ++ byte ∷ [])
 joined TooLong byte = TooLong
 
--- what is held after one more byte: a line feed completes the line, and any other byte joins it
+-- what is held after one more byte: a line feed completes the line, and any other byte joins it; behind a complete line
+-- a new one begins
 unfoldable pub pushed : Holding → ℕ → Holding
 pushed held byte =
     if is_line_feed byte then record { cut = line_to_join held; is_complete = true }
@@ -41,13 +42,13 @@ pushed held byte =
 abbrev pub complete_line : Holding → Option Cut
 complete_line held = if held.is_complete then Some held.cut else None
 
--- a line that has a byte at least
+-- the line, where it is not empty
 abbrev pub some_bytes : Cut → Option Cut
 some_bytes (Whole []) = None
 some_bytes (Whole (b ∷ line)) = Some (Whole (b ∷ line))
 some_bytes TooLong = Some TooLong
 
--- the bytes held of a line that is not complete, where there are any
+-- the line held, where it is not complete and not empty
 abbrev pub rest_of : Holding → Option Cut
 rest_of held = if held.is_complete then None else some_bytes held.cut
 
@@ -55,7 +56,7 @@ rest_of held = if held.is_complete then None else some_bytes held.cut
 abbrev pub after_pushes : Holding → List ℕ → Holding
 after_pushes held bytes = fold pushed held bytes
 
--- the lines that these bytes complete, in their order
+-- the lines that these bytes complete, in order
 abbrev pub cuts : Holding → List ℕ → List Cut
 cuts held [] = []
 cuts held (byte ∷ bytes) = cons_option (complete_line (pushed held byte)) (cuts (pushed held byte) bytes)

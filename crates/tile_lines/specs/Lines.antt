@@ -2,7 +2,7 @@
 use Rattle.std.specs.Prelude.{◌≡◌, ◌⊎◌, ℕ, ◌<◌, Bool, false, List, [], ◌∷◌, ◌++◌, length, ◌==◌}
 use Rattle.std.specs.List.{slice_split, AllByRecursion}
 
--- the bytes behind the last line feed are a line where there is one at least
+-- the bytes behind the last line feed: a line, where there are any
 abbrev pub last_line : List ℕ → List (List ℕ)
 last_line [] = []
 last_line (b ∷ line) = (b ∷ line) ∷ []
@@ -13,15 +13,15 @@ without_empty_end [] = []
 without_empty_end (line ∷ []) = last_line line
 without_empty_end (line ∷ next ∷ more) = line ∷ without_empty_end (next ∷ more)
 
--- what ends a line
+-- the byte is a line feed
 abbrev pub is_line_feed : ℕ → Bool
 is_line_feed b = b == 10
 
--- the lines of a script: what stands before each line feed, and behind the last one where a byte does
+-- the lines of a script: what stands before each line feed, and what stands behind the last one, where there are bytes
 unfoldable pub lines_of : List ℕ → List (List ℕ)
 lines_of script = without_empty_end (slice_split is_line_feed script)
 
--- all but the last
+-- the list without its last item
 abbrev pub without_last : List (List ℕ) → List (List ℕ)
 without_last [] = []
 without_last (line ∷ []) = []
@@ -31,20 +31,20 @@ without_last (line ∷ next ∷ more) = line ∷ without_last (next ∷ more)
 abbrev pub whole_lines : List ℕ → List (List ℕ)
 whole_lines text = without_last (slice_split is_line_feed text)
 
--- a line without the line feed behind it
+-- no byte of the line is a line feed
 abbrev pub HasNoLineFeed : List ℕ → Type 0
 HasNoLineFeed line = AllByRecursion (λ b. is_line_feed b ≡ false) line
 
--- bytes with a line feed behind them
+-- the bytes with a line feed behind them
 abbrev pub with_feed : List ℕ → List ℕ
 with_feed text = text ++ 10 ∷ []
 
--- a front that ends where a line ends: nothing, or bytes up to a line feed
+-- the bytes are empty or end with a line feed
 abbrev pub EndsWithALine : List ℕ → Type 0
 EndsWithALine front = (front ≡ []) ⊎ ((text : List ℕ) × (front ≡ with_feed text))
 
--- How lines make up a script: behind each stands a line feed, and then the others. Behind the last one nothing may
--- stand, where it has a byte at least.
+-- the lines make up the script: each with a line feed behind it, which only a last line that is not empty may lack, and
+-- no line feed within a line
 abbrev pub SpellsLines : List ℕ → List (List ℕ) → Type 0
 SpellsLines script [] = script ≡ []
 SpellsLines script (line ∷ lines) = HasNoLineFeed line × (((rest : List ℕ) × (script ≡ line ++ 10 ∷ rest) × SpellsLines rest lines) ⊎ ((script ≡ line) × (0 < length line) × (lines ≡ [])))

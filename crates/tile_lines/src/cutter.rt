@@ -1,4 +1,4 @@
-//! Cutting a script into its lines, byte by byte.
+//! A script cut into its lines, byte by byte.
 
 ghost use Rattle.std.specs.Prelude.{◌≡◌, option_map, IfOk};
 ghost use Rattle.tile_lines.specs.Cutting.{nothing_held, pushed, complete_line, rest_of};

@@ -4,7 +4,7 @@ use Rattle.std.specs.Prelude.{◌&&◌, not, slice_index, if◌then◌else◌}
 use Rattle.std.specs.List.{AllByRecursion, enumerate_from}
 use Rattle.std.specs.Option.{option_and_then, option_map_or}
 use Rattle.std.proofs.lemmas.Bool.{and_parts, false≢true}
-use Rattle.mvt_wire.specs.Plain.{Document, Feature, Layer}
+use Rattle.mvt_document.specs.Plain.{Document, Feature, Layer}
 use Rattle.mvt_value.specs.Values.{Value}
 use Rattle.mvt_value.proofs.Fields.{read_in_range}
 use Rattle.mvt_numbers.specs.Numbers.{numbers}

@@ -1,6 +1,6 @@
 -- What is listed, case by case.
 use Rattle.std.proofs.Common.{◌≡◌, ℕ, List, [], ◌++◌, Ok, Err, refl, sym, ap, ◌∙◌}
-use Rattle.mvt_wire.specs.Plain.{Document, Feature, Layer}
+use Rattle.mvt_document.specs.Plain.{Document, Feature, Layer}
 use Rattle.mvt_command.specs.Command.{FeatureChoice, LayerChoice}
 use Rattle.mvt_meaning.specs.declared.refusal.Refusal.{Refusal}
 use Rattle.tile_request.specs.Request.{What, OneLayer, OneFeature}

@@ -3,7 +3,7 @@ use Rattle.std.proofs.Common.{◌≡◌, ◌≢◌, ℕ, Bool, true, false, List
 use Rattle.std.specs.Prelude.{if◌then◌else◌, nat_lt, slice_get}
 use Rattle.std.specs.Option.{ok_or}
 use Rattle.std.proofs.lemmas.List.Elements.{All-from_recursion}
-use Rattle.mvt_wire.specs.Plain.{Document, Layer}
+use Rattle.mvt_document.specs.Plain.{Document, Layer}
 use Rattle.mvt_command.specs.Command.{LayerChoice, FeatureChoice, AtOrdinal, Named, FeatureAtOrdinal, WithId}
 use Rattle.mvt_view.specs.Views.{features, has_id, is_named, layers, ordinals_of, the_one}
 use Rattle.mvt_meaning.specs.Meaning.{◌>>=◌}

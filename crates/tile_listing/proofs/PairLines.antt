@@ -7,7 +7,7 @@ use Rattle.std.proofs.lemmas.Bool.{and_parts}
 use Rattle.std.proofs.lemmas.Option.{cond_some}
 use Rattle.std.proofs.lemmas.List.{length-map}
 use Rattle.std.proofs.lemmas.List.Elements.{All-from_recursion}
-use Rattle.mvt_wire.specs.Plain.{Feature, Layer}
+use Rattle.mvt_document.specs.Plain.{Feature, Layer}
 use Rattle.mvt_numbers.specs.Numbers.{numbers}
 use Rattle.mvt_view.specs.Views.{keys, values}
 use Rattle.mvt_view.specs.Attributes.{attribute_at, if_pairs, in_pairs, is_pair, pairs_of, values_in}

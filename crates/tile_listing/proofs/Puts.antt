@@ -1,7 +1,7 @@
 -- Lines that are put piece by piece.
 use Rattle.std.proofs.Common.{◌≡◌, ℕ, cond, List, [], ◌∷◌, ◌++◌, Result, Ok, Err, codes, append_assoc}
 use Rattle.std.specs.Prelude.{OnOk, is_ok}
-use Rattle.mvt_wire.specs.Plain.{Feature}
+use Rattle.mvt_document.specs.Plain.{Feature}
 use Rattle.mvt_geometry.specs.Shapes.{Geometry}
 use Rattle.mvt_view.specs.FeatureGeometry.{HasFeatureGeometry}
 use Rattle.tile_text.specs.Texts.{geometry_form}

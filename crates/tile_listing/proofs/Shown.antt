@@ -2,7 +2,7 @@
 use Rattle.std.proofs.Common.{◌≡◌, ℕ, List, Option, Some, None, refl, ap}
 use Rattle.std.specs.Prelude.{IfSome}
 use Rattle.std.specs.Option.{option_and_then, option_map_or}
-use Rattle.mvt_wire.specs.Plain.{Feature}
+use Rattle.mvt_document.specs.Plain.{Feature}
 use Rattle.mvt_value.specs.Values as plain
 use Rattle.mvt_value.specs.Messages.{HasValue}
 use Rattle.mvt_value.specs.Stands.{shown_by, raw_of}

@@ -2,7 +2,7 @@
 use Rattle.std.proofs.Common.{◌≡◌, ℕ, zero, suc, ◌<◌, List, [], ◌∷◌, length, Some, Result, Ok, refl, ap, arith}
 use Rattle.std.specs.Prelude.{slice_get}
 use Rattle.std.proofs.lemmas.Bool.Decides.{nat_tests}
-use Rattle.mvt_wire.specs.Plain.{Layer}
+use Rattle.mvt_document.specs.Plain.{Layer}
 use Rattle.mvt_command.specs.Command.{FeatureChoice, FeatureAtOrdinal, WithId}
 use Rattle.mvt_view.specs.Views.{features, has_id, layers, ordinals_of, the_one}
 use Rattle.mvt_meaning.specs.Meaning.{◌>>=◌}

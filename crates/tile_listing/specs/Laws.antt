@@ -1,6 +1,6 @@
 -- Laws of listings, in which nothing is said of what they show.
 use Rattle.std.specs.Prelude.{◌≡◌, ◌≢◌, ℕ, List, Ok, Err}
-use Rattle.mvt_wire.specs.Plain.{Document, Feature, Layer}
+use Rattle.mvt_document.specs.Plain.{Document, Feature, Layer}
 use Rattle.mvt_command.specs.Command.{FeatureChoice, LayerChoice}
 use Rattle.mvt_meaning.specs.Selection.{selected, selected_feature}
 use Rattle.mvt_meaning.specs.declared.refusal.Refusal.TheVariants.{NoMemory}
@@ -8,17 +8,18 @@ use Rattle.tile_request.specs.Request.{What}
 use Rattle.tile_listing.specs.Listing.{chosen_feature, chosen_layer, listed}
 use Rattle.tile_listing.specs.Told.{AreLinesToTell}
 
--- A listing is whole lines, and none of them looks like a refusal.
+-- a listing is whole lines, and none of them looks like a refusal
 abbrev pub ListingsAreLines : Type 0
 ListingsAreLines = (what : What) (document : Document) (lines : List ℕ) → listed what document ≡ Ok lines → AreLinesToTell lines
 
--- No listing is refused for want of memory by its definition.
+-- no listing is refused as out of memory by its definition
 abbrev pub ListingsHaveNoWant : Type 0
 ListingsHaveNoWant = (what : What) (document : Document) → listed what document ≢ Err NoMemory
 
--- A layer that is selected is there, and so is a feature: a listing is refused only as the selection is.
+-- a layer that is selected is there, so a listing of it is refused only as the selection is
 abbrev pub SelectedLayerIsThere : Type 0
 SelectedLayerIsThere = (choice : LayerChoice) (document : Document) (ordinal : ℕ) → selected choice document ≡ Ok ordinal → (layer : Layer) × (chosen_layer choice document ≡ Ok (ordinal, layer))
 
+-- a feature that is selected is there, so a listing of it is refused only as the selection is
 abbrev pub SelectedFeatureIsThere : Type 0
 SelectedFeatureIsThere = (choice : FeatureChoice) (layer : Layer) (ordinal : ℕ) → selected_feature choice layer ≡ Ok ordinal → (feature : Feature) × (chosen_feature choice layer ≡ Ok (ordinal, feature))

@@ -2,21 +2,21 @@
 use Rattle.std.specs.Prelude.{ℕ, List, [], Result, map, slice_index_or}
 use Rattle.std.specs.Borrow.{Bor}
 use Rattle.std.specs.Result.{result_map_both}
-use Rattle.mvt_wire.specs.Plain.{Feature, Layer}
+use Rattle.mvt_document.specs.Plain.{Feature, Layer}
 use Rattle.mvt_view.specs.Seen.{feature_seen, layer_seen}
 use Rattle.mvt_view.specs.declared.views.FeatureView.{FeatureView}
 use Rattle.mvt_view.specs.declared.views.LayerView.{LayerView}
 use Rattle.mvt_meaning.specs.declared.refusal.Refusal.{Refusal}
 
--- a layer with its ordinal, or a refusal
+-- a layer with its ordinal, or a refusal, as plain values
 abbrev pub layer_found : Result (ℕ × LayerView) Refusal → Result (ℕ × Layer) Refusal
 layer_found answer = result_map_both (λ (found : ℕ × LayerView). (found.0, layer_seen found.1)) (λ refusal. refusal) answer
 
--- the same of a feature
+-- a feature with its ordinal, or a refusal, as plain values
 abbrev pub feature_found : Result (ℕ × FeatureView) Refusal → Result (ℕ × Feature) Refusal
 feature_found answer = result_map_both (λ (found : ℕ × FeatureView). (found.0, feature_seen found.1)) (λ refusal. refusal) answer
 
--- what slices hold
+-- what the slices hold
 abbrev pub contents_of : List (Bor (List ℕ)) → List (List ℕ)
 contents_of slices = map (λ (slice : Bor (List ℕ)). slice.now) slices
 

@@ -1,9 +1,9 @@
--- What a request tells before it is accepted: whole lines, none of which looks like a refusal.
+-- What a request prints before it is accepted: whole lines, none of which looks like a refusal.
 use Rattle.std.specs.Prelude.{◌≡◌, ◌≢◌, ℕ, List, ◌++◌, All, codes}
 use Rattle.std.specs.List.{flat_map}
 use Rattle.tile_lines.specs.Lines.{HasNoLineFeed, with_feed}
 
--- a line that may be told: no line feed is inside, and it does not begin as the reply to a refused line does
+-- a line that may be printed before `ok`: it holds no line feed and does not begin with `line `
 pub record MayBeTold (line : List ℕ) : Type 0 where
   pub uncut : HasNoLineFeed line
   pub other : (rest : List ℕ) → line ≢ codes "line " ++ rest

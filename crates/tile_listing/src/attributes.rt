@@ -1,4 +1,5 @@
-//! The lines that show the attributes of a feature.
+//! The lines of the attributes of a feature; the keys and the values of its layer are gone through
+//! once.
 
 ghost use Rattle.std.specs.Prelude.{◌≡◌, ◌++◌, All, IsTrue, OnOk, length, map};
 ghost use Rattle.mvt_view.specs.Attributes.{is_pair};

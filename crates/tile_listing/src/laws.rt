@@ -2,17 +2,18 @@
 
 ghost use Rattle.tile_listing.specs.Laws.{ListingsAreLines, ListingsHaveNoWant, SelectedFeatureIsThere, SelectedLayerIsThere};
 
-/// A listing is whole lines, and no line of it can be taken for a refusal.
+/// A listing is whole lines, none of which begins as a refusal does.
 pub fn listings_are_lines()
     ensures { ListingsAreLines }
 {}
 
-/// Where there is memory no listing is refused for want of it.
+/// With all memory no listing is refused as out of memory.
 pub fn listings_have_no_want()
     ensures { ListingsHaveNoWant }
 {}
 
-/// A layer or a feature that is selected is there, so a listing is refused only as the selection is.
+/// A layer or a feature that is selected is there, so a listing is refused only as the selection
+/// is.
 pub fn selected_are_there()
     ensures layers { SelectedLayerIsThere }
     ensures features { SelectedFeatureIsThere }

@@ -1,7 +1,7 @@
-//! The lines of a listing.
+//! `listing`: the lines of a listing, and which layer or feature it is of.
 
 ghost use Rattle.std.specs.Prelude.{◌≡◌};
-ghost use Rattle.mvt_wire.specs.Stands.{document_of};
+ghost use Rattle.mvt_document.specs.Stands.{document_of};
 ghost use Rattle.mvt_view.specs.Seen.{layer_seen};
 ghost use Rattle.mvt_command.specs.CommandStands.{feature_choice_of, layer_choice_of};
 ghost use Rattle.tile_request.specs.RequestStands.{what_of};
@@ -12,9 +12,9 @@ use crate::feature::put_feature;
 use crate::layer::put_layer;
 use crate::tile::put_tile;
 use mvt_command::{FeatureChoice, LayerChoice};
+use mvt_document::{Document, Items};
 use mvt_meaning::{Refusal, selected_feature, selected_layer};
 use mvt_view::{FeatureView, LayerView, layer};
-use mvt_wire::{Document, Items};
 use std::alloc::Global;
 use tile_request::What;
 

@@ -1,4 +1,4 @@
-//! The words of a line.
+//! The words of a line: names, ids, kinds, values, numbers.
 
 ghost use Rattle.std.specs.Prelude.{◌≡◌, ◌++◌, OnOk, decimal};
 ghost use Rattle.std.specs.Option.{option_copied};

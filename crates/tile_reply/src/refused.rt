@@ -4,7 +4,7 @@ ghost use Rattle.std.specs.Prelude.{◌≡◌};
 ghost use Rattle.tile_reply.specs.Replies.{refusal_number, refusal_name, parse_number, parse_name, edit_number, edit_name, history_number, history_name, taken_in};
 ghost use Rattle.tile_reply.specs.declared.refused.Refused.TheVariants.{Edit, History};
 
-use mvt_history::HistoryError;
+use mvt_history_error::HistoryError;
 use mvt_meaning::Refusal;
 use thiserror::Error;
 use tile_words::ParseError;

@@ -1,4 +1,4 @@
-//! The replies to the lines of a script.
+//! What is written in reply to a line.
 
 ghost use Rattle.std.specs.Prelude.{◌≡◌, ◌-◌, ◌++◌, codes};
 ghost use Rattle.std.specs.List.{flat_map};

@@ -6,12 +6,13 @@ use Rattle.tile_request.specs.declared.request.What.TheVariants as what
 use Rattle.tile_request.specs.declared.request.Request.{Request}
 use Rattle.tile_request.specs.declared.request.Request.TheVariants.{Edit, Undo, Redo, Mark, Unmark, Back, Begin, End, Cancel, Marks, History, Size, List}
 
+-- the plain value that what a listing of the program shows stands for
 abbrev pub what_of : What → plain.What
 what_of what.Whole = plain.Whole
 what_of (what.OneLayer layer) = plain.OneLayer (layer_choice_of layer)
 what_of (what.OneFeature layer feature) = plain.OneFeature (layer_choice_of layer) (feature_choice_of feature)
 
--- the request with its arguments
+-- the plain request that a request of the program stands for
 abbrev pub request_of : Request → plain.Request
 request_of (Edit command) = plain.Edit (command_of command)
 request_of Undo = plain.Undo

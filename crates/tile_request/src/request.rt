@@ -1,7 +1,8 @@
-//! What a line of a script can ask for.
+//! What a line can ask for: a command, a move along the history, a mark, a step to open or to
+//! close, or something to print; what a listing shows.
 
 use mvt_command::{Command, FeatureChoice, LayerChoice};
-use mvt_wire::Items;
+use mvt_document::Items;
 
 /// What a listing shows.
 #[derive(Debug, Drop)]

@@ -1,12 +1,12 @@
 -- How a run ends, from what its steps answer.
 use Rattle.std.proofs.Common.{◌≡◌, ℕ, ◌+◌, ◌≤◌, true, false, [], length, refl, arith, sym, ap, subst, ◌∙◌, inl, inr}
 use Rattle.std.specs.Prelude.{Result, Ok, Err}
-use Rattle.mvt_wire.specs.TheConstants.{MAX_FILE}
-use Rattle.mvt_wire.specs.declared.Document as program
-use Rattle.mvt_wire.specs.Stands.{document_of}
-use Rattle.mvt_wire.specs.Wire.{bytes_of}
-use Rattle.mvt_wire.specs.Opens.{OpensAs}
-use Rattle.mvt_wire.specs.Settle.{settle}
+use Rattle.mvt_document.specs.declared.TheConstants.{MAX_FILE}
+use Rattle.mvt_document.specs.declared.Document as program
+use Rattle.mvt_document.specs.Stands.{document_of}
+use Rattle.mvt_document.specs.Wire.{bytes_of}
+use Rattle.mvt_document.specs.Opens.{OpensAs}
+use Rattle.mvt_document.specs.Settle.{settle}
 use Rattle.tile_device.specs.Seen.{Seen, Intake, Output, nothing_read, written}
 use Rattle.tile_device.proofs.Sending.{receives_nothing}
 use Rattle.tile_device.proofs.Supplying.{supplies_nothing}

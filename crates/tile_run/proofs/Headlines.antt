@@ -4,9 +4,9 @@ use Rattle.std.specs.Prelude.{IsSome, is_some, ◌⊎◌}
 use Rattle.std.specs.declared.option.Option.{Option}
 use Rattle.std.specs.Io.KnownBytes.{Appends, Consumes, IsAtEnd}
 use Rattle.std.proofs.lemmas.List.{drop_at, take_all}
-use Rattle.mvt_wire.specs.Opens.{OpensAs}
-use Rattle.mvt_wire.specs.Plain.{Document}
-use Rattle.mvt_wire.proofs.SameBytes.{one_document_by_bytes}
+use Rattle.mvt_document.specs.Opens.{OpensAs}
+use Rattle.mvt_document.specs.Plain.{Document}
+use Rattle.mvt_document.proofs.SameBytes.{one_document_by_bytes}
 use Rattle.tile_device.specs.Device.{interruptions_in, failures_in}
 use Rattle.tile_device.specs.Seen.{Seen, Intake, Output, Meets, Supplies, Receives, IsFront}
 use Rattle.tile_device.specs.declared.device.Trouble.{Trouble}

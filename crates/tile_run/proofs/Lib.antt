@@ -2,11 +2,6 @@ pub mod Overs
 pub mod Fronts
 pub mod ReplyEnds
 pub mod Replying
-pub mod LineRequests
-pub mod Standing
-pub mod UndoLines
-pub mod StepLines
-pub mod NoWant
 pub mod Taking
 pub mod Walks
 pub mod Budgets

@@ -5,7 +5,7 @@ use Rattle.std.proofs.lemmas.Bool.Decides.{nat_tests}
 use Rattle.std.proofs.Math.Seq.{take-append-add}
 use Rattle.std.proofs.lemmas.Bool.{cases_lt}
 use Rattle.std.proofs.lemmas.List.{take_all, take-append-le, take-append-drop}
-use Rattle.mvt_wire.specs.Plain.{Document}
+use Rattle.mvt_document.specs.Plain.{Document}
 use Rattle.tile_device.specs.Seen.{Seen, Intake, Spends, Supplies, written}
 use Rattle.tile_device.specs.Transfer.{piece_of}
 use Rattle.tile_device.specs.declared.device.Trouble.{Trouble}

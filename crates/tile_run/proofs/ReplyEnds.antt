@@ -9,7 +9,7 @@ use Rattle.std.proofs.lemmas.List.{append_cancel_right}
 use Rattle.tile_lines.specs.Lines.{with_feed, EndsWithALine}
 use Rattle.tile_reply.specs.Replies.{accepted_reply, refused_front, refused_reply, refusal_number, refusal_name, stop_told, taken_in, IsWant}
 use Rattle.mvt_meaning.specs.declared.refusal.Refusal.TheVariants as edit
-use Rattle.mvt_history.specs.declared.error.HistoryError.TheVariants as history
+use Rattle.mvt_history_error.specs.declared.HistoryError.TheVariants as history
 use Rattle.tile_words.specs.declared.parse_error.ParseError.TheVariants as parse
 use Rattle.tile_reply.specs.declared.refused.Refused.{Refused}
 use Rattle.tile_reply.specs.declared.refused.Refused.TheVariants as refused

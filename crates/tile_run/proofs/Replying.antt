@@ -5,14 +5,14 @@ use Rattle.std.proofs.lemmas.List.{append_cancel_left}
 use Rattle.tile_request.specs.Request.{Request}
 use Rattle.tile_script.specs.Line.{answer_to}
 use Rattle.tile_lines.specs.Lines.{lines_of, with_feed, EndsWithALine}
-use Rattle.mvt_wire.specs.Wire.{bytes_of}
+use Rattle.mvt_document.specs.Wire.{bytes_of}
 use Rattle.mvt_history.specs.History.{History, standing_document}
 use Rattle.tile_answer.specs.Answering.{Told, carried_out}
 use Rattle.tile_answer.proofs.AnswerLaws.{looks_leave_history}
 use Rattle.tile_reply.specs.Replies.{accepted_reply, refused_reply, IsWant, HasNoWant}
 use Rattle.tile_run.specs.Run.{Progress, ran, tile_of, settled_by, answered_by, after_line, is_over, after_lines, MayFollow, Walk}
-use Rattle.mvt_history.specs.declared.error.HistoryError.TheVariants.{Stopped}
-use Rattle.tile_run.specs.RunLaws.{RepliesStand, RefusedLinesChangeNothing, SilentLinesChangeNothing, StrictRunsStop, AcceptedRunsAreAlike, WalksWithoutWantAreRuns, RunsAreWalks, LookingChangesNothing}
+use Rattle.mvt_history_error.specs.declared.HistoryError.TheVariants.{Stopped}
+use Rattle.tile_run.specs.RunLaws.{WalksWithoutWantAreRuns}
 use Rattle.tile_words.specs.declared.parse_error.ParseError.{ParseError}
 use Rattle.tile_words.specs.declared.parse_error.ParseError.TheVariants as parse
 use Rattle.tile_reply.specs.declared.refused.Refused.{Refused}
@@ -23,10 +23,10 @@ use Rattle.tile_run.proofs.Fronts.{after_lines-append, fronts_stand}
 
 -- ---- replies are added at the end, as whole lines
 
-record Adds (p q : Progress) : Type 0 where
-  reply : List ℕ
-  is : q.replies ≡ p.replies ++ reply
-  ends : EndsWithALine reply
+pub record Adds (p q : Progress) : Type 0 where
+  pub reply : List ℕ
+  pub is : q.replies ≡ p.replies ++ reply
+  pub ends : EndsWithALine reply
 
 adds_none : (p q : Progress) → q.replies ≡ p.replies → Adds p q
 adds_none p q e = record { reply = []; is = e ∙ sym (append-nil p.replies); ends = inl refl }
@@ -47,90 +47,12 @@ answer_adds p (Ok None) = adds_none p (answered_by p (Ok None)) refl
 answer_adds p (Ok (Some request)) = settled_adds p (carried_out request p.history)
 answer_adds p (Err error) = record { reply = refused_reply (p.lines + 1) (refused.Parse error); is = refl; ends = refused_ends (p.lines + 1) (refused.Parse error) }
 
-lines_add : (strict : Bool) (p : Progress) (lines : List (List ℕ)) → Adds p (after_lines strict p lines)
+pub lines_add : (strict : Bool) (p : Progress) (lines : List (List ℕ)) → Adds p (after_lines strict p lines)
 lines_add strict p [] = adds_none p p refl
 lines_add strict p (line ∷ lines) =
     elim (cases_Bool (is_over strict p)) [
       | inl over ↦ rw over (adds_none p p refl)
       | inr on ↦ rw on (adds_both p (after_line p line) (after_lines strict (after_line p line) lines) (answer_adds p (answer_to line)) (lines_add strict (after_line p line) lines))
-    ]
-
-pub replies_stand : RepliesStand
-replies_stand document options front rest ends =
-    let adds = lines_add options.strict (ran document options front) (lines_of rest) in
-    (adds.reply, ap (λ (q : Progress). q.replies) (fronts_stand document options front rest ends) ∙ adds.is)
-
--- ---- which lines change nothing
-
-settled_refused : (p : Progress) (result : Result Told Refused) (reason : Refused) → (settled_by p result).replies ≡ p.replies ++ refused_reply (p.lines + 1) reason → ((settled_by p result).history ≡ p.history) × (tile_of (settled_by p result) ≡ tile_of p) × ((settled_by p result).any_refused ≡ true)
-settled_refused p (Ok told) reason e = absurd (accepted_is_not_refused told.lines (p.lines + 1) reason (append_cancel_left p.replies (accepted_reply told.lines) (refused_reply (p.lines + 1) reason) e))
-settled_refused p (Err other) reason e = (refl, refl, refl)
-
-something : (xs : List ℕ) (b : ℕ) (more : List ℕ) → xs ≡ xs ++ b ∷ more → ⊥
-something xs b more e = let longer : length xs ≡ length (xs ++ b ∷ more) = ap length e in omega (arith, length-append xs (b ∷ more))
-
-answer_refused : (p : Progress) (answer : Result (Option Request) ParseError) (reason : Refused) → (answered_by p answer).replies ≡ p.replies ++ refused_reply (p.lines + 1) reason → ((answered_by p answer).history ≡ p.history) × (tile_of (answered_by p answer) ≡ tile_of p) × ((answered_by p answer).any_refused ≡ true)
-answer_refused p (Ok None) reason e = absurd (something p.replies _ _ e)
-answer_refused p (Ok (Some request)) reason e = settled_refused p (carried_out request p.history) reason e
-answer_refused p (Err error) reason e = (refl, refl, refl)
-
-pub refused_lines : RefusedLinesChangeNothing
-refused_lines p line reason e = answer_refused p (answer_to line) reason e
-
--- what ends with a line feed is something
-added : (xs ys text : List ℕ) → ys ≡ with_feed text → xs ≡ xs ++ ys → ⊥
-added xs ys text whole e =
-    let longer : length xs ≡ length (xs ++ ys) = ap length e in
-    omega (arith, length-append xs ys, ap length whole, length-append text (10 ∷ []))
-
-settled_silent : (p : Progress) (result : Result Told Refused) → (settled_by p result).replies ≡ p.replies → ⊥
-settled_silent p (Ok told) e = added p.replies (accepted_reply told.lines) (told.lines ++ codes "ok") (accepted_text told.lines) (sym e)
-settled_silent p (Err reason) e = something p.replies _ _ (sym e)
-
-answer_silent : (p : Progress) (answer : Result (Option Request) ParseError) → (answered_by p answer).replies ≡ p.replies → answered_by p answer ≡ record p { lines = p.lines + 1 }
-answer_silent p (Ok None) e = refl
-answer_silent p (Ok (Some request)) e = absurd (settled_silent p (carried_out request p.history) e)
-answer_silent p (Err error) e = absurd (something p.replies _ _ (sym e))
-
-pub silent_lines : SilentLinesChangeNothing
-silent_lines p line e = answer_silent p (answer_to line) e
-
--- a request that looks is counted and replied to
-settled_looks : (p : Progress) (result : Result Told Refused) → ((told : Told) → result ≡ Ok told → told.history ≡ p.history) → ((settled_by p result).history ≡ p.history) × (tile_of (settled_by p result) ≡ tile_of p) × ((settled_by p result).lines ≡ p.lines + 1)
-settled_looks p (Ok told) stays = let same = stays told refl in (same, ap (λ (history : History). bytes_of (standing_document history)) same, refl)
-settled_looks p (Err reason) stays = (refl, refl, refl)
-
-pub looking_lines : LookingChangesNothing
-looking_lines p line request asks looks =
-    let after : after_line p line ≡ settled_by p (carried_out request p.history) = ap (answered_by p) asks in
-    let settled = settled_looks p (carried_out request p.history) (λ told e. looks_leave_history request p.history told looks e) in
-    (ap (λ (q : Progress). q.history) after ∙ settled.0, ap tile_of after ∙ settled.1, ap (λ (q : Progress). q.lines) after ∙ settled.2)
-
--- ---- strict runs
-
-pub runs_stop : StrictRunsStop
-runs_stop p lines more over = after_lines-append true p lines more ∙ over_stays true (after_lines true p lines) more over
-
--- that a line was refused stays so
-settled_stays : (p : Progress) (result : Result Told Refused) → p.any_refused ≡ true → (settled_by p result).any_refused ≡ true
-settled_stays p (Ok told) refused = refused
-settled_stays p (Err reason) refused = refl
-
-refused_stays : (p : Progress) (answer : Result (Option Request) ParseError) → p.any_refused ≡ true → (answered_by p answer).any_refused ≡ true
-refused_stays p (Ok None) refused = refused
-refused_stays p (Ok (Some request)) refused = settled_stays p (carried_out request p.history) refused
-refused_stays p (Err error) refused = refl
-
-lines_stay_refused : (p : Progress) (lines : List (List ℕ)) → p.any_refused ≡ true → (after_lines false p lines).any_refused ≡ true
-lines_stay_refused p [] refused = refused
-lines_stay_refused p (line ∷ lines) refused = lines_stay_refused (after_line p line) lines (refused_stays p (answer_to line) refused)
-
-pub runs_are_alike : AcceptedRunsAreAlike
-runs_are_alike p [] accepted = refl
-runs_are_alike p (line ∷ lines) accepted =
-    elim (cases_Bool p.any_refused) [
-      | inl refused ↦ absurd (let stays = lines_stay_refused p (line ∷ lines) refused in cc)
-      | inr none ↦ goes_on true p line lines none ∙ runs_are_alike (after_line p line) lines accepted
     ]
 
 -- ---- walks
@@ -166,14 +88,6 @@ no_want_behind front rest whole none line reason before behind ends want e =
     ap (λ (xs : List ℕ). front ++ xs) e ∙ sym (append_assoc front (before ++ refused_reply line reason) behind)
     ∙ ap (λ (xs : List ℕ). xs ++ behind) (sym (append_assoc front before (refused_reply line reason)))
     )
-
-pub runs_are_walks : RunsAreWalks
-runs_are_walks strict p [] = refl
-runs_are_walks strict p (line ∷ lines) =
-    elim (cases_Bool (is_over strict p)) [
-      | inl over ↦ rw over refl
-      | inr on ↦ rw on (after_line p line, inl refl, runs_are_walks strict (after_line p line) lines)
-    ]
 
 -- a reply that says that memory was refused would be at the front of what was added
 wanted : (p next q : Progress) (added : List ℕ) (reason : Refused) → IsWant reason → next.replies ≡ p.replies ++ refused_reply (p.lines + 1) reason → Adds next q → q.replies ≡ p.replies ++ added → HasNoWant added → ⊥

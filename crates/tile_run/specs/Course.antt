@@ -1,9 +1,9 @@
 -- What a run reads and writes, by how it ends.
 use Rattle.std.specs.Prelude.{◌≡◌, ℕ, ◌+◌, ◌<◌, ◌≤◌, Bool, true, false, List, [], ◌∷◌, ◌++◌, length, take, Some, None, IsSome, if◌then◌else◌, ◌⊎◌}
-use Rattle.mvt_wire.specs.TheConstants.{MAX_FILE}
-use Rattle.mvt_wire.specs.Plain.{Document}
-use Rattle.mvt_wire.specs.Opens.{OpensAs, IsPlace}
-use Rattle.mvt_wire.specs.Settle.{settle}
+use Rattle.mvt_document.specs.declared.TheConstants.{MAX_FILE}
+use Rattle.mvt_document.specs.Plain.{Document}
+use Rattle.mvt_document.specs.Opens.{OpensAs, IsPlace}
+use Rattle.mvt_document.specs.Settle.{settle}
 use Rattle.tile_device.specs.Seen.{Intake, Output, nothing_read, IsFront}
 use Rattle.tile_device.specs.declared.device.Trouble.TheVariants.{Interrupted}
 use Rattle.tile_lines.specs.Lines.{lines_of, whole_lines}
@@ -17,7 +17,7 @@ use Rattle.tile_run.specs.declared.outcome.TileFault.TheVariants as faults
 use Rattle.mvt_history.specs.History.{standing_document}
 use Rattle.tile_run.specs.Run.{Progress, at_first, is_over, MayFollow, Walk, tile_of}
 
--- what was read of each source and written to each sink
+-- what was read of the tile and of the script, and written to the replies and to `out`
 pub record Course : Type 0 where
   pub tile : Intake
   pub script : Intake
@@ -26,11 +26,12 @@ pub record Course : Type 0 where
 
 -- ---- interrupted calls
 
--- how many interrupted calls were made again
+-- how many interrupted calls were made again, over all devices
 abbrev pub retries_in : Course → ℕ
 retries_in course = course.tile.retries + course.script.retries + course.replies.retries + course.out.retries
 
--- No more are made again than may be, over all devices, and an interruption ends the run only where so many were.
+-- at most 1,000 interrupted calls were made again over all devices, and an interruption ended the calls of a device
+-- only where exactly that many were
 pub record IsPatient (course : Course) : Type 0 where
   pub within : retries_in course ≤ MAX_RETRIES
   pub tile : course.tile.trouble ≡ Some Interrupted → retries_in course ≡ MAX_RETRIES
@@ -40,29 +41,32 @@ pub record IsPatient (course : Course) : Type 0 where
 
 -- ---- the tile
 
--- it was read to its end without trouble, and opens as the document
+-- the tile was read to its end without trouble, and opens as the document
 pub record IsOpened (tile : Intake) (document : Document) : Type 0 where
   pub whole : tile.is_whole ≡ true
   pub untroubled : tile.trouble ≡ None
   pub opens : OpensAs tile.bytes document
 
--- no document has these bytes
+-- the file opens as no document
 abbrev pub OpensAsNothing : List ℕ → Type 0
 OpensAsNothing file = (document : Document) → OpensAs file document → ⊥
 
--- what is wrong with a file that opens as no document: it is too long, or not a tile from this place on
+-- what is wrong with a file: it is too large, or it opens as no document, and the longest prefix that does ends at the
+-- place
 abbrev pub IsFaultOf : TileFault → List ℕ → Type 0
 IsFaultOf (faults.BadWire place) file = (length file ≤ MAX_FILE) × OpensAsNothing file × IsPlace file place
 IsFaultOf faults.FileTooLarge file = MAX_FILE < length file
 
--- why the tile does not open
+-- what is wrong with what was read of the tile: it is too large, or, read to its end, it opens as no document, and the
+-- longest prefix that does ends at the place
 abbrev pub IsFaulty : TileFault → Intake → Type 0
 IsFaulty (faults.BadWire place) tile = (tile.is_whole ≡ true) × IsFaultOf (faults.BadWire place) tile.bytes
 IsFaulty faults.FileTooLarge tile = MAX_FILE < length tile.bytes
 
 -- ---- the script
 
--- the lines of what was read of a script: all of them where that is the whole, else those that ended with a line feed
+-- the lines of what was read of a script: all of them where that is the whole, else those that end with a line feed
+-- within the first 16,777,216 bytes
 abbrev pub lines_in : Intake → List (List ℕ)
 lines_in script = if script.is_whole then lines_of script.bytes else whole_lines (take MAX_SCRIPT script.bytes)
 
@@ -71,7 +75,7 @@ pub record IsWritten (output : Output) (bytes : List ℕ) : Type 0 where
   pub all : output.bytes ≡ bytes
   pub untroubled : output.trouble ≡ None
 
--- the script was read to its end, and each line was carried out and replied to
+-- the script was read to its end, has at most 16,777,216 bytes, and each line was carried out and replied to
 pub record CarriesThrough (strict : Bool) (start : Progress) (script : Intake) (output : Output) (progress : Progress) : Type 0 where
   pub whole : script.is_whole ≡ true
   pub within : length script.bytes ≤ MAX_SCRIPT
@@ -80,8 +84,8 @@ pub record CarriesThrough (strict : Bool) (start : Progress) (script : Intake) (
   pub goes_on : is_over strict progress ≡ false
   pub replies : IsWritten output progress.replies
 
--- A line was refused, and the run is strict: it and those before it were replied to. A script that is read to its end
--- is not too long.
+-- the run is strict, and a line was refused: it and the lines before it were carried out and replied to; a script that
+-- was read to its end has at most 16,777,216 bytes
 pub record StopsStrictly (strict : Bool) (start : Progress) (script : Intake) (output : Output) : Type 0 where
   pub within : script.is_whole ≡ true → length script.bytes ≤ MAX_SCRIPT
   pub untroubled : script.trouble ≡ None
@@ -90,7 +94,7 @@ pub record StopsStrictly (strict : Bool) (start : Progress) (script : Intake) (o
   pub over : is_over strict progress ≡ true
   pub replies : IsWritten output progress.replies
 
--- the script met trouble or is too long: its whole lines were carried out and replied to
+-- the script met trouble or is too long: the lines that were read whole were carried out and replied to
 pub record StopsAtScript (strict : Bool) (start : Progress) (script : Intake) (output : Output) : Type 0 where
   pub cause : IsSome script.trouble ⊎ (MAX_SCRIPT < length script.bytes)
   pub cut : script.is_whole ≡ false
@@ -99,7 +103,7 @@ pub record StopsAtScript (strict : Bool) (start : Progress) (script : Intake) (o
   pub goes_on : is_over strict progress ≡ false
   pub replies : IsWritten output progress.replies
 
--- the reply to a line met trouble: those before it were replied to, and what was written of its own is a front of it
+-- the reply to a line met trouble: the lines before were replied to, and of this reply a prefix was written
 pub record StopsAtReplies (strict : Bool) (start : Progress) (script : Intake) (output : Output) : Type 0 where
   pub untroubled : script.trouble ≡ None
   pub first : List (List ℕ)
@@ -120,14 +124,17 @@ pub record StopsAtReplies (strict : Bool) (start : Progress) (script : Intake) (
 
 -- ---- how a run ends
 
+-- the progress before the first line, on a document, by the options
 abbrev pub start_of : Options → Document → Progress
 start_of options document = at_first document options.depth
 
--- the tile that stands opens again, as its document with each stored width raised to the width that was written
+-- the bytes of the standing document open again, as it with each stored width raised to the one that was written
+-- (`settle`)
 abbrev pub OpensAgain : Progress → Type 0
 OpensAgain progress = OpensAs (tile_of progress) (settle (standing_document progress.history))
 
--- every line was carried out and replied to, and the tile was written
+-- the tile opened, the script was carried through, a line was refused or none as `any_refused` says, and the tile was
+-- written and opens again
 pub record IsEdited (options : Options) (any_refused : Bool) (course : Course) : Type 0 where
   pub document : Document
   pub opened : IsOpened course.tile document
@@ -143,14 +150,14 @@ pub record StopsAtTile (course : Course) : Type 0 where
   pub replies : IsWritten course.replies []
   pub out : IsWritten course.out []
 
--- the tile opened, and the script or its replies ended the run
+-- the tile opened, the script or its replies ended the run as `stops` says, and nothing was written to `out`
 pub record StopsBetween (options : Options) (stops : Bool → Progress → Intake → Output → Type 0) (course : Course) : Type 0 where
   pub document : Document
   pub opened : IsOpened course.tile document
   pub between : stops options.strict (start_of options document) course.script course.replies
   pub out : IsWritten course.out []
 
--- the edited tile met trouble: all lines were replied to, and what was written of the tile is a front of it
+-- the tile opened, the script was carried through, and `out` met trouble: a prefix of the tile was written
 pub record StopsAtOut (options : Options) (course : Course) : Type 0 where
   pub document : Document
   pub opened : IsOpened course.tile document
@@ -159,19 +166,21 @@ pub record StopsAtOut (options : Options) (course : Course) : Type 0 where
   pub front : IsFront course.out.bytes (tile_of progress)
   pub trouble : IsSome course.out.trouble
 
--- all lines were carried out and replied to
+-- the tile opened, and the script was carried through
 pub record RepliesToAll (options : Options) (course : Course) : Type 0 where
   pub document : Document
   pub opened : IsOpened course.tile document
   pub progress : Progress
   pub carried : CarriesThrough options.strict (start_of options document) course.script course.replies progress
 
--- memory was refused: before the script was read, or for the tile to write
+-- the tile met no trouble; either the script was not read and nothing replied, or it was carried through; memory ran
+-- out then, and nothing was written to `out`
 pub record StopsForMemory (options : Options) (course : Course) : Type 0 where
   pub untroubled : course.tile.trouble ≡ None
   pub replied : ((course.script ≡ nothing_read) × IsWritten course.replies []) ⊎ RepliesToAll options course
   pub out : IsWritten course.out []
 
+-- what a run read and wrote where it ended with this outcome
 abbrev pub Ends : Options → Outcome → Course → Type 0
 Ends options outcomes.Done course = IsEdited options false course
 Ends options outcomes.SomeRefused course = IsEdited options true course

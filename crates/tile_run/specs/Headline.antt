@@ -3,9 +3,9 @@ use Rattle.std.specs.Prelude.{◌≡◌, ◌≢◌, ℕ, Bool, false, ◌+◌, �
 use Rattle.std.specs.declared.option.Option.{Option}
 use Rattle.std.specs.Io.{appended_bytes}
 use Rattle.std.specs.Io.KnownBytes.{Appends}
-use Rattle.mvt_wire.specs.TheConstants.{MAX_FILE}
-use Rattle.mvt_wire.specs.Plain.{Document}
-use Rattle.mvt_wire.specs.Opens.{OpensAs}
+use Rattle.mvt_document.specs.declared.TheConstants.{MAX_FILE}
+use Rattle.mvt_document.specs.Plain.{Document}
+use Rattle.mvt_document.specs.Opens.{OpensAs}
 use Rattle.tile_run.specs.declared.runs.TheConstants.{MAX_RETRIES, MAX_SCRIPT}
 use Rattle.tile_run.specs.declared.outcome.Options.{Options}
 use Rattle.tile_device.specs.declared.device.Source.{Ghosts as SourceMembers}
@@ -27,6 +27,7 @@ pub record Devices : Type 0 where
   pub replies : Seen
   pub out : Seen
 
+-- the four devices of a run at one moment, by what each tells of itself
 abbrev pub devices_at : {A B C D : Type 0} → SourceMembers A → SourceMembers B → SinkMembers C → SinkMembers D → A → B → C → D → Devices
 devices_at a b c d tile script replies out = record {
   tile = source_at a tile;
@@ -35,27 +36,28 @@ devices_at a b c d tile script replies out = record {
   out = sink_at d out;
 }
 
--- counts stop at 2^64 - 1: these are far below that
+-- the counts of interruptions and failures of a device are at most 2^63, far below where they stop
 pub record HasLowCounts (device : Seen) : Type 0 where
   pub interruptions : device.interruptions ≤ 2 ^ 63
   pub failures : device.failures ≤ 2 ^ 63
 
--- the device tells its bytes at the end, and no call of it failed
+-- the device began with low counts, tells its bytes at the end, and no call of it failed
 pub record Serves (before after : Seen) : Type 0 where
   pub tells : IsTrue after.tells
   pub low : HasLowCounts before
   pub unfailing : after.failures ≡ before.failures
 
--- how many calls of the device were interrupted
+-- how many calls of a device were interrupted
 abbrev pub interruptions_between : Seen → Seen → ℕ
 interruptions_between before after = after.interruptions - before.interruptions
 
+-- how many calls were interrupted, over all devices
 abbrev pub all_interruptions : Devices → Devices → ℕ
 all_interruptions before after =
     interruptions_between before.tile after.tile + interruptions_between before.script after.script
     + interruptions_between before.replies after.replies + interruptions_between before.out after.out
 
--- no call failed, and over all devices no more were interrupted than are made again
+-- all four devices serve (`Serves`), and over all of them at most 1,000 calls were interrupted
 pub record AllServe (before after : Devices) : Type 0 where
   pub tile : Serves before.tile after.tile
   pub script : Serves before.script after.script
@@ -63,29 +65,32 @@ pub record AllServe (before after : Devices) : Type 0 where
   pub out : Serves before.out after.out
   pub patient : all_interruptions before after ≤ MAX_RETRIES
 
--- the replies that were written between two moments are known, and none is a want of memory
+-- the replies written between two moments are known, and none of them is 60 or 54, out of memory (`HasNoWant`)
 abbrev pub TellsNoWant : Option (List ℕ) → Option (List ℕ) → Type 0
 TellsNoWant None new = ⊥
 TellsNoWant (Some old) None = ⊥
 TellsNoWant (Some old) (Some new) = HasNoWant (appended_bytes old new)
 
--- how a run ends that comes to this progress
+-- the outcome of a run that comes to this progress: `StrictStop` where a strict run is over, else `SomeRefused` where a
+-- line was refused, else `Done`
 abbrev pub outcome_of : Bool → Progress → Outcome
 outcome_of strict progress = if is_over strict progress then outcomes.StrictStop else (if progress.any_refused then outcomes.SomeRefused else outcomes.Done)
 
--- the tile is written, unless a strict run is over
+-- the bytes written of the tile: those of the standing document, or none where a strict run is over
 abbrev pub tile_written : Bool → Progress → List ℕ
 tile_written strict progress = if is_over strict progress then [] else tile_of progress
 
--- The tile is opened and edited: the outcome, the replies and the tile written are those of the script on that document.
--- The same holds of each prefix of whole lines, and the script goes on from there.
+-- the outcome, the replies and what is written to `out` are those of the script on the document; and the script goes on
+-- from each prefix that ends with a line feed
 pub record IsRunOf (options : Options) (document : Document) (script : List ℕ) (before after : Devices) (outcome : Outcome) : Type 0 where
   pub ends : outcome ≡ outcome_of options.strict (ran document options script)
   pub replies : Appends before.replies.bytes after.replies.bytes (ran document options script).replies
   pub out : Appends before.out.bytes after.out.bytes (tile_written options.strict (ran document options script))
   pub prefixes : (front more : List ℕ) → script ≡ front ++ 10 ∷ more → ran document options script ≡ after_lines options.strict (ran document options (front ++ 10 ∷ [])) (lines_of more)
 
--- for every tile that opens and every script that is not too long
+-- for every tile that opens, as the document, and every script of at most 16,777,216 bytes, where all devices serve,
+-- the replies are known and none is 60 or 54, and the outcome is not `NoMemory`: the outcome, the replies and what is
+-- written are those of the script on the document
 abbrev pub Headline : Options → Devices → Devices → Outcome → Type 0
 Headline options before after outcome =
     (file script : List ℕ) (document : Document) → before.tile.bytes ≡ Some file → OpensAs file document
@@ -93,7 +98,7 @@ Headline options before after outcome =
     → AllServe before after → TellsNoWant before.replies.bytes after.replies.bytes → outcome ≢ outcomes.NoMemory
     → IsRunOf options document script before after outcome
 
--- where the tile is written, it opens again
+-- under the same premises, where a strict run is not over: the tile that is written opens again
 abbrev pub WritesATile : Options → Devices → Devices → Outcome → Type 0
 WritesATile options before after outcome =
     (file script : List ℕ) (document : Document) → before.tile.bytes ≡ Some file → OpensAs file document
@@ -101,13 +106,15 @@ WritesATile options before after outcome =
     → AllServe before after → TellsNoWant before.replies.bytes after.replies.bytes → outcome ≢ outcomes.NoMemory
     → is_over options.strict (ran document options script) ≡ false → OpensAgain (ran document options script)
 
--- for every tile that opens as no document: it is refused for what is wrong with it
+-- for every tile that opens as no document, where all devices serve and the outcome is not `NoMemory`: the outcome is
+-- that the tile is refused, for what is wrong with it
 abbrev pub RefusesTile : Devices → Devices → Outcome → Type 0
 RefusesTile before after outcome =
     (file : List ℕ) → before.tile.bytes ≡ Some file → OpensAsNothing file → AllServe before after → outcome ≢ outcomes.NoMemory
     → (fault : TileFault) × (outcome ≡ outcomes.TileRefused fault) × IsFaultOf fault file
 
--- a course that ends so, and that the devices bear out
+-- there is a course of what was read and written that ends as the outcome says and that the devices bear out; at most
+-- 67,108,865 bytes of the tile and 16,777,217 of the script were read
 pub record Runs (options : Options) (before after : Devices) (outcome : Outcome) : Type 0 where
   pub course : Course
   pub ends : Ends options outcome course
@@ -119,7 +126,7 @@ pub record Runs (options : Options) (before after : Devices) (outcome : Outcome)
   pub tile_within : length course.tile.bytes ≤ MAX_FILE + 1
   pub script_within : length course.script.bytes ≤ MAX_SCRIPT + 1
 
--- the run ends before the tile is written, and out is as it was
+-- the outcomes after which `out` is as it was: all but `Done`, `SomeRefused` and a fault of `out`
 abbrev pub LeavesOut : Outcome → Type 0
 LeavesOut outcomes.Done = ⊥
 LeavesOut outcomes.SomeRefused = ⊥
@@ -131,7 +138,7 @@ LeavesOut (outcomes.Device devices.Replies) = Unit {0}
 LeavesOut (outcomes.Device devices.Out) = ⊥
 LeavesOut outcomes.NoMemory = Unit {0}
 
--- the run ends with the tile, and script and replies are as they were
+-- the outcomes after which script and replies are as they were: the tile was refused, or its device is at fault
 abbrev pub LeavesReplies : Outcome → Type 0
 LeavesReplies outcomes.Done = ⊥
 LeavesReplies outcomes.SomeRefused = ⊥

@@ -1,7 +1,7 @@
--- Laws over whole runs, in the words of scripts, replies and tiles.
+-- Laws over whole runs on which its contract rests.
 use Rattle.std.specs.Prelude.{◌≡◌, ℕ, ◌+◌, ◌≤◌, Bool, true, false, List, [], ◌∷◌, ◌++◌, take, Option, Some, None, Result, Ok, Err}
 use Rattle.std.specs.List.{AllByRecursion, flat_map}
-use Rattle.mvt_wire.specs.Plain.{Document}
+use Rattle.mvt_document.specs.Plain.{Document}
 use Rattle.mvt_command.specs.Command.{Command}
 use Rattle.tile_request.specs.Request.{Request, Edit, Undo, Redo, SetMark, TakeMark, GoBack, Begin, End, Cancel, ListMarks, TellHistory, Size, Lists}
 use Rattle.mvt_meaning.specs.Meaning.{applied}
@@ -17,181 +17,19 @@ use Rattle.tile_run.specs.Run.{Progress, after_line, after_lines, is_over, ran, 
 use Rattle.tile_run.specs.declared.outcome.Options.{Options}
 use Rattle.tile_reply.specs.declared.refused.Refused.{Refused}
 
--- ---- fronts
-
--- The lines of such a front are the first lines of the script.
+-- the lines of a prefix that is empty or ends with a line feed are the first lines of the script
 abbrev pub FrontsHaveFirstLines : Type 0
 FrontsHaveFirstLines = (front rest : List ℕ) → EndsWithALine front → lines_of (front ++ rest) ≡ lines_of front ++ lines_of rest
 
--- The run on such a front comes to where the run on the whole script is after those lines, and the others go on from there.
+-- the run on such a prefix comes to where the run on the whole script is after those lines, and the others go on from
+-- there
 abbrev pub FrontsStand : Type 0
 FrontsStand =
     (document : Document) (options : Options) (front rest : List ℕ) → EndsWithALine front
     → ran document options (front ++ rest) ≡ after_lines options.strict (ran document options front) (lines_of rest)
 
--- What was replied to such a front stays at the front of what is replied to the whole script.
-abbrev pub RepliesStand : Type 0
-RepliesStand =
-    (document : Document) (options : Options) (front rest : List ℕ) → EndsWithALine front
-    → (more : List ℕ)
-    × ((ran document options (front ++ rest)).replies ≡ (ran document options front).replies ++ more)
-
--- ---- lines that change nothing
-
--- A line that is refused changes neither the tile nor what undo takes back. That it was refused is kept.
-abbrev pub RefusedLinesChangeNothing : Type 0
-RefusedLinesChangeNothing =
-    (p : Progress) (line : List ℕ) (reason : Refused)
-    → (after_line p line).replies ≡ p.replies ++ refused_reply (p.lines + 1) reason
-    → ((after_line p line).history ≡ p.history)
-    × (tile_of (after_line p line) ≡ tile_of p)
-    × ((after_line p line).any_refused ≡ true)
-
--- A line without a reply is counted, and changes nothing else.
-abbrev pub SilentLinesChangeNothing : Type 0
-SilentLinesChangeNothing = (p : Progress) (line : List ℕ) → (after_line p line).replies ≡ p.replies → after_line p line ≡ record p { lines = p.lines + 1 }
-
--- A line that only looks, also one that is refused, changes neither the tile nor what undo takes back: it is counted and
--- replied to.
-abbrev pub LookingChangesNothing : Type 0
-LookingChangesNothing =
-    (p : Progress) (line : List ℕ) (request : Request) → answer_to line ≡ Ok (Some request) → Looks request
-    → ((after_line p line).history ≡ p.history)
-    × (tile_of (after_line p line) ≡ tile_of p)
-    × ((after_line p line).lines ≡ p.lines + 1)
-
--- A strict run ends with the first line that is refused: what follows it changes nothing.
-abbrev pub StrictRunsStop : Type 0
-StrictRunsStop = (p : Progress) (lines more : List (List ℕ)) → is_over true (after_lines true p lines) ≡ true → after_lines true p (lines ++ more) ≡ after_lines true p lines
-
--- Where no line is refused, a strict run comes to what one that is not strict comes to.
-abbrev pub AcceptedRunsAreAlike : Type 0
-AcceptedRunsAreAlike = (p : Progress) (lines : List (List ℕ)) → (after_lines false p lines).any_refused ≡ false → after_lines true p lines ≡ after_lines false p lines
-
--- ---- what stands
-
--- the commands make the second document of the first one, one after the other, and each is accepted
-abbrev pub Makes : Document → List Command → Document → Type 0
-Makes document [] made = made ≡ document
-Makes document (command ∷ commands) made = (next : Document) × (applied command document ≡ Ok next) × Makes next commands made
-
--- the commands of the steps that stand, and those of the open one
-abbrev pub standing_commands : History → List Command
-standing_commands history = flat_map (λ step. step) (take history.present history.steps) ++ commands_in history.group
-
--- a history of a tile in which undo goes back at most depth steps
-pub record IsHistoryOf (document : Document) (depth : ℕ) (history : History) : Type 0 where
-  pub start : history.start ≡ document
-  pub keeps_depth : history.depth ≡ depth
-  pub sound : IsSound history
-  pub makes : Makes document (standing_commands history) (standing_document history)
-
--- After every script the tile is the one at the start with the standing commands carried out in order.
-abbrev pub StandingCommands : Type 0
-StandingCommands = (document : Document) (options : Options) (script : List ℕ) → 1 ≤ options.depth → IsHistoryOf document options.depth (ran document options script).history
-
--- ---- what lines ask of a history
-
--- a look asks for nothing of it
-abbrev pub asked_of : Request → List asks.Request
-asked_of (Edit command) = asks.Edit command ∷ []
-asked_of Undo = asks.Undo ∷ []
-asked_of Redo = asks.Redo ∷ []
-asked_of (SetMark name) = asks.SetMark name ∷ []
-asked_of (TakeMark name) = asks.TakeMark name ∷ []
-asked_of (GoBack name) = asks.GoBack name ∷ []
-asked_of Begin = asks.Begin ∷ []
-asked_of End = asks.End ∷ []
-asked_of Cancel = asks.Cancel ∷ []
-asked_of ListMarks = []
-asked_of TellHistory = []
-asked_of Size = []
-asked_of (Lists what) = []
-
--- and neither does a line that is blank, a comment or not understood
-abbrev pub asked_in : Result (Option Request) ParseError → List asks.Request
-asked_in (Ok None) = []
-asked_in (Ok (Some request)) = asked_of request
-asked_in (Err error) = []
-
--- what the lines ask of a history, one after the other
-abbrev pub requests_of : List (List ℕ) → List asks.Request
-requests_of lines = flat_map (λ line. asked_in (answer_to line)) lines
-
--- Where a run goes on behind refused lines, the history after lines is what their requests make of the one before them.
--- So each law of histories holds of scripts.
-abbrev pub LinesAreRequests : Type 0
-LinesAreRequests = (p : Progress) (lines : List (List ℕ)) → (after_lines false p lines).history ≡ asked_all (requests_of lines) p.history
-
--- ---- undo
-
--- Where no step is open, a line whose command is accepted and then a line that asks for undo: both are accepted, and the
--- tile is as before.
-abbrev pub UndoInARun : Type 0
-UndoInARun =
-    (strict : Bool) (p : Progress) (line undo : List ℕ) (command : Command) (edited : Document) → IsSound p.history
-    → p.history.group ≡ None → is_over strict p ≡ false → answer_to line ≡ Ok (Some (Edit command))
-    → applied command (standing_document p.history) ≡ Ok edited → answer_to undo ≡ Ok (Some Undo)
-    → ((after_lines strict p (line ∷ undo ∷ [])).replies ≡ p.replies ++ accepted_reply [] ++ accepted_reply [])
-    × (tile_of (after_lines strict p (line ∷ undo ∷ [])) ≡ tile_of p)
-
--- The same of a script: these two lines behind it are accepted, and it makes the same tile.
-abbrev pub UndoInAScript : Type 0
-UndoInAScript =
-    (document : Document) (options : Options) (front line undo : List ℕ) (command : Command) (edited : Document)
-    → 1 ≤ options.depth → EndsWithALine front → (ran document options front).history.group ≡ None
-    → is_over options.strict (ran document options front) ≡ false → HasNoLineFeed line → HasNoLineFeed undo
-    → answer_to line ≡ Ok (Some (Edit command))
-    → applied command (standing_document (ran document options front).history) ≡ Ok edited
-    → answer_to undo ≡ Ok (Some Undo)
-    → ((ran document options (front ++ with_feed line ++ with_feed undo)).replies ≡ (ran document options front).replies ++ accepted_reply [] ++ accepted_reply [])
-    × (tile_of (ran document options (front ++ with_feed line ++ with_feed undo)) ≡ tile_of (ran document options front))
-
--- ---- steps and marks
-
--- none of the lines closes an open step
-abbrev pub LeaveOpen : List (List ℕ) → Type 0
-LeaveOpen lines = AllByRecursion asks.LeavesOpen (requests_of lines)
-
--- Where no step is open: a line that opens one, any lines that do not close it, and a line that cancels it leave the
--- history as it was, and so the tile.
-abbrev pub CancelInARun : Type 0
-CancelInARun =
-    (p : Progress) (begin cancel : List ℕ) (lines : List (List ℕ)) → p.history.group ≡ None
-    → answer_to begin ≡ Ok (Some Begin) → LeaveOpen lines → answer_to cancel ≡ Ok (Some Cancel)
-    → (after_lines false p (begin ∷ lines ++ cancel ∷ [])).history ≡ p.history
-
--- The same with a line that ends the step, and then one that asks for undo: the tile is as before the step, where a
--- command of it was accepted.
-abbrev pub StepUndoneInARun : Type 0
-StepUndoneInARun =
-    (p : Progress) (begin end undo : List ℕ) (lines : List (List ℕ)) → IsSound p.history → p.history.group ≡ None
-    → answer_to begin ≡ Ok (Some Begin) → LeaveOpen lines → ¬ ((after_lines false p (begin ∷ lines)).history.group ≡ Some [])
-    → answer_to end ≡ Ok (Some End) → answer_to undo ≡ Ok (Some Undo)
-    → tile_of (after_lines false p (begin ∷ lines ++ end ∷ undo ∷ [])) ≡ tile_of p
-
--- A line that sets a mark, any lines that do not set it anew, and a line that goes back to it, where both are accepted:
--- the tile is the one that stood when the mark was set.
-abbrev pub BackInARun : Type 0
-BackInARun =
-    (p : Progress) (name mark back : List ℕ) (lines : List (List ℕ)) (set gone : History) → IsSound p.history
-    → answer_to mark ≡ Ok (Some (SetMark name)) → marked name p.history ≡ Ok set
-    → AllByRecursion (asks.SetsOther name) (requests_of lines)
-    → answer_to back ≡ Ok (Some (GoBack name)) → gone_back name (after_lines false p (mark ∷ lines)).history ≡ Ok gone
-    → tile_of (after_lines false p (mark ∷ lines ++ back ∷ [])) ≡ tile_of p
-
--- ---- want of memory
-
--- Where growths may be refused, and no reply says that one was, all comes as where none is refused.
+-- where growths may be refused, and no reply says that one was, by 60 or 54, all comes as where none is refused
 abbrev pub WalksWithoutWantAreRuns : Type 0
 WalksWithoutWantAreRuns =
     (strict : Bool) (p q : Progress) (lines : List (List ℕ)) (added : List ℕ) → Walk strict p lines q
     → q.replies ≡ p.replies ++ added → HasNoWant added → q ≡ after_lines strict p lines
-
--- The run with all memory is one of the walks.
-abbrev pub RunsAreWalks : Type 0
-RunsAreWalks = (strict : Bool) (p : Progress) (lines : List (List ℕ)) → Walk strict p lines (after_lines strict p lines)
-
--- With all memory no reply says that memory was refused. So a walk is the run exactly where none says so.
-abbrev pub RunsHaveNoWant : Type 0
-RunsHaveNoWant = (document : Document) (options : Options) (script : List ℕ) → HasNoWant (ran document options script).replies

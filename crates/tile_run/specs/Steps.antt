@@ -1,8 +1,8 @@
 -- What the steps of a run answer.
 use Rattle.std.specs.Prelude.{◌≡◌, ℕ, ◌+◌, ◌≤◌, Bool, true, false, List, [], ◌∷◌, ◌++◌, length, Option, Some, None, IsSome, Result, Ok, Err}
-use Rattle.mvt_wire.specs.declared.Document.{Document}
-use Rattle.mvt_wire.specs.Held.{Held}
-use Rattle.mvt_wire.specs.Stands.{document_of}
+use Rattle.mvt_document.specs.declared.Document.{Document}
+use Rattle.mvt_document.specs.Held.{Held}
+use Rattle.mvt_document.specs.Stands.{document_of}
 use Rattle.tile_device.specs.Seen.{Seen, Intake, Output, IsFront, Receives, Supplies, nothing_read, written}
 use Rattle.tile_device.specs.declared.device.Trouble.TheVariants.{Interrupted}
 use Rattle.tile_lines.specs.Cutting.{Holding, after_pushes, nothing_held}
@@ -27,13 +27,13 @@ use Rattle.mvt_history.specs.Session.{StandsFor}
 
 -- ---- devices, with the retries that are left before a step and after it
 
--- a source gave this
+-- a source gave this intake, and the budget of retries paid for it
 pub record Reads (old new : Seen) (before after : ℕ) (intake : Intake) : Type 0 where
   pub supplies : Supplies old new intake
   pub spent : after + intake.retries ≡ before
   pub last : intake.trouble ≡ Some Interrupted → after ≡ 0
 
--- a sink took this
+-- a sink took this output, and the budget of retries paid for it
 pub record Writes (old new : Seen) (before after : ℕ) (output : Output) : Type 0 where
   pub receives : Receives old new output
   pub spent : after + output.retries ≡ before
@@ -41,6 +41,8 @@ pub record Writes (old new : Seen) (before after : ℕ) (output : Output) : Type
 
 -- ---- the tile
 
+-- how opening the tile ended, for what was read of it: with its document, with trouble, with what is wrong with it, or
+-- out of memory
 abbrev pub OpensTile : Result Document Unopened → Intake → Type 0
 OpensTile (Ok document) tile = IsOpened tile (document_of document)
 OpensTile (Err unopened.Device) tile = IsSome tile.trouble
@@ -49,18 +51,18 @@ OpensTile (Err unopened.NoMemory) tile = tile.trouble ≡ None
 
 -- ---- a line
 
--- the lines that an answer tells, or why there is none
+-- the lines that an answer has, or its refusal
 abbrev pub told_in : Result (Held ℕ) Refused → Result (List ℕ) Refused
 told_in (Ok told) = Ok told.items
 told_in (Err reason) = Err reason
 
--- the progress after a line to which this was answered
+-- the progress after a line with this answer, at which the history stands
 abbrev pub answered : Progress → History → Option (Result (Held ℕ) Refused) → Progress
 answered p history None = record { lines = p.lines + 1; history = history; replies = p.replies; any_refused = p.any_refused }
 answered p history (Some (Ok told)) = record { lines = p.lines + 1; history = history; replies = p.replies ++ accepted_reply told.items; any_refused = p.any_refused }
 answered p history (Some (Err reason)) = record { lines = p.lines + 1; history = history; replies = p.replies ++ refused_reply (p.lines + 1) reason; any_refused = true }
 
--- the session stands for the history of a progress that may follow
+-- the session holds the history of a progress that may follow
 pub record CarriesOut (session : Session) (line : List ℕ) (answer : Option (Result (Held ℕ) Refused)) (p : Progress) : Type 0 where
   pub history : History
   pub follows : MayFollow p line (answered p history answer)
@@ -73,7 +75,7 @@ pub record IsAt (editor : Editor) (is_strict : Bool) (p : Progress) : Type 0 whe
   pub lines : editor.lines ≡ p.lines
   pub refused : editor.any_refused ≡ p.any_refused
 
--- the line was carried out and replied to, and the run is over or goes on
+-- the line was carried out and replied to, and the run is over or not, as `is_last` says
 pub record Advances (old new : Seen) (before after : ℕ) (editor : Editor) (strict : Bool) (line : List ℕ) (p : Progress) (is_last : Bool) : Type 0 where
   pub next : Progress
   pub follows : MayFollow p line next
@@ -84,7 +86,7 @@ pub record Advances (old new : Seen) (before after : ℕ) (editor : Editor) (str
   pub retries : ℕ
   pub writes : Writes old new before after (written retries reply)
 
--- the reply to the line met trouble
+-- the reply to the line met trouble: a prefix of it was written
 pub record Falters (old new : Seen) (before after : ℕ) (line : List ℕ) (p : Progress) : Type 0 where
   pub next : Progress
   pub follows : MayFollow p line next
@@ -95,6 +97,7 @@ pub record Falters (old new : Seen) (before after : ℕ) (line : List ℕ) (p : 
   pub trouble : IsSome output.trouble
   pub writes : Writes old new before after output
 
+-- how carrying out a line ended: it was replied to, it ended a strict run, or its reply met trouble
 abbrev pub AnswersLine : Seen → Seen → ℕ → ℕ → Editor → Bool → List ℕ → Progress → Result (Unit {0}) LineStop → Type 0
 AnswersLine old new before after editor strict line p (Ok done) = Advances old new before after editor strict line p false
 AnswersLine old new before after editor strict line p (Err line_stops.Strict) = Advances old new before after editor strict line p true
@@ -102,8 +105,8 @@ AnswersLine old new before after editor strict line p (Err line_stops.Replies) =
 
 -- ---- lines
 
--- The lines were carried out and replied to, and the run is over or goes on. Between its start and
--- now the replies took no more retries than were left at the start.
+-- the lines were carried out and replied to, with the retries from `before` to `after`, and the run is over or not, as
+-- `is_last` says
 pub record Comes (strict : Bool) (start : Progress) (lines : List (List ℕ)) (first now : Seen) (before after : ℕ) (is_last : Bool) : Type 0 where
   pub progress : Progress
   pub walk : Walk strict start lines progress
@@ -111,7 +114,7 @@ pub record Comes (strict : Bool) (start : Progress) (lines : List (List ℕ)) (f
   pub retries : ℕ
   pub writes : Writes first now before after (written retries progress.replies)
 
--- the same, where the editor has come there and goes on
+-- the lines were carried out and replied to, the run goes on, and the editor has come there
 pub record ComesTo (strict : Bool) (start : Progress) (lines : List (List ℕ)) (first now : Seen) (before after : ℕ) (editor : Editor) : Type 0 where
   pub comes : Comes strict start lines first now before after false
   pub at : IsAt editor strict comes.progress
@@ -136,6 +139,7 @@ pub record IsCutShort (strict : Bool) (start : Progress) (lines : List (List ℕ
   pub trouble : IsSome output.trouble
   pub writes : Writes first now before after output
 
+-- how carrying out lines ended: all were replied to, one ended a strict run, or a reply met trouble
 abbrev pub CarriesOutLines : Bool → Progress → List (List ℕ) → Seen → Seen → ℕ → ℕ → Editor → Result (Unit {0}) LineStop → Type 0
 CarriesOutLines strict start lines first now before after editor (Ok done) = ComesTo strict start lines first now before after editor
 CarriesOutLines strict start lines first now before after editor (Err line_stops.Strict) = Comes strict start lines first now before after true
@@ -147,7 +151,7 @@ WasGiven cutter bytes = cutter ≡ after_pushes nothing_held bytes
 
 -- ---- the script
 
--- how the carrying out of the script ended
+-- how carrying out a script ended, for what was read of it and written to the replies
 abbrev pub EndsScript : Bool → Progress → Intake → Output → Editor → Result (Unit {0}) ScriptStop → Type 0
 EndsScript strict start script replies editor (Ok done) = (progress : Progress) × CarriesThrough strict start script replies progress × IsAt editor strict progress
 EndsScript strict start script replies editor (Err script_stops.Script) = StopsAtScript strict start script replies
@@ -155,7 +159,7 @@ EndsScript strict start script replies editor (Err script_stops.Replies) = Stops
 EndsScript strict start script replies editor (Err script_stops.Strict) = StopsStrictly strict start script replies
 EndsScript strict start script replies editor (Err script_stops.NoMemory) = (script ≡ nothing_read) × IsWritten replies []
 
--- the script was read and its lines were carried out, up to where that ended
+-- the script was read and its lines carried out, up to where that ended, with the retries from `before` to `after`
 pub record CarriesOutScript (strict : Bool) (start : Progress) (s0 s1 r0 r1 : Seen) (before after : ℕ) (editor : Editor) (result : Result (Unit {0}) ScriptStop) : Type 0 where
   pub script : Intake
   pub within : length script.bytes ≤ MAX_SCRIPT + 1
@@ -167,8 +171,7 @@ pub record CarriesOutScript (strict : Bool) (start : Progress) (s0 s1 r0 r1 : Se
   pub last_write : replies.trouble ≡ Some Interrupted → after ≡ 0
   pub ends : EndsScript strict start script replies editor result
 
--- The script was read to its end, and its whole lines were carried out: what the cutter holds is left. What
--- reading did not take of the retries was allowed for the replies.
+-- the script was read to its end, and its whole lines were carried out; what the cutter holds is left
 pub record ReadsWhole (strict : Bool) (start : Progress) (s0 s1 r0 r1 : Seen) (before after : ℕ) (editor : Editor) (cutter : Holding) : Type 0 where
   pub bytes : List ℕ
   pub within : length bytes ≤ MAX_SCRIPT
@@ -179,12 +182,14 @@ pub record ReadsWhole (strict : Bool) (start : Progress) (s0 s1 r0 r1 : Seen) (b
   pub share : allowed + retries ≡ before
   pub comes : ComesTo strict start (whole_lines bytes) r0 r1 allowed after editor
 
+-- how reading a script and carrying out its whole lines ended
 abbrev pub CarriesOutPieces : Bool → Progress → Seen → Seen → Seen → Seen → ℕ → ℕ → Editor → Holding → Result (Unit {0}) ScriptStop → Type 0
 CarriesOutPieces strict start s0 s1 r0 r1 before after editor cutter (Ok done) = ReadsWhole strict start s0 s1 r0 r1 before after editor cutter
 CarriesOutPieces strict start s0 s1 r0 r1 before after editor cutter (Err stop) = CarriesOutScript strict start s0 s1 r0 r1 before after editor (Err stop)
 
 -- ---- the tile to write
 
+-- how writing the tile ended: it was written, a prefix of it was written before a trouble, or memory ran out
 abbrev pub WritesTile : {A : Type 0} → List ℕ → Output → Result A Unwritten → Type 0
 WritesTile file out (Ok done) = IsWritten out file
 WritesTile file out (Err unwritten.Device) = IsFront out.bytes file × IsSome out.trouble

@@ -1,9 +1,9 @@
-//! The lines of a script, carried out and replied to as they are read.
+//! The script read piece by piece, each line carried out and replied to when it is complete.
 
 ghost use Rattle.std.specs.Prelude.{◌≡◌, ℕ, ◌+◌, ◌^◌, ◌<◌, ◌≤◌, Bool, List, ◌++◌, false, length, IfSome};
-ghost use Rattle.mvt_wire.specs.Plain.{Document as PlainDocument};
-ghost use Rattle.mvt_wire.specs.Opens.{IsDocument};
-ghost use Rattle.mvt_wire.specs.Stands.{document_of};
+ghost use Rattle.mvt_document.specs.Plain.{Document as PlainDocument};
+ghost use Rattle.mvt_document.specs.Opens.{IsDocument};
+ghost use Rattle.mvt_document.specs.Stands.{document_of};
 ghost use Rattle.tile_device.specs.Seen.{Seen, Sends, Spends, source_at, sink_at};
 ghost use Rattle.tile_device.specs.Device.{trouble_of};
 ghost use Rattle.tile_lines.specs.CutStands.{cut_seen};
@@ -18,8 +18,8 @@ ghost use Rattle.tile_run.specs.Steps.{AnswersLine, CarriesOut, CarriesOutLines,
 
 use crate::outcome::{LineStop, Options, ScriptStop};
 use crate::runs::MAX_SCRIPT;
+use mvt_document::{Document, Items};
 use mvt_history::Session;
-use mvt_wire::{Document, Items};
 use std::alloc::Global;
 use tile_answer::carry_out;
 use tile_device::{Retries, Sink, Source, read_some};

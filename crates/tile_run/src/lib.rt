@@ -1,8 +1,12 @@
-//! A run: a tile and a script are read, the replies and the edited tile are written.
+//! A run over any devices: a tile and a script are read, the replies and the edited tile are
+//! written.
+//!
+//! - `run` has the headline: its clauses and premises are in the README. Private
+//!   `Editor::carry_out_script` is the step on whose contract it stands: what the lines of a script
+//!   come to as they are read.
 #![tactic(auto)]
 
 mod editor;
-pub mod laws;
 mod outcome;
 mod runs;
 

@@ -1,4 +1,4 @@
-//! How a run is asked for, and how it ends.
+//! How a run is asked for and how it ends; how each step of it may stop.
 
 ghost use Rattle.std.specs.Prelude.{◌≡◌};
 ghost use Rattle.tile_run.specs.declared.outcome.ScriptStop.TheVariants as script_stops;

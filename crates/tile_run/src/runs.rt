@@ -1,10 +1,10 @@
-//! The whole product: a tile and a script are read, the replies and the edited tile are written.
+//! A whole run: a tile and a script are read, the replies and the edited tile are written.
 
 ghost use Rattle.std.specs.Prelude.{◌≡◌, ◌+◌, ◌≤◌, length, OnOk};
-ghost use Rattle.mvt_wire.specs.Opens.{IsDocument, OpensAs};
-ghost use Rattle.mvt_wire.specs.Settle.{settle};
-ghost use Rattle.mvt_wire.specs.Stands.{document_of};
-ghost use Rattle.mvt_wire.specs.Wire.{bytes_of};
+ghost use Rattle.mvt_document.specs.Opens.{IsDocument, OpensAs};
+ghost use Rattle.mvt_document.specs.Settle.{settle};
+ghost use Rattle.mvt_document.specs.Stands.{document_of};
+ghost use Rattle.mvt_document.specs.Wire.{bytes_of};
 ghost use Rattle.mvt_history.specs.declared.TheConstants.{MAX_DEPTH};
 ghost use Rattle.tile_device.specs.Seen.{Intake, Output, source_at, sink_at};
 ghost use Rattle.tile_run.specs.Headline.{Headline, RefusesTile, Runs, WritesATile, LeavesOut, LeavesReplies, devices_at};
@@ -12,7 +12,9 @@ ghost use Rattle.tile_run.specs.Steps.{Reads, Writes, OpensTile, WritesTile};
 
 use crate::editor::Editor;
 use crate::outcome::{Options, Outcome, TileFault, Unopened, Unwritten};
-use mvt_wire::{Document, MAX_FILE, ReadError, read_document, write_document};
+use mvt_document::{Document, MAX_FILE};
+use mvt_read::{ReadError, read_document};
+use mvt_write::write_document;
 use std::alloc::Global;
 use tile_device::{Retries, Sink, Source, read_to_limit, write_and_flush};
 

@@ -10,7 +10,8 @@ use Rattle.tile_words.specs.declared.parse_error.ParseError.TheVariants.{BadArgu
 use Rattle.tile_script.specs.declared.keyword.CommandWord.{CommandWord}
 use Rattle.tile_script.specs.declared.keyword.CommandWord.TheVariants as words
 
--- the words that commands begin with
+-- the command that begins with a word, or none: `rename-layer`, `move-layer`, `drop-layer`, `keep`, `insert`,
+-- `move-feature`, `drop-feature`, `set-id`, `clear-id`
 unfoldable pub command_word_of : List ℕ → Option CommandWord
 command_word_of name =
     if bytes_eq name (codes "rename-layer") then Some words.RenameLayer
@@ -24,14 +25,14 @@ command_word_of name =
     else (if bytes_eq name (codes "clear-id") then Some words.ClearId
     else None))))))))
 
--- a layer, and one of its features
+-- the layer and the feature that two words select, or the first refusal
 unfoldable pub chosen_of : Word → Word → Result (LayerChoice × FeatureChoice) ParseError
 chosen_of layer feature = do
   choice ← layer_of layer
   chosen ← feature_of feature
   Ok (choice, chosen)
 
--- two arguments: the layer, and its new name as a text
+-- the rename of these arguments: a layer, and its new name as a text; or the first refusal
 unfoldable pub rename_layer_of : List Word → Result Command ParseError
 rename_layer_of [] = Err BadArguments
 rename_layer_of (layer ∷ []) = Err BadArguments
@@ -41,7 +42,7 @@ rename_layer_of (layer ∷ name ∷ []) = do
   Ok (RenameLayer choice text)
 rename_layer_of (layer ∷ name ∷ more ∷ others) = Err BadArguments
 
--- two arguments: the layer, and the ordinal at which it comes to stand
+-- the move of these arguments: a layer, and the ordinal to which it goes; or the first refusal
 unfoldable pub move_layer_of : List Word → Result Command ParseError
 move_layer_of [] = Err BadArguments
 move_layer_of (layer ∷ []) = Err BadArguments
@@ -51,7 +52,7 @@ move_layer_of (layer ∷ index ∷ []) = do
   Ok (MoveLayer choice at)
 move_layer_of (layer ∷ index ∷ more ∷ others) = Err BadArguments
 
--- one argument: the layer
+-- the drop of these arguments: a layer; or the first refusal
 unfoldable pub drop_layer_of : List Word → Result Command ParseError
 drop_layer_of [] = Err BadArguments
 drop_layer_of (layer ∷ []) = do
@@ -59,14 +60,15 @@ drop_layer_of (layer ∷ []) = do
   Ok (DropLayer choice)
 drop_layer_of (layer ∷ more ∷ others) = Err BadArguments
 
--- one or more arguments: names as texts
+-- the `keep` of these arguments: one or more names as texts; or the first refusal
 unfoldable pub keep_layers_of : List Word → Result Command ParseError
 keep_layers_of [] = Err BadArguments
 keep_layers_of (name ∷ more) = do
   names ← texts_of (name ∷ more)
   Ok (KeepLayers names)
 
--- the layer, the ordinal at which the feature comes to stand, and one or more words of its geometry
+-- the insertion of these arguments: a layer, the ordinal of the new feature, and one or more words of its geometry; or
+-- the first refusal
 unfoldable pub insert_feature_of : List Word → Result Command ParseError
 insert_feature_of [] = Err BadArguments
 insert_feature_of (layer ∷ []) = Err BadArguments
@@ -77,7 +79,7 @@ insert_feature_of (layer ∷ index ∷ kind ∷ points) = do
   geometry ← geometry_of (kind ∷ points)
   Ok (InsertFeature choice at geometry)
 
--- three arguments: the layer, the feature, and the ordinal at which that comes to stand
+-- the move of these arguments: a layer, a feature, and the ordinal to which it goes; or the first refusal
 unfoldable pub move_feature_of : List Word → Result Command ParseError
 move_feature_of [] = Err BadArguments
 move_feature_of (layer ∷ []) = Err BadArguments
@@ -88,7 +90,7 @@ move_feature_of (layer ∷ feature ∷ index ∷ []) = do
   Ok (MoveFeature chosen.0 chosen.1 at)
 move_feature_of (layer ∷ feature ∷ index ∷ more ∷ others) = Err BadArguments
 
--- two arguments: the layer and the feature
+-- the drop of these arguments: a layer and a feature; or the first refusal
 unfoldable pub drop_feature_of : List Word → Result Command ParseError
 drop_feature_of [] = Err BadArguments
 drop_feature_of (layer ∷ []) = Err BadArguments
@@ -97,7 +99,7 @@ drop_feature_of (layer ∷ feature ∷ []) = do
   Ok (DropFeature chosen.0 chosen.1)
 drop_feature_of (layer ∷ feature ∷ more ∷ others) = Err BadArguments
 
--- three arguments: the layer, the feature, and its new id
+-- the new id of these arguments: a layer, a feature, and the id; or the first refusal
 unfoldable pub set_id_of : List Word → Result Command ParseError
 set_id_of [] = Err BadArguments
 set_id_of (layer ∷ []) = Err BadArguments
@@ -108,7 +110,7 @@ set_id_of (layer ∷ feature ∷ id ∷ []) = do
   Ok (SetId chosen.0 chosen.1 number)
 set_id_of (layer ∷ feature ∷ id ∷ more ∷ others) = Err BadArguments
 
--- two arguments: the layer and the feature
+-- the cleared id of these arguments: a layer and a feature; or the first refusal
 unfoldable pub clear_id_of : List Word → Result Command ParseError
 clear_id_of [] = Err BadArguments
 clear_id_of (layer ∷ []) = Err BadArguments
@@ -117,7 +119,7 @@ clear_id_of (layer ∷ feature ∷ []) = do
   Ok (ClearId chosen.0 chosen.1)
 clear_id_of (layer ∷ feature ∷ more ∷ others) = Err BadArguments
 
--- what the arguments of a command make of it
+-- the command that these arguments make, by its word, or the first refusal
 abbrev pub command_by : CommandWord → List Word → Result Command ParseError
 command_by words.RenameLayer arguments = rename_layer_of arguments
 command_by words.MoveLayer arguments = move_layer_of arguments

@@ -16,7 +16,8 @@ use Rattle.tile_script.specs.declared.keyword.Keyword.TheVariants as keywords
 use Rattle.tile_words.specs.declared.parse_error.ParseError.{ParseError}
 use Rattle.tile_words.specs.declared.parse_error.ParseError.TheVariants.{LineTooLong, BadUtf8, BadWord, UnknownCommand, BadArguments}
 
--- the words of the requests that take no argument
+-- the request without arguments that has this word, or none: `undo`, `redo`, `marks`, `history`, `begin`, `end`,
+-- `cancel`, `size`
 unfoldable pub plain_word_of : List ℕ → Option PlainWord
 plain_word_of name =
     if bytes_eq name (codes "undo") then Some plain.Undo
@@ -29,7 +30,8 @@ plain_word_of name =
     else (if bytes_eq name (codes "size") then Some plain.Size
     else None)))))))
 
--- the words that a request begins with: those of marks, that of listings, those without arguments, and those of commands
+-- the request that begins with this word, or none: `mark`, `unmark`, `back`, `list`, one without arguments, or a
+-- command
 unfoldable pub keyword_of : List ℕ → Option Keyword
 keyword_of name =
     if bytes_eq name (codes "mark") then Some keywords.Mark
@@ -38,13 +40,13 @@ keyword_of name =
     else (if bytes_eq name (codes "list") then Some keywords.List
     else option_or (option_map keywords.Plain (plain_word_of name)) (option_map keywords.Edit (command_word_of name)))))
 
--- what the arguments of a command make of it
+-- the command that these arguments make, as a request, or the first refusal
 unfoldable pub edit_of : CommandWord → List Word → Result Request ParseError
 edit_of word arguments = do
   command ← command_by word arguments
   Ok (Edit command)
 
--- what is asked for without arguments
+-- the request of a word that takes no argument
 abbrev pub plain_request : PlainWord → Request
 plain_request plain.Undo = Undo
 plain_request plain.Redo = Redo
@@ -55,22 +57,22 @@ plain_request plain.End = End
 plain_request plain.Cancel = Cancel
 plain_request plain.Size = Size
 
--- no argument
+-- the request of a word that takes no argument, where there is none; else BadArguments
 unfoldable pub plain_of : PlainWord → List Word → Result Request ParseError
 plain_of word [] = Ok (plain_request word)
 plain_of word (more ∷ others) = Err BadArguments
 
--- one argument: a name as a text
+-- the name that a single argument says; else BadArguments
 unfoldable pub name_of : List Word → Result (List ℕ) ParseError
 name_of [] = Err BadArguments
 name_of (name ∷ []) = text_of name
 name_of (name ∷ more ∷ others) = Err BadArguments
 
--- what is asked of the mark with this name
+-- the request on the mark whose name the single argument says; else BadArguments
 abbrev pub mark_of : (List ℕ → Request) → List Word → Result Request ParseError
 mark_of request arguments = name_of arguments >>= λ name. Ok (request name)
 
--- nothing, a layer, or a layer and one of its features
+-- the listing of these arguments: none, a layer, or a layer and one of its features; or the first refusal
 unfoldable pub list_of : List Word → Result Request ParseError
 list_of [] = Ok (Lists Whole)
 list_of (layer ∷ []) = do
@@ -82,7 +84,8 @@ list_of (layer ∷ feature ∷ []) = do
   Ok (Lists (OneFeature choice chosen))
 list_of (layer ∷ feature ∷ more ∷ others) = Err BadArguments
 
--- what the arguments of a request make of it
+-- the request that these arguments make, by its word, or the first refusal; UnknownCommand where no request has the
+-- word
 abbrev pub with_arguments : Option Keyword → List Word → Result Request ParseError
 with_arguments None arguments = Err UnknownCommand
 with_arguments (Some (keywords.Edit word)) arguments = edit_of word arguments
@@ -92,27 +95,27 @@ with_arguments (Some keywords.Unmark) arguments = mark_of TakeMark arguments
 with_arguments (Some keywords.Back) arguments = mark_of GoBack arguments
 with_arguments (Some keywords.List) arguments = list_of arguments
 
--- What the words of a line ask for: the first one is bare, and says which request it is. A line of no words has been
--- left out before.
+-- what the words of a line ask for, or the first refusal: the first word is bare and says which request it is
 unfoldable pub asked_by : List Word → Result Request ParseError
 asked_by [] = Err UnknownCommand
 asked_by (Quoted text ∷ arguments) = Err UnknownCommand
 asked_by (Bare name ∷ arguments) = with_arguments (keyword_of name) arguments
 
--- behind the blanks at the front: nothing, or a `#`
+-- the bytes are empty or begin with a `#`
 abbrev pub is_remark_behind : List ℕ → Bool
 is_remark_behind [] = true
 is_remark_behind (b ∷ more) = b == 35
 
--- a line that asks for nothing
+-- a line that asks for nothing: behind the blanks at its beginning there is nothing or a `#`
 abbrev pub is_remark : List ℕ → Bool
 is_remark line = is_remark_behind (after_blanks line)
 
--- what a line of words asks for
+-- what a line of words asks for, or the first refusal
 unfoldable pub request_in : List ℕ → Result Request ParseError
 request_in line = ok_or (words_of line) BadWord >>= asked_by
 
--- what a line asks for: nothing, a request, or the first of the refusals in this order
+-- what a line asks for: nothing, or a request; or the first of its refusals: it is too long, not UTF-8, no words, or no
+-- request
 unfoldable pub answer_to : List ℕ → Result (Option Request) ParseError
 answer_to line =
     if nat_lt LINE_LIMIT (length line) then Err LineTooLong
@@ -120,10 +123,10 @@ answer_to line =
     else (if is_remark line then Ok None
     else (request_in line >>= λ request. Ok (Some request))))
 
--- a line that is neither too long nor other than UTF-8
+-- the line has at most 65,536 bytes, and is UTF-8
 abbrev pub IsReadable : List ℕ → Type 0
 IsReadable line = (length line ≤ LINE_LIMIT) × IsUtf8 line
 
--- A line that is read into words. For no other line memory is ever wanted.
+-- the line is readable, and neither blank nor a comment; no other line is refused as out of memory
 abbrev pub TakesMemory : List ℕ → Type 0
 TakesMemory line = IsReadable line × (is_remark line ≡ false)

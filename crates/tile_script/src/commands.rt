@@ -1,4 +1,4 @@
-//! The commands that words ask for.
+//! The command that a word and its arguments make.
 
 ghost use Rattle.std.specs.Prelude.{map};
 ghost use Rattle.mvt_command.specs.CommandStands.{command_of, layer_choice_of, feature_choice_of};

@@ -13,9 +13,11 @@ ghost use Rattle.tile_words.specs.Words.{Bare, Quoted};
 
 pub use tile_words::laws::words_are_spelled;
 
-/// What some shapes of line ask for: each word that takes no argument, `mark`, `unmark` and `back` with a name,
-/// `rename-layer` with a layer's name or its ordinal, and with the new name, and `list` alone, with a layer's name, with
-/// the ordinals of a layer and of a feature, and with a layer's name and a feature's id.
+/// What some shapes of line ask for, where it is UTF-8 and not too long: each word that takes no
+/// argument (`alone`); `mark`, `unmark` and `back` with a quoted name (`by_name`); `rename-layer`
+/// with the name of a layer or with `#` and its ordinal, and the new name; `list` alone, with the
+/// name of a layer, with the ordinals of a layer and of a feature, and with the name of a layer and
+/// the id of a feature.
 pub fn words_ask_for_requests()
     ensures alone { AllByRecursion AsksAlone requests_alone }
     ensures by_name { AllByRecursion AsksByName requests_by_name }

@@ -1,4 +1,9 @@
-//! What the lines of a script ask for.
+//! The request that the words of a line make.
+//!
+//! - A line asks for what its definition says, or is refused by the first of its faults; out of
+//!   memory alone may come in place of that (`answer`). It never does for a line that is too long
+//!   or not UTF-8, a blank line or a comment (`no_memory`): `parse_line`, and `parse_cut` for a
+//!   line as it was cut.
 #![tactic(auto)]
 
 mod commands;

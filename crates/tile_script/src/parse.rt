@@ -1,4 +1,4 @@
-//! What a line of a script asks for.
+//! `parse_line`: what a line asks for, or why it is refused.
 
 ghost use Rattle.std.specs.Prelude.{◌≡◌, ℕ, List, option_map};
 ghost use Rattle.std.specs.Result.{IsErrOf};

@@ -1,4 +1,4 @@
-//! The requests that words ask for.
+//! The requests that words ask for, each with its arguments.
 
 ghost use Rattle.std.specs.Prelude.{◌≡◌, map};
 ghost use Rattle.tile_request.specs.RequestStands.{request_of};
@@ -8,7 +8,7 @@ ghost use Rattle.tile_words.specs.WordStands.{word_of};
 
 use crate::commands::command;
 use crate::keyword::{CommandWord, Keyword, PlainWord, keyword_of};
-use mvt_wire::Items;
+use mvt_document::Items;
 use std::alloc::Global;
 use tile_arguments::{feature_choice, layer_choice, text_argument};
 use tile_request::{Request, What};

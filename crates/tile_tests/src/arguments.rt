@@ -1,4 +1,4 @@
-//! The arguments of requests: texts, numbers, and which layer or feature is meant.
+//! The arguments of requests: texts, numbers, and which layer or feature is selected.
 
 use crate::asked::assert_refused;
 use mvt_command::{FeatureChoice, LayerChoice};

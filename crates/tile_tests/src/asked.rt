@@ -1,4 +1,4 @@
-//! What tests ask, and what they are told.
+//! What tests ask for, and what they get.
 
 use std::alloc::Global;
 use std::process::Abort;

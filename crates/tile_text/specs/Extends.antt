@@ -1,7 +1,7 @@
--- What becomes of a line that is written on.
+-- What becomes of a line to which text is added.
 use Rattle.std.specs.Prelude.{◌≡◌, ℕ, List, ◌++◌}
 
--- what was there stays at the front
+-- `old` is a prefix of `new`
 pub record Extends (old new : List ℕ) : Type 0 where
   pub added : List ℕ
   pub whole : new ≡ old ++ added

@@ -15,22 +15,26 @@ TextsReadBack = (bytes : List ℕ) → AreBytes bytes → IsReadAsText bytes
 abbrev pub ValuesReadBack : Type 0
 ValuesReadBack = (value : Value) → IsInRange value → HoldsBytes value → IsReadAsValue value
 
--- the form of a geometry whose points are near is read as that geometry
+-- the form of a valid geometry whose points are near is read as that geometry
 abbrev pub GeometriesReadBack : Type 0
 GeometriesReadBack = (g : Geometry) → IsGeometry g → AllByRecursion (AllByRecursion IsNear) g.parts → IsReadAsGeometry g
 
--- no line feed is among the bytes, so they stand on one line
+-- no line feed is among the bytes
 abbrev pub StandsOnALine : List ℕ → Type 0
 StandsOnALine form = ¬ (Contains form 10)
 
+-- the form of any bytes as a text holds no line feed
 abbrev pub TextsStandOnALine : Type 0
 TextsStandOnALine = (bytes : List ℕ) → StandsOnALine (text_form bytes)
 
+-- the form of a value in range holds no line feed
 abbrev pub ValuesStandOnALine : Type 0
 ValuesStandOnALine = (value : Value) → IsInRange value → StandsOnALine (value_form value)
 
+-- the form of bytes that are no value holds no line feed
 abbrev pub RawStandsOnALine : Type 0
 RawStandsOnALine = (bytes : List ℕ) → StandsOnALine (raw_form bytes)
 
+-- the form of a valid geometry holds no line feed
 abbrev pub GeometriesStandOnALine : Type 0
 GeometriesStandOnALine = (g : Geometry) → IsGeometry g → StandsOnALine (geometry_form g)

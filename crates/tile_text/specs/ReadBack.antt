@@ -9,29 +9,29 @@ use Rattle.tile_words.specs.Spelling.{SpellsWord, SpellsWords}
 use Rattle.tile_arguments.specs.Arguments.{text_of, value_of, geometry_of}
 use Rattle.tile_text.specs.Texts.{text_form, value_words, value_form, geometry_words, geometry_form}
 
--- numbers that are bytes
+-- the numbers are below 256
 abbrev pub AreBytes : List ℕ → Type 0
 AreBytes bytes = All (λ b. b < 256) bytes
 
--- the bytes that a value holds are bytes
+-- the text or the float that a value has is made of numbers below 256
 abbrev pub HoldsBytes : Value → Type 0
 HoldsBytes (OfText text) = AreBytes text
 HoldsBytes (OfFloat bytes) = AreBytes bytes
 HoldsBytes (OfDouble bytes) = AreBytes bytes
 HoldsBytes value = Unit {0}
 
--- coordinates from -2147483647 to 2147483647
+-- both coordinates are from -2147483647 to 2147483647
 pub record IsNear (p : Point) : Type 0 where
   pub x : unsigned_abs p.x < 2 ^ 31
   pub y : unsigned_abs p.y < 2 ^ 31
 
--- the form of the bytes is a word, and as a text that word is the bytes
+-- the form of the bytes is spelled as a word, and that word says these bytes as a text
 pub record IsReadAsText (bytes : List ℕ) : Type 0 where
   pub word : Word
   pub spelled : SpellsWord (text_form bytes) word
   pub read : text_of word ≡ Ok bytes
 
--- the form of the value is two words, and as a type and a value they are the value
+-- the form of the value is spelled as two words, and they say this value
 pub record IsReadAsValue (value : Value) : Type 0 where
   pub name : Word
   pub argument : Word
@@ -40,7 +40,7 @@ pub record IsReadAsValue (value : Value) : Type 0 where
   pub line : SpellsWords (value_form value) (name ∷ argument ∷ [])
   pub read : value_of name argument ≡ Ok value
 
--- the form of the geometry is bare words, and as a geometry they are the geometry
+-- the form of the geometry is spelled as bare words, and they say this geometry
 pub record IsReadAsGeometry (g : Geometry) : Type 0 where
   pub spelled : AllByRecursion (λ form. SpellsWord form (Bare form)) (geometry_words g)
   pub line : SpellsWords (geometry_form g) (map Bare (geometry_words g))

@@ -7,7 +7,7 @@ use Rattle.mvt_value.specs.declared.value.Value.TheVariants as shown
 use Rattle.mvt_value.specs.Values as plain
 use Rattle.tile_text.specs.Texts.{value_form, raw_form, point_form}
 
--- the value, or the bytes that have none
+-- the form of what the program shows of a value: the value, or the bytes that have none
 abbrev pub shown_form : Value → List ℕ
 shown_form (shown.Text text) = value_form (plain.OfText text.now)
 shown_form (shown.Float4 bytes) = value_form (plain.OfFloat bytes)
@@ -23,7 +23,7 @@ abbrev pub raw_word : List ℕ → List ℕ
 raw_word [] = codes "raw"
 raw_word (b ∷ bytes) = codes "raw "
 
--- the type's word, and the space behind it where something follows
+-- the word of the type of a value, and the space behind it where something follows
 abbrev pub type_word : Value → List ℕ
 type_word (shown.Text text) = codes "string "
 type_word (shown.Float4 bytes) = codes "float "
@@ -34,10 +34,10 @@ type_word (shown.Sint number) = codes "sint "
 type_word (shown.Bool truth) = codes "bool "
 type_word (shown.Raw bytes) = raw_word bytes.now
 
--- words, each with a space before it
+-- the words, each with a space before it
 abbrev pub spaced : List (List ℕ) → List ℕ
 spaced words = flat_map (λ word. codes " " ++ word) words
 
--- a part behind another one
+-- the form of a part that follows another one
 abbrev pub other_part : List Point → List ℕ
 other_part points = codes " /" ++ spaced (map point_form points)

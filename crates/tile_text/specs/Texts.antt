@@ -1,5 +1,5 @@
--- How names, values and geometries are written on a line: the forms that a script reads.
--- They are a choice of this project. What a value and a geometry are: Vector Tile Specification 2.1, sections 4.1 "Layers" and 4.3.4 "Geometry Types".
+-- How names, values and geometries are written on a line: the forms that a script reads. They are a choice of this
+-- project.
 use Rattle.std.specs.Prelude.{ℕ, ◌==◌, ◌||◌, if◌then◌else◌, Bool, List, [], ◌∷◌, ◌++◌, codes, decimal, map, true, false}
 use Rattle.std.specs.List.{flat_map, join_by}
 use Rattle.std.specs.Str.{is_utf8}
@@ -14,16 +14,17 @@ use Rattle.mvt_geometry.specs.declared.shapes.Kind.TheVariants.{Dots, Lines, Are
 
 -- ---- texts
 
--- a quote or a backslash
+-- the byte is a quote or a backslash
 abbrev pub is_mark : ℕ → Bool
 is_mark b = b == 34 || b == 92
 
--- a byte that does not stand for itself between quotes: a mark, a byte below 20 in hexadecimal, and the byte 7f
+-- a byte that does not stand for itself between quotes: a quote or a backslash, a byte below 20 in hexadecimal, and the
+-- byte 7f
 abbrev pub is_escaped : ℕ → Bool
 is_escaped b = is_mark b || is_ascii_control b
 
--- A quote and a backslash stand behind a backslash. A byte below 20 in hexadecimal and the byte 7f are `\x` and two
--- lower-case hexadecimal digits. All others stand for themselves.
+-- a byte between quotes: a quote and a backslash behind a backslash, a byte below 20 in hexadecimal and the byte 7f as
+-- `\x` and two lower-case hexadecimal digits, each other byte as it is
 abbrev pub quoted_byte : ℕ → List ℕ
 quoted_byte b =
     if is_mark b then 92 ∷ b ∷ []
@@ -34,18 +35,18 @@ quoted_byte b =
 abbrev pub quoted : List ℕ → List ℕ
 quoted text = 34 ∷ (flat_map quoted_byte text ++ 34 ∷ [])
 
--- any bytes: quoted where they are UTF-8, else `x:` and their hexadecimal digits
+-- any bytes: quoted where they are UTF-8, else `x:` and their lower-case hexadecimal digits
 abbrev pub text_form : List ℕ → List ℕ
 text_form bytes = if is_utf8 bytes then quoted bytes else codes "x:" ++ encode_lower bytes
 
 -- ---- values
 
--- the word of a truth
+-- the word of a truth value: `true` or `false`
 abbrev pub truth_form : Bool → List ℕ
 truth_form true = codes "true"
 truth_form false = codes "false"
 
--- a value's type, and the value: the bytes of floats in the order of the file
+-- a value as two words: its type and the value, with the bytes of a float in the order of the file
 abbrev pub value_words : Value → List ℕ × List ℕ
 value_words (OfText text) = (codes "string", text_form text)
 value_words (OfFloat bytes) = (codes "float", encode_lower bytes)
@@ -55,7 +56,7 @@ value_words (OfUint number) = (codes "uint", decimal number)
 value_words (OfSint number) = (codes "sint", signed_decimal number)
 value_words (OfBool truth) = (codes "bool", truth_form truth)
 
--- the two words, with a space between them
+-- a value as two words, with a space between them
 abbrev pub value_form : Value → List ℕ
 value_form value = (value_words value).0 ++ 32 ∷ (value_words value).1
 
@@ -66,11 +67,11 @@ raw_form (b ∷ bytes) = codes "raw " ++ encode_lower (b ∷ bytes)
 
 -- ---- geometries
 
--- `X,Y`
+-- a point: `X,Y`
 abbrev pub point_form : Point → List ℕ
 point_form p = signed_decimal p.x ++ 44 ∷ signed_decimal p.y
 
--- the word of a kind
+-- the word of a kind: `point`, `line` or `polygon`
 abbrev pub kind_word : Kind → List ℕ
 kind_word Dots = codes "point"
 kind_word Lines = codes "line"
@@ -80,10 +81,10 @@ kind_word Areas = codes "polygon"
 abbrev pub part_words : List (List Point) → List (List ℕ)
 part_words parts = join_by (map point_form) (codes "/" ∷ []) parts
 
--- the words of a geometry: that of its kind, and those of its parts
+-- a geometry as words: that of its kind, and those of its parts
 abbrev pub geometry_words : Geometry → List (List ℕ)
 geometry_words g = kind_word g.kind ∷ part_words g.parts
 
--- the words, with a space between two of them
+-- a geometry as words, with a space between two of them
 abbrev pub geometry_form : Geometry → List ℕ
 geometry_form g = join_by (λ word. word) (codes " ") (geometry_words g)

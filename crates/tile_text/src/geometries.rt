@@ -1,4 +1,4 @@
-//! Geometries as words.
+//! Geometries, each as the word of its kind and its points.
 
 ghost use Rattle.std.specs.Prelude.{◌≡◌, ◌++◌, map, OnOk};
 ghost use Rattle.std.specs.List.{flat_map};

@@ -7,17 +7,19 @@ pub fn texts_read_back()
     ensures { TextsReadBack }
 {}
 
-/// A script reads the form of a value as that value.
+/// A script reads the form of a value in range as that value.
 pub fn values_read_back()
     ensures { ValuesReadBack }
 {}
 
-/// A script reads the form of a geometry as that geometry.
+/// A script reads the form of a valid geometry, whose coordinates are from -2147483647 to
+/// 2147483647, as that geometry.
 pub fn geometries_read_back()
     ensures { GeometriesReadBack }
 {}
 
-/// No form holds a line feed.
+/// No form holds a line feed: of any bytes as a text, of a value in range, of bytes that are no
+/// value, and of a valid geometry.
 pub fn forms_stand_on_a_line()
     ensures texts { TextsStandOnALine }
     ensures values { ValuesStandOnALine }

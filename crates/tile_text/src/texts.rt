@@ -1,4 +1,4 @@
-//! Bytes as the texts of a script.
+//! Bytes as a quoted word or as hexadecimal digits.
 
 ghost use Rattle.std.specs.Prelude.{◌≡◌, ◌<◌, ◌≤◌, ◌++◌, length, IfOk, OnOk, IsTrue};
 ghost use Rattle.std.specs.List.{flat_map, position, position_or_len};
@@ -8,7 +8,7 @@ ghost use Rattle.tile_text.specs.Extends.{Extends};
 ghost use Rattle.tile_text.specs.Texts.{is_escaped, quoted_byte, quoted, text_form};
 
 use hex::encode_to_slice;
-use mvt_wire::Items;
+use mvt_document::Items;
 use simdutf8::basic::from_utf8;
 use std::alloc::{AllocError, Global};
 

@@ -1,4 +1,4 @@
-//! The values of a layer, as a type and a value.
+//! Values, each as its type and a word.
 
 ghost use Rattle.std.specs.Prelude.{◌≡◌, ◌++◌, OnOk};
 ghost use Rattle.tile_text.specs.Extends.{Extends};

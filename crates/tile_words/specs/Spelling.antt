@@ -4,8 +4,8 @@ use Rattle.std.specs.List.{AllByRecursion}
 use Rattle.std.specs.Char.{digit_value}
 use Rattle.tile_words.specs.Words.{Word, Bare, Quoted, is_blank, ends_bare, ends_word}
 
--- A byte of a quoted text stands for itself, unless it is a quote or a backslash. Those two stand behind a
--- backslash. A byte up to 7f may be `\x` and two hexadecimal digits of either case.
+-- how a byte of a quoted text is spelled: by itself, where it is neither a quote nor a backslash; these two behind a
+-- backslash; a byte up to 7f also as `\x` and two hexadecimal digits of either case
 abbrev pub SpellsByte : List ℕ → ℕ → Type 0
 SpellsByte [] c = ⊥
 SpellsByte (b ∷ []) c = (b ≡ c) × (c ≢ 34) × (c ≢ 92)
@@ -14,21 +14,21 @@ SpellsByte (b ∷ x ∷ high ∷ []) c = ⊥
 SpellsByte (b ∷ x ∷ high ∷ low ∷ []) c = (b ≡ 92) × (x ≡ 120) × (digit_value high < 8) × (digit_value low < 16) × (c ≡ 16 * digit_value high + digit_value low)
 SpellsByte (b ∷ x ∷ high ∷ low ∷ more ∷ others) c = ⊥
 
--- a text is spelled byte by byte
+-- how a text between quotes is spelled: byte by byte
 abbrev pub SpellsText : List ℕ → List ℕ → Type 0
 SpellsText bytes [] = bytes ≡ []
 SpellsText bytes (c ∷ text) = (first : List ℕ) × (more : List ℕ) × (bytes ≡ first ++ more) × SpellsByte first c × SpellsText more text
 
--- a bare word stands for itself, and has neither blanks nor quotes; a text stands between two quotes
+-- how a word is spelled: a bare word by itself, with no blank and no quote and not empty; a text between two quotes
 abbrev pub SpellsWord : List ℕ → Word → Type 0
 SpellsWord bytes (Bare name) = (bytes ≡ name) × (0 < length name) × AllByRecursion (λ b. ends_bare b ≡ false) name
 SpellsWord bytes (Quoted text) = (inner : List ℕ) × (bytes ≡ 34 ∷ (inner ++ 34 ∷ [])) × SpellsText inner text
 
--- nothing but blanks
+-- the bytes are blanks alone
 abbrev pub AreBlanks : List ℕ → Type 0
 AreBlanks bytes = AllByRecursion (λ b. is_blank b ≡ true) bytes
 
--- a line is its words, with blanks before and behind them, and at least one between two of them
+-- how a line is spelled: its words, with blanks before and behind them, and at least one blank between two of them
 abbrev pub SpellsWords : List ℕ → List Word → Type 0
 SpellsWords line [] = AreBlanks line
 SpellsWords line (word ∷ words) = (gap : List ℕ) × (spelled : List ℕ) × (rest : List ℕ) × (line ≡ gap ++ (spelled ++ rest)) × AreBlanks gap × SpellsWord spelled word × (ends_word rest ≡ true) × SpellsWords rest words

@@ -4,52 +4,53 @@ use Rattle.std.specs.Option.{option_map_or}
 use Rattle.std.specs.List.{position_or_len, before_first}
 use Rattle.std.specs.Char.{digit_value}
 
--- a word: its bytes, or the text that its quotes hold
+-- a word: a bare one, which is its bytes, or the text between quotes
 pub data Word : Type 0 where
   Bare : (bytes : List ℕ) → Word
   Quoted : (text : List ℕ) → Word
 
--- space, tab and carriage return
+-- the byte is a space, a tab or a carriage return
 abbrev pub is_blank : ℕ → Bool
 is_blank b = (b == 32 || b == 9) || b == 13
 
--- where a bare word ends at the latest: at a blank or a quote
+-- a bare word ends before this byte: a blank or a quote
 abbrev pub ends_bare : ℕ → Bool
 ends_bare b = is_blank b || b == 34
 
--- the bytes behind the blanks at the front
+-- the bytes behind the blanks at the beginning
 abbrev pub after_blanks : List ℕ → List ℕ
 after_blanks bytes = drop (position_or_len (λ b. not (is_blank b)) bytes) bytes
 
--- a word ends where the line does, and at a blank
+-- a word may end before these bytes: they are empty or begin with a blank
 abbrev pub ends_word : List ℕ → Bool
 ends_word [] = true
 ends_word (b ∷ more) = is_blank b
 
--- one more thing in front of those that were taken
+-- one more item before those that were taken
 abbrev pub onto : {A : Type 0} → A → List A × List ℕ → List A × List ℕ
 onto x taken = (x ∷ taken.0, taken.1)
 
--- what a step takes from the front, at most n times, and the bytes that it leaves
+-- what a step takes from the beginning of the bytes, a number of times at most, and the bytes that it leaves
 unfoldable pub repeated : {A : Type 0} → (List ℕ → Option (A × List ℕ)) → ℕ → List ℕ → List A × List ℕ
 repeated step zero bytes = ([], bytes)
 repeated step (suc n) bytes = option_map_or (λ found. onto found.0 (repeated step n found.1)) (step bytes) ([], bytes)
 
--- The same, as often as it takes something. Each step takes at least a byte.
+-- what a step, which takes at least one byte each time, takes from the beginning of the bytes, as often as it takes
+-- something, and the bytes that it leaves
 abbrev pub taken : {A : Type 0} → (List ℕ → Option (A × List ℕ)) → List ℕ → List A × List ℕ
 taken step bytes = repeated step (length bytes) bytes
 
--- the byte of two hexadecimal digits, up to 7f
+-- the byte of two hexadecimal digits of either case, up to 7f
 abbrev pub hex_byte : ℕ → ℕ → Option ℕ
 hex_byte high low = if nat_lt (digit_value high) 8 && nat_lt (digit_value low) 16 then Some (16 * digit_value high + digit_value low) else None
 
--- two hexadecimal digits: the byte, and what follows it
+-- the byte of two hexadecimal digits at the beginning, and what follows them
 abbrev pub hex_at : List ℕ → Option (ℕ × List ℕ)
 hex_at [] = None
 hex_at (high ∷ []) = None
 hex_at (high ∷ low ∷ more) = option_map (λ b. (b, more)) (hex_byte high low)
 
--- behind a backslash: `x` and two digits, a quote or a backslash
+-- the byte behind a backslash: `x` and two digits, a quote or a backslash; and what follows
 abbrev pub escape_at : List ℕ → Option (ℕ × List ℕ)
 escape_at [] = None
 escape_at (b ∷ more) = if b == 120 then hex_at more else (if b == 34 || b == 92 then Some (b, more) else None)
@@ -63,36 +64,36 @@ byte_at (b ∷ more) = if b == 92 then escape_at more else (if b == 34 then None
 abbrev pub text_at : List ℕ → List ℕ × List ℕ
 text_at bytes = taken byte_at bytes
 
--- the closing quote, where a word may end
+-- a quoted word of this text, where the closing quote follows and a word may end behind it; and what follows that
 abbrev pub closed : List ℕ → List ℕ → Option (Word × List ℕ)
 closed text [] = None
 closed text (b ∷ more) = if b == 34 && ends_word more then Some (Quoted text, more) else None
 
--- a word behind its opening quote
+-- the quoted word behind its opening quote, and what follows it
 abbrev pub quoted_at : List ℕ → Option (Word × List ℕ)
 quoted_at bytes = closed (text_at bytes).0 (text_at bytes).1
 
--- a bare word, where it may end before the rest
+-- a bare word of these bytes, where a word may end before the rest
 abbrev pub bare_before : List ℕ → List ℕ → Option (Word × List ℕ)
 bare_before name rest = if ends_word rest then Some (Bare name, rest) else None
 
--- a bare word goes up to the first blank or quote
+-- the bare word at the beginning, which goes up to the first blank or quote, and what follows it
 abbrev pub bare_at : List ℕ → Option (Word × List ℕ)
 bare_at bytes = bare_before (before_first ends_bare bytes) (drop (position_or_len ends_bare bytes) bytes)
 
--- the word at the front
+-- the word at the beginning, and what follows it
 abbrev pub first_word : List ℕ → Option (Word × List ℕ)
 first_word [] = None
 first_word (b ∷ more) = if b == 34 then quoted_at more else bare_at (b ∷ more)
 
--- the word behind the blanks at the front, and what follows it; none where there is none, or it is no word
+-- the word behind the blanks at the beginning, and what follows it; none where there is none, or it is no word
 unfoldable pub word_at : List ℕ → Option (Word × List ℕ)
 word_at bytes = first_word (after_blanks bytes)
 
--- all words that were found, where blanks alone are left
+-- the words that were found, where only blanks are left
 abbrev pub all_found : List Word × List ℕ → Option (List Word)
 all_found found = if length (after_blanks found.1) == 0 then Some found.0 else None
 
--- the words of a line, or none where something is no word
+-- the words of a line, or none where something in it is no word
 unfoldable pub words_of : List ℕ → Option (List Word)
 words_of line = all_found (taken word_at line)

@@ -1,4 +1,8 @@
 //! The words of a line, and why a line is refused.
+//!
+//! - The words of a line are those of the definition, or one of them is no word; out of memory
+//!   alone may come in place of that: `words_of`. The text of a quoted word, and what stands behind
+//!   blanks, are as defined: `text`, `after_blanks`.
 #![tactic(auto)]
 
 pub mod laws;

@@ -1,4 +1,4 @@
-//! The words of a line.
+//! The words of a line, each with the bytes where it stands; the text of a quoted one.
 
 ghost use Rattle.std.specs.Prelude.{◌≡◌, ◌<◌, ◌≤◌, not, length, map, option_map, ok_or, IfOk, IfSome};
 ghost use Rattle.std.specs.List.{position, position_or_len};

@@ -5,9 +5,9 @@ use Rattle.std.specs.declared.option.Option.{Option}
 use Rattle.std.specs.declared.vec.Vec.{Vec}
 use Rattle.std.specs.declared.alloc.Global.{Global}
 use Rattle.std.proofs.lemmas.List.{take-append-le}
-use Rattle.mvt_wire.specs.Opens.{OpensAs}
-use Rattle.mvt_wire.specs.Plain.{Document}
-use Rattle.mvt_wire.proofs.SameBytes.{one_document_by_bytes}
+use Rattle.mvt_document.specs.Opens.{OpensAs}
+use Rattle.mvt_document.specs.Plain.{Document}
+use Rattle.mvt_document.proofs.SameBytes.{one_document_by_bytes}
 use Rattle.tile_device.specs.Device.{interruptions_in, failures_in}
 use Rattle.tile_device.specs.Seen.{Intake, Supplies}
 use Rattle.tile_device.specs.declared.device.Trouble.{Trouble}

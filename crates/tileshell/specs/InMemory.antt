@@ -3,8 +3,8 @@ use Rattle.std.specs.Prelude.{◌≡◌, ◌≢◌, ◌⊎◌, ◌↔◌, ℕ, �
 use Rattle.std.specs.declared.option.Option.{Option}
 use Rattle.std.specs.declared.vec.Vec.{Vec}
 use Rattle.std.specs.declared.alloc.Global.{Global}
-use Rattle.mvt_wire.specs.Opens.{OpensAs}
-use Rattle.mvt_wire.specs.Plain.{Document}
+use Rattle.mvt_document.specs.Opens.{OpensAs}
+use Rattle.mvt_document.specs.Plain.{Document}
 use Rattle.tile_lines.specs.Lines.{whole_lines}
 use Rattle.tile_run.specs.Course.{OpensAsNothing, IsFaultOf}
 use Rattle.tile_run.specs.Headline.{outcome_of}
@@ -19,7 +19,8 @@ use Rattle.tile_run.specs.declared.outcome.Outcome.TheVariants as outcomes
 use Rattle.tile_run.specs.declared.outcome.TileFault.{TileFault}
 use Rattle.tile_run.specs.declared.runs.TheConstants.{MAX_SCRIPT}
 
--- what is handed out where the run ended so: the tile where it was written, and a sink here fails only for want of memory
+-- what is handed out where the run ended with this outcome: the tile where it was written; a sink in memory fails only
+-- where memory runs out, so its fault becomes `NoMemory`
 abbrev pub handed_out : Outcome → Vec ℕ Global → Vec ℕ Global → Edited
 handed_out outcomes.Done replies out = record { outcome = outcomes.Done; replies = replies; tile = Some out }
 handed_out outcomes.SomeRefused replies out = record { outcome = outcomes.SomeRefused; replies = replies; tile = Some out }
@@ -27,12 +28,12 @@ handed_out (outcomes.Device devices.Replies) replies out = record { outcome = ou
 handed_out (outcomes.Device devices.Out) replies out = record { outcome = outcomes.NoMemory; replies = replies; tile = None }
 handed_out outcome replies out = record { outcome = outcome; replies = replies; tile = None }
 
--- the bytes of the tile, where there is one
+-- the bytes of the edited tile, where there is one
 abbrev pub bytes_in : Option (Vec ℕ Global) → Option (List ℕ)
 bytes_in None = None
 bytes_in (Some tile) = Some tile.items
 
--- the tile of a run that comes to this progress: none where a strict run is over
+-- the bytes of the standing document, or none where a strict run is over
 abbrev pub tile_given : Bool → Progress → Option (List ℕ)
 tile_given strict progress = if is_over strict progress then None else Some (tile_of progress)
 
@@ -42,13 +43,14 @@ pub record IsEditOf (options : Options) (document : Document) (script : List ℕ
   pub replies : edited.replies.items ≡ (ran document options script).replies
   pub tile : bytes_in edited.tile ≡ tile_given options.strict (ran document options script)
 
--- for every tile that opens and every script that is not too long, where memory was refused to nothing
+-- for every tile that opens, as the document, and every script of at most 16,777,216 bytes, where the outcome is not
+-- `NoMemory` and no reply is 60 or 54: the edit is that of the script on the document
 abbrev pub EditsTile : Options → List ℕ → List ℕ → Edited → Type 0
 EditsTile options tile script edited =
     (document : Document) → OpensAs tile document → length script ≤ MAX_SCRIPT → edited.outcome ≢ outcomes.NoMemory → HasNoWant edited.replies.items
     → IsEditOf options document script edited
 
--- the tile is refused for what is wrong with it, and there is nothing more
+-- the outcome is that the tile is refused, for what is wrong with it; there are no replies and no tile
 pub record IsRefusal (tile : List ℕ) (edited : Edited) : Type 0 where
   pub fault : TileFault
   pub outcome : edited.outcome ≡ outcomes.TileRefused fault
@@ -56,31 +58,32 @@ pub record IsRefusal (tile : List ℕ) (edited : Edited) : Type 0 where
   pub no_replies : edited.replies.items ≡ []
   pub no_tile : edited.tile ≡ None
 
--- for every tile that opens as no document
+-- for every tile that opens as no document, where the outcome is not `NoMemory`: the tile is refused
 abbrev pub RefusesFile : List ℕ → Edited → Type 0
 RefusesFile tile edited = OpensAsNothing tile → edited.outcome ≢ outcomes.NoMemory → IsRefusal tile edited
 
--- where a run comes that reads only so much of the script as may be read
+-- the progress after the lines whose line feeds are among the first 16,777,216 bytes of a script, on a document
 abbrev pub ran_cut : Document → Options → List ℕ → Progress
 ran_cut document options script = after_lines options.strict (at_first document options.depth) (whole_lines (take MAX_SCRIPT script))
 
--- Its whole lines were carried out and replied to, and there is no tile. The script is named, unless the run is strict
--- and over with one of them.
+-- the outcome names the script, or is `StrictStop` where the run is over at one of its whole lines; the replies are
+-- those of these lines, and there is no tile
 pub record IsCutOff (options : Options) (document : Document) (script : List ℕ) (edited : Edited) : Type 0 where
   pub outcome : edited.outcome ≡ (if is_over options.strict (ran_cut document options script) then outcomes.StrictStop else outcomes.Device devices.Script)
   pub replies : edited.replies.items ≡ (ran_cut document options script).replies
   pub no_tile : edited.tile ≡ None
 
--- for every tile that opens and every script that is too long, where memory was refused to nothing
+-- for every tile that opens, as the document, and every longer script, where the outcome is not `NoMemory` and no reply
+-- is 60 or 54: the edit is cut off
 abbrev pub CutsLongScript : Options → List ℕ → List ℕ → Edited → Type 0
 CutsLongScript options tile script edited =
     (document : Document) → OpensAs tile document → MAX_SCRIPT < length script → edited.outcome ≢ outcomes.NoMemory → HasNoWant edited.replies.items
     → IsCutOff options document script edited
 
--- a device is named only where the script is too long, and then the script
+-- the outcome names no device but the script, and that only where it has more than 16,777,216 bytes
 abbrev pub NamesLongScript : List ℕ → Edited → Type 0
 NamesLongScript script edited = (name : DeviceName) → edited.outcome ≡ outcomes.Device name → (name ≡ devices.Script) × (MAX_SCRIPT < length script)
 
--- there is a tile exactly where the run came to its end
+-- there is a tile exactly where the outcome is `Done` or `SomeRefused`
 abbrev pub GivesTile : Edited → Type 0
 GivesTile edited = IsSome edited.tile ↔ ((edited.outcome ≡ outcomes.Done) ⊎ (edited.outcome ≡ outcomes.SomeRefused))

@@ -1,4 +1,4 @@
-//! An edit of a tile in memory, by a script in memory.
+//! `edit`: a run over bytes in memory, with the devices that it is made of.
 
 ghost use Rattle.std.specs.Prelude.{◌≡◌, ◌≤◌, [], true, Some};
 ghost use Rattle.mvt_history.specs.declared.TheConstants.{MAX_DEPTH};

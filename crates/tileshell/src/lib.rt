@@ -1,4 +1,15 @@
-//! A line editor for one vector tile, with exact undo.
+//! A line editor for one vector tile, with exact undo: a run over bytes in memory, and the program
+//! as a function.
+//!
+//! - `edit` is `run` over bytes in memory; its clauses are in the README.
+//! - Wherever the command line is accepted, `--depth` has a numeral of a number from 1 to 10,000
+//!   (`matched`), and that is the depth that is read from it (`depth_in`), so the condition of
+//!   `run` is met. Both functions are private. That it is the numeral that was written, or 100
+//!   where none was, is tested, and so are the texts and statuses of the program (`shell`).
+//!
+//! It passes on `run` and the types that `run` takes and gives, `parse_line`, `listing`, `quote`,
+//! the commands, requests and refusals with their limits, the devices of the standard library, and
+//! modules of laws of the crates below it.
 #![tactic(auto)]
 
 mod created;
@@ -7,15 +18,15 @@ mod program;
 
 pub use in_memory::{Edited, edit};
 pub use mvt_command::{Command, FeatureChoice, LayerChoice};
-pub use mvt_history::{HistoryError, MAX_DEPTH, MAX_MARKS, laws as history_laws};
+pub use mvt_document::laws as wire_laws;
+pub use mvt_history::{HistoryError, MAX_DEPTH, MAX_MARKS};
 pub use mvt_meaning::{Refusal, laws as edit_laws};
-pub use mvt_wire::laws as wire_laws;
 pub use program::shell;
 pub use tile_device::{FromRead, FromWrite, Retries, Sink, Source, Trouble};
 pub use tile_lines::laws as line_laws;
 pub use tile_listing::{laws as listing_laws, listing};
 pub use tile_reply::Refused;
 pub use tile_request::{Request, What};
-pub use tile_run::{DeviceName, MAX_RETRIES, MAX_SCRIPT, Options, Outcome, TileFault, laws, run};
+pub use tile_run::{DeviceName, MAX_RETRIES, MAX_SCRIPT, Options, Outcome, TileFault, run};
 pub use tile_script::{ParseError, laws as script_laws, parse_line};
 pub use tile_text::{laws as text_laws, quote};

@@ -1,4 +1,4 @@
-//! The program: its words go to the library, whose status it ends with.
+//! The program: `main` hands its words to `tileshell::shell`, with whose status it ends.
 #![tactic(auto)]
 
 use std::process::ExitCode;

@@ -1,4 +1,4 @@
-//! The tests that cross crates: whole runs over memory and over devices. Those of the program are transcripts.
+//! Tests that cross crates: whole runs over memory and over devices. The program has transcripts.
 #![tactic(auto)]
 
 #[cfg(test)]

@@ -1,4 +1,5 @@
-//! Tests of views of layers and features, of their values and numbers, and of which is meant.
+//! Tests of views of layers and features, of values, of the numbers in fields, and of which layer
+//! or feature is selected.
 #![tactic(auto)]
 
 #[cfg(test)]

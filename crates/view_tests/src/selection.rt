@@ -1,4 +1,4 @@
-//! Which layer is meant, and which feature of a layer.
+//! Which layer is selected, and which feature of a layer.
 
 use mvt_meaning::{FeatureChoice, LayerChoice, Refusal, selected_feature, selected_layer};
 use mvt_tests::tiles::T0;

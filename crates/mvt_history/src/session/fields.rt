@@ -1,8 +1,8 @@
-//! What a session and a mark hold: a further field would have to be named here.
+//! A test that takes a session and a mark apart: a further field would have to be named here.
 
 use super::Session;
 use crate::marks::Mark;
-use mvt_wire::read_document;
+use mvt_read::read_document;
 use std::test::Fail;
 
 #[test]

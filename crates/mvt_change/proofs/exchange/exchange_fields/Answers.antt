@@ -1,7 +1,7 @@
 use Rattle.std.proofs.Common.{List, map, is_ok, refl, ap, ◌∙◌}
-use Rattle.mvt_wire.specs.Plain.{Field, LayerItem, OfFeature}
-use Rattle.mvt_wire.specs.Stands.{number_of, field_of}
-use Rattle.mvt_wire.specs.Splicing.{splice}
+use Rattle.mvt_document.specs.Plain.{Field, LayerItem, OfFeature}
+use Rattle.mvt_document.specs.Stands.{number_of, field_of}
+use Rattle.mvt_document.specs.Splicing.{splice}
 use Rattle.mvt_change.proofs.Changed.{apply_cond, spliced_or_kept, part_or_kept}
 use Rattle.mvt_change.specs.HeldChanges.{exchanged}
 use Rattle.mvt_change.proofs.Keeping.{field_order}

@@ -1,7 +1,7 @@
 use Rattle.std.proofs.Common.{map, is_ok, cond, sym, ap, ◌∙◌}
 use Rattle.std.specs.Option.{option_and_then}
-use Rattle.mvt_wire.specs.Stands.{field_of, tile_item_of}
-use Rattle.mvt_wire.specs.Splicing.{splice}
+use Rattle.mvt_document.specs.Stands.{field_of, tile_item_of}
+use Rattle.mvt_document.specs.Splicing.{splice}
 use Rattle.mvt_change.specs.Lists.{change_at}
 use Rattle.mvt_change.specs.Places.{fields_in_at, items_in, in_feature, in_layer}
 use Rattle.mvt_change.specs.Changes.{taken_out}

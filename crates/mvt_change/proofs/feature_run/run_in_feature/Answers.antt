@@ -1,8 +1,8 @@
 use Rattle.std.proofs.Common.{◌≡◌, true, cond, is_ok, length, map, reverse, sym, ap, ◌∙◌, subst}
 use Rattle.std.specs.Option.{IsSomeAnd, option_and_then}
-use Rattle.mvt_wire.specs.Stands.{document_of}
+use Rattle.mvt_document.specs.Stands.{document_of}
 use Rattle.mvt_document.specs.declared.document.Document.{Document}
-use Rattle.mvt_wire.specs.Lending.{with_item}
+use Rattle.mvt_document.specs.Lending.{with_item}
 use Rattle.mvt_splices.specs.Splices.{FitAll}
 use Rattle.mvt_change.specs.ChangeStands.{step_of}
 use Rattle.mvt_change.specs.Changes.{turn}

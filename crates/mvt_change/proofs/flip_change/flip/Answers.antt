@@ -1,7 +1,7 @@
 use Rattle.std.proofs.Common.{◌≡◌, List, ◌++◌, length, map, reverse, take, drop, ap, ◌∙◌}
 use Rattle.std.proofs.lemmas.List.{take_at, reverse-reverse}
-use Rattle.mvt_wire.specs.Held.{Held}
-use Rattle.mvt_wire.specs.Stands.{document_of}
+use Rattle.mvt_document.specs.Held.{Held}
+use Rattle.mvt_document.specs.Stands.{document_of}
 use Rattle.mvt_change.specs.declared.change.Step.{Step}
 use Rattle.mvt_change.specs.ChangeStands.{step_of}
 use Rattle.mvt_change.specs.Changes.{turn}

@@ -1,6 +1,6 @@
 use Rattle.std.proofs.Common.{◌≡◌, List, ◌++◌, append_assoc, length, map, reverse, sym, ap, ◌∙◌, arith}
 use Rattle.std.proofs.lemmas.List.{map-append}
-use Rattle.mvt_wire.specs.Held.{Held}
+use Rattle.mvt_document.specs.Held.{Held}
 use Rattle.mvt_change.specs.declared.change.Step.{Step}
 use Rattle.mvt_change.specs.ChangeStands.{change_of, step_of}
 use Rattle.mvt_change.specs.Joining.{joined}

@@ -1,5 +1,5 @@
 use Rattle.std.proofs.Common.{map, ap, ◌∙◌}
-use Rattle.mvt_wire.specs.Stands.{tile_item_of}
+use Rattle.mvt_document.specs.Stands.{tile_item_of}
 use Rattle.mvt_change.proofs.Changed.{map-moved}
 use Rattle.mvt_change.proofs.Keeping.{tile_item_order}
 use Rattle.mvt_change.proofs.HeldChanged.{moved_kept}

@@ -1,5 +1,5 @@
-use Rattle.mvt_wire.specs.Stands.{tile_item_of}
-use Rattle.mvt_wire.specs.Splicing.{moved}
+use Rattle.mvt_document.specs.Stands.{tile_item_of}
+use Rattle.mvt_document.specs.Splicing.{moved}
 use Rattle.mvt_change.specs.Lists.{change_at}
 use Rattle.mvt_change.specs.Places.{in_feature, in_layer}
 use Rattle.mvt_change.proofs.Changed.{set_changes}

@@ -1,5 +1,5 @@
-use Rattle.mvt_wire.specs.Stands.{layer_item_of}
-use Rattle.mvt_wire.specs.Splicing.{moved}
+use Rattle.mvt_document.specs.Stands.{layer_item_of}
+use Rattle.mvt_document.specs.Splicing.{moved}
 use Rattle.mvt_change.specs.Places.{in_feature}
 use Rattle.mvt_change.proofs.Changed.{set_changes}
 use Rattle.mvt_change.specs.HeldPlaces.{in_held_feature}

@@ -1,6 +1,6 @@
 use Rattle.std.proofs.Common.{List, true, map, refl, ap, ◌∙◌}
-use Rattle.mvt_wire.specs.Plain.{LayerItem, TileItem, OfLayer}
-use Rattle.mvt_wire.specs.Stands.{number_of, layer_item_of}
+use Rattle.mvt_document.specs.Plain.{LayerItem, TileItem, OfLayer}
+use Rattle.mvt_document.specs.Stands.{number_of, layer_item_of}
 use Rattle.mvt_change.proofs.Changed.{map-moved}
 use Rattle.mvt_change.specs.HeldChanges.{held_moved}
 use Rattle.mvt_change.proofs.Keeping.{layer_item_order}

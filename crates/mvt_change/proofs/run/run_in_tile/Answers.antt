@@ -1,5 +1,5 @@
 use Rattle.std.proofs.Common.{◌≡◌, ◌≤◌, cond, is_ok, length, map, reverse, sym, ap, ◌∙◌, subst, arith}
-use Rattle.mvt_wire.specs.Stands.{document_of, tile_item_of}
+use Rattle.mvt_document.specs.Stands.{document_of, tile_item_of}
 use Rattle.mvt_splices.specs.Splices.{after_all, longest, turned_all}
 use Rattle.mvt_splices.proofs.Runs.{roomy_after, roomy_fit, roomy_longest}
 use Rattle.mvt_change.specs.ChangeStands.{step_of}

@@ -1,6 +1,6 @@
 use Rattle.std.proofs.Common.{◌≡◌, true, false, Result, Ok, Err, is_ok, IsErr, length, map, refl, sym, ap, ◌∙◌}
 use Rattle.std.proofs.lemmas.List.{length-map}
-use Rattle.mvt_wire.specs.Stands.{tile_item_of}
+use Rattle.mvt_document.specs.Stands.{tile_item_of}
 use Rattle.mvt_change.specs.declared.change.Step.TheVariants.{InTile, InLayer, InFeature}
 use Rattle.mvt_change.specs.Changes.{TileStep}
 use Rattle.mvt_change.proofs.Changed.{map-part, map-splice}

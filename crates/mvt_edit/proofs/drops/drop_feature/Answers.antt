@@ -1,6 +1,6 @@
 use Rattle.std.proofs.Common.{inr}
 use Rattle.std.proofs.lemmas.Result.{err_from_is_err_and}
-use Rattle.mvt_wire.specs.Stands.{document_of, feature_of, layer_of}
+use Rattle.mvt_document.specs.Stands.{document_of, feature_of, layer_of}
 use Rattle.mvt_command.specs.CommandStands.{feature_choice_of, layer_choice_of}
 use Rattle.mvt_edit.proofs.Gone.{feature_goes, no_feature_goes}
 use Rattle.mvt_edit.proofs.drops.drop_feature.Goals as goal

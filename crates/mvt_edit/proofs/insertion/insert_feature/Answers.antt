@@ -1,6 +1,6 @@
 use Rattle.std.proofs.Common.{inr, Err, ap, [], ◌∷◌}
 use Rattle.std.proofs.lemmas.Result.{err_from_is_err_and}
-use Rattle.mvt_wire.specs.Stands.{document_of, layer_of}
+use Rattle.mvt_document.specs.Stands.{document_of, layer_of}
 use Rattle.mvt_change.specs.Changes.{LayerStep}
 use Rattle.mvt_command.specs.Command.{InsertFeature}
 use Rattle.mvt_command.specs.CommandStands.{layer_choice_of}

@@ -1,6 +1,6 @@
 use Rattle.std.proofs.Common.{◌-◌, ◌≡◌, length, map, sym, ◌∙◌, arith}
 use Rattle.std.proofs.lemmas.List.{length-map}
-use Rattle.mvt_wire.specs.Stands.{layer_item_of}
+use Rattle.mvt_document.specs.Stands.{layer_item_of}
 use Rattle.mvt_meaning.specs.Selection.{is_feature}
 use Rattle.mvt_edit.proofs.Inserting.{place_at_end, place_is, place_none, place_past_end, place_read}
 use Rattle.mvt_edit.proofs.MovesPrepared.{count_features}

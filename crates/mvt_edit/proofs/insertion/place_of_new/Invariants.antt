@@ -1,5 +1,5 @@
 use Rattle.std.proofs.Common.{◌≡◌, ◌≤◌, ◌-◌, map, drop, length}
-use Rattle.mvt_wire.specs.Stands.{layer_item_of}
+use Rattle.mvt_document.specs.Stands.{layer_item_of}
 use Rattle.mvt_meaning.specs.Selection.{is_feature}
 use Rattle.mvt_edit.proofs.Inserting.{place_from}
 use Rattle.mvt_edit.proofs.insertion.place_of_new.Given as goal

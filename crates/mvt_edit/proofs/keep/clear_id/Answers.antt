@@ -1,7 +1,7 @@
 use Rattle.std.proofs.Common.{inr, rules, ap, ◌∙◌}
 use Rattle.std.proofs.lemmas.Result.{err_from_is_err_and}
-use Rattle.mvt_wire.specs.Stands.{document_of, feature_of, field_of, layer_of}
-use Rattle.mvt_wire.specs.Wire.{field_bytes}
+use Rattle.mvt_document.specs.Stands.{document_of, feature_of, field_of, layer_of}
+use Rattle.mvt_document.specs.Wire.{field_bytes}
 use Rattle.mvt_change.specs.Changes.{OfTheFeature}
 use Rattle.mvt_command.specs.CommandStands.{feature_choice_of, layer_choice_of}
 use Rattle.mvt_meaning.specs.Meaning.{is_id}

@@ -1,6 +1,6 @@
 use Rattle.std.proofs.Common.{length, map, filter, inr, rules, sym, ap, ◌∙◌}
-use Rattle.mvt_wire.specs.Stands.{document_of, tile_item_of}
-use Rattle.mvt_wire.specs.Wire.{tile_item_bytes}
+use Rattle.mvt_document.specs.Stands.{document_of, tile_item_of}
+use Rattle.mvt_document.specs.Wire.{tile_item_bytes}
 use Rattle.mvt_change.specs.Changes.{OfTheTile}
 use Rattle.mvt_edit.specs.Cuts.{runs_of, steps_out}
 use Rattle.mvt_edit.proofs.Kept.{goes, keeps, none_stays}

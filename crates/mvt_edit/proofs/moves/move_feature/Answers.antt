@@ -1,6 +1,6 @@
 use Rattle.std.proofs.Common.{inr}
 use Rattle.std.proofs.lemmas.Result.{err_from_is_err_and}
-use Rattle.mvt_wire.specs.Stands.{document_of, layer_of}
+use Rattle.mvt_document.specs.Stands.{document_of, layer_of}
 use Rattle.mvt_command.specs.CommandStands.{feature_choice_of, layer_choice_of}
 use Rattle.mvt_meaning.specs.declared.refusal.Refusal.TheVariants.{BadPlace}
 use Rattle.mvt_edit.proofs.MovesPrepared.{feature_moves, feature_past, feature_refused}

@@ -1,7 +1,7 @@
 use Rattle.std.proofs.Common.{refl}
-use Rattle.mvt_wire.specs.Opens.{IsField}
-use Rattle.mvt_wire.specs.Stands.{field_of}
-use Rattle.mvt_wire.specs.Wire.{field_bytes}
+use Rattle.mvt_document.specs.Opens.{IsField}
+use Rattle.mvt_document.specs.Stands.{field_of}
+use Rattle.mvt_document.specs.Wire.{field_bytes}
 use Rattle.mvt_change.specs.Changes.{FeatureStep}
 use Rattle.mvt_meaning.specs.Meaning.{is_id, new_number, with_id}
 use Rattle.mvt_edit.proofs.Putting.{id_kept, old_passes, step_puts}

@@ -1,5 +1,5 @@
 use Rattle.std.proofs.Common.{◌≡◌, Err, sym, ◌∙◌}
-use Rattle.mvt_wire.specs.Stands.{document_of}
+use Rattle.mvt_document.specs.Stands.{document_of}
 use Rattle.mvt_command.specs.Command.{RenameLayer}
 use Rattle.mvt_command.specs.CommandStands.{layer_choice_of}
 use Rattle.mvt_meaning.specs.Meaning.{applied}

@@ -1,8 +1,8 @@
 use Rattle.std.proofs.Common.{refl}
-use Rattle.mvt_wire.specs.Plain.{PlainInLayer}
-use Rattle.mvt_wire.specs.Opens.{IsLayerItem}
-use Rattle.mvt_wire.specs.Stands.{layer_item_of}
-use Rattle.mvt_wire.specs.Wire.{layer_item_bytes}
+use Rattle.mvt_document.specs.Plain.{PlainInLayer}
+use Rattle.mvt_document.specs.Opens.{IsLayerItem}
+use Rattle.mvt_document.specs.Stands.{layer_item_of}
+use Rattle.mvt_document.specs.Wire.{layer_item_bytes}
 use Rattle.mvt_change.specs.Changes.{LayerStep}
 use Rattle.mvt_meaning.specs.Meaning.{is_name, new_content, with_text}
 use Rattle.mvt_edit.proofs.Putting.{name_kept, old_passes, step_puts}

@@ -1,4 +1,4 @@
-use Rattle.mvt_wire.specs.Stands.{document_of, layer_of}
+use Rattle.mvt_document.specs.Stands.{document_of, layer_of}
 use Rattle.mvt_change.specs.ChangeStands.{step_of}
 use Rattle.mvt_command.specs.Command.{RenameLayer}
 use Rattle.mvt_command.specs.CommandStands.{layer_choice_of}

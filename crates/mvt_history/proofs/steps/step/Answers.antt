@@ -1,7 +1,7 @@
 use Rattle.std.proofs.Common.{◌≡◌, ℕ, ◌-◌, List, length, refl, None, slice_get, slice_set, sym, ap, ◌∙◌, arith}
 use Rattle.std.proofs.lemmas.List.{length-set}
 use Rattle.circular_buffer.specs.Buffer.{Buffer}
-use Rattle.mvt_wire.specs.Stands.{document_of}
+use Rattle.mvt_document.specs.Stands.{document_of}
 use Rattle.mvt_change.specs.declared.change.Change.{Change}
 use Rattle.mvt_history.specs.Held.{from_last}
 use Rattle.mvt_history.proofs.Stepping.{last_fits, same_put_back, same_walk, step_taken, has_last, on_refusal}

@@ -1,6 +1,6 @@
 use Rattle.std.proofs.Common.{◌≡◌, ◌-◌, ◌<◌, List, Vec, Global, length, take, drop, slice_set, refl, ap, ◌∙◌, arith}
 use Rattle.std.proofs.lemmas.Bool.{false≢true}
-use Rattle.mvt_wire.specs.Stands.{document_of}
+use Rattle.mvt_document.specs.Stands.{document_of}
 use Rattle.mvt_change.specs.Joining.{go_along}
 use Rattle.mvt_change.specs.declared.change.Change.{Change}
 use Rattle.mvt_history.specs.Held.{from_last}

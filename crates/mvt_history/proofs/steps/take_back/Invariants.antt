@@ -1,4 +1,4 @@
-use Rattle.mvt_wire.specs.Stands.{document_of}
+use Rattle.mvt_document.specs.Stands.{document_of}
 use Rattle.mvt_history.specs.Held.{from_last}
 use Rattle.mvt_history.proofs.Stepping.{IsTakenBack}
 use Rattle.mvt_history.proofs.steps.take_back.Given as goal

@@ -1,5 +1,5 @@
 use Rattle.std.proofs.Common.{◌≡◌, refl, ap, ◌∙◌, arith}
-use Rattle.mvt_wire.specs.Stands.{document_of}
+use Rattle.mvt_document.specs.Stands.{document_of}
 use Rattle.mvt_history.specs.Held.{from_last}
 use Rattle.mvt_history.specs.Moves.{walked}
 use Rattle.mvt_history.proofs.Stepping.{further, length_from_last, walk_of}

@@ -1,5 +1,5 @@
 use Rattle.std.proofs.Common.{◌≡◌}
-use Rattle.mvt_wire.specs.Stands.{document_of}
+use Rattle.mvt_document.specs.Stands.{document_of}
 use Rattle.mvt_history.specs.Held.{from_last}
 use Rattle.mvt_history.proofs.Stepping.{IsOnTheWay, walk_of}
 use Rattle.mvt_history.proofs.steps.walk.Given as goal

@@ -1,5 +1,5 @@
 use Rattle.std.proofs.Common.{◌≡◌, Err, sym, ap, ◌∙◌}
-use Rattle.mvt_wire.specs.Stands.{layer_of}
+use Rattle.mvt_document.specs.Stands.{layer_of}
 use Rattle.mvt_command.specs.Command.{FeatureAtOrdinal}
 use Rattle.mvt_command.specs.CommandStands.{feature_choice_of}
 use Rattle.mvt_view.specs.Views.{features, has_id, ordinals_of, the_one}

@@ -1,5 +1,5 @@
 use Rattle.std.proofs.Common.{◌≡◌, Err, sym, ◌∙◌}
-use Rattle.mvt_wire.specs.Stands.{document_of}
+use Rattle.mvt_document.specs.Stands.{document_of}
 use Rattle.mvt_command.specs.Command.{AtOrdinal}
 use Rattle.mvt_command.specs.CommandStands.{layer_choice_of}
 use Rattle.mvt_view.specs.Views.{is_named, layers, ordinals_of}

@@ -1,6 +1,6 @@
 use Rattle.std.proofs.Common.{◌∙◌, refl, arith}
 use Rattle.std.proofs.lemmas.Option.{slice_get_read}
-use Rattle.mvt_wire.specs.Stands.{tile_item_of}
+use Rattle.mvt_document.specs.Stands.{tile_item_of}
 use Rattle.mvt_meaning.specs.Selection.{is_layer}
 use Rattle.mvt_meaning.proofs.Finding.{placed_here, seen_at}
 use Rattle.mvt_meaning.proofs.find.layer_at.Goals as goal

@@ -1,5 +1,5 @@
 use Rattle.std.proofs.Common.{◌≡◌, ◌≤◌, map, drop, slice_get, ◌-◌}
-use Rattle.mvt_wire.specs.Stands.{tile_item_of}
+use Rattle.mvt_document.specs.Stands.{tile_item_of}
 use Rattle.mvt_meaning.specs.Selection.{is_layer, layer_positions}
 use Rattle.mvt_meaning.proofs.Positions.{positions_from}
 use Rattle.mvt_meaning.proofs.find.layer_at.Given as goal

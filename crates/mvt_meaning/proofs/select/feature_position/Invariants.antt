@@ -1,5 +1,5 @@
 use Rattle.std.proofs.Common.{◌≡◌, ◌≤◌, map, drop, slice_get, ◌-◌}
-use Rattle.mvt_wire.specs.Stands.{layer_item_of}
+use Rattle.mvt_document.specs.Stands.{layer_item_of}
 use Rattle.mvt_meaning.specs.Selection.{is_feature, feature_positions}
 use Rattle.mvt_meaning.proofs.Positions.{positions_from}
 use Rattle.mvt_meaning.proofs.select.feature_position.Given as goal

@@ -1,6 +1,6 @@
 use Rattle.std.proofs.Common.{◌≡◌, map, drop}
 use Rattle.std.specs.List.{last_or}
-use Rattle.mvt_wire.specs.Stands.{layer_item_of}
+use Rattle.mvt_document.specs.Stands.{layer_item_of}
 use Rattle.mvt_meaning.specs.Meaning.{is_name}
 use Rattle.mvt_meaning.specs.Ordinals.{positions_of}
 use Rattle.mvt_meaning.proofs.Positions.{positions_from}

@@ -1,5 +1,5 @@
 use Rattle.std.proofs.Common.{◌≡◌, map}
-use Rattle.mvt_wire.specs.Stands.{field_of}
+use Rattle.mvt_document.specs.Stands.{field_of}
 use Rattle.mvt_numbers.specs.Left.{numbers_from}
 use Rattle.mvt_numbers.proofs.elements.first_elements.Given as goal
 

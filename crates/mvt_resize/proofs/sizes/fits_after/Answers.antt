@@ -1,5 +1,5 @@
 use Rattle.std.proofs.Common.{◌∙◌}
-use Rattle.mvt_wire.specs.TheConstants.{MAX_FILE}
+use Rattle.mvt_document.specs.declared.TheConstants.{MAX_FILE}
 use Rattle.mvt_resize.proofs.Exchanged.{fits_so}
 use Rattle.mvt_resize.proofs.sizes.fits_after.Goals as goal
 

@@ -1,9 +1,9 @@
 use Rattle.std.proofs.Common.{ap, ◌∙◌, ◌+◌, length, arith}
 use Rattle.std.specs.List.{flat_map}
-use Rattle.mvt_wire.specs.TheConstants.{MAX_FILE}
-use Rattle.mvt_wire.specs.Stands.{layer_item_of}
-use Rattle.mvt_wire.specs.Wire.{layer_item_bytes}
-use Rattle.mvt_wire.proofs.Sizes.{told_so}
+use Rattle.mvt_document.specs.declared.TheConstants.{MAX_FILE}
+use Rattle.mvt_document.specs.Stands.{layer_item_of}
+use Rattle.mvt_document.specs.Wire.{layer_item_bytes}
+use Rattle.mvt_document.proofs.Sizes.{told_so}
 use Rattle.mvt_resize.proofs.Exchanged.{exchanged_message, exchanged_within}
 use Rattle.mvt_resize.proofs.sizes.layer_with_items.Goals as goal
 

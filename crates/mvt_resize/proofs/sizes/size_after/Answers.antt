@@ -1,10 +1,10 @@
 use Rattle.std.proofs.Common.{length, sym, ap, ◌∙◌, arith}
 use Rattle.std.proofs.lemmas.List.Folds.{flat_map-map}
-use Rattle.mvt_wire.specs.TheConstants.{MAX_FILE}
-use Rattle.mvt_wire.specs.Stands.{document_of, tile_item_of}
-use Rattle.mvt_wire.specs.Wire.{tile_item_bytes}
+use Rattle.mvt_document.specs.declared.TheConstants.{MAX_FILE}
+use Rattle.mvt_document.specs.Stands.{document_of, tile_item_of}
+use Rattle.mvt_document.specs.Wire.{tile_item_bytes}
 use Rattle.mvt_change.specs.ChangeStands.{place_of}
-use Rattle.mvt_wire.proofs.Sizes.{told_so}
+use Rattle.mvt_document.proofs.Sizes.{told_so}
 use Rattle.mvt_resize.proofs.Exchanged.{exchanged_size, moved_same}
 use Rattle.mvt_resize.proofs.sizes.size_after.Goals as goal
 

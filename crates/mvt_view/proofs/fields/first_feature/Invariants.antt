@@ -1,5 +1,5 @@
 use Rattle.std.proofs.Common.{◌≡◌, map, length}
-use Rattle.mvt_wire.specs.Stands.{layer_item_of}
+use Rattle.mvt_document.specs.Stands.{layer_item_of}
 use Rattle.mvt_view.specs.Views.{features_in}
 use Rattle.mvt_view.proofs.fields.first_feature.Given as goal
 

@@ -1,6 +1,6 @@
 use Rattle.std.proofs.Common.{◌≡◌, map, drop}
 use Rattle.std.specs.List.{filter_map, last_or}
-use Rattle.mvt_wire.specs.Stands.{field_of}
+use Rattle.mvt_document.specs.Stands.{field_of}
 use Rattle.mvt_view.specs.Views.{last_value, value_in}
 use Rattle.mvt_view.proofs.fields.last_value.Given as goal
 

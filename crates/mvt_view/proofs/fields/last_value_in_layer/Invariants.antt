@@ -1,6 +1,6 @@
 use Rattle.std.proofs.Common.{◌≡◌, map, drop}
 use Rattle.std.specs.List.{filter_map, last_or}
-use Rattle.mvt_wire.specs.Stands.{layer_item_of}
+use Rattle.mvt_document.specs.Stands.{layer_item_of}
 use Rattle.mvt_view.specs.Views.{last_value, plain_fields, value_in}
 use Rattle.mvt_view.proofs.fields.last_value_in_layer.Given as goal
 

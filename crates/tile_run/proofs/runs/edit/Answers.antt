@@ -1,5 +1,5 @@
 use Rattle.std.proofs.Common.{◌∙◌, sym}
-use Rattle.mvt_wire.specs.Stands.{document_of}
+use Rattle.mvt_document.specs.Stands.{document_of}
 use Rattle.tile_run.proofs.Courses.{runs_to_tile, runs_to_start, runs_to_script, runs_to_out, runs_through, runs_with_refusals}
 use Rattle.tile_run.proofs.runs.edit.Goals as goal
 

@@ -1,9 +1,9 @@
 use Rattle.std.proofs.Common.{[], length, inl, inr}
 use Rattle.std.proofs.lemmas.Bool.{cases_lt}
-use Rattle.mvt_wire.specs.TheConstants.{MAX_FILE}
-use Rattle.mvt_wire.specs.Stands.{document_of}
-use Rattle.mvt_wire.specs.Wire.{bytes_of}
-use Rattle.mvt_wire.proofs.Settling.{settled_file}
+use Rattle.mvt_document.specs.declared.TheConstants.{MAX_FILE}
+use Rattle.mvt_document.specs.Stands.{document_of}
+use Rattle.mvt_document.specs.Wire.{bytes_of}
+use Rattle.mvt_document.proofs.Settling.{settled_file}
 use Rattle.tile_device.specs.Seen.{written}
 use Rattle.tile_run.proofs.Budgets.{writes_nothing}
 use Rattle.tile_run.proofs.Reading.{all_replies}

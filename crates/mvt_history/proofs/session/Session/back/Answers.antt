@@ -1,12 +1,12 @@
 use Rattle.std.proofs.Common.{◌≡◌, ◌-◌, ◌<◌, ◌≤◌, Ok, Err, length, map, ap, ◌∙◌, subst, sym, inl, arith, rules}
 use Rattle.std.specs.Result.{OnOk, IfErr, MatchResult}
-use Rattle.mvt_wire.specs.Stands.{document_of}
+use Rattle.mvt_document.specs.Stands.{document_of}
 use Rattle.mvt_history.specs.Marks.{point_of}
 use Rattle.mvt_history.specs.Moves.{Walk, walked}
 use Rattle.mvt_history.specs.Held.{from_last, mark_of}
 use Rattle.mvt_history.specs.Inside.{seen_in}
 use Rattle.mvt_history.specs.Session.{StandsFor, AnswersBack}
-use Rattle.mvt_history.specs.declared.error.HistoryError.TheVariants.{Stopped}
+use Rattle.mvt_history_error.specs.declared.HistoryError.TheVariants.{Stopped}
 use Rattle.mvt_history.proofs.Stepping.{length_from_last}
 use Rattle.mvt_history.proofs.Moving.{undo_walk, redo_walk, seen_closed}
 use Rattle.mvt_history.proofs.Marking.{back_refused, point_reached, undos_held, redos_held, undos_answer, redos_answer, stopped_from}

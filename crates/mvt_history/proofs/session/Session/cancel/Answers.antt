@@ -1,5 +1,5 @@
 use Rattle.std.proofs.Common.{refl, ap, ◌∙◌, subst, sym, inr}
-use Rattle.mvt_wire.specs.Stands.{document_of}
+use Rattle.mvt_document.specs.Stands.{document_of}
 use Rattle.mvt_change.specs.Joining.{go_along}
 use Rattle.mvt_history.specs.Held.{from_last}
 use Rattle.mvt_history.specs.Inside.{seen_in}

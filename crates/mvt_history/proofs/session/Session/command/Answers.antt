@@ -1,6 +1,6 @@
 use Rattle.std.proofs.Common.{[], ◌∷◌, ◌++◌, option_map, Vec, Global, take, ap, ◌∙◌, subst, sym}
 use Rattle.circular_buffer.specs.Buffer.{Buffer}
-use Rattle.mvt_wire.specs.Stands.{document_of}
+use Rattle.mvt_document.specs.Stands.{document_of}
 use Rattle.mvt_change.specs.declared.change.Change.{Change}
 use Rattle.mvt_change.specs.ChangeStands.{change_of}
 use Rattle.mvt_change.specs.Changes.{turn}

@@ -1,5 +1,5 @@
 use Rattle.std.proofs.Common.{rules}
-use Rattle.mvt_wire.specs.Stands.{document_of}
+use Rattle.mvt_document.specs.Stands.{document_of}
 use Rattle.mvt_history.proofs.Moving.{started_stands, started_held}
 use Rattle.mvt_history.proofs.session.Session.start.Goals as goal
 

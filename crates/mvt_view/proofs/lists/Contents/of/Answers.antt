@@ -1,4 +1,4 @@
-use Rattle.mvt_wire.specs.Stands.{layer_item_of}
+use Rattle.mvt_document.specs.Stands.{layer_item_of}
 use Rattle.mvt_view.specs.Views.{content_in, plain_in}
 use Rattle.mvt_view.proofs.Yielded.{twice_picked_fit}
 use Rattle.mvt_view.proofs.lists.Contents.of.Goals as goal

@@ -1,4 +1,4 @@
-use Rattle.mvt_wire.specs.Stands.{layer_item_of}
+use Rattle.mvt_document.specs.Stands.{layer_item_of}
 use Rattle.mvt_view.specs.Views.{feature_in}
 use Rattle.mvt_view.proofs.Yielded.{picked_fit}
 use Rattle.mvt_view.proofs.lists.FeatureViews.of.Goals as goal

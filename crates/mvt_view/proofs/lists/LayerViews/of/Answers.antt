@@ -1,4 +1,4 @@
-use Rattle.mvt_wire.specs.Stands.{tile_item_of}
+use Rattle.mvt_document.specs.Stands.{tile_item_of}
 use Rattle.mvt_view.specs.Views.{layer_in}
 use Rattle.mvt_view.proofs.Yielded.{picked_fit}
 use Rattle.mvt_view.proofs.lists.LayerViews.of.Goals as goal

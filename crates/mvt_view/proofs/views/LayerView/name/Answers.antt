@@ -1,6 +1,6 @@
 use Rattle.std.proofs.Common.{map, ap, ◌∙◌}
 use Rattle.std.proofs.lemmas.Iterator.Consumers.{YieldsList-from_first}
-use Rattle.mvt_wire.specs.Stands.{layer_item_of}
+use Rattle.mvt_document.specs.Stands.{layer_item_of}
 use Rattle.mvt_view.specs.Views.{contents, plain_fields}
 use Rattle.mvt_view.proofs.Yielded.{last_from_yields_List}
 use Rattle.mvt_view.proofs.views.LayerView.name.Goals as goal

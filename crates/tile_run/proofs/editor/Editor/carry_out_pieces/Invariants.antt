@@ -1,5 +1,5 @@
 use Rattle.std.proofs.Common.{ℕ, ◌+◌, ◌≤◌, Bool}
-use Rattle.mvt_wire.specs.Plain.{Document}
+use Rattle.mvt_document.specs.Plain.{Document}
 use Rattle.tile_device.specs.Seen.{source_at, sink_at}
 use Rattle.tile_run.specs.Run.{at_first}
 use Rattle.tile_run.specs.Steps.{IsAt}

@@ -1,0 +1,7 @@
+pub mod HistoryLaws
+pub mod Reaching
+pub mod UndosRedos
+pub mod OpenStep
+pub mod NoTrace
+pub mod GoingOn
+pub mod BackToMark

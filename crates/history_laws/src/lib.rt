@@ -1,0 +1,93 @@
+//! Laws of histories and sessions. Each function does nothing: its contract is the law.
+#![tactic(auto)]
+
+ghost use Rattle.history_laws.specs.Laws.{BackToTheMark, CancelLeavesNoTrace, ChangesLead, EmptyStepLeavesNoTrace, FewSteps, HistoryFits, KeptWithin, RedosUndoUndos, StaysSound, StepUndoesWhole, StoppedGoesOn, UndoAfterEnd, UndoAtOnce, UndosUndoRedos};
+
+/// The numbers and marks of a history (how many steps stand, how far undo goes back, which points
+/// are marked) begin in order at a depth of at least 1, and stay so under each request.
+pub fn stays_sound()
+    ensures { StaysSound }
+{}
+
+/// Where a file can hold the tile at the start, it can hold each tile of the history, each within
+/// the open step, and the one that stands.
+pub fn history_fits()
+    ensures { HistoryFits }
+{}
+
+/// Where no step is open, an undo right after an accepted command is accepted, and the document is
+/// the one before, stored widths included, so the bytes are the same whatever their spelling. The
+/// history is sound.
+pub fn undo_at_once()
+    ensures { UndoAtOnce }
+{}
+
+/// The end of an open step of one or more commands is accepted, and so is an undo right after it,
+/// and the document is the one before all of them. The history is sound.
+pub fn undo_after_end()
+    ensures { UndoAfterEnd }
+{}
+
+/// A step is opened in a sound history, then anything is asked but to end or cancel it, refused
+/// requests among it, and one or more commands are accepted: its end is accepted, and so is an undo
+/// right after it, and the document is the one that stood when the step was opened.
+pub fn step_undoes_whole()
+    ensures { StepUndoesWhole }
+{}
+
+/// A step is opened, then anything is asked but to end or cancel it, and no command is accepted:
+/// its end is accepted, and leaves the very history before it.
+pub fn empty_step_leaves_no_trace()
+    ensures { EmptyStepLeavesNoTrace }
+{}
+
+/// Where a number of undos are accepted in a sound history, as many redos are, and the history is
+/// the very one before.
+pub fn redos_undo_undos()
+    ensures { RedosUndoUndos }
+{}
+
+/// Where a number of redos are accepted in a sound history, as many undos are, and the history is
+/// the very one before.
+pub fn undos_undo_redos()
+    ensures { UndosUndoRedos }
+{}
+
+/// Where a mark is set in a sound history, and going back to it is accepted, the document is the
+/// one that stood when it was set, whatever was asked in between but to set it anew.
+pub fn back_to_the_mark()
+    ensures { BackToTheMark }
+{}
+
+/// A step that is opened can be cancelled, whatever is asked in between but to end or cancel it,
+/// and that leaves the very history before it.
+pub fn cancel_leaves_no_trace()
+    ensures { CancelLeavesNoTrace }
+{}
+
+/// A `back` or a `cancel` that was stopped on the way, as memory ran out, asked again with memory,
+/// is accepted and leads where it would have led.
+pub fn stopped_goes_on()
+    ensures { StoppedGoesOn }
+{}
+
+/// The changes that a session keeps lead down to each document to which undo goes back, up to each
+/// to which redo goes, and in the open step to each document within it, back to the one that stood
+/// when it was opened.
+pub fn changes_lead()
+    ensures { ChangesLead }
+{}
+
+/// The changes that a session keeps weigh no more than the sum of what the steps from the floor, to
+/// which undo goes back, to the present took out, what those that were undone put in, and what the
+/// commands of the open step took out.
+pub fn kept_within()
+    ensures { KeptWithin }
+{}
+
+/// The changes that a session keeps have no more steps, all together, than the sum of one for each
+/// command of the steps that undo and redo reach and of the open one, and half as many as the bytes
+/// that these commands took out and put in.
+pub fn few_steps()
+    ensures { FewSteps }
+{}

@@ -1,6 +1,0 @@
-use Rattle.mvt_history.proofs.Sound.{stays_sound}
-use Rattle.mvt_history.proofs.BackToMark.{back_to_mark}
-use Rattle.mvt_history.proofs.laws.back_to_the_mark.Goals as goal
-
-pub returns : goal.returns
-returns c = back_to_mark stays_sound

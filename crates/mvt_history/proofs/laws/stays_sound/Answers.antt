@@ -1,5 +1,0 @@
-use Rattle.mvt_history.proofs.Sound.{stays_sound}
-use Rattle.mvt_history.proofs.laws.stays_sound.Goals as goal
-
-pub returns : goal.returns
-returns c = stays_sound

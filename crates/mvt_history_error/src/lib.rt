@@ -1,0 +1,54 @@
+//! Why a request of a history is refused.
+#![tactic(auto)]
+
+ghost use Rattle.std.specs.Prelude.{◌≡◌};
+ghost use Rattle.mvt_history_error.specs.declared.HistoryError.TheVariants.{NoMemory};
+
+use std::alloc::{AllocError, AllocFailed};
+use thiserror::Error;
+
+/// Why a request was refused.
+#[derive(Clone, Copy, Debug, PartialEq, Eq, Error)]
+pub enum HistoryError {
+    /// Undo goes back no further.
+    #[error("there is nothing to undo")]
+    NothingToUndo,
+    /// No step was undone that could stand again.
+    #[error("there is nothing to redo")]
+    NothingToRedo,
+    /// The name marks nothing.
+    #[error("there is no such mark")]
+    NoMark,
+    /// The name is a new one, and `MAX_MARKS` names are marked.
+    #[error("there are too many marks")]
+    TooManyMarks,
+    /// Memory was refused on the way. So many undos or redos of a `back` were made, or so many
+    /// commands of the open step, the last ones, were taken back by a `cancel`; that stands.
+    #[error("out of memory after {taken} steps")]
+    Stopped { taken: usize },
+    /// A step is open, and this has to wait for its end.
+    #[error("a step is open")]
+    GroupOpen,
+    /// No step is open that could be ended or cancelled.
+    #[error("no step is open")]
+    NoGroup,
+    /// Memory was refused, and nothing has changed.
+    #[error("out of memory")]
+    NoMemory,
+}
+
+impl From<AllocError> for HistoryError {
+    ghost from_gives = { λ _ e. e ≡ NoMemory };
+
+    fn from(_e: AllocError) -> HistoryError {
+        HistoryError::NoMemory
+    }
+}
+
+impl<T: Drop> From<AllocFailed<T>> for HistoryError {
+    ghost from_gives = { λ _ e. e ≡ NoMemory };
+
+    fn from(_e: AllocFailed<T>) -> HistoryError {
+        HistoryError::NoMemory
+    }
+}

@@ -1,0 +1,6 @@
+pub mod LineRequests
+pub mod Standing
+pub mod UndoLines
+pub mod StepLines
+pub mod NoWant
+pub mod LineLaws

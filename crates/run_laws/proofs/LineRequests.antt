@@ -1,0 +1,89 @@
+-- What lines ask of a history, and what so holds after any lines.
+use Rattle.std.proofs.Common.{◌≡◌, ℕ, ◌≤◌, Bool, List, [], ◌∷◌, ◌++◌, Option, Some, None, Result, Ok, Err, refl, sym, ap, subst, ◌∙◌, inl, inr}
+use Rattle.std.proofs.lemmas.Bool.{cases_Bool}
+use Rattle.mvt_document.specs.Plain.{Document}
+use Rattle.mvt_meaning.specs.declared.refusal.Refusal.{Refusal}
+use Rattle.mvt_history.specs.History.{History, IsSound, standing_document, edited, undone, redone, marked, unmarked, gone_back, opened, closed, cancelled}
+use Rattle.mvt_history.specs.Requests as asks
+use Rattle.mvt_history.specs.Requests.{or_before, asked, asked_all}
+use Rattle.mvt_history_error.specs.declared.HistoryError.{HistoryError}
+use Rattle.history_laws.proofs.HistoryLaws.{stays_sound}
+use Rattle.tile_request.specs.Request.{Request, Edit, Undo, Redo, SetMark, TakeMark, GoBack, Begin, End, Cancel, ListMarks, TellHistory, Size, Lists}
+use Rattle.tile_words.specs.declared.parse_error.ParseError.{ParseError}
+use Rattle.tile_script.specs.Line.{answer_to}
+use Rattle.tile_lines.specs.Lines.{lines_of}
+use Rattle.tile_listing.specs.Listing.{listed}
+use Rattle.tile_answer.specs.Answering.{told_by_edit, told_by_move, told_by_look, mark_lines, history_lines, size_line, carried_out}
+use Rattle.tile_run.specs.Run.{Progress, at_first, ran, settled_by, answered_by, after_line, is_over, after_lines}
+use Rattle.run_laws.specs.RunLaws.{asked_of, asked_in, requests_of, LinesAreRequests}
+use Rattle.tile_run.specs.declared.outcome.Options.{Options}
+
+-- ---- requests
+
+edit_settles : (p : Progress) (made : Result History Refusal) → (settled_by p (told_by_edit made)).history ≡ or_before p.history made
+edit_settles p (Ok history) = refl
+edit_settles p (Err refusal) = refl
+
+move_settles : (p : Progress) (made : Result History HistoryError) → (settled_by p (told_by_move made)).history ≡ or_before p.history made
+move_settles p (Ok history) = refl
+move_settles p (Err error) = refl
+
+look_settles : (p : Progress) (lines : Result (List ℕ) Refusal) → (settled_by p (told_by_look p.history lines)).history ≡ p.history
+look_settles p (Ok lines) = refl
+look_settles p (Err refusal) = refl
+
+request_settles : (p : Progress) (request : Request) → (settled_by p (carried_out request p.history)).history ≡ asked_all (asked_of request) p.history
+request_settles p (Edit command) = edit_settles p (edited command p.history)
+request_settles p Undo = move_settles p (undone p.history)
+request_settles p Redo = move_settles p (redone p.history)
+request_settles p (SetMark name) = move_settles p (marked name p.history)
+request_settles p (TakeMark name) = move_settles p (unmarked name p.history)
+request_settles p (GoBack name) = move_settles p (gone_back name p.history)
+request_settles p Begin = move_settles p (opened p.history)
+request_settles p End = move_settles p (closed p.history)
+request_settles p Cancel = move_settles p (cancelled p.history)
+request_settles p ListMarks = look_settles p (Ok (mark_lines p.history))
+request_settles p TellHistory = look_settles p (Ok (history_lines p.history))
+request_settles p Size = look_settles p (Ok (size_line (standing_document p.history)))
+request_settles p (Lists what) = look_settles p (listed what (standing_document p.history))
+
+answer_asks : (p : Progress) (answer : Result (Option Request) ParseError) → (answered_by p answer).history ≡ asked_all (asked_in answer) p.history
+answer_asks p (Ok None) = refl
+answer_asks p (Ok (Some request)) = request_settles p request
+answer_asks p (Err error) = refl
+
+line_asks : (p : Progress) (line : List ℕ) → (after_line p line).history ≡ asked_all (asked_in (answer_to line)) p.history
+line_asks p line = answer_asks p (answer_to line)
+
+pub asked_joined : (requests more : List asks.Request) (history : History) → asked_all (requests ++ more) history ≡ asked_all more (asked_all requests history)
+asked_joined [] more history = refl
+asked_joined (request ∷ requests) more history = asked_joined requests more (asked request history)
+
+pub lines_are_requests : LinesAreRequests
+lines_are_requests p [] = refl
+lines_are_requests p (line ∷ lines) =
+    lines_are_requests (after_line p line) lines
+    ∙ ap (asked_all (requests_of lines)) (line_asks p line)
+    ∙ sym (asked_joined (asked_in (answer_to line)) (requests_of lines) p.history)
+
+-- ---- what each request keeps
+
+module _ (Holds : History → Type 0) (kept : (request : asks.Request) (history : History) → Holds history → Holds (asked request history)) where
+  kept_by_all : (requests : List asks.Request) (history : History) → Holds history → Holds (asked_all requests history)
+  kept_by_all [] history holds = holds
+  kept_by_all (request ∷ requests) history holds = kept_by_all requests (asked request history) (kept request history holds)
+
+  kept_by_line : (p : Progress) (line : List ℕ) → Holds p.history → Holds (after_line p line).history
+  kept_by_line p line holds = subst Holds (sym (line_asks p line)) (kept_by_all (asked_in (answer_to line)) p.history holds)
+
+  pub kept_by_lines : (strict : Bool) (p : Progress) (lines : List (List ℕ)) → Holds p.history → Holds (after_lines strict p lines).history
+  kept_by_lines strict p [] holds = holds
+  kept_by_lines strict p (line ∷ lines) holds =
+      elim (cases_Bool (is_over strict p)) [
+        | inl over ↦ rw over holds
+        | inr on ↦ rw on (kept_by_lines strict (after_line p line) lines (kept_by_line p line holds))
+      ]
+
+pub sound_ran : (document : Document) (options : Options) (script : List ℕ) → 1 ≤ options.depth → IsSound (ran document options script).history
+sound_ran document options script some =
+    kept_by_lines IsSound stays_sound.1 options.strict (at_first document options.depth) (lines_of script) (stays_sound.0 document options.depth some)

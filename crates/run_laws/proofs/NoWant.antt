@@ -1,0 +1,201 @@
+-- No reply of a run says that memory was refused.
+use Rattle.std.proofs.Common.{◌≡◌, ◌≢◌, ℕ, ◌+◌, Bool, true, false, List, [], ◌∷◌, ◌++◌, Option, Some, None, Result, Ok, Err, codes, decimal, get_or, refl, sym, ap, subst, ◌∙◌, inl, inr, append_assoc, arith}
+use Rattle.std.specs.Prelude.{if◌then◌else◌}
+use Rattle.std.specs.List.{AllByRecursion, flat_map}
+use Rattle.std.proofs.lemmas.Bool.{cases_Bool}
+use Rattle.std.proofs.lemmas.List.Elements.{recursion_from_All}
+use Rattle.tile_request.specs.Request.{Request}
+use Rattle.tile_script.specs.Line.{answer_to}
+use Rattle.tile_lines.specs.Lines.{is_line_feed, lines_of, HasNoLineFeed, with_feed, EndsWithALine}
+use Rattle.tile_lines.proofs.LineCuts.{none_of_none}
+use Rattle.tile_lines.proofs.LineLaws.{lines_only}
+use Rattle.tile_listing.specs.Told.{MayBeTold, AreLinesToTell}
+use Rattle.tile_listing.proofs.Telling.{uncut-append, decimal_uncut}
+use Rattle.tile_answer.specs.Answering.{Told, carried_out}
+use Rattle.tile_answer.proofs.AnswerLaws.{requests_tell_lines, requests_have_no_want}
+use Rattle.tile_reply.specs.Replies.{accepted_reply, refused_front, refused_reply, refusal_number, refusal_name, stop_told, taken_in, IsWant, HasNoWant}
+use Rattle.tile_run.specs.Run.{Progress, at_first, ran, settled_by, answered_by, after_line, is_over, after_lines}
+use Rattle.run_laws.specs.RunLaws.{RunsHaveNoWant}
+use Rattle.mvt_meaning.specs.declared.refusal.Refusal.TheVariants as edit
+use Rattle.mvt_history_error.specs.declared.HistoryError.TheVariants as history
+use Rattle.tile_words.specs.declared.parse_error.ParseError.{ParseError}
+use Rattle.tile_words.specs.declared.parse_error.ParseError.TheVariants as parse
+use Rattle.tile_reply.specs.declared.refused.Refused.{Refused}
+use Rattle.tile_reply.specs.declared.refused.Refused.TheVariants as refused
+use Rattle.mvt_command.proofs.Others.{Other}
+use Rattle.tile_script.proofs.ParseRefusals.{answer_other}
+use Rattle.tile_run.proofs.Fronts.{first_lines}
+use Rattle.tile_run.proofs.ReplyEnds.{ends-append, before_name, refused_text, refused_ends, wants, wants_not, other_is_no_want}
+
+-- ---- lines that are no want of memory
+
+unfoldable IsNoWant : List ℕ → Type 0
+IsNoWant text = (line : ℕ) (reason : Refused) → IsWant reason → text ≢ refused_text line reason
+
+-- ---- the reply to a refused line is one line
+
+-- some byte of the text is a line feed
+abbrev has_feed : List ℕ → Bool
+has_feed [] = false
+has_feed (b ∷ text) = if is_line_feed b then true else has_feed text
+
+uncut_by_test : (text : List ℕ) → has_feed text ≡ false → HasNoLineFeed text
+uncut_by_test [] none = tt
+uncut_by_test (b ∷ text) none =
+    elim (cases_Bool (is_line_feed b)) [
+      | inl feed ↦ absurd (let some = rw feed at none in cc)
+      | inr other ↦ (other, uncut_by_test text (rw other at none))
+    ]
+
+name_uncut : (reason : Refused) → has_feed (refusal_name reason) ≡ false
+name_uncut (refused.Parse parse.BadUtf8) = refl
+name_uncut (refused.Parse parse.BadWord) = refl
+name_uncut (refused.Parse parse.UnknownCommand) = refl
+name_uncut (refused.Parse parse.BadArguments) = refl
+name_uncut (refused.Parse parse.BadNumber) = refl
+name_uncut (refused.Parse parse.BadValue) = refl
+name_uncut (refused.Parse parse.BadGeometryText) = refl
+name_uncut (refused.Parse parse.LineTooLong) = refl
+name_uncut (refused.Parse parse.NoMemory) = refl
+name_uncut (refused.Edit edit.NoLayer) = refl
+name_uncut (refused.Edit edit.AmbiguousLayer) = refl
+name_uncut (refused.Edit edit.NoFeature) = refl
+name_uncut (refused.Edit edit.BadPlace) = refl
+name_uncut (refused.Edit edit.AmbiguousFeature) = refl
+name_uncut (refused.Edit edit.NameTaken) = refl
+name_uncut (refused.Edit edit.OutOfRange) = refl
+name_uncut (refused.Edit edit.TooLarge) = refl
+name_uncut (refused.Edit edit.NoMemory) = refl
+name_uncut (refused.History history.NothingToUndo) = refl
+name_uncut (refused.History history.NothingToRedo) = refl
+name_uncut (refused.History history.NoMark) = refl
+name_uncut (refused.History history.TooManyMarks) = refl
+name_uncut (refused.History (history.Stopped taken)) = refl
+name_uncut (refused.History history.GroupOpen) = refl
+name_uncut (refused.History history.NoGroup) = refl
+name_uncut (refused.History history.NoMemory) = refl
+
+stop_uncut : (taken : Option ℕ) → HasNoLineFeed (stop_told taken)
+stop_uncut None = tt
+stop_uncut (Some taken) = uncut-append (codes " taken ") (decimal taken) (uncut_by_test (codes " taken ") refl) (decimal_uncut taken)
+
+refused_uncut : (line : ℕ) (reason : Refused) → HasNoLineFeed (refused_text line reason)
+refused_uncut line reason =
+    let number = decimal (refusal_number reason) in
+    let first = uncut-append (codes "line ") (decimal line) (uncut_by_test (codes "line ") refl) (decimal_uncut line) in
+    let second = uncut-append (codes "line " ++ decimal line) (codes " refused ") first (uncut_by_test (codes " refused ") refl) in
+    let third = uncut-append (codes "line " ++ decimal line ++ codes " refused ") number second (decimal_uncut (refusal_number reason)) in
+    let fourth = uncut-append (codes "line " ++ decimal line ++ codes " refused " ++ number) (codes " ") third (uncut_by_test (codes " ") refl) in
+    let fifth = uncut-append (before_name line reason) (refusal_name reason) fourth (uncut_by_test (refusal_name reason) (name_uncut reason)) in
+    uncut-append (refused_front line reason) (stop_told (taken_in reason)) fifth (stop_uncut (taken_in reason))
+
+-- ---- texts of whole lines that are no want of memory
+
+record IsClean (replies : List ℕ) : Type 0 where
+  ends : EndsWithALine replies
+  each : AllByRecursion IsNoWant (lines_of replies)
+
+clean_nothing : IsClean []
+clean_nothing = record { ends = inl refl; each = subst (AllByRecursion IsNoWant) (sym (none_of_none [] refl)) tt }
+
+all_both : (front more : List (List ℕ)) → AllByRecursion IsNoWant front → AllByRecursion IsNoWant more → AllByRecursion IsNoWant (front ++ more)
+all_both [] more first second = second
+all_both (text ∷ front) more (is, first) second = (is, all_both front more first second)
+
+all_behind : (front more : List (List ℕ)) → AllByRecursion IsNoWant (front ++ more) → AllByRecursion IsNoWant more
+all_behind [] more all = all
+all_behind (text ∷ front) more (is, all) = all_behind front more all
+
+clean_both : (front more : List ℕ) → IsClean front → IsClean more → IsClean (front ++ more)
+clean_both front more first second = record {
+  ends = ends-append front more first.ends second.ends;
+  each = subst (AllByRecursion IsNoWant) (sym (first_lines front more first.ends)) (all_both (lines_of front) (lines_of more) first.each second.each);
+}
+
+one_line : (text : List ℕ) → HasNoLineFeed text → lines_of (with_feed text) ≡ text ∷ []
+one_line text uncut = lines_only (with_feed text) (text ∷ []) (uncut, inl ([], refl, refl))
+
+clean_line : (text : List ℕ) → HasNoLineFeed text → IsNoWant text → IsClean (with_feed text)
+clean_line text uncut is = record { ends = inr (text, refl); each = subst (AllByRecursion IsNoWant) (sym (one_line text uncut)) (is, tt) }
+
+-- ---- what is told
+
+told_is_no_want : (text : List ℕ) → MayBeTold text → IsNoWant text
+unfolding IsNoWant
+told_is_no_want text may line reason want e =
+    may.other (decimal line ++ codes " refused " ++ decimal (refusal_number reason) ++ codes " " ++ refusal_name reason ++ stop_told (taken_in reason)) e
+
+clean_each : (lines : List (List ℕ)) → AllByRecursion MayBeTold lines → IsClean (flat_map with_feed lines)
+clean_each [] all = clean_nothing
+clean_each (line ∷ lines) (may, all) =
+    clean_both (with_feed line) (flat_map with_feed lines) (clean_line line may.uncut (told_is_no_want line may)) (clean_each lines all)
+
+clean_told : (bytes : List ℕ) → AreLinesToTell bytes → IsClean bytes
+clean_told bytes told = subst IsClean (sym told.spelled) (clean_each told.lines (recursion_from_All MayBeTold told.lines told.each))
+
+-- ---- replies
+
+ok_is_no_want : IsNoWant (codes "ok")
+unfolding IsNoWant
+ok_is_no_want line reason want e = let apart : ◌≡◌ {A = ℕ} 111 108 = ap (λ (text : List ℕ). get_or text 0 0) e in omega arith
+
+accepted_clean : (lines : List ℕ) → AreLinesToTell lines → IsClean (accepted_reply lines)
+accepted_clean lines told = clean_both lines (codes "ok\n") (clean_told lines told) (clean_line (codes "ok") (uncut_by_test (codes "ok") refl) ok_is_no_want)
+
+refused_clean : (line : ℕ) (reason : Refused) → ¬ (IsWant reason) → IsClean (refused_reply line reason)
+unfolding IsNoWant
+refused_clean line reason other =
+    clean_line (refused_text line reason) (refused_uncut line reason) (λ other_line wanting want. other_is_no_want line other_line reason wanting other want)
+
+-- ---- lines
+
+settled_clean : (p : Progress) (result : Result Told Refused) → ((told : Told) → result ≡ Ok told → AreLinesToTell told.lines) → ((reason : Refused) → result ≡ Err reason → ¬ (IsWant reason))
+    → IsClean p.replies → IsClean (settled_by p result).replies
+settled_clean p (Ok told) tells other clean = clean_both p.replies (accepted_reply told.lines) clean (accepted_clean told.lines (tells told refl))
+settled_clean p (Err reason) tells other clean = clean_both p.replies (refused_reply (p.lines + 1) reason) clean (refused_clean (p.lines + 1) reason (other reason refl))
+
+parse_is_other : (error : ParseError) → error ≢ parse.NoMemory → wants (refusal_number (refused.Parse error)) ≡ false
+parse_is_other parse.BadUtf8 other = refl
+parse_is_other parse.BadWord other = refl
+parse_is_other parse.UnknownCommand other = refl
+parse_is_other parse.BadArguments other = refl
+parse_is_other parse.BadNumber other = refl
+parse_is_other parse.BadValue other = refl
+parse_is_other parse.BadGeometryText other = refl
+parse_is_other parse.LineTooLong other = refl
+parse_is_other parse.NoMemory other = absurd (other refl)
+
+answered_clean : (p : Progress) (answer : Result (Option Request) ParseError) → Other parse.NoMemory answer → IsClean p.replies → IsClean (answered_by p answer).replies
+answered_clean p (Ok None) other clean = clean
+answered_clean p (Ok (Some request)) other clean =
+    settled_clean p (carried_out request p.history) (requests_tell_lines request p.history) (requests_have_no_want request p.history) clean
+answered_clean p (Err error) other clean =
+    clean_both p.replies (refused_reply (p.lines + 1) (refused.Parse error)) clean (refused_clean (p.lines + 1) (refused.Parse error) (wants_not (refused.Parse error) (parse_is_other error other)))
+
+lines_clean : (strict : Bool) (p : Progress) (lines : List (List ℕ)) → IsClean p.replies → IsClean (after_lines strict p lines).replies
+lines_clean strict p [] clean = clean
+lines_clean strict p (first ∷ lines) clean =
+    elim (cases_Bool (is_over strict p)) [
+      | inl over ↦ rw over clean
+      | inr on ↦ rw on (lines_clean strict (after_line p first) lines (answered_clean p (answer_to first) (answer_other first) clean))
+    ]
+
+-- ---- the reply that says so would be one of the lines
+
+head_is : (text : List ℕ) (more : List (List ℕ)) → AllByRecursion IsNoWant (text ∷ more) → IsNoWant text
+head_is text more all = all.0
+
+clean_no_want : (replies : List ℕ) → IsClean replies → HasNoWant replies
+unfolding IsNoWant
+clean_no_want replies clean line reason front rest ends want e =
+    let reply = refused_reply line reason in
+    let text = refused_text line reason in
+    let behind : lines_of (reply ++ rest) ≡ text ∷ lines_of rest =
+    first_lines reply rest (refused_ends line reason) ∙ ap (λ (ls : List (List ℕ)). ls ++ lines_of rest) (one_line text (refused_uncut line reason)) in
+    let whole : lines_of replies ≡ lines_of front ++ lines_of (reply ++ rest) = ap lines_of (e ∙ append_assoc front reply rest) ∙ first_lines front (reply ++ rest) ends in
+    let all : AllByRecursion IsNoWant (lines_of front ++ lines_of (reply ++ rest)) = subst (AllByRecursion IsNoWant) whole clean.each in
+    let there : AllByRecursion IsNoWant (text ∷ lines_of rest) = subst (AllByRecursion IsNoWant) behind (all_behind (lines_of front) (lines_of (reply ++ rest)) all) in
+    head_is text (lines_of rest) there line reason want refl
+
+pub runs_have_no_want : RunsHaveNoWant
+runs_have_no_want document options script = clean_no_want (ran document options script).replies (lines_clean options.strict (at_first document options.depth) (lines_of script) clean_nothing)

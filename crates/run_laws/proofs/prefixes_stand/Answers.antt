@@ -1,0 +1,12 @@
+use Rattle.tile_run.proofs.Fronts.{first_lines, fronts_stand}
+use Rattle.run_laws.proofs.LineLaws.{replies_stand}
+use Rattle.run_laws.proofs.prefixes_stand.Goals as goal
+
+pub returns-clause-lines : goal.returns-clause-lines
+returns-clause-lines c = first_lines
+
+pub returns-clause-progress : goal.returns-clause-progress
+returns-clause-progress c = fronts_stand
+
+pub returns-clause-replies : goal.returns-clause-replies
+returns-clause-replies c = replies_stand

@@ -1,0 +1,183 @@
+-- Laws over whole runs, in the words of scripts, replies and tiles.
+use Rattle.std.specs.Prelude.{◌≡◌, ℕ, ◌+◌, ◌≤◌, Bool, true, false, List, [], ◌∷◌, ◌++◌, take, Option, Some, None, Result, Ok, Err}
+use Rattle.std.specs.List.{AllByRecursion, flat_map}
+use Rattle.mvt_document.specs.Plain.{Document}
+use Rattle.mvt_command.specs.Command.{Command}
+use Rattle.tile_request.specs.Request.{Request, Edit, Undo, Redo, SetMark, TakeMark, GoBack, Begin, End, Cancel, ListMarks, TellHistory, Size, Lists}
+use Rattle.mvt_meaning.specs.Meaning.{applied}
+use Rattle.tile_script.specs.Line.{answer_to}
+use Rattle.tile_lines.specs.Lines.{lines_of, HasNoLineFeed, with_feed, EndsWithALine}
+use Rattle.mvt_history.specs.History.{History, IsSound, commands_in, standing_document, marked, gone_back}
+use Rattle.mvt_history.specs.Requests as asks
+use Rattle.mvt_history.specs.Requests.{asked_all}
+use Rattle.tile_words.specs.declared.parse_error.ParseError.{ParseError}
+use Rattle.tile_answer.specs.Laws.{Looks}
+use Rattle.tile_reply.specs.Replies.{accepted_reply, refused_reply, HasNoWant}
+use Rattle.tile_run.specs.Run.{Progress, after_line, after_lines, is_over, ran, tile_of, Walk}
+use Rattle.tile_run.specs.declared.outcome.Options.{Options}
+use Rattle.tile_reply.specs.declared.refused.Refused.{Refused}
+
+-- ---- fronts
+
+-- what was replied to such a prefix is a prefix of what is replied to the whole script
+abbrev pub RepliesStand : Type 0
+RepliesStand =
+    (document : Document) (options : Options) (front rest : List ℕ) → EndsWithALine front
+    → (more : List ℕ)
+    × ((ran document options (front ++ rest)).replies ≡ (ran document options front).replies ++ more)
+
+-- ---- lines that change nothing
+
+-- a line that is refused leaves the tile and the history as they were; that one was refused is kept
+abbrev pub RefusedLinesChangeNothing : Type 0
+RefusedLinesChangeNothing =
+    (p : Progress) (line : List ℕ) (reason : Refused)
+    → (after_line p line).replies ≡ p.replies ++ refused_reply (p.lines + 1) reason
+    → ((after_line p line).history ≡ p.history)
+    × (tile_of (after_line p line) ≡ tile_of p)
+    × ((after_line p line).any_refused ≡ true)
+
+-- a line without a reply is counted, and changes nothing else
+abbrev pub SilentLinesChangeNothing : Type 0
+SilentLinesChangeNothing = (p : Progress) (line : List ℕ) → (after_line p line).replies ≡ p.replies → after_line p line ≡ record p { lines = p.lines + 1 }
+
+-- a line that asks for the marks, the history, the size or a listing, also one that is refused, is counted, and leaves
+-- the tile and the history as they were
+abbrev pub LookingChangesNothing : Type 0
+LookingChangesNothing =
+    (p : Progress) (line : List ℕ) (request : Request) → answer_to line ≡ Ok (Some request) → Looks request
+    → ((after_line p line).history ≡ p.history)
+    × (tile_of (after_line p line) ≡ tile_of p)
+    × ((after_line p line).lines ≡ p.lines + 1)
+
+-- where a strict run is over, no further line changes anything
+abbrev pub StrictRunsStop : Type 0
+StrictRunsStop = (p : Progress) (lines more : List (List ℕ)) → is_over true (after_lines true p lines) ≡ true → after_lines true p (lines ++ more) ≡ after_lines true p lines
+
+-- where a run that is not strict refuses no line, a strict one comes to the same
+abbrev pub AcceptedRunsAreAlike : Type 0
+AcceptedRunsAreAlike = (p : Progress) (lines : List (List ℕ)) → (after_lines false p lines).any_refused ≡ false → after_lines true p lines ≡ after_lines false p lines
+
+-- ---- what stands
+
+-- the commands, one after the other and each accepted, make the second document of the first
+abbrev pub Makes : Document → List Command → Document → Type 0
+Makes document [] made = made ≡ document
+Makes document (command ∷ commands) made = (next : Document) × (applied command document ≡ Ok next) × Makes next commands made
+
+-- the commands of the steps that stand, and then those of the open step
+abbrev pub standing_commands : History → List Command
+standing_commands history = flat_map (λ step. step) (take history.present history.steps) ++ commands_in history.group
+
+-- a sound history of this tile at this depth, whose standing commands, each accepted, make the standing document
+pub record IsHistoryOf (document : Document) (depth : ℕ) (history : History) : Type 0 where
+  pub start : history.start ≡ document
+  pub keeps_depth : history.depth ≡ depth
+  pub sound : IsSound history
+  pub makes : Makes document (standing_commands history) (standing_document history)
+
+-- after every script, at a depth of at least 1, the standing commands, each accepted in order, make the standing
+-- document of the tile at the start, and the history is sound
+abbrev pub StandingCommands : Type 0
+StandingCommands = (document : Document) (options : Options) (script : List ℕ) → 1 ≤ options.depth → IsHistoryOf document options.depth (ran document options script).history
+
+-- ---- what lines ask of a history
+
+-- what a request asks of a history; a look asks nothing of it
+abbrev pub asked_of : Request → List asks.Request
+asked_of (Edit command) = asks.Edit command ∷ []
+asked_of Undo = asks.Undo ∷ []
+asked_of Redo = asks.Redo ∷ []
+asked_of (SetMark name) = asks.SetMark name ∷ []
+asked_of (TakeMark name) = asks.TakeMark name ∷ []
+asked_of (GoBack name) = asks.GoBack name ∷ []
+asked_of Begin = asks.Begin ∷ []
+asked_of End = asks.End ∷ []
+asked_of Cancel = asks.Cancel ∷ []
+asked_of ListMarks = []
+asked_of TellHistory = []
+asked_of Size = []
+asked_of (Lists what) = []
+
+-- what a line asks of a history; a line that asks for nothing, or is refused as it is read, asks nothing of it
+abbrev pub asked_in : Result (Option Request) ParseError → List asks.Request
+asked_in (Ok None) = []
+asked_in (Ok (Some request)) = asked_of request
+asked_in (Err error) = []
+
+-- what the lines ask of a history, one after the other
+abbrev pub requests_of : List (List ℕ) → List asks.Request
+requests_of lines = flat_map (λ line. asked_in (answer_to line)) lines
+
+-- in a run that is not strict, the history after lines is what their requests make of the history before them, so each
+-- law of histories holds of such a run
+abbrev pub LinesAreRequests : Type 0
+LinesAreRequests = (p : Progress) (lines : List (List ℕ)) → (after_lines false p lines).history ≡ asked_all (requests_of lines) p.history
+
+-- ---- undo
+
+-- where no step is open and the run is not over, a line with an accepted command and a line with an undo after it are
+-- both accepted, and the tile is as before
+abbrev pub UndoInARun : Type 0
+UndoInARun =
+    (strict : Bool) (p : Progress) (line undo : List ℕ) (command : Command) (edited : Document) → IsSound p.history
+    → p.history.group ≡ None → is_over strict p ≡ false → answer_to line ≡ Ok (Some (Edit command))
+    → applied command (standing_document p.history) ≡ Ok edited → answer_to undo ≡ Ok (Some Undo)
+    → ((after_lines strict p (line ∷ undo ∷ [])).replies ≡ p.replies ++ accepted_reply [] ++ accepted_reply [])
+    × (tile_of (after_lines strict p (line ∷ undo ∷ [])) ≡ tile_of p)
+
+-- the same of two lines at the end of a script, at a depth of at least 1: they are accepted, and the tile is the one of
+-- the script without them
+abbrev pub UndoInAScript : Type 0
+UndoInAScript =
+    (document : Document) (options : Options) (front line undo : List ℕ) (command : Command) (edited : Document)
+    → 1 ≤ options.depth → EndsWithALine front → (ran document options front).history.group ≡ None
+    → is_over options.strict (ran document options front) ≡ false → HasNoLineFeed line → HasNoLineFeed undo
+    → answer_to line ≡ Ok (Some (Edit command))
+    → applied command (standing_document (ran document options front).history) ≡ Ok edited
+    → answer_to undo ≡ Ok (Some Undo)
+    → ((ran document options (front ++ with_feed line ++ with_feed undo)).replies ≡ (ran document options front).replies ++ accepted_reply [] ++ accepted_reply [])
+    × (tile_of (ran document options (front ++ with_feed line ++ with_feed undo)) ≡ tile_of (ran document options front))
+
+-- ---- steps and marks
+
+-- none of the lines asks to end or cancel a step
+abbrev pub LeaveOpen : List (List ℕ) → Type 0
+LeaveOpen lines = AllByRecursion asks.LeavesOpen (requests_of lines)
+
+-- in a run that is not strict, where no step is open: a line that opens one, any lines that neither end nor cancel a
+-- step, and a line that cancels it leave the history as it was
+abbrev pub CancelInARun : Type 0
+CancelInARun =
+    (p : Progress) (begin cancel : List ℕ) (lines : List (List ℕ)) → p.history.group ≡ None
+    → answer_to begin ≡ Ok (Some Begin) → LeaveOpen lines → answer_to cancel ≡ Ok (Some Cancel)
+    → (after_lines false p (begin ∷ lines ++ cancel ∷ [])).history ≡ p.history
+
+-- in a run that is not strict, where no step is open: a line that opens one, any lines that neither end nor cancel a
+-- step, with an accepted command among them, a line that ends it and a line that undoes it leave the tile as it was
+abbrev pub StepUndoneInARun : Type 0
+StepUndoneInARun =
+    (p : Progress) (begin end undo : List ℕ) (lines : List (List ℕ)) → IsSound p.history → p.history.group ≡ None
+    → answer_to begin ≡ Ok (Some Begin) → LeaveOpen lines → ¬ ((after_lines false p (begin ∷ lines)).history.group ≡ Some [])
+    → answer_to end ≡ Ok (Some End) → answer_to undo ≡ Ok (Some Undo)
+    → tile_of (after_lines false p (begin ∷ lines ++ end ∷ undo ∷ [])) ≡ tile_of p
+
+-- in a run that is not strict, where a line that sets a mark is accepted, and, after any lines that do not set it anew,
+-- a line that goes back to it: the tile is the one that stood when it was set
+abbrev pub BackInARun : Type 0
+BackInARun =
+    (p : Progress) (name mark back : List ℕ) (lines : List (List ℕ)) (set gone : History) → IsSound p.history
+    → answer_to mark ≡ Ok (Some (SetMark name)) → marked name p.history ≡ Ok set
+    → AllByRecursion (asks.SetsOther name) (requests_of lines)
+    → answer_to back ≡ Ok (Some (GoBack name)) → gone_back name (after_lines false p (mark ∷ lines)).history ≡ Ok gone
+    → tile_of (after_lines false p (mark ∷ lines ++ back ∷ [])) ≡ tile_of p
+
+-- ---- want of memory
+
+-- the run with all memory is one of those in which growths may be refused
+abbrev pub RunsAreWalks : Type 0
+RunsAreWalks = (strict : Bool) (p : Progress) (lines : List (List ℕ)) → Walk strict p lines (after_lines strict p lines)
+
+-- with all memory no reply is 60 or 54
+abbrev pub RunsHaveNoWant : Type 0
+RunsHaveNoWant = (document : Document) (options : Options) (script : List ℕ) → HasNoWant (ran document options script).replies

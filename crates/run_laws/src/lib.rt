@@ -1,0 +1,105 @@
+//! Laws of whole runs. Each function does nothing: its contract is the law. The laws of histories
+//! and of what requests tell are passed on.
+#![tactic(auto)]
+
+ghost use Rattle.tile_run.specs.DeviceLaws.{FailedDevicesAreNamed, WornOutRunsNameADevice, DevicesAreNamedForCause};
+ghost use Rattle.tile_run.specs.RunLaws.{FrontsHaveFirstLines, FrontsStand, WalksWithoutWantAreRuns};
+ghost use Rattle.run_laws.specs.RunLaws.{RepliesStand, RefusedLinesChangeNothing, SilentLinesChangeNothing, StrictRunsStop, AcceptedRunsAreAlike, StandingCommands, LinesAreRequests, UndoInARun, UndoInAScript, CancelInARun, StepUndoneInARun, BackInARun, RunsAreWalks, RunsHaveNoWant, LookingChangesNothing};
+
+pub use history_laws::{
+    back_to_the_mark, cancel_leaves_no_trace, changes_lead, empty_step_leaves_no_trace, few_steps,
+    history_fits, kept_within, redos_undo_undos, stays_sound, step_undoes_whole, stopped_goes_on,
+    undo_after_end, undo_at_once, undos_undo_redos,
+};
+pub use tile_answer::laws::{looks_leave_history, requests_have_no_want, requests_tell_lines};
+
+/// The lines of a prefix of a script that is empty or ends with a line feed are the first lines of
+/// the script (`lines`). The run on it comes to where the whole run is after those lines, and the
+/// others go on from there (`progress`). What was replied to it stays (`replies`).
+pub fn prefixes_stand()
+    ensures lines { FrontsHaveFirstLines }
+    ensures progress { FrontsStand }
+    ensures replies { RepliesStand }
+{}
+
+/// A line that is refused leaves the tile and the history as they were (`refused`), and so does a
+/// line without a reply (`silent`).
+pub fn refused_lines_change_nothing()
+    ensures refused { RefusedLinesChangeNothing }
+    ensures silent { SilentLinesChangeNothing }
+{}
+
+/// A line that asks for the size, a listing, the marks or the history, also one that is refused,
+/// leaves the tile and the history as they were.
+pub fn looking_changes_nothing()
+    ensures { LookingChangesNothing }
+{}
+
+/// Where a strict run is over, no further line changes anything (`stop`). Where a run that is not
+/// strict refuses no line, a strict one comes to the same (`alike`).
+pub fn strict_runs_stop()
+    ensures stop { StrictRunsStop }
+    ensures alike { AcceptedRunsAreAlike }
+{}
+
+/// After every script, at a depth of at least 1, the document is the tile read at the start with
+/// the commands of the standing steps and then those of the open one, each of them accepted,
+/// applied in order. The numbers and marks of the history are in order (`IsSound`).
+pub fn standing_commands()
+    ensures { StandingCommands }
+{}
+
+/// In a run that is not strict, the history after lines is what their requests make of the one
+/// before, one after the other. So what a law says of histories holds of such a run.
+pub fn lines_are_requests()
+    ensures { LinesAreRequests }
+{}
+
+/// Where no step is open and the run is not over, a line with an accepted command and a line with
+/// an undo after it are both accepted, and the bytes of the tile are those before: in a sound
+/// history (`progress`), and behind every script that is empty or ends with a line feed, at a depth
+/// of at least 1 (`script`).
+pub fn undo_in_a_script()
+    ensures progress { UndoInARun }
+    ensures script { UndoInAScript }
+{}
+
+/// In a run that is not strict, where no step is open: a line that opens a step, any lines but
+/// those that end or cancel one, and a line that cancels it leave the history as it was, and so the
+/// tile (`cancelled`). The same with lines that end the step and undo it leave the tile as it was,
+/// where a command was accepted within it and the history was sound (`undone`).
+pub fn steps_in_a_run()
+    ensures cancelled { CancelInARun }
+    ensures undone { StepUndoneInARun }
+{}
+
+/// In a run that is not strict and whose history is sound: where a line that sets a mark is
+/// accepted, and, after any lines that do not set it anew, one that goes back to it, the tile is
+/// the one that stood when it was set.
+pub fn back_in_a_run()
+    ensures { BackInARun }
+{}
+
+/// Where growths may be refused and no reply says that one was, by 60 or 54, all comes as with all
+/// memory (`without_want`), which is one of the ways that a run may go (`with_memory`) and in which
+/// no reply says so (`never`).
+pub fn want_is_replied()
+    ensures without_want { WalksWithoutWantAreRuns }
+    ensures with_memory { RunsAreWalks }
+    ensures never { RunsHaveNoWant }
+{}
+
+/// Where the count of failures of a device has changed, the run ends with that device (`failed`).
+/// Where more than 1,000 calls were interrupted over all devices, it ends with a device, if the
+/// counts began at no more than 2^63 (`worn_out`).
+pub fn failed_devices_are_named()
+    ensures failed { FailedDevicesAreNamed }
+    ensures worn_out { WornOutRunsNameADevice }
+{}
+
+/// A run ends with a device only where a call of it failed; or where one was interrupted, and over
+/// all devices more than 1,000 were; or where it is the script, and too long as far as its device
+/// tells. The counts began at no more than 2^63.
+pub fn devices_are_named_for_cause()
+    ensures { DevicesAreNamedForCause }
+{}

@@ -1,5 +1,0 @@
-use Rattle.tile_run.proofs.StepLines as lines
-use Rattle.tile_run.proofs.laws.back_in_a_run.Goals as goal
-
-pub returns : goal.returns
-returns c = lines.back_in_a_run

@@ -1,5 +1,0 @@
-use Rattle.tile_run.proofs.DeviceLaws.{named_for_cause}
-use Rattle.tile_run.proofs.laws.devices_are_named_for_cause.Goals as goal
-
-pub returns : goal.returns
-returns c = named_for_cause

@@ -1,8 +1,0 @@
-use Rattle.tile_run.proofs.DeviceLaws.{failed_is_named, worn_out_names}
-use Rattle.tile_run.proofs.laws.failed_devices_are_named.Goals as goal
-
-pub returns-clause-failed : goal.returns-clause-failed
-returns-clause-failed c = failed_is_named
-
-pub returns-clause-worn_out : goal.returns-clause-worn_out
-returns-clause-worn_out c = worn_out_names

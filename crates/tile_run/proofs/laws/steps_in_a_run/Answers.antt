@@ -1,8 +1,0 @@
-use Rattle.tile_run.proofs.StepLines.{cancel_in_a_run, step_undone_in_a_run}
-use Rattle.tile_run.proofs.laws.steps_in_a_run.Goals as goal
-
-pub returns-clause-cancelled : goal.returns-clause-cancelled
-returns-clause-cancelled c = cancel_in_a_run
-
-pub returns-clause-undone : goal.returns-clause-undone
-returns-clause-undone c = step_undone_in_a_run

@@ -1,8 +1,0 @@
-use Rattle.tile_run.proofs.Replying.{runs_stop, runs_are_alike}
-use Rattle.tile_run.proofs.laws.strict_runs_stop.Goals as goal
-
-pub returns-clause-stop : goal.returns-clause-stop
-returns-clause-stop c = runs_stop
-
-pub returns-clause-alike : goal.returns-clause-alike
-returns-clause-alike c = runs_are_alike
