@@ -5,8 +5,8 @@
 //!   back, every field and every width equal. Where memory runs out, neither the document nor the
 //!   change has changed: `flip`.
 //! - A list of changes becomes one change, which has the steps of the last one first and of the
-//!   first one last, and the list is then empty. Where memory runs out the list has what it had.
-//!   One change alone needs no memory: `join`.
+//!   first one last, and the list is then empty. Where memory runs out the list has what it had,
+//!   which it does for no list of one change or none: `join`.
 //! - The bytes of all items that a change puts are counted: `weight`.
 #![tactic(auto)]
 

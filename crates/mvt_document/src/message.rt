@@ -204,8 +204,8 @@ impl<T: Measured> Message<T> {
         sum_within(sum - gone, come, usize::MAX)
     }
 
-    /// Exchanges so many items from an index on for the ones to put, as `Items::exchange` does. The
-    /// size stays known where it was.
+    /// Exchanges `taken` items from `index` for the ones to put, as `Items::exchange` does. The size,
+    /// where it is known then, is the right one; that it stays known no clause says.
     pub fn exchange(
         &mut self,
         index: usize,

@@ -4,8 +4,8 @@
 //!   change that makes of the document exactly what the command makes of it by its definition; a
 //!   refused one the first of its refusals. Out of memory alone may come in place of either. The
 //!   change fits the document, so `flip` carries it out; it holds no more bytes than the command
-//!   puts in, what leads back no more than the command takes out, and it has at most one step and
-//!   half as many as these bytes. The document is not touched: `prepare`.
+//!   puts in, what leads back no more than the command takes out, and its steps are at most one
+//!   plus half as many as these bytes together. The document is not touched: `prepare`.
 #![tactic(auto)]
 
 mod commands;

@@ -28,7 +28,7 @@ impl Geometry {
     ghost use Rattle.mvt_geometry.specs.Shapes.{IsGeometry};
     ghost use Rattle.mvt_geometry.specs.Stands.{points_of, geometry_with};
 
-    /// The geometry of these parts, or the parts as they were. It takes no memory.
+    /// The geometry of these parts, or the parts as they were.
     pub fn new(kind: Kind, parts: Items<Part>) -> Result<Geometry, Items<Part>>
         ensures valid { IsOk result ↔ IsGeometry (geometry_with kind parts.items) }
         ensures ok { IfOk result (λ geometry. geometry ≡ geometry_with kind parts.items) }

@@ -28,7 +28,8 @@ pub enum Kind {
     Dots,
     /// LINESTRING
     Lines,
-    /// POLYGON: the parts are its rings. The last point of a ring is not the first again.
+    /// POLYGON: the parts are its rings. ClosePath leads back to the first point of a ring, so that
+    /// need not be its last point too; in a ring that is read it may be.
     Areas,
 }
 

@@ -26,7 +26,8 @@ pub fn splice_items<T, S: Splices<T>>(
     splice_vec(alloc, list.as_vec_mut(), steps)
 }
 
-/// The same on a message. Its size stays known where it was.
+/// The same on a message. Its size, where it is known then, is the right one; that it stays known no
+/// clause says.
 pub fn splice_message<T: Measured, S: Splices<T>>(
     alloc: Global,
     list: &mut Message<T>,

@@ -11,22 +11,26 @@ use tile_run::{DeviceName, Options, Outcome, run};
 /// What an edit of a tile in memory gave.
 #[derive(Debug, Drop)]
 pub struct Edited {
-    /// How the run ended: with `NoMemory` too where memory was refused to the replies.
+    /// How the run ended. It is `NoMemory` too where the replies or the tile could not grow here.
     pub outcome: Outcome,
-    /// The replies to the lines that were carried out. With `NoMemory` the last may be cut short.
+    /// The replies to the lines that were carried out.
     pub replies: Vec<u8>,
     /// The edited tile, where the run came to the end of the script.
     pub tile: Option<Vec<u8>>,
 }
 
 /// Edits the tile by the lines of the script, as `run` does, with no devices. The tile and the
-/// script stay as they are. A line to which memory was refused is replied to as such, and the lines
-/// behind it are carried out.
+/// script stay as they are.
+///
+/// Where memory was refused, the clauses say only when there is a tile, and that no device is named
+/// but a script that is too long. The clause `course` of `run` says more, of the devices here: a
+/// line to which memory was refused is replied to with 60 or 54, and a run that is not strict goes
+/// on behind it; with `NoMemory` the last reply may be cut short.
 pub fn edit(alloc: Global, tile: &[u8], script: &[u8], options: Options) -> Edited
     requires some_depth { 1 ≤ options.depth }
     requires depth { options.depth ≤ MAX_DEPTH }
 
-    // Where memory is not wanted: the script on the document.
+    // Where no memory was refused: the script on the document.
     ensures edits { EditsTile options tile.now script.now result }
 
     // A tile that opens as no document is refused for what is wrong with it.

@@ -1,10 +1,8 @@
-//! Tests that cross crates: whole runs over memory, and the program over files.
+//! Tests that cross crates: whole runs over memory and over devices. The program has transcripts.
 #![tactic(auto)]
 
 #[cfg(test)]
 mod commands;
-#[cfg(test)]
-mod console;
 #[cfg(test)]
 mod devices;
 #[cfg(test)]
@@ -19,8 +17,6 @@ mod marks;
 mod memory;
 #[cfg(test)]
 mod order;
-#[cfg(test)]
-mod program;
 #[cfg(test)]
 mod rows;
 #[cfg(test)]
