@@ -1,39 +1,64 @@
-# Proves, builds and checks tileshell. It needs the Rattle toolchain, whose command is `rt`.
+# Proves, builds and checks tileshell. It needs the Rattle toolchain, whose command is `rt`, and Python 3.
 
 PREFIX ?= /usr/local
 
-.PHONY: all check bench bench-hostile compare install clean toolchain
+.PHONY: all help quick crate pages check bench bench-hostile compare install clean toolchain
 
+## make              proves the program, and leaves it as build/tileshell
 all: toolchain
-	cd crates/tileshell_program && rt run -- --help > /dev/null
+	tools/build
 	mkdir -p build
 	cp crates/tileshell_program/out/tileshell_program build/tileshell
 
-# Every proof, test, wrong body and stored run, from nothing; before them that the pages of docs/ are those of the sources,
-# and after them that a document, a layer and a feature cannot be copied, and that calls and scripts to which a growth is
-# refused leave and answer what they should.
+## make help         this list
+help:
+	@sed -n 's/^## //p' Makefile
+
+## make quick        what to run before each commit: layout, lints, pages, the proofs of what has changed, transcripts
+quick: toolchain
+	for crate in crates/*/; do (cd $$crate && rt fmt) || exit 1; done
+	tools/lint
+	tools/pages --check
+	$(MAKE) all
+	tools/build history_laws run_laws
+	tools/transcripts
+
+## make crate C=NAME proves one crate over kept work, its tests too, and tries its wrong bodies
+crate: toolchain
+	tools/build $(C)
+	cd crates/$(C) && rt check --test
+	tools/wrong-bodies $(C)
+
+## make pages        writes what pages of docs/ have from the sources
+pages:
+	tools/pages
+
+## make check        the whole gate, from nothing: proofs, tests, rows, wrong bodies, transcripts, refused growths
 check: toolchain
+	tools/lint
 	tools/pages --check
 	rt ci
 	tools/no-copies
 	tools/refused-growths
 
-# Speed and memory beside other programs. TILESHELL=PATH measures a program that was built before.
+## make bench        speed and memory beside other programs; TILESHELL=PATH measures a program that was built before
 bench: $(if $(TILESHELL),,all)
 	python3 bench/bench.py $(or $(TILESHELL),build/tileshell)
 
-# Time and memory on hostile tiles. It fails where they are not bounded as they should be.
+## make bench-hostile time and memory on hostile tiles; fails where they are not bounded as they should be
 bench-hostile: $(if $(TILESHELL),,all)
 	python3 bench/hostile.py $(or $(TILESHELL),build/tileshell)
 
-# What tileshell lists of TILES beside what GDAL says of them.
+## make compare TILES=".."  what tileshell lists of TILES beside what GDAL says of them
 compare: all
 	compare/gdal.py build/tileshell $(TILES)
 
+## make install      copies the program to PREFIX/bin
 install: all
 	install -d $(DESTDIR)$(PREFIX)/bin
 	install -m 755 build/tileshell $(DESTDIR)$(PREFIX)/bin/tileshell
 
+## make clean        removes what was built, and the kept work of proofs
 clean:
 	rm -rf build bench/build crates/*/out
 

@@ -1,4 +1,4 @@
-use Rattle.tile_run.proofs.StepLines as lines
+use Rattle.run_laws.proofs.StepLines as lines
 use Rattle.run_laws.proofs.back_in_a_run.Goals as goal
 
 pub returns : goal.returns
