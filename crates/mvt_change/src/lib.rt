@@ -8,6 +8,7 @@
 //!   first one last, and the list is then empty. Where memory runs out the list has what it had,
 //!   which it does for no list of one change or none: `join`.
 //! - The bytes of all items that a change puts are counted: `weight`.
+//! - Conditions: the change fits the document (`flip`); the sum is below 2^64 (`weight`).
 #![tactic(auto)]
 
 mod change;

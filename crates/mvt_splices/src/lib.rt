@@ -8,6 +8,9 @@
 //!   its greatest length on the way (`longest`). All memory is asked for before the first item
 //!   moves, so where it runs out nothing has changed but room: `splice_items`, and
 //!   `splice_message`, where a size that is kept is the right one after it (`IsKept`).
+//! - Conditions: the part is there, and both lists have room for what comes (`Gap::exchange`,
+//!   `Splices::exchange`); the list that is filled is empty (`Gap::close`); each step takes out
+//!   items that are there (`splice_items`, `splice_message`).
 #![tactic(auto)]
 
 mod gap;

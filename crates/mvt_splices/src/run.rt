@@ -1,4 +1,4 @@
-//! Steps on one list, or on one message, which keeps its size: memory is asked for first, then each
+//! Steps on one list, or on one message with its size: memory is asked for first, then each
 //! is carried out at the gap.
 
 ghost use Rattle.std.specs.Prelude.{◌≡◌, ℕ, ◌+◌, ◌≤◌, length, List, is_ok, if◌then◌else◌, OnOk, IfSome, vec_len, vec_capacity};

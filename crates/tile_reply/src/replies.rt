@@ -42,7 +42,7 @@ fn write_reply<W: Sink>(
     }
 }
 
-/// Replies to the refused line of this number. It takes no memory.
+/// Replies to the refused line of this number. It is given no allocator.
 fn write_refusal<W: Sink>(
     replies: &mut W,
     line: u64,
