@@ -18,8 +18,8 @@
 //!   two lists of changes has room for as many as the depth from the start of a session, and
 //!   together they never have more: that its type keeps. How much memory a change takes is said by
 //!   no contract; what it weighs is the bytes of the items that it holds, as they are written.
-//! - Conditions: the document is one (`IsDocument`), as all that is read is, and the depth is from 1
-//!   to 10,000 (`Session::start`).
+//! - Conditions: the document is one (`IsDocument`), as all that is read is, and the depth is from
+//!   1 to 10,000 (`Session::start`).
 #![tactic(auto)]
 
 mod error;
