@@ -27,7 +27,7 @@ quick: toolchain
 crate: toolchain
 	tools/build $(C)
 	cd crates/$(C) && rt check --test
-	tools/wrong-bodies $(C)
+	rt must-fail $(C)
 
 ## make pages        writes what pages of docs/ have from the sources
 pages:
@@ -38,6 +38,9 @@ check: toolchain
 	tools/lint
 	tools/pages --check
 	rt ci
+	mkdir -p build
+	cp crates/tileshell_program/out/tileshell_program build/tileshell
+	tools/transcripts
 	tools/no-copies
 	tools/refused-growths
 
