@@ -28,6 +28,7 @@ crate: toolchain
 	tools/build $(C)
 	cd crates/$(C) && rt check --test
 	rt must-fail $(C)
+	tools/wrong-bodies $(C)
 
 ## make pages        writes what pages of docs/ have from the sources
 pages:
@@ -38,6 +39,8 @@ check: toolchain
 	tools/lint
 	tools/pages --check
 	rt ci
+	tools/wrong-bodies --self-test
+	tools/wrong-bodies
 	mkdir -p build
 	cp crates/tileshell_program/out/tileshell_program build/tileshell
 	tools/transcripts

@@ -19,7 +19,28 @@ def load():
     loader.exec_module(made)
     made.rtlib.Crate = made.Crate
     made.rtlib.guarded()
+    remember_stamps(made.rtlib)
     return made
+
+
+def remember_stamps(rtlib):
+    """A crate's stamp is a sum over its files and over the stamps of all below it: each is computed once."""
+    computed, known = rtlib.Crate.stamp, {}
+
+    def stamp(crate):
+        if crate.folder not in known:
+            known[crate.folder] = computed(crate)
+        return known[crate.folder]
+
+    rtlib.Crate.stamp = stamp
+
+
+def is_built(rt, library):
+    """Returns whether a library is proved as it stands: by its stamp, or as `rt ci` leaves it, newer than what it is made from."""
+    if library.is_built():
+        return True
+    files = [file for it in [library, *library.below()] for file in rt.rtlib.files_of(it.folder)]
+    return os.path.isdir(library.rlib) and os.path.getmtime(library.rlib) > max(map(os.path.getmtime, files))
 
 
 def crates_of(rt, top, names=()):

@@ -1,0 +1,95 @@
+"""The functions of a crate's source files: their lines, and the names by which the prover speaks of them.
+
+The files are in the layout of `rt fmt`, which the gate holds them to: an item ends at the first closing brace that
+stands as far in as the item's first word.
+"""
+import re
+from dataclasses import dataclass
+from pathlib import Path
+
+HEAD = re.compile(r"( *)(?:pub(?:\([^)]*\))? )?(?:const )?(?:unsafe )?(fn|impl|trait|mod)\b(.*)")
+
+
+@dataclass(frozen=True)
+class Function:
+    """A function, its file below the crate, and its first and last line."""
+    name: str
+    file: str
+    first: int
+    last: int
+
+
+def without_parameters(text):
+    """Leaves out what stands in angle brackets: `Vec<Option<u8>>` is `Vec`."""
+    while "<" in text:
+        shorter = re.sub(r"<[^<>]*>", "", text)
+        if shorter == text:
+            break
+        text = shorter
+    return text
+
+
+def words_of(text):
+    """Returns a type's words without lifetimes and type parameters, the last of each path: `From<io::Error>` gives From and Error."""
+    return [it.split("::")[-1] for it in re.findall(r"(?<!')\b[A-Za-z_][\w:]*", text) if not re.fullmatch("[A-Z]", it)]
+
+
+def name_of_impl(header):
+    """Returns what the prover calls an impl: its type, and right behind it the trait with its parameters."""
+    header = header.replace("->", "")
+    if header.startswith("<"):
+        depth = 0
+        for at, sign in enumerate(header):
+            depth += (sign == "<") - (sign == ">")
+            if not depth:
+                header = header[at + 1:]
+                break
+    header = header.split(" where ")[0].strip()
+    trait, found, of_type = header.partition(" for ")
+    if not found:
+        return words_of(without_parameters(header))[0]
+    return "".join([words_of(without_parameters(of_type))[-1], *words_of(trait)])
+
+
+def last_line(lines, number, indent):
+    """Returns the last line of the item that begins in the line of this number: of its body, or of its declaration."""
+    has_body = False
+    for at, line in enumerate(lines[number - 1:], number):
+        stands_out = line.startswith(indent) and not line.startswith(indent + " ")
+        if stands_out and line.endswith("}"):
+            return at
+        if line.endswith(";") and not has_body:
+            return at
+        has_body = has_body or stands_out and line.endswith("{")
+    return number
+
+
+def functions_in(text, file, above):
+    """Returns the functions with a body in one file, whose own path is `above`. A trait's own are proved at each impl alone."""
+    lines, found, inside = text.split("\n"), [], []
+    for number, line in enumerate(lines, 1):
+        inside = [it for it in inside if number <= it[0]]
+        head = HEAD.match(line)
+        if not head:
+            continue
+        indent, kind, rest = head.groups()
+        last = last_line(lines, number, indent)
+        if kind == "fn":
+            owners = [it[1] for it in inside]
+            if None not in owners and lines[last - 1].endswith("}"):
+                found.append(Function("::".join([*above, *owners, re.match(r"\s*(\w+)", rest)[1]]), file, number, last))
+        elif last > number:
+            header = " ".join([rest.strip(), *(it.strip() for it in lines[number:last])]).partition("{")[0].strip()
+            inside.append((last, {"impl": name_of_impl, "trait": lambda _: None, "mod": str}[kind](header)))
+    return found
+
+
+def functions_of(folder):
+    """Returns the functions of the crate in the folder."""
+    found = []
+    for path in sorted(Path(folder, "src").rglob("*.rt")):
+        file = path.relative_to(folder)
+        parts = list(file.with_suffix("").parts[1:])
+        above = parts[:-1] if parts[-1] in ("lib", "main", "mod") else parts
+        found += functions_in(path.read_text(), str(file), above)
+    return found
