@@ -12,7 +12,7 @@ HEAD = re.compile(r"( *)(?:pub(?:\([^)]*\))? )?(?:const )?(?:unsafe )?(fn|impl|t
 
 @dataclass(frozen=True)
 class Function:
-    """A function, its file below the crate, and its first and last line."""
+    """A function, its file below the crate, and its first and last line, with its attributes."""
     name: str
     file: str
     first: int
@@ -77,7 +77,10 @@ def functions_in(text, file, above):
         if kind == "fn":
             owners = [it[1] for it in inside]
             if None not in owners and lines[last - 1].endswith("}"):
-                found.append(Function("::".join([*above, *owners, re.match(r"\s*(\w+)", rest)[1]]), file, number, last))
+                first = number
+                while lines[first - 2].startswith(indent + "#["):
+                    first -= 1
+                found.append(Function("::".join([*above, *owners, re.match(r"\s*(\w+)", rest)[1]]), file, first, last))
         elif last > number:
             header = " ".join([rest.strip(), *(it.strip() for it in lines[number:last])]).partition("{")[0].strip()
             inside.append((last, {"impl": name_of_impl, "trait": lambda _: None, "mod": str}[kind](header)))
