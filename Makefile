@@ -2,7 +2,7 @@
 
 PREFIX ?= /usr/local
 
-.PHONY: all help quick crate pages check bench bench-hostile compare install clean toolchain
+.PHONY: all help quick crate rows pages check bench bench-hostile compare install clean toolchain
 
 ## make              proves the program, and leaves it as build/tileshell
 all: toolchain
@@ -14,7 +14,7 @@ all: toolchain
 help:
 	@sed -n 's/^## //p' Makefile
 
-## make quick        what to run before each commit: layout, lints, pages, the proofs of what has changed, transcripts
+## make quick        before each commit: layout, lints, pages, proofs of what has changed, transcripts, rows
 quick: toolchain
 	for crate in crates/*/; do (cd $$crate && rt fmt) || exit 1; done
 	tools/lint
@@ -22,6 +22,7 @@ quick: toolchain
 	$(MAKE) all
 	tools/build history_laws run_laws
 	tools/transcripts
+	$(MAKE) rows
 
 ## make crate C=NAME proves one crate over kept work, its tests too, and tries its wrong bodies
 crate: toolchain
@@ -29,6 +30,11 @@ crate: toolchain
 	cd crates/$(C) && rt check --test
 	rt must-fail $(C)
 	tools/wrong-bodies $(C)
+
+## make rows         whole runs over memory: the tables of crates/row_tests/data
+rows: toolchain
+	tools/build row_tests
+	cd crates/row_tests/data && ../out/row_tests $$(cat ../args)
 
 ## make pages        writes what pages of docs/ have from the sources
 pages:
