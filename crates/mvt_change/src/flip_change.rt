@@ -12,7 +12,7 @@ use mvt_document::Document;
 use std::alloc::{AllocError, Global};
 
 /// Carries the change out, and makes it the change that leads back. Steps on one list that follow
-/// each other are carried out in one pass over it. Where memory is wanted, the steps that were made
+/// each other are carried out in one pass over it. Where memory runs out, the steps that were made
 /// are taken back, and nothing has changed.
 pub fn flip(alloc: Global, document: &mut Document, change: &mut Change) -> Result<(), AllocError>
     requires { Fits (change_of change.old) (document_of document.old) }

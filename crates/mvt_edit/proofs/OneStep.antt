@@ -45,7 +45,7 @@ prepared_by_one command document after step put taken carries means puts takes =
 pub prepared_within_limit : (command : Command) (document : Document) (step : Step) (result : Result Change Refusal) → IfOk result (λ change. change_of change ≡ step ∷ []) → IfOk result (λ change. length (bytes_of (go_step step document)) ≤ MAX_FILE) → IfErr result (λ refusal. (refusal ≡ NoMemory) ⊎ ((refusal ≡ TooLarge) × (MAX_FILE < length (bytes_of (go_step step document))))) → (length (bytes_of (go_step step document)) ≤ MAX_FILE → IsPrepared command document (step ∷ [])) → (MAX_FILE < length (bytes_of (go_step step document)) → applied command document ≡ Err TooLarge) → Prepares command document result
 prepared_within_limit command document step (Ok change) made within refused fits large = subst (IsPrepared command document) (sym made) (fits within)
 prepared_within_limit command document step (Err refusal) made within refused fits large =
-    elim refused [ inl want ↦ inl want | inr past ↦ inr (large past.1 ∙ ap (λ e. Err e) (sym past.0)) ]
+    elim refused [ inl out_of_memory ↦ inl out_of_memory | inr past ↦ inr (large past.1 ∙ ap (λ e. Err e) (sym past.0)) ]
 
 pub carries_in_layer : (document : Document) (position : ℕ) (layer : Layer) (change : List LayerItem → List LayerItem) (index taken : ℕ) (put : List LayerItem) → items_at position document ≡ Some layer.items → slice_get document position ≡ Some (OfLayer layer) → CanSplice IsLayerItem index taken put layer.items → splice index taken put layer.items ≡ change layer.items → Carries (LayerStep position index taken put) document (change_items change position document) (length (flat_map layer_item_bytes put)) (length (flat_map layer_item_bytes (part index taken layer.items)))
 carries_in_layer document position layer change index taken put items there can same = record {

@@ -71,11 +71,11 @@ pub seen_none : (pending : Option (Vec HeldChange Global)) → ((changes : Vec H
 seen_none None left = refl
 seen_none (Some changes) left = absurd (left changes refl)
 
--- ---- want of memory
+-- ---- out of memory
 
-pub wanted_memory : (asked : Result History HistoryError) (history : History) (answer : Result (Unit {0}) HistoryError) (session : Standing) → IsErrAnd answer (λ error. error ≡ NoMemory) → IsOk asked → StandsFor session history → AnswersWithMemory asked history answer session
-wanted_memory asked history (Ok done) session wanted accepted stands = absurd wanted
-wanted_memory asked history (Err error) session wanted accepted stands = (inl (wanted, accepted), stands)
+pub ran_out_of_memory : (asked : Result History HistoryError) (history : History) (answer : Result (Unit {0}) HistoryError) (session : Standing) → IsErrAnd answer (λ error. error ≡ NoMemory) → IsOk asked → StandsFor session history → AnswersWithMemory asked history answer session
+ran_out_of_memory asked history (Ok done) session wanted accepted stands = absurd wanted
+ran_out_of_memory asked history (Err error) session wanted accepted stands = (inl (wanted, accepted), stands)
 
 pub on_error : (answer : Result (Unit {0}) HistoryError) {P : Type 0} → P → OnErr answer P
 on_error (Ok done) says = tt

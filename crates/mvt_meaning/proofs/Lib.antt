@@ -13,4 +13,4 @@ pub mod Named
 pub mod Lengths
 pub mod Found
 pub mod Finding
-pub mod Unwanting
+pub mod NeverOutOfMemory

@@ -6,5 +6,5 @@ use Rattle.mvt_meaning.specs.Meaning.{applied}
 use Rattle.mvt_meaning.specs.declared.refusal.Refusal.TheVariants.{NoMemory}
 
 -- no command is refused as out of memory by its definition
-abbrev pub CommandsHaveNoWant : Type 0
-CommandsHaveNoWant = (command : Command) (document : Document) → applied command document ≢ Err NoMemory
+abbrev pub NoCommandIsOutOfMemory : Type 0
+NoCommandIsOutOfMemory = (command : Command) (document : Document) → applied command document ≢ Err NoMemory

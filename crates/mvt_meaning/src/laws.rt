@@ -3,7 +3,7 @@
 ghost use Rattle.mvt_meaning.specs.FeatureLaws.{ClearIdClears, DropFeatureDrops, InsertFeatureInserts, MoveFeatureMoves, SetIdSets};
 ghost use Rattle.mvt_meaning.specs.LayerLaws.{DropLayerDrops, KeepLayersKeeps, MoveLayerMoves, RenameNames};
 ghost use Rattle.mvt_meaning.specs.Laws.{NameMeansTheOne, NameMeansNone};
-ghost use Rattle.mvt_meaning.specs.MemoryLaws.{CommandsHaveNoWant};
+ghost use Rattle.mvt_meaning.specs.MemoryLaws.{NoCommandIsOutOfMemory};
 ghost use Rattle.mvt_meaning.specs.SizeLaws.{CommandFits, NeverLonger};
 
 /// An accepted rename names the selected layer, and no other layer has the name then; the other
@@ -82,6 +82,6 @@ pub fn never_longer()
 {}
 
 /// With all memory no command is refused as out of memory.
-pub fn commands_have_no_want()
-    ensures { CommandsHaveNoWant }
+pub fn no_command_is_out_of_memory()
+    ensures { NoCommandIsOutOfMemory }
 {}

@@ -54,7 +54,7 @@ stop_is_broken f file place s document o =
     let all : take (length file) file ≡ file = take_all (length file) file (omega arith) in
     s.longest (length file) (map tile_item_field document) s.before (omega arith) fields.0 fields.1 (all ∙ fields.2)
 
--- a file that opens is refused for want of memory alone
+-- a file that opens is refused as out of memory alone
 pub only_memory : (stops : ℕ → Type 0) (r : ReadError) → ((place : ℕ) → stops place → ⊥) → IsStop stops r → r ≡ NoMemory
 only_memory stops (BadWire place) broken s = absurd (broken place s)
 only_memory stops FileTooLarge broken s = absurd s

@@ -2,5 +2,5 @@ pub mod LineRequests
 pub mod Standing
 pub mod UndoLines
 pub mod StepLines
-pub mod NoWant
+pub mod NoneOutOfMemory
 pub mod LineLaws

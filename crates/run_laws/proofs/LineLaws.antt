@@ -9,10 +9,10 @@ use Rattle.mvt_document.specs.Wire.{bytes_of}
 use Rattle.mvt_history.specs.History.{History, standing_document}
 use Rattle.tile_answer.specs.Answering.{Told, carried_out}
 use Rattle.tile_answer.proofs.AnswerLaws.{looks_leave_history}
-use Rattle.tile_reply.specs.Replies.{accepted_reply, refused_reply, IsWant, HasNoWant}
+use Rattle.tile_reply.specs.Replies.{accepted_reply, refused_reply, IsOutOfMemory, NoneIsOutOfMemory}
 use Rattle.tile_run.specs.Run.{Progress, ran, tile_of, settled_by, answered_by, after_line, is_over, after_lines, MayFollow, Walk}
 use Rattle.mvt_history_error.specs.declared.HistoryError.TheVariants.{Stopped}
-use Rattle.tile_run.specs.RunLaws.{WalksWithoutWantAreRuns}
+use Rattle.tile_run.specs.RunLaws.{WalksNeverOutOfMemoryAreRuns}
 use Rattle.run_laws.specs.RunLaws.{RepliesStand, RefusedLinesChangeNothing, SilentLinesChangeNothing, StrictRunsStop, AcceptedRunsAreAlike, RunsAreWalks, LookingChangesNothing}
 use Rattle.tile_words.specs.declared.parse_error.ParseError.{ParseError}
 use Rattle.tile_words.specs.declared.parse_error.ParseError.TheVariants as parse

@@ -12,7 +12,7 @@ use Rattle.mvt_history.specs.Requests as asks
 use Rattle.mvt_history.specs.Requests.{asked_all}
 use Rattle.tile_words.specs.declared.parse_error.ParseError.{ParseError}
 use Rattle.tile_answer.specs.Laws.{Looks}
-use Rattle.tile_reply.specs.Replies.{accepted_reply, refused_reply, HasNoWant}
+use Rattle.tile_reply.specs.Replies.{accepted_reply, refused_reply, NoneIsOutOfMemory}
 use Rattle.tile_run.specs.Run.{Progress, after_line, after_lines, is_over, ran, tile_of, Walk}
 use Rattle.tile_run.specs.declared.outcome.Options.{Options}
 use Rattle.tile_reply.specs.declared.refused.Refused.{Refused}
@@ -172,12 +172,12 @@ BackInARun =
     → answer_to back ≡ Ok (Some (GoBack name)) → gone_back name (after_lines false p (mark ∷ lines)).history ≡ Ok gone
     → tile_of (after_lines false p (mark ∷ lines ++ back ∷ [])) ≡ tile_of p
 
--- ---- want of memory
+-- ---- out of memory
 
 -- the run with all memory is one of those in which growths may be refused
 abbrev pub RunsAreWalks : Type 0
 RunsAreWalks = (strict : Bool) (p : Progress) (lines : List (List ℕ)) → Walk strict p lines (after_lines strict p lines)
 
 -- with all memory no reply is 60 or 54
-abbrev pub RunsHaveNoWant : Type 0
-RunsHaveNoWant = (document : Document) (options : Options) (script : List ℕ) → HasNoWant (ran document options script).replies
+abbrev pub NoRunIsOutOfMemory : Type 0
+NoRunIsOutOfMemory = (document : Document) (options : Options) (script : List ℕ) → NoneIsOutOfMemory (ran document options script).replies

@@ -3,15 +3,17 @@
 #![tactic(auto)]
 
 ghost use Rattle.tile_run.specs.DeviceLaws.{FailedDevicesAreNamed, WornOutRunsNameADevice, DevicesAreNamedForCause};
-ghost use Rattle.tile_run.specs.RunLaws.{FrontsHaveFirstLines, FrontsStand, WalksWithoutWantAreRuns};
-ghost use Rattle.run_laws.specs.RunLaws.{RepliesStand, RefusedLinesChangeNothing, SilentLinesChangeNothing, StrictRunsStop, AcceptedRunsAreAlike, StandingCommands, LinesAreRequests, UndoInARun, UndoInAScript, CancelInARun, StepUndoneInARun, BackInARun, RunsAreWalks, RunsHaveNoWant, LookingChangesNothing};
+ghost use Rattle.tile_run.specs.RunLaws.{FrontsHaveFirstLines, FrontsStand, WalksNeverOutOfMemoryAreRuns};
+ghost use Rattle.run_laws.specs.RunLaws.{RepliesStand, RefusedLinesChangeNothing, SilentLinesChangeNothing, StrictRunsStop, AcceptedRunsAreAlike, StandingCommands, LinesAreRequests, UndoInARun, UndoInAScript, CancelInARun, StepUndoneInARun, BackInARun, RunsAreWalks, NoRunIsOutOfMemory, LookingChangesNothing};
 
 pub use history_laws::{
     back_to_the_mark, cancel_leaves_no_trace, changes_lead, empty_step_leaves_no_trace, few_steps,
     history_fits, kept_within, redos_undo_undos, stays_sound, step_undoes_whole, stopped_goes_on,
     undo_after_end, undo_at_once, undos_undo_redos,
 };
-pub use tile_answer::laws::{looks_leave_history, requests_have_no_want, requests_tell_lines};
+pub use tile_answer::laws::{
+    looks_leave_history, no_request_is_out_of_memory, requests_tell_lines,
+};
 
 /// The lines of a prefix of a script that is empty or ends with a line feed are the first lines of
 /// the script (`lines`). The run on it comes to where the whole run is after those lines, and the
@@ -81,12 +83,12 @@ pub fn back_in_a_run()
 {}
 
 /// Where growths may be refused and no reply says that one was, by 60 or 54, all comes as with all
-/// memory (`without_want`), which is one of the ways that a run may go (`with_memory`) and in which
+/// memory (`never_out_of_memory`), which is one of the ways that a run may go (`with_memory`) and in which
 /// no reply says so (`never`).
-pub fn want_is_replied()
-    ensures without_want { WalksWithoutWantAreRuns }
+pub fn out_of_memory_is_replied()
+    ensures never_out_of_memory { WalksNeverOutOfMemoryAreRuns }
     ensures with_memory { RunsAreWalks }
-    ensures never { RunsHaveNoWant }
+    ensures never { NoRunIsOutOfMemory }
 {}
 
 /// Where the count of failures of a device has changed, the run ends with that device (`failed`).

@@ -12,7 +12,7 @@ use Rattle.mvt_command.proofs.Others.{Other}
 use Rattle.mvt_meaning.specs.Meaning.{applied}
 use Rattle.mvt_meaning.specs.declared.refusal.Refusal.{Refusal}
 use Rattle.mvt_meaning.specs.declared.refusal.Refusal.TheVariants as edit
-use Rattle.mvt_meaning.proofs.Unwanting.{applied_other}
+use Rattle.mvt_meaning.proofs.NeverOutOfMemory.{applied_other}
 use Rattle.tile_lines.specs.Lines.{HasNoLineFeed, with_feed}
 use Rattle.tile_text.specs.Texts.{text_form}
 use Rattle.tile_text.proofs.Feeds.{text_form_feedless}
@@ -20,16 +20,16 @@ use Rattle.tile_request.specs.Request.{Edit, Undo, Redo, SetMark, TakeMark, GoBa
 use Rattle.tile_listing.specs.Listing.{listed}
 use Rattle.tile_listing.specs.Told.{MayBeTold, AreLinesToTell}
 use Rattle.tile_listing.proofs.Telling.{uncut-append, decimal_uncut, none_to_tell, one_to_tell}
-use Rattle.tile_listing.proofs.ListingLaws.{listings_are_lines, listings_have_no_want}
+use Rattle.tile_listing.proofs.ListingLaws.{listings_are_lines, no_listing_is_out_of_memory}
 use Rattle.mvt_history.specs.Marks.{Mark}
 use Rattle.mvt_history.specs.History.{History, standing_document, unless_open, gone_to, ended, edited_to, edited, undone, redone, marked, unmarked, gone_back, opened, closed, cancelled}
 use Rattle.mvt_history_error.specs.declared.HistoryError.{HistoryError}
 use Rattle.mvt_history_error.specs.declared.HistoryError.TheVariants as history_errors
-use Rattle.tile_reply.specs.Replies.{IsWant}
+use Rattle.tile_reply.specs.Replies.{IsOutOfMemory}
 use Rattle.tile_reply.specs.declared.refused.Refused.{Refused}
 use Rattle.tile_reply.specs.declared.refused.Refused.TheVariants as refused
 use Rattle.tile_answer.specs.Answering.{Told, told_by_edit, told_by_move, told_by_look, mark_line, mark_lines, reach_line, open_line, open_count, history_lines, size_line}
-use Rattle.tile_answer.specs.Laws.{RequestsTellLines, RequestsHaveNoWant, LooksLeaveHistory}
+use Rattle.tile_answer.specs.Laws.{RequestsTellLines, NoRequestIsOutOfMemory, LooksLeaveHistory}
 
 -- ---- lines
 
@@ -124,35 +124,35 @@ requests_tell_lines (Lists what) history told e =
 
 -- ---- refusals
 
-edit_is_other : (refusal : Refusal) → refusal ≢ edit.NoMemory → ¬ (IsWant (refused.Edit refusal))
-edit_is_other edit.NoLayer other want = elim want [ inl e ↦ omega arith | inr e ↦ omega arith ]
-edit_is_other edit.AmbiguousLayer other want = elim want [ inl e ↦ omega arith | inr e ↦ omega arith ]
-edit_is_other edit.NoFeature other want = elim want [ inl e ↦ omega arith | inr e ↦ omega arith ]
-edit_is_other edit.BadPlace other want = elim want [ inl e ↦ omega arith | inr e ↦ omega arith ]
-edit_is_other edit.AmbiguousFeature other want = elim want [ inl e ↦ omega arith | inr e ↦ omega arith ]
-edit_is_other edit.NameTaken other want = elim want [ inl e ↦ omega arith | inr e ↦ omega arith ]
-edit_is_other edit.OutOfRange other want = elim want [ inl e ↦ omega arith | inr e ↦ omega arith ]
-edit_is_other edit.TooLarge other want = elim want [ inl e ↦ omega arith | inr e ↦ omega arith ]
-edit_is_other edit.NoMemory other want = other refl
+edit_is_other : (refusal : Refusal) → refusal ≢ edit.NoMemory → ¬ (IsOutOfMemory (refused.Edit refusal))
+edit_is_other edit.NoLayer other out_of_memory = elim out_of_memory [ inl e ↦ omega arith | inr e ↦ omega arith ]
+edit_is_other edit.AmbiguousLayer other out_of_memory = elim out_of_memory [ inl e ↦ omega arith | inr e ↦ omega arith ]
+edit_is_other edit.NoFeature other out_of_memory = elim out_of_memory [ inl e ↦ omega arith | inr e ↦ omega arith ]
+edit_is_other edit.BadPlace other out_of_memory = elim out_of_memory [ inl e ↦ omega arith | inr e ↦ omega arith ]
+edit_is_other edit.AmbiguousFeature other out_of_memory = elim out_of_memory [ inl e ↦ omega arith | inr e ↦ omega arith ]
+edit_is_other edit.NameTaken other out_of_memory = elim out_of_memory [ inl e ↦ omega arith | inr e ↦ omega arith ]
+edit_is_other edit.OutOfRange other out_of_memory = elim out_of_memory [ inl e ↦ omega arith | inr e ↦ omega arith ]
+edit_is_other edit.TooLarge other out_of_memory = elim out_of_memory [ inl e ↦ omega arith | inr e ↦ omega arith ]
+edit_is_other edit.NoMemory other out_of_memory = other refl
 
--- neither want of memory nor a stop
+-- neither out of memory nor a stop
 abbrev IsOther : HistoryError → Type 0
-IsOther error = ¬ (IsWant (refused.History error))
+IsOther error = ¬ (IsOutOfMemory (refused.History error))
 
-edit_has_no_want : (command : Command) (history : History) (made : Result Document Refusal) (reason : Refused) → Other edit.NoMemory made → told_by_edit (edited_to command history made) ≡ Err reason → ¬ (IsWant reason)
-edit_has_no_want command history (Ok document) reason other e = absurd cc
-edit_has_no_want command history (Err refusal) reason other e =
-    let same : refused.Edit refusal ≡ reason = cc in subst (λ (r : Refused). ¬ (IsWant r)) same (edit_is_other refusal other)
+edit_is_not_out_of_memory : (command : Command) (history : History) (made : Result Document Refusal) (reason : Refused) → Other edit.NoMemory made → told_by_edit (edited_to command history made) ≡ Err reason → ¬ (IsOutOfMemory reason)
+edit_is_not_out_of_memory command history (Ok document) reason other e = absurd cc
+edit_is_not_out_of_memory command history (Err refusal) reason other e =
+    let same : refused.Edit refusal ≡ reason = cc in subst (λ (r : Refused). ¬ (IsOutOfMemory r)) same (edit_is_other refusal other)
 
 -- a request is refused for other reasons alone
 abbrev RefusesOther : Result History HistoryError → Type 0
 RefusesOther (Ok history) = Unit {0}
 RefusesOther (Err error) = IsOther error
 
-move_has_no_want : (made : Result History HistoryError) (reason : Refused) → RefusesOther made → told_by_move made ≡ Err reason → ¬ (IsWant reason)
-move_has_no_want (Ok history) reason other e = absurd cc
-move_has_no_want (Err error) reason other e =
-    let same : refused.History error ≡ reason = cc in subst (λ (r : Refused). ¬ (IsWant r)) same other
+move_is_not_out_of_memory : (made : Result History HistoryError) (reason : Refused) → RefusesOther made → told_by_move made ≡ Err reason → ¬ (IsOutOfMemory reason)
+move_is_not_out_of_memory (Ok history) reason other e = absurd cc
+move_is_not_out_of_memory (Err error) reason other e =
+    let same : refused.History error ≡ reason = cc in subst (λ (r : Refused). ¬ (IsOutOfMemory r)) same other
 
 other_either : (q : Bool) (error : HistoryError) (history : History) → IsOther error → RefusesOther (if q then Err error else Ok history)
 other_either true error history other = other
@@ -163,22 +163,22 @@ either_other true error history other = tt
 either_other false error history other = other
 
 nothing_to_undo : IsOther history_errors.NothingToUndo
-nothing_to_undo want = elim want [ inl e ↦ omega arith | inr e ↦ omega arith ]
+nothing_to_undo out_of_memory = elim out_of_memory [ inl e ↦ omega arith | inr e ↦ omega arith ]
 
 nothing_to_redo : IsOther history_errors.NothingToRedo
-nothing_to_redo want = elim want [ inl e ↦ omega arith | inr e ↦ omega arith ]
+nothing_to_redo out_of_memory = elim out_of_memory [ inl e ↦ omega arith | inr e ↦ omega arith ]
 
 no_mark : IsOther history_errors.NoMark
-no_mark want = elim want [ inl e ↦ omega arith | inr e ↦ omega arith ]
+no_mark out_of_memory = elim out_of_memory [ inl e ↦ omega arith | inr e ↦ omega arith ]
 
 too_many_marks : IsOther history_errors.TooManyMarks
-too_many_marks want = elim want [ inl e ↦ omega arith | inr e ↦ omega arith ]
+too_many_marks out_of_memory = elim out_of_memory [ inl e ↦ omega arith | inr e ↦ omega arith ]
 
 group_open : IsOther history_errors.GroupOpen
-group_open want = elim want [ inl e ↦ omega arith | inr e ↦ omega arith ]
+group_open out_of_memory = elim out_of_memory [ inl e ↦ omega arith | inr e ↦ omega arith ]
 
 no_group : IsOther history_errors.NoGroup
-no_group want = elim want [ inl e ↦ omega arith | inr e ↦ omega arith ]
+no_group out_of_memory = elim out_of_memory [ inl e ↦ omega arith | inr e ↦ omega arith ]
 
 unless_open_other : (group : Option (List Command)) (answer : Result History HistoryError) → RefusesOther answer → RefusesOther (unless_open group answer)
 unless_open_other None answer other = other
@@ -193,27 +193,27 @@ ended_other None history = no_group
 ended_other (Some []) history = tt
 ended_other (Some (command ∷ commands)) history = tt
 
-look_has_no_want : (history : History) (shown : Result (List ℕ) Refusal) (reason : Refused) → shown ≢ Err edit.NoMemory → told_by_look history shown ≡ Err reason → ¬ (IsWant reason)
-look_has_no_want history (Ok lines) reason other e = absurd cc
-look_has_no_want history (Err refusal) reason other e =
-    let same : refused.Edit refusal ≡ reason = cc in subst (λ (r : Refused). ¬ (IsWant r)) same (edit_is_other refusal (λ want. other (ap Err want)))
+look_is_not_out_of_memory : (history : History) (shown : Result (List ℕ) Refusal) (reason : Refused) → shown ≢ Err edit.NoMemory → told_by_look history shown ≡ Err reason → ¬ (IsOutOfMemory reason)
+look_is_not_out_of_memory history (Ok lines) reason other e = absurd cc
+look_is_not_out_of_memory history (Err refusal) reason other e =
+    let same : refused.Edit refusal ≡ reason = cc in subst (λ (r : Refused). ¬ (IsOutOfMemory r)) same (edit_is_other refusal (λ out_of_memory. other (ap Err out_of_memory)))
 
-pub requests_have_no_want : RequestsHaveNoWant
-requests_have_no_want (Edit command) history reason e =
-    edit_has_no_want command history (applied command (standing_document history)) reason (applied_other command (standing_document history)) e
-requests_have_no_want Undo history reason e = move_has_no_want (undone history) reason (unless_open_other history.group _ (other_either _ _ _ nothing_to_undo)) e
-requests_have_no_want Redo history reason e = move_has_no_want (redone history) reason (unless_open_other history.group _ (other_either _ _ _ nothing_to_redo)) e
-requests_have_no_want (SetMark name) history reason e = move_has_no_want (marked name history) reason (unless_open_other history.group _ (either_other _ _ _ too_many_marks)) e
-requests_have_no_want (TakeMark name) history reason e = move_has_no_want (unmarked name history) reason (unless_open_other history.group _ (either_other _ _ _ no_mark)) e
-requests_have_no_want (GoBack name) history reason e = move_has_no_want (gone_back name history) reason (unless_open_other history.group _ (gone_to_other _ history)) e
-requests_have_no_want Begin history reason e = move_has_no_want (opened history) reason (unless_open_other history.group _ tt) e
-requests_have_no_want End history reason e = move_has_no_want (closed history) reason (ended_other history.group history) e
-requests_have_no_want Cancel history reason e = move_has_no_want (cancelled history) reason (either_other _ _ _ no_group) e
-requests_have_no_want ListMarks history reason e = absurd cc
-requests_have_no_want TellHistory history reason e = absurd cc
-requests_have_no_want Size history reason e = absurd cc
-requests_have_no_want (Lists what) history reason e =
-    look_has_no_want history (listed what (standing_document history)) reason (listings_have_no_want what (standing_document history)) e
+pub no_request_is_out_of_memory : NoRequestIsOutOfMemory
+no_request_is_out_of_memory (Edit command) history reason e =
+    edit_is_not_out_of_memory command history (applied command (standing_document history)) reason (applied_other command (standing_document history)) e
+no_request_is_out_of_memory Undo history reason e = move_is_not_out_of_memory (undone history) reason (unless_open_other history.group _ (other_either _ _ _ nothing_to_undo)) e
+no_request_is_out_of_memory Redo history reason e = move_is_not_out_of_memory (redone history) reason (unless_open_other history.group _ (other_either _ _ _ nothing_to_redo)) e
+no_request_is_out_of_memory (SetMark name) history reason e = move_is_not_out_of_memory (marked name history) reason (unless_open_other history.group _ (either_other _ _ _ too_many_marks)) e
+no_request_is_out_of_memory (TakeMark name) history reason e = move_is_not_out_of_memory (unmarked name history) reason (unless_open_other history.group _ (either_other _ _ _ no_mark)) e
+no_request_is_out_of_memory (GoBack name) history reason e = move_is_not_out_of_memory (gone_back name history) reason (unless_open_other history.group _ (gone_to_other _ history)) e
+no_request_is_out_of_memory Begin history reason e = move_is_not_out_of_memory (opened history) reason (unless_open_other history.group _ tt) e
+no_request_is_out_of_memory End history reason e = move_is_not_out_of_memory (closed history) reason (ended_other history.group history) e
+no_request_is_out_of_memory Cancel history reason e = move_is_not_out_of_memory (cancelled history) reason (either_other _ _ _ no_group) e
+no_request_is_out_of_memory ListMarks history reason e = absurd cc
+no_request_is_out_of_memory TellHistory history reason e = absurd cc
+no_request_is_out_of_memory Size history reason e = absurd cc
+no_request_is_out_of_memory (Lists what) history reason e =
+    look_is_not_out_of_memory history (listed what (standing_document history)) reason (no_listing_is_out_of_memory what (standing_document history)) e
 
 -- ---- looks
 

@@ -13,20 +13,20 @@ use Rattle.tile_answer.specs.Answering.{carried_out}
 
 -- the request may be refused with 60, out of memory: all but those that take no memory (to take a mark away, to open a
 -- step) and those that are stopped instead (to go back, to cancel)
-abbrev pub MayWant : Request → Type 0
-MayWant (Edit command) = Unit {0}
-MayWant Undo = Unit {0}
-MayWant Redo = Unit {0}
-MayWant (SetMark name) = Unit {0}
-MayWant (TakeMark name) = ⊥
-MayWant (GoBack name) = ⊥
-MayWant Begin = ⊥
-MayWant End = Unit {0}
-MayWant Cancel = ⊥
-MayWant ListMarks = Unit {0}
-MayWant TellHistory = Unit {0}
-MayWant Size = Unit {0}
-MayWant (Lists what) = Unit {0}
+abbrev pub MayRunOutOfMemory : Request → Type 0
+MayRunOutOfMemory (Edit command) = Unit {0}
+MayRunOutOfMemory Undo = Unit {0}
+MayRunOutOfMemory Redo = Unit {0}
+MayRunOutOfMemory (SetMark name) = Unit {0}
+MayRunOutOfMemory (TakeMark name) = ⊥
+MayRunOutOfMemory (GoBack name) = ⊥
+MayRunOutOfMemory Begin = ⊥
+MayRunOutOfMemory End = Unit {0}
+MayRunOutOfMemory Cancel = ⊥
+MayRunOutOfMemory ListMarks = Unit {0}
+MayRunOutOfMemory TellHistory = Unit {0}
+MayRunOutOfMemory Size = Unit {0}
+MayRunOutOfMemory (Lists what) = Unit {0}
 
 -- the request is to go back or to cancel, and may be stopped with `taken` steps, or commands, taken, where the history
 -- `between` stands
@@ -47,7 +47,7 @@ MayStop (Lists what) history taken between = ⊥
 
 -- the request is refused as it is defined, or with 60 where it may be
 abbrev pub IsRefused : Request → History → Refused → Type 0
-IsRefused request history reason = (MayWant request × (refusal_number reason ≡ 60)) ⊎ (carried_out request history ≡ Err reason)
+IsRefused request history reason = (MayRunOutOfMemory request × (refusal_number reason ≡ 60)) ⊎ (carried_out request history ≡ Err reason)
 
 -- these lines are printed, and the session holds the history after the request; or the request is refused, and the
 -- session holds the history before; or it was stopped, and the session holds the history at which it was

@@ -3,7 +3,7 @@ use Rattle.std.specs.Prelude.{◌≡◌, Ok, Err}
 use Rattle.tile_request.specs.Request.{Request, Edit, Undo, Redo, SetMark, TakeMark, GoBack, Begin, End, Cancel, ListMarks, TellHistory, Size, Lists}
 use Rattle.tile_listing.specs.Told.{AreLinesToTell}
 use Rattle.mvt_history.specs.History.{History}
-use Rattle.tile_reply.specs.Replies.{IsWant}
+use Rattle.tile_reply.specs.Replies.{IsOutOfMemory}
 use Rattle.tile_reply.specs.declared.refused.Refused.{Refused}
 use Rattle.tile_answer.specs.Answering.{Told, carried_out}
 
@@ -12,8 +12,8 @@ abbrev pub RequestsTellLines : Type 0
 RequestsTellLines = (request : Request) (history : History) (told : Told) → carried_out request history ≡ Ok told → AreLinesToTell told.lines
 
 -- no request is refused as out of memory, or stopped, by its definition
-abbrev pub RequestsHaveNoWant : Type 0
-RequestsHaveNoWant = (request : Request) (history : History) (reason : Refused) → carried_out request history ≡ Err reason → ¬ (IsWant reason)
+abbrev pub NoRequestIsOutOfMemory : Type 0
+NoRequestIsOutOfMemory = (request : Request) (history : History) (reason : Refused) → carried_out request history ≡ Err reason → ¬ (IsOutOfMemory reason)
 
 -- the request asks for the marks, the history, the size or a listing
 abbrev pub Looks : Request → Type 0

@@ -1,6 +1,6 @@
 //! Laws of what requests tell. Each function does nothing: its contract is the law.
 
-ghost use Rattle.tile_answer.specs.Laws.{RequestsTellLines, RequestsHaveNoWant, LooksLeaveHistory};
+ghost use Rattle.tile_answer.specs.Laws.{RequestsTellLines, NoRequestIsOutOfMemory, LooksLeaveHistory};
 
 /// What a request prints before `ok` is whole lines, and none of them begins as a refusal does.
 pub fn requests_tell_lines()
@@ -8,8 +8,8 @@ pub fn requests_tell_lines()
 {}
 
 /// With all memory no request is refused with 60, or stopped with 54.
-pub fn requests_have_no_want()
-    ensures { RequestsHaveNoWant }
+pub fn no_request_is_out_of_memory()
+    ensures { NoRequestIsOutOfMemory }
 {}
 
 /// The size, a listing, the marks and the history, where they are printed, leave the history as it

@@ -18,7 +18,7 @@ use tile_text::{put_decimal, put_signed_decimal, put_text};
 pub(crate) fn mark_lines(alloc: Global, session: &Session) -> Result<Items<u8>, Refusal>
     ensures lines { (history : History) → StandsFor session.now history →
         IfOk result (λ lines. lines.items ≡ mark_lines history) }
-    ensures want { IfErr result (λ refusal. refusal ≡ NoMemory) }
+    ensures out_of_memory { IfErr result (λ refusal. refusal ≡ NoMemory) }
 {
     let mut lines = Vec::new(alloc);
     for index in 0..session.mark_count() {
@@ -46,7 +46,7 @@ fn put_mark(lines: &mut Vec<u8>, name: &[u8], offset: i64) -> Result<(), AllocEr
 pub(crate) fn history_lines(alloc: Global, session: &Session) -> Result<Items<u8>, Refusal>
     ensures lines { (history : History) → StandsFor session.now history →
         IfOk result (λ lines. lines.items ≡ history_lines history) }
-    ensures want { IfErr result (λ refusal. refusal ≡ NoMemory) }
+    ensures out_of_memory { IfErr result (λ refusal. refusal ≡ NoMemory) }
 {
     let mut lines = reach_line(
         alloc,
@@ -79,10 +79,10 @@ fn put_open(lines: &mut Vec<u8>, commands: Option<usize>) -> Result<(), AllocErr
 }
 
 /// The line that tells how many bytes the document has. Where they are more than a file can hold,
-/// which no tile of a run has, they are not counted, and memory is wanted.
+/// which no tile of a run has, they are not counted, and the answer is that memory ran out.
 pub(crate) fn size_line(alloc: Global, document: &Document) -> Result<Items<u8>, Refusal>
     ensures line { IfOk result (λ line. line.items ≡ size_line (document_of document.now)) }
-    ensures want { IfErr result (λ refusal. refusal ≡ NoMemory) }
+    ensures out_of_memory { IfErr result (λ refusal. refusal ≡ NoMemory) }
 {
     let Some(size) = size(document) else {
         return Err(Refusal::NoMemory);

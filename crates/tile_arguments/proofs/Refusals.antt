@@ -1,4 +1,4 @@
--- No argument is refused for want of memory by its definition.
+-- No argument is refused as out of memory by its definition.
 use Rattle.std.proofs.Common.{◌≢◌, ℕ, List, [], ◌∷◌, Option, Some, None, Result, Ok, Err}
 use Rattle.std.specs.Prelude.{codes, ok_or, option_and_then}
 use Rattle.std.specs.List.{slice_split}

@@ -12,7 +12,7 @@ use Rattle.mvt_meaning.specs.declared.refusal.Refusal.{Refusal}
 use Rattle.mvt_meaning.specs.declared.refusal.Refusal.TheVariants.{NoLayer, AmbiguousLayer, NoFeature, AmbiguousFeature, NoMemory}
 use Rattle.tile_request.specs.Request.{What, Whole, OneLayer, OneFeature}
 use Rattle.tile_listing.specs.Listing.{chosen_feature, chosen_layer, joined_lines, lines_of_feature, lines_of_layer, lines_of_tile, listed, shown, with_ordinal}
-use Rattle.tile_listing.specs.Laws.{ListingsAreLines, ListingsHaveNoWant}
+use Rattle.tile_listing.specs.Laws.{ListingsAreLines, NoListingIsOutOfMemory}
 use Rattle.tile_listing.specs.Told.{MayBeTold, AreLinesToTell}
 use Rattle.tile_listing.proofs.LineLaws.{MayAllBeTold, feature_may, layer_may, tile_may}
 
@@ -42,50 +42,50 @@ listings_are_lines what document bytes e = told (shown what document) bytes (sho
 
 -- ---- refusals
 
-no_want_then : {A B : Type 0} (found : Result A Refusal) (next : A → Result B Refusal) → found ≢ Err NoMemory → ((x : A) → next x ≢ Err NoMemory) → (found >>= next) ≢ Err NoMemory
-no_want_then (Ok x) next none others e = others x e
-no_want_then (Err refusal) next none others e = let same : refusal ≡ NoMemory = cc in none (ap Err same)
+none_out_of_memory_then : {A B : Type 0} (found : Result A Refusal) (next : A → Result B Refusal) → found ≢ Err NoMemory → ((x : A) → next x ≢ Err NoMemory) → (found >>= next) ≢ Err NoMemory
+none_out_of_memory_then (Ok x) next none others e = others x e
+none_out_of_memory_then (Err refusal) next none others e = let same : refusal ≡ NoMemory = cc in none (ap Err same)
 
-ok_has_no_want : {A : Type 0} (x : A) → Ok x ≢ Err NoMemory
-ok_has_no_want x e = cc
+ok_is_not_out_of_memory : {A : Type 0} (x : A) → Ok x ≢ Err NoMemory
+ok_is_not_out_of_memory x e = cc
 
-one_has_no_want : (none several : Refusal) → none ≢ NoMemory → several ≢ NoMemory → (ordinals : List ℕ) → the_one none several ordinals ≢ Err NoMemory
-one_has_no_want none several h k [] e = h cc
-one_has_no_want none several h k (ordinal ∷ []) e = cc
-one_has_no_want none several h k (ordinal ∷ next ∷ more) e = k cc
+one_is_not_out_of_memory : (none several : Refusal) → none ≢ NoMemory → several ≢ NoMemory → (ordinals : List ℕ) → the_one none several ordinals ≢ Err NoMemory
+one_is_not_out_of_memory none several h k [] e = h cc
+one_is_not_out_of_memory none several h k (ordinal ∷ []) e = cc
+one_is_not_out_of_memory none several h k (ordinal ∷ next ∷ more) e = k cc
 
-if_has_no_want : (b : Bool) (ordinal : ℕ) (none : Refusal) → none ≢ NoMemory → (if b then Ok ordinal else Err none) ≢ Err NoMemory
-if_has_no_want true ordinal none h e = cc
-if_has_no_want false ordinal none h e = h cc
+if_is_not_out_of_memory : (b : Bool) (ordinal : ℕ) (none : Refusal) → none ≢ NoMemory → (if b then Ok ordinal else Err none) ≢ Err NoMemory
+if_is_not_out_of_memory true ordinal none h e = cc
+if_is_not_out_of_memory false ordinal none h e = h cc
 
-found_has_no_want : {A : Type 0} (found : Option A) (none : Refusal) → none ≢ NoMemory → ok_or found none ≢ Err NoMemory
-found_has_no_want None none h e = h cc
-found_has_no_want (Some x) none h e = cc
+found_is_not_out_of_memory : {A : Type 0} (found : Option A) (none : Refusal) → none ≢ NoMemory → ok_or found none ≢ Err NoMemory
+found_is_not_out_of_memory None none h e = h cc
+found_is_not_out_of_memory (Some x) none h e = cc
 
-selected_has_no_want : (choice : LayerChoice) (document : Document) → selected choice document ≢ Err NoMemory
-selected_has_no_want (AtOrdinal ordinal) document = if_has_no_want (nat_lt ordinal (length (layers document))) ordinal NoLayer (λ e. cc)
-selected_has_no_want (Named name) document = one_has_no_want NoLayer AmbiguousLayer (λ e. cc) (λ e. cc) (ordinals_of (is_named name) (layers document))
+selected_is_not_out_of_memory : (choice : LayerChoice) (document : Document) → selected choice document ≢ Err NoMemory
+selected_is_not_out_of_memory (AtOrdinal ordinal) document = if_is_not_out_of_memory (nat_lt ordinal (length (layers document))) ordinal NoLayer (λ e. cc)
+selected_is_not_out_of_memory (Named name) document = one_is_not_out_of_memory NoLayer AmbiguousLayer (λ e. cc) (λ e. cc) (ordinals_of (is_named name) (layers document))
 
-feature_has_no_want : (choice : FeatureChoice) (layer : Layer) → selected_feature choice layer ≢ Err NoMemory
-feature_has_no_want (FeatureAtOrdinal ordinal) layer = if_has_no_want (nat_lt ordinal (length (features layer))) ordinal NoFeature (λ e. cc)
-feature_has_no_want (WithId id) layer = one_has_no_want NoFeature AmbiguousFeature (λ e. cc) (λ e. cc) (ordinals_of (has_id id) (features layer))
+feature_is_not_out_of_memory : (choice : FeatureChoice) (layer : Layer) → selected_feature choice layer ≢ Err NoMemory
+feature_is_not_out_of_memory (FeatureAtOrdinal ordinal) layer = if_is_not_out_of_memory (nat_lt ordinal (length (features layer))) ordinal NoFeature (λ e. cc)
+feature_is_not_out_of_memory (WithId id) layer = one_is_not_out_of_memory NoFeature AmbiguousFeature (λ e. cc) (λ e. cc) (ordinals_of (has_id id) (features layer))
 
-ordinal_has_no_want : {A : Type 0} (none : Refusal) (items : List A) (ordinal : ℕ) → none ≢ NoMemory → with_ordinal none items ordinal ≢ Err NoMemory
-ordinal_has_no_want none items ordinal h = no_want_then (ok_or (slice_get items ordinal) none) (λ item. Ok (ordinal, item)) (found_has_no_want (slice_get items ordinal) none h) (λ item. ok_has_no_want (ordinal, item))
+ordinal_is_not_out_of_memory : {A : Type 0} (none : Refusal) (items : List A) (ordinal : ℕ) → none ≢ NoMemory → with_ordinal none items ordinal ≢ Err NoMemory
+ordinal_is_not_out_of_memory none items ordinal h = none_out_of_memory_then (ok_or (slice_get items ordinal) none) (λ item. Ok (ordinal, item)) (found_is_not_out_of_memory (slice_get items ordinal) none h) (λ item. ok_is_not_out_of_memory (ordinal, item))
 
-layer_has_no_want : (choice : LayerChoice) (document : Document) → chosen_layer choice document ≢ Err NoMemory
-layer_has_no_want choice document = no_want_then (selected choice document) (with_ordinal NoLayer (layers document)) (selected_has_no_want choice document) (λ ordinal. ordinal_has_no_want NoLayer (layers document) ordinal (λ e. cc))
+layer_is_not_out_of_memory : (choice : LayerChoice) (document : Document) → chosen_layer choice document ≢ Err NoMemory
+layer_is_not_out_of_memory choice document = none_out_of_memory_then (selected choice document) (with_ordinal NoLayer (layers document)) (selected_is_not_out_of_memory choice document) (λ ordinal. ordinal_is_not_out_of_memory NoLayer (layers document) ordinal (λ e. cc))
 
-chosen_has_no_want : (choice : FeatureChoice) (layer : Layer) → chosen_feature choice layer ≢ Err NoMemory
-chosen_has_no_want choice layer = no_want_then (selected_feature choice layer) (with_ordinal NoFeature (features layer)) (feature_has_no_want choice layer) (λ ordinal. ordinal_has_no_want NoFeature (features layer) ordinal (λ e. cc))
+chosen_is_not_out_of_memory : (choice : FeatureChoice) (layer : Layer) → chosen_feature choice layer ≢ Err NoMemory
+chosen_is_not_out_of_memory choice layer = none_out_of_memory_then (selected_feature choice layer) (with_ordinal NoFeature (features layer)) (feature_is_not_out_of_memory choice layer) (λ ordinal. ordinal_is_not_out_of_memory NoFeature (features layer) ordinal (λ e. cc))
 
-shown_has_no_want : (what : What) (document : Document) → shown what document ≢ Err NoMemory
-shown_has_no_want Whole document = ok_has_no_want (lines_of_tile document)
-shown_has_no_want (OneLayer choice) document = no_want_then (chosen_layer choice document) (λ layer. Ok (lines_of_layer layer.0 layer.1)) (layer_has_no_want choice document) (λ layer. ok_has_no_want (lines_of_layer layer.0 layer.1))
-shown_has_no_want (OneFeature choice feature_choice) document =
-    no_want_then (chosen_layer choice document) (λ layer. (chosen_feature feature_choice layer.1 >>= λ feature. Ok (lines_of_feature layer.1 feature.0 feature.1))) (layer_has_no_want choice document)
-    (λ layer. no_want_then (chosen_feature feature_choice layer.1) (λ feature. Ok (lines_of_feature layer.1 feature.0 feature.1)) (chosen_has_no_want feature_choice layer.1) (λ feature. ok_has_no_want (lines_of_feature layer.1 feature.0 feature.1)))
+shown_is_not_out_of_memory : (what : What) (document : Document) → shown what document ≢ Err NoMemory
+shown_is_not_out_of_memory Whole document = ok_is_not_out_of_memory (lines_of_tile document)
+shown_is_not_out_of_memory (OneLayer choice) document = none_out_of_memory_then (chosen_layer choice document) (λ layer. Ok (lines_of_layer layer.0 layer.1)) (layer_is_not_out_of_memory choice document) (λ layer. ok_is_not_out_of_memory (lines_of_layer layer.0 layer.1))
+shown_is_not_out_of_memory (OneFeature choice feature_choice) document =
+    none_out_of_memory_then (chosen_layer choice document) (λ layer. (chosen_feature feature_choice layer.1 >>= λ feature. Ok (lines_of_feature layer.1 feature.0 feature.1))) (layer_is_not_out_of_memory choice document)
+    (λ layer. none_out_of_memory_then (chosen_feature feature_choice layer.1) (λ feature. Ok (lines_of_feature layer.1 feature.0 feature.1)) (chosen_is_not_out_of_memory feature_choice layer.1) (λ feature. ok_is_not_out_of_memory (lines_of_feature layer.1 feature.0 feature.1)))
 
-pub listings_have_no_want : ListingsHaveNoWant
+pub no_listing_is_out_of_memory : NoListingIsOutOfMemory
 unfolding listed
-listings_have_no_want what document = no_want_then (shown what document) (λ lines. Ok (joined_lines lines)) (shown_has_no_want what document) (λ lines. ok_has_no_want (joined_lines lines))
+no_listing_is_out_of_memory what document = none_out_of_memory_then (shown what document) (λ lines. Ok (joined_lines lines)) (shown_is_not_out_of_memory what document) (λ lines. ok_is_not_out_of_memory (joined_lines lines))

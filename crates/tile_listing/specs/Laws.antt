@@ -13,8 +13,8 @@ abbrev pub ListingsAreLines : Type 0
 ListingsAreLines = (what : What) (document : Document) (lines : List ℕ) → listed what document ≡ Ok lines → AreLinesToTell lines
 
 -- no listing is refused as out of memory by its definition
-abbrev pub ListingsHaveNoWant : Type 0
-ListingsHaveNoWant = (what : What) (document : Document) → listed what document ≢ Err NoMemory
+abbrev pub NoListingIsOutOfMemory : Type 0
+NoListingIsOutOfMemory = (what : What) (document : Document) → listed what document ≢ Err NoMemory
 
 -- a layer that is selected is there, so a listing of it is refused only as the selection is
 abbrev pub SelectedLayerIsThere : Type 0

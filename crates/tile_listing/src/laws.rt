@@ -1,6 +1,6 @@
 //! Laws of listings. Each function does nothing: its contract is the law.
 
-ghost use Rattle.tile_listing.specs.Laws.{ListingsAreLines, ListingsHaveNoWant, SelectedFeatureIsThere, SelectedLayerIsThere};
+ghost use Rattle.tile_listing.specs.Laws.{ListingsAreLines, NoListingIsOutOfMemory, SelectedFeatureIsThere, SelectedLayerIsThere};
 
 /// A listing is whole lines, none of which begins as a refusal does.
 pub fn listings_are_lines()
@@ -8,8 +8,8 @@ pub fn listings_are_lines()
 {}
 
 /// With all memory no listing is refused as out of memory.
-pub fn listings_have_no_want()
-    ensures { ListingsHaveNoWant }
+pub fn no_listing_is_out_of_memory()
+    ensures { NoListingIsOutOfMemory }
 {}
 
 /// A layer or a feature that is selected is there, so a listing is refused only as the selection

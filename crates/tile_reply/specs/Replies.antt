@@ -139,9 +139,9 @@ reply_to line (Ok lines) = accepted_reply lines
 reply_to line (Err reason) = refused_reply line reason
 
 -- the refusal is 60 or 54: out of memory for the line, or for the rest of what it asks for
-abbrev pub IsWant : Refused → Type 0
-IsWant reason = (refusal_number reason ≡ 60) ⊎ (refusal_number reason ≡ 54)
+abbrev pub IsOutOfMemory : Refused → Type 0
+IsOutOfMemory reason = (refusal_number reason ≡ 60) ⊎ (refusal_number reason ≡ 54)
 
 -- no reply with the refusal 60 or 54 stands at the beginning of the bytes or behind a line feed in them
-abbrev pub HasNoWant : List ℕ → Type 0
-HasNoWant replies = (line : ℕ) (reason : Refused) (front rest : List ℕ) → EndsWithALine front → IsWant reason → replies ≢ front ++ refused_reply line reason ++ rest
+abbrev pub NoneIsOutOfMemory : List ℕ → Type 0
+NoneIsOutOfMemory replies = (line : ℕ) (reason : Refused) (front rest : List ℕ) → EndsWithALine front → IsOutOfMemory reason → replies ≢ front ++ refused_reply line reason ++ rest

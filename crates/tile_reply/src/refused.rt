@@ -62,7 +62,7 @@ impl Refused {
         }
     }
 
-    /// How many steps, or commands of the open step, were taken before want of memory stopped the
+    /// How many steps, or commands of the open step, were taken before memory ran out and stopped the
     /// request.
     pub fn taken(self) -> Option<usize>
         ensures { result ≡ taken_in self }

@@ -14,8 +14,8 @@ use Rattle.tile_device.specs.declared.device.Trouble.TheVariants.{Interrupted, F
 use Rattle.tile_lines.specs.Lines.{lines_of, whole_lines}
 use Rattle.tile_run.specs.Course.{Course, OpensAgain, retries_in, start_of, IsOpened, IsEdited, IsWritten, CarriesThrough, StopsBetween, StopsStrictly, OpensAsNothing, IsFaultOf, IsFaulty, lines_in}
 use Rattle.tile_run.specs.DeviceLaws.{HaveLowCounts}
-use Rattle.tile_run.specs.Headline.{Devices, HasLowCounts, Serves, AllServe, interruptions_between, all_interruptions, TellsNoWant, outcome_of, tile_written, IsRunOf, Headline, RefusesTile, Runs, WritesATile}
-use Rattle.tile_reply.specs.Replies.{HasNoWant}
+use Rattle.tile_run.specs.Headline.{Devices, HasLowCounts, Serves, AllServe, interruptions_between, all_interruptions, WritesNoneOutOfMemory, outcome_of, tile_written, IsRunOf, Headline, RefusesTile, Runs, WritesATile}
+use Rattle.tile_reply.specs.Replies.{NoneIsOutOfMemory}
 use Rattle.tile_run.specs.Run.{Progress, after_lines, is_over, ran, tile_of, Walk}
 use Rattle.tile_run.specs.declared.runs.TheConstants.{MAX_RETRIES, MAX_SCRIPT}
 use Rattle.tile_run.specs.declared.outcome.Options.{Options}
@@ -125,11 +125,11 @@ pub given_within : (old new : Option (List ℕ)) (bytes file : List ℕ) → old
 given_within old new bytes file e consumed =
     let front = front_given old new bytes file e consumed in omega (arith, ap length front.1, length-append bytes front.0)
 
-no_want_of : (old new : Option (List ℕ)) (replies : List ℕ) → TellsNoWant old new → Appends old new replies → HasNoWant replies
-no_want_of None new replies tells appends = absurd tells
-no_want_of (Some xs) None replies tells appends = absurd tells
-no_want_of (Some xs) (Some ys) replies tells appends =
-    subst HasNoWant (ap (drop (length xs)) appends ∙ drop_at xs replies (length xs) refl) tells
+none_out_of_memory_of : (old new : Option (List ℕ)) (replies : List ℕ) → WritesNoneOutOfMemory old new → Appends old new replies → NoneIsOutOfMemory replies
+none_out_of_memory_of None new replies tells appends = absurd tells
+none_out_of_memory_of (Some xs) None replies tells appends = absurd tells
+none_out_of_memory_of (Some xs) (Some ys) replies tells appends =
+    subst NoneIsOutOfMemory (ap (drop (length xs)) appends ∙ drop_at xs replies (length xs) refl) tells
 
 -- what was read of a source to its end is what it had
 whole_file : (old new : Seen) (intake : Intake) (file : List ℕ) → old.bytes ≡ Some file → Serves old new → Supplies old new intake → intake.is_whole ≡ true → intake.bytes ≡ file
@@ -169,7 +169,7 @@ record Premises (before after : Devices) (file script : List ℕ) : Type 0 where
   script_is : before.script.bytes ≡ Some script
   within : length script ≤ MAX_SCRIPT
   serve : AllServe before after
-  no_want : TellsNoWant before.replies.bytes after.replies.bytes
+  none_out_of_memory : WritesNoneOutOfMemory before.replies.bytes after.replies.bytes
 
 -- a file opens as one document at most
 one_opening : (file : List ℕ) (d e : Document) → OpensAs file d → OpensAs file e → d ≡ e
@@ -185,7 +185,7 @@ module _ (options : Options) (before after : Devices) (outcome : Outcome) (r : R
       → IsWritten r.course.replies progress.replies → progress ≡ after_lines options.strict (start_of options opened) (lines_in r.course.script)
   lines_carried premises opened progress walk written =
       walks_are_runs options.strict (start_of options opened) progress (lines_in r.course.script) progress.replies walk refl
-      (no_want_of before.replies.bytes after.replies.bytes progress.replies premises.no_want (grown before.replies after.replies r.course.replies progress.replies premises.serve.replies r.replies written))
+      (none_out_of_memory_of before.replies.bytes after.replies.bytes progress.replies premises.none_out_of_memory (grown before.replies after.replies r.course.replies progress.replies premises.serve.replies r.replies written))
 
   carried_through : Premises before after file script → OpensAs file document → (opened : Document) → IsOpened r.course.tile opened → (progress : Progress)
       → CarriesThrough options.strict (start_of options opened) r.course.script r.course.replies progress → progress ≡ ran document options script
@@ -285,13 +285,13 @@ not_cut A trouble size none within (inr long) = let no : ⊥ = omega (arith, wit
 
 -- a run where no device and no growth fails
 comes : (options : Options) (before after : Devices) (outcome : Outcome) → Runs options before after outcome → (file script : List ℕ) (document : Document) → before.tile.bytes ≡ Some file → OpensAs file document
-    → before.script.bytes ≡ Some script → length script ≤ MAX_SCRIPT → AllServe before after → TellsNoWant before.replies.bytes after.replies.bytes → (outcome ≡ outcomes.NoMemory → ⊥)
+    → before.script.bytes ≡ Some script → length script ≤ MAX_SCRIPT → AllServe before after → WritesNoneOutOfMemory before.replies.bytes after.replies.bytes → (outcome ≡ outcomes.NoMemory → ⊥)
     → Comes options document script before after outcome
-comes options before after outcome r file script document file_is opens script_is within serve no_want not_memory =
+comes options before after outcome r file script document file_is opens script_is within serve none_out_of_memory not_memory =
     by_outcome outcome r not_memory
   where
     premises : Premises before after file script
-    premises = record { file_is = file_is; script_is = script_is; within = within; serve = serve; no_want = no_want }
+    premises = record { file_is = file_is; script_is = script_is; within = within; serve = serve; none_out_of_memory = none_out_of_memory }
 
     by_outcome : (outcome : Outcome) (r : Runs options before after outcome) → (outcome ≡ outcomes.NoMemory → ⊥) → Comes options document script before after outcome
     by_outcome outcomes.Done r not_memory = is_edited options before after false outcomes.Done r file script document premises opens (ends_done options.strict) r.ends
@@ -307,12 +307,12 @@ comes options before after outcome r file script document file_is opens script_i
     by_outcome outcomes.NoMemory r not_memory = absurd (not_memory refl)
 
 pub headline : (options : Options) (before after : Devices) (outcome : Outcome) → Runs options before after outcome → Headline options before after outcome
-headline options before after outcome r file script document file_is opens script_is within serve no_want not_memory =
-    (comes options before after outcome r file script document file_is opens script_is within serve no_want not_memory).run
+headline options before after outcome r file script document file_is opens script_is within serve none_out_of_memory not_memory =
+    (comes options before after outcome r file script document file_is opens script_is within serve none_out_of_memory not_memory).run
 
 pub writes_a_tile : (options : Options) (before after : Devices) (outcome : Outcome) → Runs options before after outcome → WritesATile options before after outcome
-writes_a_tile options before after outcome r file script document file_is opens script_is within serve no_want not_memory on =
-    (comes options before after outcome r file script document file_is opens script_is within serve no_want not_memory).opens on
+writes_a_tile options before after outcome r file script document file_is opens script_is within serve none_out_of_memory not_memory on =
+    (comes options before after outcome r file script document file_is opens script_is within serve none_out_of_memory not_memory).opens on
 
 -- ---- a tile that opens as no document
 

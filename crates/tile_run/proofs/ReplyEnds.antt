@@ -7,7 +7,7 @@ use Rattle.std.proofs.lemmas.Bool.{cases_Bool}
 use Rattle.std.proofs.lemmas.Bool.Decides.{nat_tests}
 use Rattle.std.proofs.lemmas.List.{append_cancel_right}
 use Rattle.tile_lines.specs.Lines.{with_feed, EndsWithALine}
-use Rattle.tile_reply.specs.Replies.{accepted_reply, refused_front, refused_reply, refusal_number, refusal_name, stop_told, taken_in, IsWant}
+use Rattle.tile_reply.specs.Replies.{accepted_reply, refused_front, refused_reply, refusal_number, refusal_name, stop_told, taken_in, IsOutOfMemory}
 use Rattle.mvt_meaning.specs.declared.refusal.Refusal.TheVariants as edit
 use Rattle.mvt_history_error.specs.declared.HistoryError.TheVariants as history
 use Rattle.tile_words.specs.declared.parse_error.ParseError.TheVariants as parse
@@ -45,34 +45,34 @@ accepted_text lines = sym (append_assoc lines (codes "ok") (10 ∷ []))
 pub accepted_ends : (lines : List ℕ) → EndsWithALine (accepted_reply lines)
 accepted_ends lines = inr (lines ++ codes "ok", accepted_text lines)
 
--- each refusal with the number of want of memory is replied to alike
-pub want_reply : (line : ℕ) (reason : Refused) → refusal_number reason ≡ 60 → refused_reply line reason ≡ refused_reply line (refused.Parse parse.NoMemory)
-want_reply line (refused.Parse parse.BadUtf8) e = absurd (omega arith)
-want_reply line (refused.Parse parse.BadWord) e = absurd (omega arith)
-want_reply line (refused.Parse parse.UnknownCommand) e = absurd (omega arith)
-want_reply line (refused.Parse parse.BadArguments) e = absurd (omega arith)
-want_reply line (refused.Parse parse.BadNumber) e = absurd (omega arith)
-want_reply line (refused.Parse parse.BadValue) e = absurd (omega arith)
-want_reply line (refused.Parse parse.BadGeometryText) e = absurd (omega arith)
-want_reply line (refused.Parse parse.LineTooLong) e = absurd (omega arith)
-want_reply line (refused.Parse parse.NoMemory) e = refl
-want_reply line (refused.Edit edit.NoLayer) e = absurd (omega arith)
-want_reply line (refused.Edit edit.AmbiguousLayer) e = absurd (omega arith)
-want_reply line (refused.Edit edit.NoFeature) e = absurd (omega arith)
-want_reply line (refused.Edit edit.BadPlace) e = absurd (omega arith)
-want_reply line (refused.Edit edit.AmbiguousFeature) e = absurd (omega arith)
-want_reply line (refused.Edit edit.NameTaken) e = absurd (omega arith)
-want_reply line (refused.Edit edit.OutOfRange) e = absurd (omega arith)
-want_reply line (refused.Edit edit.TooLarge) e = absurd (omega arith)
-want_reply line (refused.Edit edit.NoMemory) e = refl
-want_reply line (refused.History history.NothingToUndo) e = absurd (omega arith)
-want_reply line (refused.History history.NothingToRedo) e = absurd (omega arith)
-want_reply line (refused.History history.NoMark) e = absurd (omega arith)
-want_reply line (refused.History history.TooManyMarks) e = absurd (omega arith)
-want_reply line (refused.History (history.Stopped taken)) e = absurd (omega arith)
-want_reply line (refused.History history.GroupOpen) e = absurd (omega arith)
-want_reply line (refused.History history.NoGroup) e = absurd (omega arith)
-want_reply line (refused.History history.NoMemory) e = refl
+-- each refusal with the number of out of memory is replied to alike
+pub out_of_memory_reply : (line : ℕ) (reason : Refused) → refusal_number reason ≡ 60 → refused_reply line reason ≡ refused_reply line (refused.Parse parse.NoMemory)
+out_of_memory_reply line (refused.Parse parse.BadUtf8) e = absurd (omega arith)
+out_of_memory_reply line (refused.Parse parse.BadWord) e = absurd (omega arith)
+out_of_memory_reply line (refused.Parse parse.UnknownCommand) e = absurd (omega arith)
+out_of_memory_reply line (refused.Parse parse.BadArguments) e = absurd (omega arith)
+out_of_memory_reply line (refused.Parse parse.BadNumber) e = absurd (omega arith)
+out_of_memory_reply line (refused.Parse parse.BadValue) e = absurd (omega arith)
+out_of_memory_reply line (refused.Parse parse.BadGeometryText) e = absurd (omega arith)
+out_of_memory_reply line (refused.Parse parse.LineTooLong) e = absurd (omega arith)
+out_of_memory_reply line (refused.Parse parse.NoMemory) e = refl
+out_of_memory_reply line (refused.Edit edit.NoLayer) e = absurd (omega arith)
+out_of_memory_reply line (refused.Edit edit.AmbiguousLayer) e = absurd (omega arith)
+out_of_memory_reply line (refused.Edit edit.NoFeature) e = absurd (omega arith)
+out_of_memory_reply line (refused.Edit edit.BadPlace) e = absurd (omega arith)
+out_of_memory_reply line (refused.Edit edit.AmbiguousFeature) e = absurd (omega arith)
+out_of_memory_reply line (refused.Edit edit.NameTaken) e = absurd (omega arith)
+out_of_memory_reply line (refused.Edit edit.OutOfRange) e = absurd (omega arith)
+out_of_memory_reply line (refused.Edit edit.TooLarge) e = absurd (omega arith)
+out_of_memory_reply line (refused.Edit edit.NoMemory) e = refl
+out_of_memory_reply line (refused.History history.NothingToUndo) e = absurd (omega arith)
+out_of_memory_reply line (refused.History history.NothingToRedo) e = absurd (omega arith)
+out_of_memory_reply line (refused.History history.NoMark) e = absurd (omega arith)
+out_of_memory_reply line (refused.History history.TooManyMarks) e = absurd (omega arith)
+out_of_memory_reply line (refused.History (history.Stopped taken)) e = absurd (omega arith)
+out_of_memory_reply line (refused.History history.GroupOpen) e = absurd (omega arith)
+out_of_memory_reply line (refused.History history.NoGroup) e = absurd (omega arith)
+out_of_memory_reply line (refused.History history.NoMemory) e = refl
 
 -- ---- the last bytes of replies
 
@@ -117,20 +117,20 @@ refused_last line reason =
     last_two-append (0, 0) (refused_front line reason) (stop_told (taken_in reason))
     ∙ ap (λ (ends : ℕ × ℕ). last_two ends (stop_told (taken_in reason))) (last_two-append (0, 0) (before_name line reason) (refusal_name reason))
 
--- the number is that of a want of memory
-abbrev pub wants : ℕ → Bool
-wants number = (number == 60) || (number == 54)
+-- the number is one of out of memory
+abbrev pub runs_out : ℕ → Bool
+runs_out number = (number == 60) || (number == 54)
 
 -- the text ends with the y of `NoMemory`, or with a number
-abbrev ends_wanting : ℕ × ℕ → Bool
-ends_wanting ends = (ends.1 == 121) || (ends.1 == 32)
+abbrev ends_out_of_memory : ℕ × ℕ → Bool
+ends_out_of_memory ends = (ends.1 == 121) || (ends.1 == 32)
 
 -- the text ends with `ok`
 abbrev ends_with_ok : ℕ × ℕ → Bool
 ends_with_ok ends = (ends.0 == 111) && (ends.1 == 107)
 
 -- so the text tells whether memory was refused
-ends_tell : (ends : ℕ × ℕ) (reason : Refused) → (ends_wanting (ends_of ends reason) ≡ wants (refusal_number reason)) × (ends_with_ok (ends_of ends reason) ≡ false)
+ends_tell : (ends : ℕ × ℕ) (reason : Refused) → (ends_out_of_memory (ends_of ends reason) ≡ runs_out (refusal_number reason)) × (ends_with_ok (ends_of ends reason) ≡ false)
 ends_tell ends (refused.Parse parse.BadUtf8) = (refl, refl)
 ends_tell ends (refused.Parse parse.BadWord) = (refl, refl)
 ends_tell ends (refused.Parse parse.UnknownCommand) = (refl, refl)
@@ -155,7 +155,7 @@ ends_tell ends (refused.History history.NoMark) = (refl, refl)
 ends_tell ends (refused.History history.TooManyMarks) = (refl, refl)
 ends_tell ends (refused.History (history.Stopped taken)) =
     let same = last_two-decimal (110, 32) taken in
-    (ap ends_wanting same, ap ends_with_ok same)
+    (ap ends_out_of_memory same, ap ends_with_ok same)
 ends_tell ends (refused.History history.GroupOpen) = (refl, refl)
 ends_tell ends (refused.History history.NoGroup) = (refl, refl)
 ends_tell ends (refused.History history.NoMemory) = (refl, refl)
@@ -169,35 +169,35 @@ accepted_is_not_refused lines line reason e =
     let no : true ≡ false = ap ends_with_ok ends ∙ (ends_tell (last_two (0, 0) (before_name line reason)) reason).1 in
     absurd cc
 
--- ---- want of memory
+-- ---- out of memory
 
-wants_is : (reason : Refused) → IsWant reason → wants (refusal_number reason) ≡ true
-wants_is reason (inl e) = ap wants e
-wants_is reason (inr e) = ap wants e
+runs_out_is : (reason : Refused) → IsOutOfMemory reason → runs_out (refusal_number reason) ≡ true
+runs_out_is reason (inl e) = ap runs_out e
+runs_out_is reason (inr e) = ap runs_out e
 
-pub wants_not : (reason : Refused) → wants (refusal_number reason) ≡ false → ¬ (IsWant reason)
-wants_not reason other want = let no : true ≡ false = sym (wants_is reason want) ∙ other in absurd cc
+pub runs_out_not : (reason : Refused) → runs_out (refusal_number reason) ≡ false → ¬ (IsOutOfMemory reason)
+runs_out_not reason other out_of_memory = let no : true ≡ false = sym (runs_out_is reason out_of_memory) ∙ other in absurd cc
 
-wants_other : (reason : Refused) → ¬ (IsWant reason) → wants (refusal_number reason) ≡ false
-wants_other reason other =
-    elim (cases_Bool (wants (refusal_number reason))) [
-      | inl wanting ↦ absurd (other (is_want reason wanting))
+runs_out_other : (reason : Refused) → ¬ (IsOutOfMemory reason) → runs_out (refusal_number reason) ≡ false
+runs_out_other reason other =
+    elim (cases_Bool (runs_out (refusal_number reason))) [
+      | inl short_of_memory ↦ absurd (other (is_out_of_memory reason short_of_memory))
       | inr not ↦ not
     ]
   where
-    is_want : (reason : Refused) → wants (refusal_number reason) ≡ true → IsWant reason
-    is_want reason wanting =
+    is_out_of_memory : (reason : Refused) → runs_out (refusal_number reason) ≡ true → IsOutOfMemory reason
+    is_out_of_memory reason short_of_memory =
         elim (cases_Bool (refusal_number reason == 60)) [
           | inl whole ↦ inl (grind (arith, nat_tests))
           | inr other ↦ inr (grind (arith, nat_tests))
         ]
 
--- the text of a refusal that is no want of memory is that of no want
-pub other_is_no_want : (line other_line : ℕ) (reason wanting : Refused) → ¬ (IsWant reason) → IsWant wanting → refused_text line reason ≢ refused_text other_line wanting
-other_is_no_want line other_line reason wanting other want e =
+-- the text of a refusal that is not out of memory is that of none that is
+pub other_is_not_out_of_memory : (line other_line : ℕ) (reason short_of_memory : Refused) → ¬ (IsOutOfMemory reason) → IsOutOfMemory short_of_memory → refused_text line reason ≢ refused_text other_line short_of_memory
+other_is_not_out_of_memory line other_line reason short_of_memory other out_of_memory e =
     let first = ends_tell (last_two (0, 0) (before_name line reason)) reason in
-    let second = ends_tell (last_two (0, 0) (before_name other_line wanting)) wanting in
-    let same : wants (refusal_number reason) ≡ wants (refusal_number wanting) =
-    sym first.0 ∙ ap ends_wanting (sym (refused_last line reason) ∙ ap (last_two (0, 0)) e ∙ refused_last other_line wanting) ∙ second.0 in
-    let no : false ≡ true = sym (wants_other reason other) ∙ same ∙ wants_is wanting want in
+    let second = ends_tell (last_two (0, 0) (before_name other_line short_of_memory)) short_of_memory in
+    let same : runs_out (refusal_number reason) ≡ runs_out (refusal_number short_of_memory) =
+    sym first.0 ∙ ap ends_out_of_memory (sym (refused_last line reason) ∙ ap (last_two (0, 0)) e ∙ refused_last other_line short_of_memory) ∙ second.0 in
+    let no : false ≡ true = sym (runs_out_other reason other) ∙ same ∙ runs_out_is short_of_memory out_of_memory in
     absurd cc

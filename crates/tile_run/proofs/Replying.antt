@@ -9,10 +9,10 @@ use Rattle.mvt_document.specs.Wire.{bytes_of}
 use Rattle.mvt_history.specs.History.{History, standing_document}
 use Rattle.tile_answer.specs.Answering.{Told, carried_out}
 use Rattle.tile_answer.proofs.AnswerLaws.{looks_leave_history}
-use Rattle.tile_reply.specs.Replies.{accepted_reply, refused_reply, IsWant, HasNoWant}
+use Rattle.tile_reply.specs.Replies.{accepted_reply, refused_reply, IsOutOfMemory, NoneIsOutOfMemory}
 use Rattle.tile_run.specs.Run.{Progress, ran, tile_of, settled_by, answered_by, after_line, is_over, after_lines, MayFollow, Walk}
 use Rattle.mvt_history_error.specs.declared.HistoryError.TheVariants.{Stopped}
-use Rattle.tile_run.specs.RunLaws.{WalksWithoutWantAreRuns}
+use Rattle.tile_run.specs.RunLaws.{WalksNeverOutOfMemoryAreRuns}
 use Rattle.tile_words.specs.declared.parse_error.ParseError.{ParseError}
 use Rattle.tile_words.specs.declared.parse_error.ParseError.TheVariants as parse
 use Rattle.tile_reply.specs.declared.refused.Refused.{Refused}
@@ -82,28 +82,28 @@ cut : (p next q : Progress) (added : List ℕ) → q.replies ≡ p.replies ++ ad
 unfolding adds_both
 cut p next q added e first others = append_cancel_left p.replies added (first.reply ++ others.reply) (sym e ∙ (adds_both p next q first others).is)
 
-no_want_behind : (front rest : List ℕ) → EndsWithALine front → HasNoWant (front ++ rest) → HasNoWant rest
-no_want_behind front rest whole none line reason before behind ends want e =
-    none line reason (front ++ before) behind (ends-append front before whole ends) want (
+none_out_of_memory_behind : (front rest : List ℕ) → EndsWithALine front → NoneIsOutOfMemory (front ++ rest) → NoneIsOutOfMemory rest
+none_out_of_memory_behind front rest whole none line reason before behind ends out_of_memory e =
+    none line reason (front ++ before) behind (ends-append front before whole ends) out_of_memory (
     ap (λ (xs : List ℕ). front ++ xs) e ∙ sym (append_assoc front (before ++ refused_reply line reason) behind)
     ∙ ap (λ (xs : List ℕ). xs ++ behind) (sym (append_assoc front before (refused_reply line reason)))
     )
 
 -- a reply that says that memory was refused would be at the front of what was added
-wanted : (p next q : Progress) (added : List ℕ) (reason : Refused) → IsWant reason → next.replies ≡ p.replies ++ refused_reply (p.lines + 1) reason → Adds next q → q.replies ≡ p.replies ++ added → HasNoWant added → ⊥
+wanted : (p next q : Progress) (added : List ℕ) (reason : Refused) → IsOutOfMemory reason → next.replies ≡ p.replies ++ refused_reply (p.lines + 1) reason → Adds next q → q.replies ≡ p.replies ++ added → NoneIsOutOfMemory added → ⊥
 unfolding refusal_adds
-wanted p next q added reason want is others e none =
-    none (p.lines + 1) reason [] others.reply (inl refl) want (cut p next q added e (refusal_adds p next reason is) others)
+wanted p next q added reason out_of_memory is others e none =
+    none (p.lines + 1) reason [] others.reply (inl refl) out_of_memory (cut p next q added e (refusal_adds p next reason is) others)
 
 -- no reply says that memory was refused, so it was not at this line
-follows_as_run : (p next q : Progress) (line added : List ℕ) → MayFollow p line next → Adds next q → q.replies ≡ p.replies ++ added → HasNoWant added → next ≡ after_line p line
+follows_as_run : (p next q : Progress) (line added : List ℕ) → MayFollow p line next → Adds next q → q.replies ≡ p.replies ++ added → NoneIsOutOfMemory added → next ≡ after_line p line
 follows_as_run p next q line added (inl follows) others e none = follows
 follows_as_run p next q line added (inr (inl (takes, follows))) others e none =
     absurd (wanted p next q added (refused.Parse parse.NoMemory) (inl refl) (ap (λ (r : Progress). r.replies) follows) others e none)
 follows_as_run p next q line added (inr (inr stop)) others e none =
     absurd (wanted p next q added (refused.History (Stopped stop.taken)) (inr refl) (ap (λ (r : Progress). r.replies) stop.stopped) others e none)
 
-pub walks_are_runs : WalksWithoutWantAreRuns
+pub walks_are_runs : WalksNeverOutOfMemoryAreRuns
 walks_are_runs strict p q [] added walk e none = walk
 walks_are_runs strict p q (line ∷ lines) added walk e none =
     elim (cases_Bool (is_over strict p)) [
@@ -112,7 +112,7 @@ walks_are_runs strict p q (line ∷ lines) added walk e none =
           let steps = walk_on strict p q line lines on walk in
           let others = walk_adds strict steps.0 lines q steps.2 in
           let first = follow_adds p line steps.0 steps.1 in
-          let rest = no_want_behind first.reply others.reply first.ends (subst HasNoWant (cut p steps.0 q added e first others) none) in
+          let rest = none_out_of_memory_behind first.reply others.reply first.ends (subst NoneIsOutOfMemory (cut p steps.0 q added e first others) none) in
           rw on (
           walks_are_runs strict steps.0 q lines others.reply steps.2 others.is rest
           ∙ ap (λ (r : Progress). after_lines strict r lines) (follows_as_run p steps.0 q line added steps.1 others e none)

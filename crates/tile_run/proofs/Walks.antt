@@ -15,7 +15,7 @@ use Rattle.tile_words.specs.declared.parse_error.ParseError.TheVariants as parse
 use Rattle.tile_reply.specs.declared.refused.Refused.{Refused}
 use Rattle.tile_reply.specs.declared.refused.Refused.TheVariants as refused
 use Rattle.mvt_history.specs.declared.session.Session.{Session}
-use Rattle.tile_run.proofs.ReplyEnds.{want_reply}
+use Rattle.tile_run.proofs.ReplyEnds.{out_of_memory_reply}
 use Rattle.tile_run.proofs.Taking.{requests_take_memory}
 
 -- a line that asks for nothing
@@ -26,10 +26,10 @@ carries_nothing session line p asks stands = record {
   stands = stands;
 }
 
--- a refusal with the number of want of memory
-wanting : (p : Progress) (reason : Refused) → refusal_number reason ≡ 60 → refused_for reason p ≡ without_memory p
-wanting p reason want =
-    ap (λ (reply : List ℕ). record { lines = p.lines + 1; history = p.history; replies = p.replies ++ reply; any_refused = true }) (want_reply (p.lines + 1) reason want)
+-- a refusal with the number of out of memory
+short_of_memory : (p : Progress) (reason : Refused) → refusal_number reason ≡ 60 → refused_for reason p ≡ without_memory p
+short_of_memory p reason out_of_memory =
+    ap (λ (reply : List ℕ). record { lines = p.lines + 1; history = p.history; replies = p.replies ++ reply; any_refused = true }) (out_of_memory_reply (p.lines + 1) reason out_of_memory)
 
 -- a request
 pub carries_request : (session : Session) (line : List ℕ) (request : Request) (p : Progress) (r : Result (Held ℕ) Refused)
@@ -42,7 +42,7 @@ carries_request session line request p (Ok told) asks answers = record {
 carries_request session line request p (Err reason) asks (inl (refused, stands)) = record {
   history = p.history;
   follows = elim refused [
-    | inl (may, want) ↦ inr (inl (requests_take_memory line request asks, wanting p reason want))
+    | inl (may, out_of_memory) ↦ inr (inl (requests_take_memory line request asks, short_of_memory p reason out_of_memory))
     | inr e ↦ inl (ap (settled_by p) (sym e) ∙ ap (answered_by p) (sym asks))
   ];
   stands = stands;

@@ -15,7 +15,7 @@ use Rattle.tile_run.specs.declared.outcome.Outcome.TheVariants as outcomes
 use Rattle.tile_run.specs.declared.outcome.DeviceName.TheVariants as devices
 use Rattle.tile_run.specs.declared.outcome.TileFault.{TileFault}
 use Rattle.tile_run.specs.Course.{Course, Ends, IsPatient, OpensAgain, OpensAsNothing, IsFaultOf}
-use Rattle.tile_reply.specs.Replies.{HasNoWant}
+use Rattle.tile_reply.specs.Replies.{NoneIsOutOfMemory}
 use Rattle.tile_lines.specs.Lines.{lines_of}
 use Rattle.tile_run.specs.Run.{Progress, after_lines, is_over, ran, tile_of}
 use Rattle.tile_device.specs.Seen.{Seen, source_at, sink_at, Supplies, Receives}
@@ -65,11 +65,11 @@ pub record AllServe (before after : Devices) : Type 0 where
   pub out : Serves before.out after.out
   pub patient : all_interruptions before after ≤ MAX_RETRIES
 
--- the replies written between two moments are known, and none of them is 60 or 54, out of memory (`HasNoWant`)
-abbrev pub TellsNoWant : Option (List ℕ) → Option (List ℕ) → Type 0
-TellsNoWant None new = ⊥
-TellsNoWant (Some old) None = ⊥
-TellsNoWant (Some old) (Some new) = HasNoWant (appended_bytes old new)
+-- the replies written between two moments are known, and none of them is 60 or 54, out of memory (`NoneIsOutOfMemory`)
+abbrev pub WritesNoneOutOfMemory : Option (List ℕ) → Option (List ℕ) → Type 0
+WritesNoneOutOfMemory None new = ⊥
+WritesNoneOutOfMemory (Some old) None = ⊥
+WritesNoneOutOfMemory (Some old) (Some new) = NoneIsOutOfMemory (appended_bytes old new)
 
 -- the outcome of a run that comes to this progress: `StrictStop` where a strict run is over, else `SomeRefused` where a
 -- line was refused, else `Done`
@@ -95,7 +95,7 @@ abbrev pub Headline : Options → Devices → Devices → Outcome → Type 0
 Headline options before after outcome =
     (file script : List ℕ) (document : Document) → before.tile.bytes ≡ Some file → OpensAs file document
     → before.script.bytes ≡ Some script → length script ≤ MAX_SCRIPT
-    → AllServe before after → TellsNoWant before.replies.bytes after.replies.bytes → outcome ≢ outcomes.NoMemory
+    → AllServe before after → WritesNoneOutOfMemory before.replies.bytes after.replies.bytes → outcome ≢ outcomes.NoMemory
     → IsRunOf options document script before after outcome
 
 -- under the same premises, where a strict run is not over: the tile that is written opens again
@@ -103,7 +103,7 @@ abbrev pub WritesATile : Options → Devices → Devices → Outcome → Type 0
 WritesATile options before after outcome =
     (file script : List ℕ) (document : Document) → before.tile.bytes ≡ Some file → OpensAs file document
     → before.script.bytes ≡ Some script → length script ≤ MAX_SCRIPT
-    → AllServe before after → TellsNoWant before.replies.bytes after.replies.bytes → outcome ≢ outcomes.NoMemory
+    → AllServe before after → WritesNoneOutOfMemory before.replies.bytes after.replies.bytes → outcome ≢ outcomes.NoMemory
     → is_over options.strict (ran document options script) ≡ false → OpensAgain (ran document options script)
 
 -- for every tile that opens as no document, where all devices serve and the outcome is not `NoMemory`: the outcome is

@@ -12,7 +12,7 @@ use Rattle.mvt_history.specs.Requests as asks
 use Rattle.mvt_history.specs.Requests.{asked_all}
 use Rattle.tile_words.specs.declared.parse_error.ParseError.{ParseError}
 use Rattle.tile_answer.specs.Laws.{Looks}
-use Rattle.tile_reply.specs.Replies.{accepted_reply, refused_reply, HasNoWant}
+use Rattle.tile_reply.specs.Replies.{accepted_reply, refused_reply, NoneIsOutOfMemory}
 use Rattle.tile_run.specs.Run.{Progress, after_line, after_lines, is_over, ran, tile_of, Walk}
 use Rattle.tile_run.specs.declared.outcome.Options.{Options}
 use Rattle.tile_reply.specs.declared.refused.Refused.{Refused}
@@ -29,7 +29,7 @@ FrontsStand =
     → ran document options (front ++ rest) ≡ after_lines options.strict (ran document options front) (lines_of rest)
 
 -- where growths may be refused, and no reply says that one was, by 60 or 54, all comes as where none is refused
-abbrev pub WalksWithoutWantAreRuns : Type 0
-WalksWithoutWantAreRuns =
+abbrev pub WalksNeverOutOfMemoryAreRuns : Type 0
+WalksNeverOutOfMemoryAreRuns =
     (strict : Bool) (p q : Progress) (lines : List (List ℕ)) (added : List ℕ) → Walk strict p lines q
-    → q.replies ≡ p.replies ++ added → HasNoWant added → q ≡ after_lines strict p lines
+    → q.replies ≡ p.replies ++ added → NoneIsOutOfMemory added → q ≡ after_lines strict p lines

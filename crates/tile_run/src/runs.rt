@@ -37,7 +37,7 @@ pub fn run<R1: Source, R2: Source, W1: Sink, W2: Sink>(
     requires some_depth { 1 ≤ options.depth }
     requires depth { options.depth ≤ MAX_DEPTH }
 
-    // Where no device fails and memory is not wanted: the script on the document.
+    // Where no device fails and memory does not run out: the script on the document.
     ensures headline { Headline options
         (devices_at R1.Source R2.Source W1.Sink W2.Sink tile.old script.old replies.old out.old)
         (devices_at R1.Source R2.Source W1.Sink W2.Sink tile.new script.new replies.new out.new)

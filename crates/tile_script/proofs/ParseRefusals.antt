@@ -1,4 +1,4 @@
--- No line is refused for want of memory by its definition.
+-- No line is refused as out of memory by its definition.
 use Rattle.std.proofs.Common.{ℕ, not, List, [], ◌∷◌, length, Option, Some, None}
 use Rattle.std.specs.Prelude.{nat_lt, ok_or}
 use Rattle.std.specs.Str.{is_utf8}

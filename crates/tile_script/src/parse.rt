@@ -21,7 +21,7 @@ use tile_words::{ParseError, after_blanks, words_of};
 pub fn parse_line(alloc: Global, line: &[u8]) -> Result<Option<Request>, ParseError>
     ensures answer { Gives (option_map request_of) result (answer_to line.now) }
 
-    // For a line that is too long or no UTF-8, a blank line and a comment memory is never wanted.
+    // For a line that is too long or no UTF-8, a blank line and a comment memory never runs out.
     ensures no_memory { IsErrOf result ParseError.NoMemory → TakesMemory line.now }
 {
     if line.len() > LINE_LIMIT {
@@ -42,7 +42,7 @@ pub fn parse_cut(alloc: Global, cut: Cut<'_>) -> Result<Option<Request>, ParseEr
     ensures answer { (line : List ℕ) → cut_of line ≡ cut_seen cut.entry
         → Gives (option_map request_of) result (answer_to line) }
 
-    // Where memory is never wanted for a line, it is never wanted for its cut.
+    // Where memory never runs out for a line, it never does for its cut.
     ensures no_memory { (line : List ℕ) → cut_of line ≡ cut_seen cut.entry
         → IsErrOf result ParseError.NoMemory → TakesMemory line }
 {

@@ -11,7 +11,7 @@ use Rattle.tile_run.specs.Course.{OpensAsNothing, IsFaultOf}
 use Rattle.tile_run.specs.DeviceLaws.{GivesUp, HasCause, HaveLowCounts}
 use Rattle.tile_run.specs.Headline.{Devices, AllServe, IsRunOf, Runs, outcome_of, tile_written}
 use Rattle.tileshell.specs.InMemory.{handed_out, bytes_in, tile_given, IsEditOf, EditsTile, RefusesFile, NamesLongScript}
-use Rattle.tile_reply.specs.Replies.{HasNoWant}
+use Rattle.tile_reply.specs.Replies.{NoneIsOutOfMemory}
 use Rattle.tile_run.specs.Run.{Progress, is_over, ran, tile_of}
 use Rattle.tile_run.specs.declared.outcome.DeviceName.{DeviceName}
 use Rattle.tile_run.specs.declared.outcome.DeviceName.TheVariants as devices
@@ -86,11 +86,11 @@ module _ (options : Options) (tile script replies out : List ℕ) where
       }
 
   is_run_of : (outcome : Outcome) (r : RunsInMemory options tile script replies out outcome) (document : Document) → OpensAs tile document → length script ≤ MAX_SCRIPT
-      → HasNoWant replies → outcome ≢ outcomes.NoMemory → outcome ≢ outcomes.Device devices.Replies → outcome ≢ outcomes.Device devices.Out
+      → NoneIsOutOfMemory replies → outcome ≢ outcomes.NoMemory → outcome ≢ outcomes.Device devices.Replies → outcome ≢ outcomes.Device devices.Out
       → IsRunOf options document script before (after outcome r) outcome
-  is_run_of outcome r document opens within no_want memory other_replies other_out =
+  is_run_of outcome r document opens within none_out_of_memory memory other_replies other_out =
       headline options before (after outcome r) outcome r.runs tile script document refl opens refl within
-      (all_serve outcome r other_replies other_out) (subst HasNoWant (sym (drop_at [] replies 0 refl)) no_want) memory
+      (all_serve outcome r other_replies other_out) (subst NoneIsOutOfMemory (sym (drop_at [] replies 0 refl)) none_out_of_memory) memory
 
 -- ---- the tile that is handed out
 
@@ -118,11 +118,11 @@ module _ (options : Options) (tile script : List ℕ) (replies out : Vec ℕ Glo
       → outcome ≢ outcomes.NoMemory → outcome ≢ outcomes.Device devices.Replies → outcome ≢ outcomes.Device devices.Out
       → (given : Option (Vec ℕ Global))
       → ((progress : Progress) → outcome ≡ outcome_of options.strict progress → out.items ≡ tile_written options.strict progress → bytes_in given ≡ tile_given options.strict progress)
-      → (document : Document) → OpensAs tile document → length script ≤ MAX_SCRIPT → HasNoWant replies.items
+      → (document : Document) → OpensAs tile document → length script ≤ MAX_SCRIPT → NoneIsOutOfMemory replies.items
       → IsEditOf options document script (record { outcome = outcome; replies = replies; tile = given })
-  serves_edit outcome r memory other_replies other_out given tile_is document opens within no_want =
+  serves_edit outcome r memory other_replies other_out given tile_is document opens within none_out_of_memory =
       let is : IsRunOf options document script (before options tile script replies.items out.items) (after options tile script replies.items out.items outcome r) outcome =
-      is_run_of options tile script replies.items out.items outcome r document opens within no_want memory other_replies other_out in record {
+      is_run_of options tile script replies.items out.items outcome r document opens within none_out_of_memory memory other_replies other_out in record {
         outcome = is.ends;
         replies = is.replies;
         tile = tile_is (ran document options script) is.ends is.out;
@@ -130,7 +130,7 @@ module _ (options : Options) (tile script : List ℕ) (replies out : Vec ℕ Glo
 
   with_tile_edits : (outcome : Outcome) → RunsInMemory options tile script replies.items out.items outcome → EndsWithTile outcome
       → outcome ≢ outcomes.NoMemory → outcome ≢ outcomes.Device devices.Replies → outcome ≢ outcomes.Device devices.Out
-      → (document : Document) → OpensAs tile document → length script ≤ MAX_SCRIPT → HasNoWant replies.items
+      → (document : Document) → OpensAs tile document → length script ≤ MAX_SCRIPT → NoneIsOutOfMemory replies.items
       → IsEditOf options document script (record { outcome = outcome; replies = replies; tile = Some out })
   with_tile_edits outcome r done memory other_replies other_out =
       serves_edit outcome r memory other_replies other_out (Some out)
@@ -138,28 +138,28 @@ module _ (options : Options) (tile script : List ℕ) (replies out : Vec ℕ Glo
 
   without_tile_edits : (outcome : Outcome) → RunsInMemory options tile script replies.items out.items outcome → outcome ≢ outcomes.Done → outcome ≢ outcomes.SomeRefused
       → outcome ≢ outcomes.NoMemory → outcome ≢ outcomes.Device devices.Replies → outcome ≢ outcomes.Device devices.Out
-      → (document : Document) → OpensAs tile document → length script ≤ MAX_SCRIPT → HasNoWant replies.items
+      → (document : Document) → OpensAs tile document → length script ≤ MAX_SCRIPT → NoneIsOutOfMemory replies.items
       → IsEditOf options document script (record { outcome = outcome; replies = replies; tile = None })
   without_tile_edits outcome r not_done not_refused memory other_replies other_out =
       serves_edit outcome r memory other_replies other_out None
       (λ progress ends wrote. without_tile (is_over options.strict progress) progress.any_refused outcome (tile_of progress) not_done not_refused ends)
 
   pub edits_tile : (outcome : Outcome) → RunsInMemory options tile script replies.items out.items outcome → EditsTile options tile script (handed_out outcome replies out)
-  edits_tile outcomes.Done r document opens within memory no_want =
-      with_tile_edits outcomes.Done r (inl refl) (λ e. cc) (λ e. cc) (λ e. cc) document opens within no_want
-  edits_tile outcomes.SomeRefused r document opens within memory no_want =
-      with_tile_edits outcomes.SomeRefused r (inr refl) (λ e. cc) (λ e. cc) (λ e. cc) document opens within no_want
-  edits_tile outcomes.StrictStop r document opens within memory no_want =
-      without_tile_edits outcomes.StrictStop r (λ e. cc) (λ e. cc) (λ e. cc) (λ e. cc) (λ e. cc) document opens within no_want
-  edits_tile (outcomes.TileRefused fault) r document opens within memory no_want =
-      without_tile_edits (outcomes.TileRefused fault) r (λ e. cc) (λ e. cc) (λ e. cc) (λ e. cc) (λ e. cc) document opens within no_want
-  edits_tile (outcomes.Device devices.Tile) r document opens within memory no_want =
-      without_tile_edits (outcomes.Device devices.Tile) r (λ e. cc) (λ e. cc) (λ e. cc) (λ e. cc) (λ e. cc) document opens within no_want
-  edits_tile (outcomes.Device devices.Script) r document opens within memory no_want =
-      without_tile_edits (outcomes.Device devices.Script) r (λ e. cc) (λ e. cc) (λ e. cc) (λ e. cc) (λ e. cc) document opens within no_want
-  edits_tile (outcomes.Device devices.Replies) r document opens within memory no_want = absurd (memory refl)
-  edits_tile (outcomes.Device devices.Out) r document opens within memory no_want = absurd (memory refl)
-  edits_tile outcomes.NoMemory r document opens within memory no_want = absurd (memory refl)
+  edits_tile outcomes.Done r document opens within memory none_out_of_memory =
+      with_tile_edits outcomes.Done r (inl refl) (λ e. cc) (λ e. cc) (λ e. cc) document opens within none_out_of_memory
+  edits_tile outcomes.SomeRefused r document opens within memory none_out_of_memory =
+      with_tile_edits outcomes.SomeRefused r (inr refl) (λ e. cc) (λ e. cc) (λ e. cc) document opens within none_out_of_memory
+  edits_tile outcomes.StrictStop r document opens within memory none_out_of_memory =
+      without_tile_edits outcomes.StrictStop r (λ e. cc) (λ e. cc) (λ e. cc) (λ e. cc) (λ e. cc) document opens within none_out_of_memory
+  edits_tile (outcomes.TileRefused fault) r document opens within memory none_out_of_memory =
+      without_tile_edits (outcomes.TileRefused fault) r (λ e. cc) (λ e. cc) (λ e. cc) (λ e. cc) (λ e. cc) document opens within none_out_of_memory
+  edits_tile (outcomes.Device devices.Tile) r document opens within memory none_out_of_memory =
+      without_tile_edits (outcomes.Device devices.Tile) r (λ e. cc) (λ e. cc) (λ e. cc) (λ e. cc) (λ e. cc) document opens within none_out_of_memory
+  edits_tile (outcomes.Device devices.Script) r document opens within memory none_out_of_memory =
+      without_tile_edits (outcomes.Device devices.Script) r (λ e. cc) (λ e. cc) (λ e. cc) (λ e. cc) (λ e. cc) document opens within none_out_of_memory
+  edits_tile (outcomes.Device devices.Replies) r document opens within memory none_out_of_memory = absurd (memory refl)
+  edits_tile (outcomes.Device devices.Out) r document opens within memory none_out_of_memory = absurd (memory refl)
+  edits_tile outcomes.NoMemory r document opens within memory none_out_of_memory = absurd (memory refl)
 
   -- ---- a tile that opens as no document
 

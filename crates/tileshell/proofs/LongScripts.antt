@@ -16,7 +16,7 @@ use Rattle.tile_lines.specs.Lines.{whole_lines}
 use Rattle.tile_lines.proofs.WholeLines.{whole_lines-front}
 use Rattle.tile_run.specs.Course.{start_of, lines_in, IsFaulty, IsOpened, IsWritten, CarriesThrough}
 use Rattle.tileshell.specs.InMemory.{handed_out, ran_cut, IsCutOff, CutsLongScript}
-use Rattle.tile_reply.specs.Replies.{HasNoWant}
+use Rattle.tile_reply.specs.Replies.{NoneIsOutOfMemory}
 use Rattle.tile_run.specs.Run.{Progress, after_lines, is_over, Walk}
 use Rattle.tile_run.specs.declared.outcome.DeviceName.TheVariants as devices
 use Rattle.tile_run.specs.declared.outcome.Options.{Options}
@@ -110,20 +110,20 @@ module _ (options : Options) (tile script : List ℕ) (replies out : Vec ℕ Glo
   replied outcome r progress written = r.runs.replies.bytes refl ∙ written.all
 
   -- with all memory a run comes to where its lines lead
-  comes_to : (outcome : Outcome) (r : RunsInMemory options tile script replies.items out.items outcome) → HasNoWant replies.items → (opened : Document) → IsOpened r.runs.course.tile opened
+  comes_to : (outcome : Outcome) (r : RunsInMemory options tile script replies.items out.items outcome) → NoneIsOutOfMemory replies.items → (opened : Document) → IsOpened r.runs.course.tile opened
       → (progress : Progress) → Walk options.strict (start_of options opened) (lines_in r.runs.course.script) progress → IsWritten r.runs.course.replies progress.replies
       → progress ≡ after_lines options.strict (start_of options document) (lines_in r.runs.course.script)
-  comes_to outcome r no_want opened is progress walk written =
-      walks_are_runs options.strict (start_of options opened) progress (lines_in r.runs.course.script) progress.replies walk refl (subst HasNoWant (replied outcome r progress written) no_want)
+  comes_to outcome r none_out_of_memory opened is progress walk written =
+      walks_are_runs options.strict (start_of options opened) progress (lines_in r.runs.course.script) progress.replies walk refl (subst NoneIsOutOfMemory (replied outcome r progress written) none_out_of_memory)
       ∙ ap (λ (d : Document). after_lines options.strict (start_of options d) (lines_in r.runs.course.script)) (opened_as outcome r opened is)
 
-  names_script : (r : RunsInMemory options tile script replies.items out.items (outcomes.Device devices.Script)) → HasNoWant replies.items
+  names_script : (r : RunsInMemory options tile script replies.items out.items (outcomes.Device devices.Script)) → NoneIsOutOfMemory replies.items
       → IsCutOff options document script (handed_out (outcomes.Device devices.Script) replies out)
-  names_script r no_want =
+  names_script r none_out_of_memory =
       let stops = r.runs.ends.between in
       let lines = first_lines r.script_left r.runs.course.script r.runs.script stops.cut stops.cause in
       let made : stops.progress ≡ ran_cut document options script =
-      comes_to (outcomes.Device devices.Script) r no_want r.runs.ends.document r.runs.ends.opened stops.progress stops.walk stops.replies
+      comes_to (outcomes.Device devices.Script) r none_out_of_memory r.runs.ends.document r.runs.ends.opened stops.progress stops.walk stops.replies
       ∙ ap (after_lines options.strict (start_of options document)) lines in
       let goes_on : is_over options.strict (ran_cut document options script) ≡ false = ap (is_over options.strict) (sym made) ∙ stops.goes_on in
       record {
@@ -132,14 +132,14 @@ module _ (options : Options) (tile script : List ℕ) (replies out : Vec ℕ Glo
         no_tile = refl;
       }
 
-  stops_strictly : (r : RunsInMemory options tile script replies.items out.items outcomes.StrictStop) → HasNoWant replies.items
+  stops_strictly : (r : RunsInMemory options tile script replies.items out.items outcomes.StrictStop) → NoneIsOutOfMemory replies.items
       → IsCutOff options document script (handed_out outcomes.StrictStop replies out)
-  stops_strictly r no_want =
+  stops_strictly r none_out_of_memory =
       let stops = r.runs.ends.between in
       let more = front_lines r.script_left r.runs.course.script r.runs.script stops.within in
       let made : stops.progress ≡ ran_cut document options script =
       sym (over_stays options.strict stops.progress more.0 stops.over)
-      ∙ ap (λ (p : Progress). after_lines options.strict p more.0) (comes_to outcomes.StrictStop r no_want r.runs.ends.document r.runs.ends.opened stops.progress stops.walk stops.replies)
+      ∙ ap (λ (p : Progress). after_lines options.strict p more.0) (comes_to outcomes.StrictStop r none_out_of_memory r.runs.ends.document r.runs.ends.opened stops.progress stops.walk stops.replies)
       ∙ sym (after_lines-append options.strict (start_of options document) (lines_in r.runs.course.script) more.0)
       ∙ ap (after_lines options.strict (start_of options document)) (sym more.1) in
       let over : is_over options.strict (ran_cut document options script) ≡ true = ap (is_over options.strict) (sym made) ∙ stops.over in
@@ -150,19 +150,19 @@ module _ (options : Options) (tile script : List ℕ) (replies out : Vec ℕ Glo
       }
 
   cut_off : (outcome : Outcome) → RunsInMemory options tile script replies.items out.items outcome
-      → (handed_out outcome replies out).outcome ≢ outcomes.NoMemory → HasNoWant (handed_out outcome replies out).replies.items → IsCutOff options document script (handed_out outcome replies out)
-  cut_off outcomes.Done r memory no_want = not_through _ (start_of options r.runs.ends.document) r.runs.ends.progress outcomes.Done r r.runs.ends.carried
-  cut_off outcomes.SomeRefused r memory no_want = not_through _ (start_of options r.runs.ends.document) r.runs.ends.progress outcomes.SomeRefused r r.runs.ends.carried
-  cut_off outcomes.StrictStop r memory no_want = stops_strictly r no_want
-  cut_off (outcomes.TileRefused fault) r memory no_want = not_faulty _ fault r.tile_left r.runs.course.tile r.runs.tile r.runs.ends.1
-  cut_off (outcomes.Device devices.Tile) r memory no_want =
+      → (handed_out outcome replies out).outcome ≢ outcomes.NoMemory → NoneIsOutOfMemory (handed_out outcome replies out).replies.items → IsCutOff options document script (handed_out outcome replies out)
+  cut_off outcomes.Done r memory none_out_of_memory = not_through _ (start_of options r.runs.ends.document) r.runs.ends.progress outcomes.Done r r.runs.ends.carried
+  cut_off outcomes.SomeRefused r memory none_out_of_memory = not_through _ (start_of options r.runs.ends.document) r.runs.ends.progress outcomes.SomeRefused r r.runs.ends.carried
+  cut_off outcomes.StrictStop r memory none_out_of_memory = stops_strictly r none_out_of_memory
+  cut_off (outcomes.TileRefused fault) r memory none_out_of_memory = not_faulty _ fault r.tile_left r.runs.course.tile r.runs.tile r.runs.ends.1
+  cut_off (outcomes.Device devices.Tile) r memory none_out_of_memory =
       let no : is_some r.runs.course.tile.trouble ≡ false = ap is_some (no_trouble tile r.tile_left r.runs.course.tile r.runs.tile) in
       let some : is_some r.runs.course.tile.trouble ≡ true = r.runs.ends.0 in absurd cc
-  cut_off (outcomes.Device devices.Script) r memory no_want = names_script r no_want
-  cut_off (outcomes.Device devices.Replies) r memory no_want = absurd (memory refl)
-  cut_off (outcomes.Device devices.Out) r memory no_want = absurd (memory refl)
-  cut_off outcomes.NoMemory r memory no_want = absurd (memory refl)
+  cut_off (outcomes.Device devices.Script) r memory none_out_of_memory = names_script r none_out_of_memory
+  cut_off (outcomes.Device devices.Replies) r memory none_out_of_memory = absurd (memory refl)
+  cut_off (outcomes.Device devices.Out) r memory none_out_of_memory = absurd (memory refl)
+  cut_off outcomes.NoMemory r memory none_out_of_memory = absurd (memory refl)
 
 pub cuts_long_script : (options : Options) (tile script : List ℕ) (replies out : Vec ℕ Global) (outcome : Outcome) → RunsInMemory options tile script replies.items out.items outcome
     → CutsLongScript options tile script (handed_out outcome replies out)
-cuts_long_script options tile script replies out outcome r document opens long memory no_want = cut_off options tile script replies out document opens long outcome r memory no_want
+cuts_long_script options tile script replies out outcome r document opens long memory none_out_of_memory = cut_off options tile script replies out document opens long outcome r memory none_out_of_memory

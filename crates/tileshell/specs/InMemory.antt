@@ -8,7 +8,7 @@ use Rattle.mvt_document.specs.Plain.{Document}
 use Rattle.tile_lines.specs.Lines.{whole_lines}
 use Rattle.tile_run.specs.Course.{OpensAsNothing, IsFaultOf}
 use Rattle.tile_run.specs.Headline.{outcome_of}
-use Rattle.tile_reply.specs.Replies.{HasNoWant}
+use Rattle.tile_reply.specs.Replies.{NoneIsOutOfMemory}
 use Rattle.tile_run.specs.Run.{Progress, after_lines, at_first, is_over, ran, tile_of}
 use Rattle.tileshell.specs.declared.in_memory.Edited.{Edited}
 use Rattle.tile_run.specs.declared.outcome.DeviceName.{DeviceName}
@@ -47,7 +47,7 @@ pub record IsEditOf (options : Options) (document : Document) (script : List ℕ
 -- `NoMemory` and no reply is 60 or 54: the edit is that of the script on the document
 abbrev pub EditsTile : Options → List ℕ → List ℕ → Edited → Type 0
 EditsTile options tile script edited =
-    (document : Document) → OpensAs tile document → length script ≤ MAX_SCRIPT → edited.outcome ≢ outcomes.NoMemory → HasNoWant edited.replies.items
+    (document : Document) → OpensAs tile document → length script ≤ MAX_SCRIPT → edited.outcome ≢ outcomes.NoMemory → NoneIsOutOfMemory edited.replies.items
     → IsEditOf options document script edited
 
 -- the outcome is that the tile is refused, for what is wrong with it; there are no replies and no tile
@@ -77,7 +77,7 @@ pub record IsCutOff (options : Options) (document : Document) (script : List ℕ
 -- is 60 or 54: the edit is cut off
 abbrev pub CutsLongScript : Options → List ℕ → List ℕ → Edited → Type 0
 CutsLongScript options tile script edited =
-    (document : Document) → OpensAs tile document → MAX_SCRIPT < length script → edited.outcome ≢ outcomes.NoMemory → HasNoWant edited.replies.items
+    (document : Document) → OpensAs tile document → MAX_SCRIPT < length script → edited.outcome ≢ outcomes.NoMemory → NoneIsOutOfMemory edited.replies.items
     → IsCutOff options document script edited
 
 -- the outcome names no device but the script, and that only where it has more than 16,777,216 bytes

@@ -25,8 +25,8 @@ returns c =
 
 pub returns-in_err-found : goal.returns-in_err-found
 returns-in_err-found c =
-    let want = err_from_is_err_and c.from_residual-in_err-found.result c.from_residual-in_err-found.ensures.1 in
+    let out_of_memory = err_from_is_err_and c.from_residual-in_err-found.result c.from_residual-in_err-found.ensures.1 in
     let holder = c.in_ok-holder.holder in
     let holds = c.in_ok-holder.ensures.found in
-    let same : want.0 ≡ c.in_err-found.field-0.0 = want.2 in
-    rw (want.1, same) (inr (feature_refused (layer_choice_of c.args.choice.now) (feature_choice_of c.args.feature.now) c.args.id (document_of c.args.document.now) holder.ordinal holder.position (layer_of holder.layer.now) holds.meant holds.placed holds.there c.in_err-found.field-0.0 c.in_err-found.ensures.refused))
+    let same : out_of_memory.0 ≡ c.in_err-found.field-0.0 = out_of_memory.2 in
+    rw (out_of_memory.1, same) (inr (feature_refused (layer_choice_of c.args.choice.now) (feature_choice_of c.args.feature.now) c.args.id (document_of c.args.document.now) holder.ordinal holder.position (layer_of holder.layer.now) holds.meant holds.placed holds.there c.in_err-found.field-0.0 c.in_err-found.ensures.refused))

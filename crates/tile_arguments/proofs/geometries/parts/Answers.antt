@@ -44,7 +44,7 @@ returns-in_err-part c =
     let chain = YieldsList-from_slice_split _ ends c.args.words.now (cc) (cc) (cc) (λ x r q k. search rules) in
     let turn = YieldsList-turn chain c.loop-group.yielded _ c.loop-group.yielded_by _ _ c.in-Some.group c.in-Some.is c.next.ensures.steps in
     rw refused (elim c.in_err-part.ensures [
-      | inl wanting ↦ inl wanting
+      | inl short_of_memory ↦ inl short_of_memory
       | inr e ↦ inr (plain_groups c.args.words.now ∙ onto_stops read (groups c.args.words.now) (length c.loop-group.yielded) c.in-Some.group.now (map points_of c.loop-group.parts.items) c.in_err-part.field-0.0 turn.0 (ap read (sym turn.1) ∙ e) c.loop-group.invariant)
     ])
 

@@ -20,7 +20,7 @@ unfolding texts_of
 returns-in_err-text_argument c =
     let refused : c.from_residual-in_err-text_argument.result ≡ Err c.in_err-text_argument.field-0.0 = search rules in
     rw refused (elim c.in_err-text_argument.ensures [
-      | inl wanting ↦ inl wanting
+      | inl short_of_memory ↦ inl short_of_memory
       | inr e ↦ inr (each-map text_of word_of c.args.words.now ∙ onto_stops read c.args.words.now c.loop-word.word-index _ (map (λ text. text.items) c.loop-word.texts.items) c.in_err-text_argument.field-0.0 c.loop-word-test.true e c.loop-word.invariant)
     ])
 

@@ -11,4 +11,4 @@ returns-in-Ok-Some c p line stands is =
     carries_request _ _ _ p _ e (c.carry_out.ensures.answer p.history stands)
 
 pub returns-in-Err : goal.returns-in-Err
-returns-in-Err c p line stands is = carries_refusal _ _ _ p (λ want. c.in-Err.ensures.no_memory line is (ap Err want)) (c.in-Err.ensures.answer line is) stands
+returns-in-Err c p line stands is = carries_refusal _ _ _ p (λ out_of_memory. c.in-Err.ensures.no_memory line is (ap Err out_of_memory)) (c.in-Err.ensures.answer line is) stands

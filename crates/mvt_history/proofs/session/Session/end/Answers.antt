@@ -9,7 +9,7 @@ use Rattle.mvt_history.specs.Inside.{seen_in}
 use Rattle.mvt_history.specs.Session.{StandsFor}
 use Rattle.mvt_history.proofs.Keeping.{IsKept, with_open}
 use Rattle.mvt_history.proofs.Stepping.{length_from_last}
-use Rattle.mvt_history.proofs.KeepingCommands.{is_kept, joined_from, same_from_last, no_items, some_items, seen_open, wanted_memory, on_error, empty_ended, end_accepted, ended_held, step_ended}
+use Rattle.mvt_history.proofs.KeepingCommands.{is_kept, joined_from, same_from_last, no_items, some_items, seen_open, ran_out_of_memory, on_error, empty_ended, end_accepted, ended_held, step_ended}
 use Rattle.mvt_history.proofs.session.Session.end.Goals as goal
 
 -- ---- a step of no commands
@@ -24,7 +24,7 @@ returns-then-is_empty-clause-answer c = λ history stands.
     let none = no_items pending.items pending.len pending.ok.0 c.if-is_empty.ensures in
     empty_ended history session (is ∙ ap (λ items. Some (from_last items)) none) before
 
--- ---- want of memory
+-- ---- out of memory
 
 pub invariant_of-self-in_err-change : goal.invariant_of-self-in_err-change
 invariant_of-self-in_err-change c =
@@ -43,7 +43,7 @@ returns-in_err-change-clause-answer c = λ history stands.
     let pending = c.in-Some.pending in
     let is = seen_open s.pending c.in-Some.pending c.in-Some.is in
     let same = is ∙ ap (λ changes. Some changes) (sym (same_from_last c.join.new.changes.items pending.items c.in_err-change.ensures.err)) in
-    wanted_memory (closed history) history c.from_residual.result _ c.from_residual.ensures.1 (end_accepted history session (from_last pending.items) is before) (subst (λ pending. StandsFor (with_open session.document pending session) history) same before)
+    ran_out_of_memory (closed history) history c.from_residual.result _ c.from_residual.ensures.1 (end_accepted history session (from_last pending.items) is before) (subst (λ pending. StandsFor (with_open session.document pending session) history) same before)
 
 pub returns-in_err-change-clause-err : goal.returns-in_err-change-clause-err
 returns-in_err-change-clause-err c =

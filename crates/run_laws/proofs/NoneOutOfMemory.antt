@@ -12,10 +12,10 @@ use Rattle.tile_lines.proofs.LineLaws.{lines_only}
 use Rattle.tile_listing.specs.Told.{MayBeTold, AreLinesToTell}
 use Rattle.tile_listing.proofs.Telling.{uncut-append, decimal_uncut}
 use Rattle.tile_answer.specs.Answering.{Told, carried_out}
-use Rattle.tile_answer.proofs.AnswerLaws.{requests_tell_lines, requests_have_no_want}
-use Rattle.tile_reply.specs.Replies.{accepted_reply, refused_front, refused_reply, refusal_number, refusal_name, stop_told, taken_in, IsWant, HasNoWant}
+use Rattle.tile_answer.proofs.AnswerLaws.{requests_tell_lines, no_request_is_out_of_memory}
+use Rattle.tile_reply.specs.Replies.{accepted_reply, refused_front, refused_reply, refusal_number, refusal_name, stop_told, taken_in, IsOutOfMemory, NoneIsOutOfMemory}
 use Rattle.tile_run.specs.Run.{Progress, at_first, ran, settled_by, answered_by, after_line, is_over, after_lines}
-use Rattle.run_laws.specs.RunLaws.{RunsHaveNoWant}
+use Rattle.run_laws.specs.RunLaws.{NoRunIsOutOfMemory}
 use Rattle.mvt_meaning.specs.declared.refusal.Refusal.TheVariants as edit
 use Rattle.mvt_history_error.specs.declared.HistoryError.TheVariants as history
 use Rattle.tile_words.specs.declared.parse_error.ParseError.{ParseError}
@@ -25,12 +25,12 @@ use Rattle.tile_reply.specs.declared.refused.Refused.TheVariants as refused
 use Rattle.mvt_command.proofs.Others.{Other}
 use Rattle.tile_script.proofs.ParseRefusals.{answer_other}
 use Rattle.tile_run.proofs.Fronts.{first_lines}
-use Rattle.tile_run.proofs.ReplyEnds.{ends-append, before_name, refused_text, refused_ends, wants, wants_not, other_is_no_want}
+use Rattle.tile_run.proofs.ReplyEnds.{ends-append, before_name, refused_text, refused_ends, runs_out, runs_out_not, other_is_not_out_of_memory}
 
--- ---- lines that are no want of memory
+-- ---- lines that are not out of memory
 
-unfoldable IsNoWant : List ℕ → Type 0
-IsNoWant text = (line : ℕ) (reason : Refused) → IsWant reason → text ≢ refused_text line reason
+unfoldable IsNotOutOfMemory : List ℕ → Type 0
+IsNotOutOfMemory text = (line : ℕ) (reason : Refused) → IsOutOfMemory reason → text ≢ refused_text line reason
 
 -- ---- the reply to a refused line is one line
 
@@ -89,72 +89,72 @@ refused_uncut line reason =
     let fifth = uncut-append (before_name line reason) (refusal_name reason) fourth (uncut_by_test (refusal_name reason) (name_uncut reason)) in
     uncut-append (refused_front line reason) (stop_told (taken_in reason)) fifth (stop_uncut (taken_in reason))
 
--- ---- texts of whole lines that are no want of memory
+-- ---- texts of whole lines that are not out of memory
 
 record IsClean (replies : List ℕ) : Type 0 where
   ends : EndsWithALine replies
-  each : AllByRecursion IsNoWant (lines_of replies)
+  each : AllByRecursion IsNotOutOfMemory (lines_of replies)
 
 clean_nothing : IsClean []
-clean_nothing = record { ends = inl refl; each = subst (AllByRecursion IsNoWant) (sym (none_of_none [] refl)) tt }
+clean_nothing = record { ends = inl refl; each = subst (AllByRecursion IsNotOutOfMemory) (sym (none_of_none [] refl)) tt }
 
-all_both : (front more : List (List ℕ)) → AllByRecursion IsNoWant front → AllByRecursion IsNoWant more → AllByRecursion IsNoWant (front ++ more)
+all_both : (front more : List (List ℕ)) → AllByRecursion IsNotOutOfMemory front → AllByRecursion IsNotOutOfMemory more → AllByRecursion IsNotOutOfMemory (front ++ more)
 all_both [] more first second = second
 all_both (text ∷ front) more (is, first) second = (is, all_both front more first second)
 
-all_behind : (front more : List (List ℕ)) → AllByRecursion IsNoWant (front ++ more) → AllByRecursion IsNoWant more
+all_behind : (front more : List (List ℕ)) → AllByRecursion IsNotOutOfMemory (front ++ more) → AllByRecursion IsNotOutOfMemory more
 all_behind [] more all = all
 all_behind (text ∷ front) more (is, all) = all_behind front more all
 
 clean_both : (front more : List ℕ) → IsClean front → IsClean more → IsClean (front ++ more)
 clean_both front more first second = record {
   ends = ends-append front more first.ends second.ends;
-  each = subst (AllByRecursion IsNoWant) (sym (first_lines front more first.ends)) (all_both (lines_of front) (lines_of more) first.each second.each);
+  each = subst (AllByRecursion IsNotOutOfMemory) (sym (first_lines front more first.ends)) (all_both (lines_of front) (lines_of more) first.each second.each);
 }
 
 one_line : (text : List ℕ) → HasNoLineFeed text → lines_of (with_feed text) ≡ text ∷ []
 one_line text uncut = lines_only (with_feed text) (text ∷ []) (uncut, inl ([], refl, refl))
 
-clean_line : (text : List ℕ) → HasNoLineFeed text → IsNoWant text → IsClean (with_feed text)
-clean_line text uncut is = record { ends = inr (text, refl); each = subst (AllByRecursion IsNoWant) (sym (one_line text uncut)) (is, tt) }
+clean_line : (text : List ℕ) → HasNoLineFeed text → IsNotOutOfMemory text → IsClean (with_feed text)
+clean_line text uncut is = record { ends = inr (text, refl); each = subst (AllByRecursion IsNotOutOfMemory) (sym (one_line text uncut)) (is, tt) }
 
 -- ---- what is told
 
-told_is_no_want : (text : List ℕ) → MayBeTold text → IsNoWant text
-unfolding IsNoWant
-told_is_no_want text may line reason want e =
+told_is_not_out_of_memory : (text : List ℕ) → MayBeTold text → IsNotOutOfMemory text
+unfolding IsNotOutOfMemory
+told_is_not_out_of_memory text may line reason out_of_memory e =
     may.other (decimal line ++ codes " refused " ++ decimal (refusal_number reason) ++ codes " " ++ refusal_name reason ++ stop_told (taken_in reason)) e
 
 clean_each : (lines : List (List ℕ)) → AllByRecursion MayBeTold lines → IsClean (flat_map with_feed lines)
 clean_each [] all = clean_nothing
 clean_each (line ∷ lines) (may, all) =
-    clean_both (with_feed line) (flat_map with_feed lines) (clean_line line may.uncut (told_is_no_want line may)) (clean_each lines all)
+    clean_both (with_feed line) (flat_map with_feed lines) (clean_line line may.uncut (told_is_not_out_of_memory line may)) (clean_each lines all)
 
 clean_told : (bytes : List ℕ) → AreLinesToTell bytes → IsClean bytes
 clean_told bytes told = subst IsClean (sym told.spelled) (clean_each told.lines (recursion_from_All MayBeTold told.lines told.each))
 
 -- ---- replies
 
-ok_is_no_want : IsNoWant (codes "ok")
-unfolding IsNoWant
-ok_is_no_want line reason want e = let apart : ◌≡◌ {A = ℕ} 111 108 = ap (λ (text : List ℕ). get_or text 0 0) e in omega arith
+ok_is_not_out_of_memory : IsNotOutOfMemory (codes "ok")
+unfolding IsNotOutOfMemory
+ok_is_not_out_of_memory line reason out_of_memory e = let apart : ◌≡◌ {A = ℕ} 111 108 = ap (λ (text : List ℕ). get_or text 0 0) e in omega arith
 
 accepted_clean : (lines : List ℕ) → AreLinesToTell lines → IsClean (accepted_reply lines)
-accepted_clean lines told = clean_both lines (codes "ok\n") (clean_told lines told) (clean_line (codes "ok") (uncut_by_test (codes "ok") refl) ok_is_no_want)
+accepted_clean lines told = clean_both lines (codes "ok\n") (clean_told lines told) (clean_line (codes "ok") (uncut_by_test (codes "ok") refl) ok_is_not_out_of_memory)
 
-refused_clean : (line : ℕ) (reason : Refused) → ¬ (IsWant reason) → IsClean (refused_reply line reason)
-unfolding IsNoWant
+refused_clean : (line : ℕ) (reason : Refused) → ¬ (IsOutOfMemory reason) → IsClean (refused_reply line reason)
+unfolding IsNotOutOfMemory
 refused_clean line reason other =
-    clean_line (refused_text line reason) (refused_uncut line reason) (λ other_line wanting want. other_is_no_want line other_line reason wanting other want)
+    clean_line (refused_text line reason) (refused_uncut line reason) (λ other_line short_of_memory out_of_memory. other_is_not_out_of_memory line other_line reason short_of_memory other out_of_memory)
 
 -- ---- lines
 
-settled_clean : (p : Progress) (result : Result Told Refused) → ((told : Told) → result ≡ Ok told → AreLinesToTell told.lines) → ((reason : Refused) → result ≡ Err reason → ¬ (IsWant reason))
+settled_clean : (p : Progress) (result : Result Told Refused) → ((told : Told) → result ≡ Ok told → AreLinesToTell told.lines) → ((reason : Refused) → result ≡ Err reason → ¬ (IsOutOfMemory reason))
     → IsClean p.replies → IsClean (settled_by p result).replies
 settled_clean p (Ok told) tells other clean = clean_both p.replies (accepted_reply told.lines) clean (accepted_clean told.lines (tells told refl))
 settled_clean p (Err reason) tells other clean = clean_both p.replies (refused_reply (p.lines + 1) reason) clean (refused_clean (p.lines + 1) reason (other reason refl))
 
-parse_is_other : (error : ParseError) → error ≢ parse.NoMemory → wants (refusal_number (refused.Parse error)) ≡ false
+parse_is_other : (error : ParseError) → error ≢ parse.NoMemory → runs_out (refusal_number (refused.Parse error)) ≡ false
 parse_is_other parse.BadUtf8 other = refl
 parse_is_other parse.BadWord other = refl
 parse_is_other parse.UnknownCommand other = refl
@@ -168,9 +168,9 @@ parse_is_other parse.NoMemory other = absurd (other refl)
 answered_clean : (p : Progress) (answer : Result (Option Request) ParseError) → Other parse.NoMemory answer → IsClean p.replies → IsClean (answered_by p answer).replies
 answered_clean p (Ok None) other clean = clean
 answered_clean p (Ok (Some request)) other clean =
-    settled_clean p (carried_out request p.history) (requests_tell_lines request p.history) (requests_have_no_want request p.history) clean
+    settled_clean p (carried_out request p.history) (requests_tell_lines request p.history) (no_request_is_out_of_memory request p.history) clean
 answered_clean p (Err error) other clean =
-    clean_both p.replies (refused_reply (p.lines + 1) (refused.Parse error)) clean (refused_clean (p.lines + 1) (refused.Parse error) (wants_not (refused.Parse error) (parse_is_other error other)))
+    clean_both p.replies (refused_reply (p.lines + 1) (refused.Parse error)) clean (refused_clean (p.lines + 1) (refused.Parse error) (runs_out_not (refused.Parse error) (parse_is_other error other)))
 
 lines_clean : (strict : Bool) (p : Progress) (lines : List (List ℕ)) → IsClean p.replies → IsClean (after_lines strict p lines).replies
 lines_clean strict p [] clean = clean
@@ -182,20 +182,20 @@ lines_clean strict p (first ∷ lines) clean =
 
 -- ---- the reply that says so would be one of the lines
 
-head_is : (text : List ℕ) (more : List (List ℕ)) → AllByRecursion IsNoWant (text ∷ more) → IsNoWant text
+head_is : (text : List ℕ) (more : List (List ℕ)) → AllByRecursion IsNotOutOfMemory (text ∷ more) → IsNotOutOfMemory text
 head_is text more all = all.0
 
-clean_no_want : (replies : List ℕ) → IsClean replies → HasNoWant replies
-unfolding IsNoWant
-clean_no_want replies clean line reason front rest ends want e =
+clean_none_out_of_memory : (replies : List ℕ) → IsClean replies → NoneIsOutOfMemory replies
+unfolding IsNotOutOfMemory
+clean_none_out_of_memory replies clean line reason front rest ends out_of_memory e =
     let reply = refused_reply line reason in
     let text = refused_text line reason in
     let behind : lines_of (reply ++ rest) ≡ text ∷ lines_of rest =
     first_lines reply rest (refused_ends line reason) ∙ ap (λ (ls : List (List ℕ)). ls ++ lines_of rest) (one_line text (refused_uncut line reason)) in
     let whole : lines_of replies ≡ lines_of front ++ lines_of (reply ++ rest) = ap lines_of (e ∙ append_assoc front reply rest) ∙ first_lines front (reply ++ rest) ends in
-    let all : AllByRecursion IsNoWant (lines_of front ++ lines_of (reply ++ rest)) = subst (AllByRecursion IsNoWant) whole clean.each in
-    let there : AllByRecursion IsNoWant (text ∷ lines_of rest) = subst (AllByRecursion IsNoWant) behind (all_behind (lines_of front) (lines_of (reply ++ rest)) all) in
-    head_is text (lines_of rest) there line reason want refl
+    let all : AllByRecursion IsNotOutOfMemory (lines_of front ++ lines_of (reply ++ rest)) = subst (AllByRecursion IsNotOutOfMemory) whole clean.each in
+    let there : AllByRecursion IsNotOutOfMemory (text ∷ lines_of rest) = subst (AllByRecursion IsNotOutOfMemory) behind (all_behind (lines_of front) (lines_of (reply ++ rest)) all) in
+    head_is text (lines_of rest) there line reason out_of_memory refl
 
-pub runs_have_no_want : RunsHaveNoWant
-runs_have_no_want document options script = clean_no_want (ran document options script).replies (lines_clean options.strict (at_first document options.depth) (lines_of script) clean_nothing)
+pub no_run_is_out_of_memory : NoRunIsOutOfMemory
+no_run_is_out_of_memory document options script = clean_none_out_of_memory (ran document options script).replies (lines_clean options.strict (at_first document options.depth) (lines_of script) clean_nothing)

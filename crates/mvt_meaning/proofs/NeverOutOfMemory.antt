@@ -1,4 +1,4 @@
--- No command is refused for want of memory by its definition.
+-- No command is refused as out of memory by its definition.
 use Rattle.std.proofs.Common.{◌≡◌, ◌≢◌, ℕ, List, [], ◌∷◌, length, Option, Some, None, Result, Ok, Err}
 use Rattle.std.specs.Prelude.{nat_lt, not, slice_get}
 use Rattle.std.specs.List.{list_any}
@@ -9,45 +9,45 @@ use Rattle.mvt_document.specs.Wire.{bytes_of}
 use Rattle.mvt_command.specs.Command.{LayerChoice, AtOrdinal, Named, FeatureChoice, FeatureAtOrdinal, WithId, Command, RenameLayer, MoveLayer, DropLayer, KeepLayers, InsertFeature, MoveFeature, DropFeature, SetId, ClearId}
 use Rattle.mvt_command.proofs.Others.{Other, either}
 use Rattle.mvt_view.specs.Views.{features, has_id, is_named, layers, ordinals_of, the_one}
-use Rattle.mvt_meaning.specs.MemoryLaws.{CommandsHaveNoWant}
+use Rattle.mvt_meaning.specs.MemoryLaws.{NoCommandIsOutOfMemory}
 use Rattle.mvt_meaning.specs.Selection.{selected, selected_feature, selected_in}
 use Rattle.mvt_meaning.specs.Meaning.{◌>>=◌, applied, refuse_if, within_limit, is_taken, is_kept, is_in_range, layer_count, feature_count}
 use Rattle.mvt_meaning.specs.declared.refusal.Refusal.{Refusal}
 use Rattle.mvt_meaning.specs.declared.refusal.Refusal.TheVariants.{NoMemory, NoLayer, AmbiguousLayer, NoFeature, AmbiguousFeature, BadPlace, NameTaken, OutOfRange, TooLarge}
 
-abbrev Unwanting : {A : Type 0} → Result A Refusal → Type 0
-Unwanting result = Other NoMemory result
+abbrev NeverOutOfMemory : {A : Type 0} → Result A Refusal → Type 0
+NeverOutOfMemory result = Other NoMemory result
 
-then : {A B : Type 0} (r : Result A Refusal) (f : A → Result B Refusal) → Unwanting r → ((x : A) → Unwanting (f x)) → Unwanting (r >>= f)
+then : {A B : Type 0} (r : Result A Refusal) (f : A → Result B Refusal) → NeverOutOfMemory r → ((x : A) → NeverOutOfMemory (f x)) → NeverOutOfMemory (r >>= f)
 then (Ok x) f first second = second x
 then (Err e) f first second = first
 
-one_layer : (ordinals : List ℕ) → Unwanting (the_one NoLayer AmbiguousLayer ordinals)
+one_layer : (ordinals : List ℕ) → NeverOutOfMemory (the_one NoLayer AmbiguousLayer ordinals)
 one_layer [] = λ e. cc
 one_layer (ordinal ∷ []) = tt
 one_layer (ordinal ∷ next ∷ more) = λ e. cc
 
-one_feature : (ordinals : List ℕ) → Unwanting (the_one NoFeature AmbiguousFeature ordinals)
+one_feature : (ordinals : List ℕ) → NeverOutOfMemory (the_one NoFeature AmbiguousFeature ordinals)
 one_feature [] = λ e. cc
 one_feature (ordinal ∷ []) = tt
 one_feature (ordinal ∷ next ∷ more) = λ e. cc
 
-layer_meant : (choice : LayerChoice) (document : Document) → Unwanting (selected choice document)
+layer_meant : (choice : LayerChoice) (document : Document) → NeverOutOfMemory (selected choice document)
 layer_meant (AtOrdinal ordinal) document = either NoMemory (nat_lt ordinal (length (layers document))) _ _ tt (λ e. cc)
 layer_meant (Named name) document = one_layer (ordinals_of (is_named name) (layers document))
 
-meant_in : (choice : FeatureChoice) (layer : Layer) → Unwanting (selected_feature choice layer)
+meant_in : (choice : FeatureChoice) (layer : Layer) → NeverOutOfMemory (selected_feature choice layer)
 meant_in (FeatureAtOrdinal ordinal) layer = either NoMemory (nat_lt ordinal (length (features layer))) _ _ tt (λ e. cc)
 meant_in (WithId id) layer = one_feature (ordinals_of (has_id id) (features layer))
 
-meant_there : (choice : FeatureChoice) (layer : Option Layer) → Unwanting (option_map_or (selected_feature choice) layer (Err NoLayer))
+meant_there : (choice : FeatureChoice) (layer : Option Layer) → NeverOutOfMemory (option_map_or (selected_feature choice) layer (Err NoLayer))
 meant_there choice (Some layer) = meant_in choice layer
 meant_there choice None = λ e. cc
 
-feature_meant : (choice : FeatureChoice) (ordinal : ℕ) (document : Document) → Unwanting (selected_in choice ordinal document)
+feature_meant : (choice : FeatureChoice) (ordinal : ℕ) (document : Document) → NeverOutOfMemory (selected_in choice ordinal document)
 feature_meant choice ordinal document = meant_there choice (slice_get (layers document) ordinal)
 
-limited : (document : Document) → Unwanting (within_limit document)
+limited : (document : Document) → NeverOutOfMemory (within_limit document)
 limited document = either NoMemory (nat_lt MAX_FILE (length (bytes_of document))) (Err TooLarge) (Ok document) (λ e. cc) tt
 
 pub applied_other : (command : Command) (document : Document) → Other NoMemory (applied command document)
@@ -87,5 +87,5 @@ other_refusal : {A : Type 0} (result : Result A Refusal) → Other NoMemory resu
 other_refusal (Ok x) other e = absurd cc
 other_refusal (Err refusal) other e = let same : refusal ≡ NoMemory = cc in other same
 
-pub never_wanting : CommandsHaveNoWant
-never_wanting command document = other_refusal (applied command document) (applied_other command document)
+pub never_out_of_memory : NoCommandIsOutOfMemory
+never_out_of_memory command document = other_refusal (applied command document) (applied_other command document)
