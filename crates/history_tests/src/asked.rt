@@ -63,17 +63,20 @@ pub fn session(rt: &(impl Abort + AllocGlobal), tile: &[u8], depth: u32) -> Resu
     Ok(session.ok().expect(rt, "a session"))
 }
 
-/// In a session of the tile the steps hold one after the other.
+/// In a session of the tile the steps of these parts hold one after the other.
 pub fn assert_goes(
     rt: &(impl Abort + AllocGlobal),
     tile: &[u8],
     depth: u32,
-    steps: &[Step],
+    parts: &[&[Step]],
 ) -> Result<(), Fail>
     requires { (1 ≤ depth) × (depth ≤ MAX_DEPTH) }
 {
     let mut session = session(rt, tile, depth)?;
-    assert_goes_on(rt, &mut session, steps)
+    for steps in parts {
+        assert_goes_on(rt, &mut session, steps)?;
+    }
+    Ok(())
 }
 
 /// The steps hold one after the other.

@@ -1,6 +1,6 @@
 //! Steps of several commands.
 
-use crate::asked::{Ask, Step, assert_goes, assert_goes_on, session};
+use crate::asked::{Ask, Step, assert_goes};
 use mvt_history::HistoryError;
 use mvt_tests::tiles::{OTHER, T0};
 use std::test::Fail;
@@ -37,10 +37,7 @@ const ENDED: [Step; 9] = [
 
 #[test]
 fn a_step_is_undone_as_a_whole(rt: HostRuntime) -> Result<(), Fail> {
-    let mut session = session(&rt, &T0, 100)?;
-    assert_goes_on(&rt, &mut session, &OPENED)?;
-    assert_goes_on(&rt, &mut session, &GOES_BY_STEPS)?;
-    assert_goes_on(&rt, &mut session, &ENDED)
+    assert_goes(&rt, &T0, 100, &[&OPENED, &GOES_BY_STEPS, &ENDED])
 }
 
 const CANCELLED: [Step; 10] = [
@@ -58,7 +55,7 @@ const CANCELLED: [Step; 10] = [
 
 #[test]
 fn a_cancelled_step_leaves_redo(rt: HostRuntime) -> Result<(), Fail> {
-    assert_goes(&rt, &T0, 100, &CANCELLED)
+    assert_goes(&rt, &T0, 100, &[&CANCELLED])
 }
 
 const EMPTY: [Step; 7] = [
@@ -75,10 +72,7 @@ const STAYED_EMPTY: [Step; 2] = [Step::Open(Some(0)), Step::Tile(OTHER)];
 
 #[test]
 fn a_step_of_no_commands_leaves_redo(rt: HostRuntime) -> Result<(), Fail> {
-    let mut session = session(&rt, &T0, 100)?;
-    assert_goes_on(&rt, &mut session, &EMPTY)?;
-    assert_goes_on(&rt, &mut session, &GOES_BY_STEPS)?;
-    assert_goes_on(&rt, &mut session, &STAYED_EMPTY)
+    assert_goes(&rt, &T0, 100, &[&EMPTY, &GOES_BY_STEPS, &STAYED_EMPTY])
 }
 
 const COUNTS_ONCE: [Step; 7] = [
@@ -93,7 +87,7 @@ const COUNTS_ONCE: [Step; 7] = [
 
 #[test]
 fn a_step_counts_once_for_the_depth(rt: HostRuntime) -> Result<(), Fail> {
-    assert_goes(&rt, &T0, 1, &COUNTS_ONCE)
+    assert_goes(&rt, &T0, 1, &[&COUNTS_ONCE])
 }
 
 const REFUSED_WITHIN: [Step; 4] = [
@@ -113,8 +107,10 @@ const ENDED_BEHIND: [Step; 5] = [
 
 #[test]
 fn a_refused_command_leaves_the_step_open(rt: HostRuntime) -> Result<(), Fail> {
-    let mut session = session(&rt, &T0, 100)?;
-    assert_goes_on(&rt, &mut session, &REFUSED_WITHIN)?;
-    assert_goes_on(&rt, &mut session, &GOES_BY_STEPS)?;
-    assert_goes_on(&rt, &mut session, &ENDED_BEHIND)
+    assert_goes(
+        &rt,
+        &T0,
+        100,
+        &[&REFUSED_WITHIN, &GOES_BY_STEPS, &ENDED_BEHIND],
+    )
 }

@@ -16,10 +16,15 @@ use mvt_wire::{
 use std::alloc::{AllocError, Global};
 use std::test::Fail;
 
+/// `T0`, these bytes, and so many zeros.
+fn zeros_behind(alloc: Global, front: &[u8], count: usize) -> Result<Vec<u8>, AllocError> {
+    let zeros = vec![in alloc; 0u8; count]?;
+    joined(alloc, &[&T0, front, &zeros])
+}
+
 /// `T0` and a field of zeros, as long as a file may be.
 fn longest_file(alloc: Global) -> Result<Vec<u8>, AllocError> {
-    let zeros = vec![in alloc; 0u8; 67_108_826]?;
-    joined(alloc, &[&T0, b"\x82\x01\xda\xff\xff\x1f", &zeros])
+    zeros_behind(alloc, b"\x82\x01\xda\xff\xff\x1f", 67_108_826)
 }
 
 /// `T0` and a field of so many zeros, which no file need have room for.

@@ -17,7 +17,7 @@ const FORGOTTEN: [Step; 7] = [
 
 #[test]
 fn a_mark_of_what_was_forgotten_goes(rt: HostRuntime) -> Result<(), Fail> {
-    assert_goes(&rt, &T0, 100, &FORGOTTEN)
+    assert_goes(&rt, &T0, 100, &[&FORGOTTEN])
 }
 
 const BOTH_WAYS: [Step; 13] = [
@@ -38,7 +38,7 @@ const BOTH_WAYS: [Step; 13] = [
 
 #[test]
 fn a_mark_leads_both_ways(rt: HostRuntime) -> Result<(), Fail> {
-    assert_goes(&rt, &T0, 2, &BOTH_WAYS)
+    assert_goes(&rt, &T0, 2, &[&BOTH_WAYS])
 }
 
 const ALL_BOUND: [Step; 9] = [
@@ -77,7 +77,7 @@ const ORDERED: [Step; 8] = [
 
 #[test]
 fn marks_stand_in_the_order_of_their_bytes(rt: HostRuntime) -> Result<(), Fail> {
-    assert_goes(&rt, &T0, 100, &ORDERED)
+    assert_goes(&rt, &T0, 100, &[&ORDERED])
 }
 
 const WHERE_IT_STANDS: [Step; 5] = [
@@ -90,5 +90,5 @@ const WHERE_IT_STANDS: [Step; 5] = [
 
 #[test]
 fn back_to_where_it_stands(rt: HostRuntime) -> Result<(), Fail> {
-    assert_goes(&rt, &T0, 100, &WHERE_IT_STANDS)
+    assert_goes(&rt, &T0, 100, &[&WHERE_IT_STANDS])
 }

@@ -1,7 +1,8 @@
 //! Undo and redo, step by step.
 
 use crate::asked::{Ask, Step, assert_goes, assert_goes_on, session};
-use mvt_history::HistoryError;
+use mvt_edit::Refusal;
+use mvt_history::{HistoryError, Session};
 use mvt_tests::asked::set_id;
 use mvt_tests::tiles::{OTHER, ROADS, T0};
 use std::test::Fail;
@@ -43,7 +44,7 @@ const RENAMED: [Step; 9] = [
 
 #[test]
 fn a_rename_is_undone_and_redone(rt: HostRuntime) -> Result<(), Fail> {
-    assert_goes(&rt, &T0, 100, &RENAMED)
+    assert_goes(&rt, &T0, 100, &[&RENAMED])
 }
 
 const WIDTHS: [Step; 13] = [
@@ -64,7 +65,7 @@ const WIDTHS: [Step; 13] = [
 
 #[test]
 fn stored_widths_come_back(rt: HostRuntime) -> Result<(), Fail> {
-    assert_goes(&rt, WIDE, 100, &WIDTHS)
+    assert_goes(&rt, WIDE, 100, &[&WIDTHS])
 }
 
 const LENGTHS: [Step; 8] = [
@@ -80,7 +81,7 @@ const LENGTHS: [Step; 8] = [
 
 #[test]
 fn a_length_that_grew_comes_back(rt: HostRuntime) -> Result<(), Fail> {
-    assert_goes(&rt, &T0, 100, &LENGTHS)
+    assert_goes(&rt, &T0, 100, &[&LENGTHS])
 }
 
 const SAME_ID: [Step; 7] = [
@@ -95,7 +96,7 @@ const SAME_ID: [Step; 7] = [
 
 #[test]
 fn a_command_that_changes_nothing_forgets_redo(rt: HostRuntime) -> Result<(), Fail> {
-    assert_goes(&rt, &T0, 100, &SAME_ID)
+    assert_goes(&rt, &T0, 100, &[&SAME_ID])
 }
 
 const REFUSED: [Step; 6] = [
@@ -109,7 +110,7 @@ const REFUSED: [Step; 6] = [
 
 #[test]
 fn a_refused_command_forgets_nothing(rt: HostRuntime) -> Result<(), Fail> {
-    assert_goes(&rt, &T0, 100, &REFUSED)
+    assert_goes(&rt, &T0, 100, &[&REFUSED])
 }
 
 const NOTHING_UNDONE: [Step; 4] = [
@@ -121,7 +122,7 @@ const NOTHING_UNDONE: [Step; 4] = [
 
 #[test]
 fn nothing_was_undone(rt: HostRuntime) -> Result<(), Fail> {
-    assert_goes(&rt, &T0, 100, &NOTHING_UNDONE)
+    assert_goes(&rt, &T0, 100, &[&NOTHING_UNDONE])
 }
 
 const TO_THE_FLOOR: [Step; 10] = [
@@ -139,7 +140,7 @@ const TO_THE_FLOOR: [Step; 10] = [
 
 #[test]
 fn undo_goes_back_to_the_floor(rt: HostRuntime) -> Result<(), Fail> {
-    assert_goes(&rt, &T0, 1, &TO_THE_FLOOR)
+    assert_goes(&rt, &T0, 1, &[&TO_THE_FLOOR])
 }
 
 const ALL_UNDONE: [Step; 3] = [
@@ -153,19 +154,35 @@ const ALL_REDONE: [Step; 2] = [
     Step::WithId(0),
 ];
 
+/// So many commands, one after the other.
+fn set_ids(session: &mut Session, count: u64) -> Result<(), Refusal> {
+    for step in 0..count {
+        session.command(&set_id(step % 100))?;
+    }
+    Ok(())
+}
+
+fn undo_all(session: &mut Session, count: u64) -> Result<(), HistoryError> {
+    for _ in 0..count {
+        session.undo()?;
+    }
+    Ok(())
+}
+
+fn redo_all(session: &mut Session, count: u64) -> Result<(), HistoryError> {
+    for _ in 0..count {
+        session.redo()?;
+    }
+    Ok(())
+}
+
 #[test]
 fn ten_thousand_steps_are_undone(rt: HostRuntime) -> Result<(), Fail> {
     let mut session = session(&rt, &T0, 10_000)?;
-    for step in 0..10_001u64 {
-        session.command(&set_id(step % 100))?;
-    }
+    set_ids(&mut session, 10_001)?;
     assert_goes_on(&rt, &mut session, &[Step::Reaches(10_000, 0)])?;
-    for _ in 0..10_000 {
-        session.undo()?;
-    }
+    undo_all(&mut session, 10_000)?;
     assert_goes_on(&rt, &mut session, &ALL_UNDONE)?;
-    for _ in 0..10_000 {
-        session.redo()?;
-    }
+    redo_all(&mut session, 10_000)?;
     assert_goes_on(&rt, &mut session, &ALL_REDONE)
 }
