@@ -8,24 +8,12 @@ use crate::asked::{Step, assert_goes_on, session};
 use mvt_edit::Refusal;
 use mvt_history::{Session, StartError};
 use mvt_tests::asked::rename_first;
-use mvt_tests::bytes::joined;
 use mvt_tests::tiles::T0;
 use mvt_wire::{
     Body, Document, Field, Items, TileItem, Varint, WriteError, read_document, size, write_document,
 };
-use std::alloc::{AllocError, Global};
+use std::alloc::Global;
 use std::test::Fail;
-
-/// `T0`, these bytes, and so many zeros.
-fn zeros_behind(alloc: Global, front: &[u8], count: usize) -> Result<Vec<u8>, AllocError> {
-    let zeros = vec![in alloc; 0u8; count]?;
-    joined(alloc, &[&T0, front, &zeros])
-}
-
-/// `T0` and a field of zeros, as long as a file may be.
-fn longest_file(alloc: Global) -> Result<Vec<u8>, AllocError> {
-    zeros_behind(alloc, b"\x82\x01\xda\xff\xff\x1f", 67_108_826)
-}
 
 /// `T0` and a field of so many zeros, which no file need have room for.
 fn t0_and_zeros(alloc: Global, count: usize) -> Result<Document, Fail>
@@ -39,9 +27,15 @@ fn t0_and_zeros(alloc: Global, count: usize) -> Result<Document, Fail>
     Ok(document)
 }
 
+/// `T0` and a field of zeros, as long as a file may be.
+fn longest_file(alloc: Global) -> Result<Vec<u8>, Fail> {
+    Ok(write_document(alloc, &t0_and_zeros(alloc, 67_108_826)?)?)
+}
+
 #[test]
 fn a_session_keeps_a_tile_within_the_limit(rt: HostRuntime) -> Result<(), Fail> {
     let tile = longest_file(rt.alloc())?;
+    assert_eq!(rt; tile.len(), 67_108_864);
     let mut session = session(&rt, tile.as_slice(), 100)?;
     let longer = session.command(&rename_first(rt.alloc(), b"bb")?);
     assert_eq!(rt; longer, Err(Refusal::TooLarge));

@@ -1,8 +1,7 @@
-//! Tests that cross crates: whole runs over memory and over devices. The program has transcripts.
+//! Tests that cross crates: runs over devices, and over memory at their limits. Whole runs have rows
+//! in `row_tests`, and the program has transcripts.
 #![tactic(auto)]
 
-#[cfg(test)]
-mod commands;
 #[cfg(test)]
 mod devices;
 #[cfg(test)]
@@ -12,19 +11,11 @@ mod groups;
 #[cfg(test)]
 mod limits;
 #[cfg(test)]
-mod marks;
-#[cfg(test)]
 mod memory;
 #[cfg(test)]
 mod order;
 #[cfg(test)]
-mod rows;
-#[cfg(test)]
-mod session;
-#[cfg(test)]
 mod std_devices;
-#[cfg(test)]
-mod steps;
 #[cfg(test)]
 mod troubles;
 #[cfg(test)]

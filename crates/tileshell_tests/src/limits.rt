@@ -1,31 +1,12 @@
-//! Lines and scripts at the limits of their lengths.
+//! Scripts at the limit of their length.
 
-use crate::memory::{Wanted, assert_edits, assert_runs, options};
+use crate::memory::{Wanted, assert_edits, options};
 use mvt_tests::tiles::T0;
 use std::alloc::{AllocError, Global};
 use std::test::Fail;
 use tileshell::{DeviceName, Outcome};
 
 const BLOCK: usize = 4096;
-
-#[test]
-fn a_line_is_read_up_to_its_limit(rt: HostRuntime) -> Result<(), Fail> {
-    for (length, replies) in [
-        (65_536, b"line 1 refused 12 UnknownCommand\n".as_slice()),
-        (65_537, b"line 1 refused 17 LineTooLong\n".as_slice()),
-    ] {
-        let want = Wanted {
-            outcome: Outcome::SomeRefused,
-            replies,
-            tile: &T0,
-        };
-        let mut script = vec![in rt.alloc(); b'a'; length]?;
-        assert_runs(&rt, &T0, &script, want);
-        script.extend_from_slice(b"\n\n# note")?;
-        assert_runs(&rt, &T0, &script, want);
-    }
-    Ok(())
-}
 
 /// A script of comments, as long as a script may be.
 fn full_script(alloc: Global) -> Result<Vec<u8>, AllocError> {

@@ -1,32 +1,12 @@
-//! Tiles at the limits of the wire format.
+//! Tiles at the limits of their size.
 
-use crate::memory::{Wanted, assert_runs, edited, options};
+use crate::memory::{edited, options};
 use mvt_tests::bytes::joined;
 use mvt_tests::tiles::{BEHIND_NAME, T0};
 use mvt_wire::{ReadError, read_document};
 use std::alloc::{AllocError, Global};
 use std::test::Fail;
 use tileshell::{Outcome, TileFault};
-
-#[test]
-fn unknown_fields_stay_in_their_places(rt: HostRuntime) -> Result<(), Fail> {
-    let tile = joined(
-        rt.alloc(),
-        &[
-            b"\x1a\x21\x0a\x01a\x12\x10\x08\x01\x88\x01\x05\x12\x02\x00\x00\x18\x01".as_slice(),
-            b"\x22\x03\x09\x32\x22\x1a\x01k\x22\x02\x20\x05\x28\x80\x20\x78\x02\x80\x01\x07".as_slice(),
-        ],
-    )?;
-    for tile in [tile.as_slice(), b"\x1a\x80\x00".as_slice()] {
-        let want = Wanted {
-            outcome: Outcome::Done,
-            replies: b"",
-            tile,
-        };
-        assert_runs(&rt, tile, b"", want);
-    }
-    Ok(())
-}
 
 /// `T0`, and a field of zeros that fills a file up to so many bytes.
 fn filled(alloc: Global, length: &[u8], end: usize) -> Result<Vec<u8>, AllocError> {
