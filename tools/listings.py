@@ -73,14 +73,19 @@ def value_of(message):
 
 
 def points_of(numbers):
-    """A geometry of points."""
-    if numbers[0] & 7 != 1 or len(numbers) != 1 + 2 * (numbers[0] >> 3):
-        raise ValueError("a geometry of no points")
-    x, y, shown = 0, 0, ["point"]
-    for dx, dy in zip(numbers[1::2], numbers[2::2]):
-        x, y = x + way(dx), y + way(dy)
-        shown.append(f"{x},{y}")
-    return " ".join(shown)
+    """A geometry of points, or of lines."""
+    x, y, at, parts, ways = 0, 0, 0, [], 0
+    while at < len(numbers):
+        command, behind = numbers[at] & 7, at + 1 + 2 * (numbers[at] >> 3)
+        if command not in (1, 2) or behind > len(numbers):
+            raise ValueError("a geometry of no points and no lines")
+        parts += [[]] if command == 1 else []
+        ways += command == 2
+        for dx, dy in zip(numbers[at + 1 : behind : 2], numbers[at + 2 : behind : 2]):
+            x, y = x + way(dx), y + way(dy)
+            parts[-1].append(f"{x},{y}")
+        at = behind
+    return " ".join(["line" if ways else "point", " / ".join(map(" ".join, parts))])
 
 
 def way(parameter):

@@ -86,7 +86,7 @@ def unmodelled(row):
         return "no tile is written"
     if not {int(number) for number in re.findall(rb" refused (\d+) ", row.replies)} <= set(NAMES):
         return "a refusal is none of the model's"
-    if re.search(rb'\\| x:|unreadable', row.replies):
+    if re.search(rb'\\| x:|unreadable| raw', row.replies):
         return "bytes are told as no plain text"
     return "the tile has a group" if has_group(tiles.read_tile(row.tile)) else None
 

@@ -2,7 +2,7 @@
 
 use crate::asked::assert_refused;
 use mvt_command::{FeatureChoice, LayerChoice};
-use mvt_wire::Items;
+use mvt_document::Items;
 use std::alloc::Global;
 use std::process::Abort;
 use std::test::Fail;

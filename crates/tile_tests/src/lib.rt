@@ -1,8 +1,6 @@
-//! Tests of the language of scripts, of texts and listings, of answers to requests, and of replies.
+//! Tests of the language of scripts, of texts, and of replies.
 #![tactic(auto)]
 
-#[cfg(test)]
-mod answer;
 #[cfg(test)]
 mod arguments;
 #[cfg(test)]
@@ -11,8 +9,6 @@ mod asked;
 mod cuts;
 #[cfg(test)]
 mod geometries;
-#[cfg(test)]
-mod listing;
 #[cfg(test)]
 mod replies;
 #[cfg(test)]

@@ -1,7 +1,7 @@
 //! The replies to refused lines.
 
 use crate::asked::replied;
-use mvt_history::HistoryError;
+use mvt_history_error::HistoryError;
 use mvt_meaning::Refusal;
 use std::process::Abort;
 use std::test::Fail;

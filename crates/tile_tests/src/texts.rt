@@ -1,8 +1,8 @@
 //! How texts, values and geometries are written.
 
+use mvt_document::Items;
 use mvt_geometry::{Geometry, Kind, Part, Point};
 use mvt_value::{Value, value_of};
-use mvt_wire::Items;
 use std::alloc::{AllocError, Global};
 use std::process::Abort;
 use std::test::Fail;

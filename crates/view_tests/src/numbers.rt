@@ -128,41 +128,46 @@ fn numbers_end_with_a_bad_chunk(rt: HostRuntime) -> Result<(), Fail> {
     assert_tags(&rt, past_64_bits, &[(0, 1, 0, 0)], Some(0))
 }
 
+const FIRST: Pair = Pair { key: 0, value: 0 };
+
+const SECOND: Pair = Pair { key: 0, value: 1 };
+
+/// The fields of a feature, and its pairs.
+const PAIRS: [(&[u8], &[Pair]); 3] = [
+    (b"", &[]),
+    (b"\x12\x02\x00\x01", &[SECOND]),
+    (b"\x12\x03\x00\x00\x00\x10\x01", &[FIRST, SECOND]),
+];
+
 #[test]
 fn tags_are_pairs(rt: HostRuntime) -> Result<(), Fail> {
-    let first = Pair { key: 0, value: 0 };
-    let second = Pair { key: 0, value: 1 };
-    assert_pairs(&rt, &read_document(rt.alloc(), &T0)?, Some(&[first]))?;
-    for (fields, wanted) in [
-        (b"".as_slice(), [].as_slice()),
-        (b"\x12\x02\x00\x01".as_slice(), [second].as_slice()),
-        (
-            b"\x12\x03\x00\x00\x00\x10\x01".as_slice(),
-            [first, second].as_slice(),
-        ),
-    ] {
+    assert_pairs(&rt, &read_document(rt.alloc(), &T0)?, Some(&[FIRST]))?;
+    for (fields, wanted) in &PAIRS {
         assert_pairs(&rt, &tile_of(rt.alloc(), fields)?, Some(wanted))?;
     }
     Ok(())
 }
 
+/// Fields of features whose tags are no pairs.
+const BAD_TAGS: [&[u8]; 9] = [
+    // No value, or a key without one.
+    b"\x12\x02\x00\x09",
+    b"\x12\x01\x00",
+    b"\x12\x03\x00\x00\x00",
+    // As many keys as there are, and as many values.
+    b"\x12\x02\x01\x00",
+    b"\x12\x02\x00\x02",
+    // Not of 32 bits.
+    b"\x12\x06\x80\x80\x80\x80\x10\x00",
+    b"\x12\x06\x00\x80\x80\x80\x80\x10",
+    // A bad chunk, also behind a pair.
+    b"\x12\x02\x00\x80",
+    b"\x12\x03\x00\x00\x80",
+];
+
 #[test]
 fn bad_tags_are_no_pairs(rt: HostRuntime) -> Result<(), Fail> {
-    for fields in [
-        // No value, or a key without one.
-        b"\x12\x02\x00\x09".as_slice(),
-        b"\x12\x01\x00".as_slice(),
-        b"\x12\x03\x00\x00\x00".as_slice(),
-        // As many keys as there are, and as many values.
-        b"\x12\x02\x01\x00".as_slice(),
-        b"\x12\x02\x00\x02".as_slice(),
-        // Not of 32 bits.
-        b"\x12\x06\x80\x80\x80\x80\x10\x00".as_slice(),
-        b"\x12\x06\x00\x80\x80\x80\x80\x10".as_slice(),
-        // A bad chunk, also behind a pair.
-        b"\x12\x02\x00\x80".as_slice(),
-        b"\x12\x03\x00\x00\x80".as_slice(),
-    ] {
+    for fields in &BAD_TAGS {
         assert_pairs(&rt, &tile_of(rt.alloc(), fields)?, None)?;
     }
     Ok(())

@@ -5,6 +5,7 @@ use mvt_tests::tiles::T0;
 use mvt_view::layer;
 use mvt_wire::{Items, read_document};
 use std::alloc::{AllocError, Global};
+use std::process::Abort;
 use std::test::Fail;
 
 /// A layer `b` with a key, and then with two features of id 7 and one of id 8.
@@ -15,47 +16,57 @@ fn named(alloc: Global, name: &[u8]) -> Result<LayerChoice, AllocError> {
     Ok(LayerChoice::Name(Items::from_vec(Vec::from_slice(alloc, name)?)))
 }
 
+/// In the first layer of the tile this feature is selected.
+fn assert_feature(
+    rt: &(impl Abort + AllocGlobal),
+    tile: &[u8],
+    choice: FeatureChoice,
+    wanted: Result<usize, Refusal>,
+) -> Result<(), Fail> {
+    let document = read_document(rt.alloc(), tile)?;
+    let seen = layer(&document, 0).expect(rt, "a layer");
+    assert_eq!(rt; selected_feature(&seen, &choice), wanted);
+    Ok(())
+}
+
 #[test]
 fn an_id_means_the_one_feature_that_has_it(rt: HostRuntime) -> Result<(), Fail> {
-    let document = read_document(rt.alloc(), TWINS)?;
-    let twins = layer(&document, 0).expect(&rt, "a layer");
-    let meant = |id| selected_feature(&twins, &FeatureChoice::Id(id));
-    assert_eq!(rt; meant(8), Ok(2));
-    assert_eq!(rt; meant(7), Err(Refusal::AmbiguousFeature));
-    assert_eq!(rt; meant(9), Err(Refusal::NoFeature));
-    assert_eq!(rt; meant(2), Err(Refusal::NoFeature));
+    for (id, wanted) in [
+        (8, Ok(2)),
+        (7, Err(Refusal::AmbiguousFeature)),
+        (9, Err(Refusal::NoFeature)),
+        (2, Err(Refusal::NoFeature)),
+    ] {
+        assert_feature(&rt, TWINS, FeatureChoice::Id(id), wanted)?;
+    }
     Ok(())
 }
 
 #[test]
 fn an_ordinal_means_a_feature_by_its_place_among_features(rt: HostRuntime) -> Result<(), Fail> {
-    let document = read_document(rt.alloc(), TWINS)?;
-    let twins = layer(&document, 0).expect(&rt, "a layer");
-    assert_eq!(rt; selected_feature(&twins, &FeatureChoice::Ordinal(0)), Ok(0));
-    assert_eq!(rt; selected_feature(&twins, &FeatureChoice::Ordinal(2)), Ok(2));
-    let past = FeatureChoice::Ordinal(3);
-    assert_eq!(rt; selected_feature(&twins, &past), Err(Refusal::NoFeature));
-    let document = read_document(rt.alloc(), &T0)?;
-    let single = layer(&document, 0).expect(&rt, "a layer");
-    assert_eq!(rt;
-        selected_feature(&single, &FeatureChoice::Ordinal(0)),
-        Ok(0)
-    );
-    let past = FeatureChoice::Ordinal(1);
-    assert_eq!(rt; selected_feature(&single, &past), Err(Refusal::NoFeature));
-    let far = FeatureChoice::Ordinal(u64::MAX);
-    assert_eq!(rt; selected_feature(&single, &far), Err(Refusal::NoFeature));
+    for (tile, ordinal, wanted) in [
+        (TWINS, 0, Ok(0)),
+        (TWINS, 2, Ok(2)),
+        (TWINS, 3, Err(Refusal::NoFeature)),
+        (T0.as_slice(), 0, Ok(0)),
+        (T0.as_slice(), 1, Err(Refusal::NoFeature)),
+        (T0.as_slice(), u64::MAX, Err(Refusal::NoFeature)),
+    ] {
+        assert_feature(&rt, tile, FeatureChoice::Ordinal(ordinal), wanted)?;
+    }
     Ok(())
 }
 
 #[test]
 fn a_layer_is_meant_by_ordinal_or_name(rt: HostRuntime) -> Result<(), Fail> {
     let document = read_document(rt.alloc(), TWINS)?;
-    assert_eq!(rt; selected_layer(&document, &LayerChoice::Ordinal(0)), Ok(0));
-    let past = LayerChoice::Ordinal(1);
-    assert_eq!(rt; selected_layer(&document, &past), Err(Refusal::NoLayer));
-    assert_eq!(rt; selected_layer(&document, &named(rt.alloc(), b"b")?), Ok(0));
-    let other = named(rt.alloc(), b"k")?;
-    assert_eq!(rt; selected_layer(&document, &other), Err(Refusal::NoLayer));
+    for (choice, wanted) in [
+        (LayerChoice::Ordinal(0), Ok(0)),
+        (LayerChoice::Ordinal(1), Err(Refusal::NoLayer)),
+        (named(rt.alloc(), b"b")?, Ok(0)),
+        (named(rt.alloc(), b"k")?, Err(Refusal::NoLayer)),
+    ] {
+        assert_eq!(rt; selected_layer(&document, &choice), wanted);
+    }
     Ok(())
 }

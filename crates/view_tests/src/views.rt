@@ -2,9 +2,13 @@
 
 use mvt_tests::bytes::joined;
 use mvt_tests::tiles::T0;
-use mvt_view::{FeatureError, LayerError, feature_by_id, layer, layer_count, layer_named, layers};
+use mvt_view::{
+    Contents, FeatureError, LayerError, LayerView, feature_by_id, layer, layer_count, layer_named,
+    layers,
+};
 use mvt_wire::{Document, read_document};
-use std::alloc::Global;
+use std::alloc::{AllocError, Global};
+use std::process::Abort;
 use std::test::Fail;
 
 /// A layer with two names, versions and extents, and with fields of its numbers and other types.
@@ -21,19 +25,66 @@ fn several(alloc: Global) -> Result<Document, Fail> {
     Ok(read_document(alloc, &tile)?)
 }
 
+/// Its version, its extent, and how many features, keys and values it has.
+fn numbers(seen: LayerView) -> [u64; 5] {
+    [
+        seen.version(),
+        seen.extent(),
+        seen.feature_count() as u64,
+        seen.key_count() as u64,
+        seen.value_count() as u64,
+    ]
+}
+
+/// The layer of this ordinal has this name, and these numbers.
+fn assert_layer(
+    rt: &impl Abort,
+    document: &Document,
+    ordinal: usize,
+    name: Option<&[u8]>,
+    wanted: [u64; 5],
+) {
+    let seen = layer(document, ordinal).expect(rt, "a layer");
+    assert!(rt; seen.name() == name);
+    assert_eq!(rt; numbers(seen), wanted);
+}
+
+/// The key and the value of this ordinal in the layer of another.
+fn assert_pair(
+    rt: &impl Abort,
+    document: &Document,
+    ordinal: usize,
+    at: usize,
+    key: Option<&[u8]>,
+    value: Option<&[u8]>,
+) {
+    let seen = layer(document, ordinal).expect(rt, "a layer");
+    assert!(rt; seen.key(at) == key);
+    assert!(rt; seen.value(at) == value);
+}
+
+/// The id and the kind of the feature of this ordinal in the layer of another.
+fn assert_feature(
+    rt: &impl Abort,
+    document: &Document,
+    ordinal: usize,
+    at: usize,
+    id: Option<u64>,
+    kind: u64,
+) {
+    let seen = layer(document, ordinal).expect(rt, "a layer");
+    let feature = seen.feature(at).expect(rt, "a feature");
+    assert!(rt; feature.id() == id);
+    assert_eq!(rt; feature.kind(), kind);
+}
+
 #[test]
 fn a_layer_is_seen_as_it_stands(rt: HostRuntime) -> Result<(), Fail> {
     let document = read_document(rt.alloc(), &T0)?;
     assert_eq!(rt; layer_count(&document), 1);
-    let seen = layer(&document, 0).expect(&rt, "a layer");
-    assert_eq!(rt; seen.name(), Some(b"a".as_slice()));
-    assert_eq!(rt; (seen.version(), seen.extent()), (2, 4096));
-    assert_eq!(rt; seen.feature_count(), 1);
-    assert_eq!(rt; (seen.key_count(), seen.value_count()), (1, 1));
-    assert_eq!(rt; seen.key(0), Some(b"k".as_slice()));
-    assert_eq!(rt; seen.value(0), Some(b"\x20\x05".as_slice()));
-    let feature = seen.feature(0).expect(&rt, "a feature");
-    assert_eq!(rt; (feature.id(), feature.kind()), (Some(1), 1));
+    assert_layer(&rt, &document, 0, Some(b"a"), [2, 4096, 1, 1, 1]);
+    assert_pair(&rt, &document, 0, 0, Some(b"k"), Some(b"\x20\x05"));
+    assert_feature(&rt, &document, 0, 0, Some(1), 1);
     Ok(())
 }
 
@@ -41,81 +92,97 @@ fn a_layer_is_seen_as_it_stands(rt: HostRuntime) -> Result<(), Fail> {
 fn past_the_last_there_is_none(rt: HostRuntime) -> Result<(), Fail> {
     let document = read_document(rt.alloc(), &T0)?;
     assert!(rt; layer(&document, 1).is_none());
+    assert_pair(&rt, &document, 0, 1, None, None);
     let seen = layer(&document, 0).expect(&rt, "a layer");
     assert!(rt; seen.feature(1).is_none());
-    assert!(rt; seen.key(1).is_none());
-    assert!(rt; seen.value(1).is_none());
     Ok(())
 }
 
 #[test]
 fn an_empty_layer_has_the_defaults(rt: HostRuntime) -> Result<(), Fail> {
     let document = read_document(rt.alloc(), b"\x1a\x00")?;
-    let seen = layer(&document, 0).expect(&rt, "a layer");
-    assert_eq!(rt; seen.name(), None);
-    assert_eq!(rt; (seen.version(), seen.extent()), (1, 4096));
-    assert_eq!(rt; seen.feature_count(), 0);
-    assert_eq!(rt; (seen.key_count(), seen.value_count()), (0, 0));
+    assert_layer(&rt, &document, 0, None, [1, 4096, 0, 0, 0]);
     Ok(())
 }
 
 #[test]
 fn the_last_field_of_the_right_type_counts(rt: HostRuntime) -> Result<(), Fail> {
     let document = several(rt.alloc())?;
-    let seen = layer(&document, 1).expect(&rt, "a layer");
-    assert_eq!(rt; seen.name(), Some(b"b".as_slice()));
-    assert_eq!(rt; (seen.version(), seen.extent()), (3, 16));
-    assert_eq!(rt; seen.feature_count(), 4);
-    assert_eq!(rt; (seen.key_count(), seen.value_count()), (2, 2));
-    assert_eq!(rt; seen.key(1), Some(b"n".as_slice()));
-    assert_eq!(rt; seen.value(1), Some(b"".as_slice()));
-    let feature = seen.feature(0).expect(&rt, "a feature");
-    assert_eq!(rt; (feature.id(), feature.kind()), (Some(9), 3));
-    let bare = seen.feature(1).expect(&rt, "a feature");
-    assert_eq!(rt; (bare.id(), bare.kind()), (None, 0));
+    assert_layer(&rt, &document, 1, Some(b"b"), [3, 16, 4, 2, 2]);
+    assert_pair(&rt, &document, 1, 1, Some(b"n"), Some(b""));
+    assert_feature(&rt, &document, 1, 0, Some(9), 3);
+    assert_feature(&rt, &document, 1, 1, None, 0);
     Ok(())
 }
 
+/// The extents of the layers.
+fn extents(alloc: Global, document: &Document) -> Result<Vec<u64>, AllocError> {
+    let mut extents = Vec::new(alloc);
+    for seen in layers(document) {
+        extents.push(seen.extent())?;
+    }
+    Ok(extents)
+}
+
 #[test]
-fn all_come_in_their_order(rt: HostRuntime) -> Result<(), Fail> {
+fn layers_come_in_their_order(rt: HostRuntime) -> Result<(), Fail> {
     let document = several(rt.alloc())?;
     assert_eq!(rt; layer_count(&document), 4);
-    let extents: Vec<u64> = layers(&document)
-        .map(|seen| seen.extent())
-        .collect(rt.alloc())?;
+    let extents = extents(rt.alloc(), &document)?;
     assert_eq!(rt; extents.as_slice(), [4096, 16, 4096, 4096].as_slice());
+    Ok(())
+}
+
+/// The ids of the features.
+fn ids(alloc: Global, seen: LayerView) -> Result<Vec<Option<u64>>, AllocError> {
+    let mut ids = Vec::new(alloc);
+    for feature in seen.features() {
+        ids.push(feature.id())?;
+    }
+    Ok(ids)
+}
+
+#[test]
+fn features_come_in_their_order(rt: HostRuntime) -> Result<(), Fail> {
+    let document = several(rt.alloc())?;
     let seen = layer(&document, 1).expect(&rt, "a layer");
-    let ids: Vec<Option<u64>> = seen
-        .features()
-        .map(|feature| feature.id())
-        .collect(rt.alloc())?;
-    assert_eq!(rt;
-        ids.as_slice(),
-        [Some(9), None, Some(9), Some(8)].as_slice()
-    );
-    let keys: Vec<&[u8]> = seen.keys().collect(rt.alloc())?;
-    assert_eq!(rt;
-        keys.as_slice(),
-        [b"m".as_slice(), b"n".as_slice()].as_slice()
-    );
-    let values: Vec<&[u8]> = seen.values().collect(rt.alloc())?;
-    assert_eq!(rt;
-        values.as_slice(),
-        [b"\x38\x01".as_slice(), b"".as_slice()].as_slice()
-    );
+    let ids = ids(rt.alloc(), seen)?;
+    assert!(rt; ids.as_slice() == [Some(9), None, Some(9), Some(8)].as_slice());
+    Ok(())
+}
+
+/// Keys or values, each with a bar behind it.
+fn barred(alloc: Global, contents: Contents) -> Result<Vec<u8>, AllocError> {
+    let mut all = Vec::new(alloc);
+    for content in contents {
+        all.extend_from_slice(content)?;
+        all.push(b'|')?;
+    }
+    Ok(all)
+}
+
+#[test]
+fn keys_and_values_come_in_their_order(rt: HostRuntime) -> Result<(), Fail> {
+    let document = several(rt.alloc())?;
+    let seen = layer(&document, 1).expect(&rt, "a layer");
+    let keys = barred(rt.alloc(), seen.keys())?;
+    assert_eq!(rt; keys.as_slice(), b"m|n|".as_slice());
+    let values = barred(rt.alloc(), seen.values())?;
+    assert_eq!(rt; values.as_slice(), b"\x38\x01||".as_slice());
     Ok(())
 }
 
 #[test]
 fn a_name_means_the_one_layer_that_has_it(rt: HostRuntime) -> Result<(), Fail> {
     let document = several(rt.alloc())?;
-    assert_eq!(rt; layer_named(&document, b"b"), Ok(1));
-    assert_eq!(rt;
-        layer_named(&document, b"a"),
-        Err(LayerError::AmbiguousLayer)
-    );
-    assert_eq!(rt; layer_named(&document, b"x"), Err(LayerError::NoLayer));
-    assert_eq!(rt; layer_named(&document, b""), Err(LayerError::NoLayer));
+    for (name, wanted) in [
+        (b"b".as_slice(), Ok(1)),
+        (b"a".as_slice(), Err(LayerError::AmbiguousLayer)),
+        (b"x".as_slice(), Err(LayerError::NoLayer)),
+        (b"".as_slice(), Err(LayerError::NoLayer)),
+    ] {
+        assert_eq!(rt; layer_named(&document, name), wanted, "of {name:?}");
+    }
     Ok(())
 }
 
@@ -123,12 +190,13 @@ fn a_name_means_the_one_layer_that_has_it(rt: HostRuntime) -> Result<(), Fail> {
 fn an_id_means_the_one_feature_that_has_it(rt: HostRuntime) -> Result<(), Fail> {
     let document = several(rt.alloc())?;
     let seen = layer(&document, 1).expect(&rt, "a layer");
-    assert_eq!(rt; feature_by_id(&seen, 8), Ok(3));
-    assert_eq!(rt;
-        feature_by_id(&seen, 9),
-        Err(FeatureError::AmbiguousFeature)
-    );
-    assert_eq!(rt; feature_by_id(&seen, 7), Err(FeatureError::NoFeature));
-    assert_eq!(rt; feature_by_id(&seen, 0), Err(FeatureError::NoFeature));
+    for (id, wanted) in [
+        (8, Ok(3)),
+        (9, Err(FeatureError::AmbiguousFeature)),
+        (7, Err(FeatureError::NoFeature)),
+        (0, Err(FeatureError::NoFeature)),
+    ] {
+        assert_eq!(rt; feature_by_id(&seen, id), wanted, "of {id}");
+    }
     Ok(())
 }

@@ -1,11 +1,11 @@
 //! Numbers, fields and documents at the limits of the wire format.
 
-use crate::bytes::joined;
-use crate::tiles::T0;
+use mvt_tests::bytes::joined;
+use mvt_tests::tiles::T0;
 use mvt_wire::{
-    Body, BodyRef, Field, Items, ReadError, TileItem, Varint, WriteError, field_at_front,
-    read_document, read_varint, size, write_document,
+    BodyRef, ReadError, Varint, field_at_front, read_document, read_varint, size, write_document,
 };
+use std::alloc::Global;
 use std::test::Fail;
 
 #[test]
@@ -74,53 +74,38 @@ fn what_is_read_is_written_the_same(rt: HostRuntime) -> Result<(), Fail> {
     Ok(())
 }
 
+/// Up to where a file that is no tile is one.
+fn bad_place(alloc: Global, file: &[u8]) -> Option<usize> {
+    match read_document(alloc, file) {
+        Err(ReadError::BadWire { place }) => Some(place),
+        _ => None,
+    }
+}
+
 #[test]
 fn a_cut_tile_is_refused_at_its_last_whole_item(rt: HostRuntime) -> Result<(), Fail> {
     for end in 1..32 {
         let front = &T0[..end];
-        let once = read_document(rt.alloc(), front).err();
-        assert_eq!(rt; once, Some(ReadError::BadWire { place: 0 }), "cut at {end}");
+        assert_eq!(rt; bad_place(rt.alloc(), front), Some(0), "cut at {end}");
         let twice = joined(rt.alloc(), &[&T0, front])?;
-        let second = read_document(rt.alloc(), &twice).err();
-        assert_eq!(rt;
-            second,
-            Some(ReadError::BadWire { place: 32 }),
-            "cut at {end} behind 32"
-        );
-    }
-    for broken in [
-        b"\x1a\xff\xff\xff\xff\x0f".as_slice(),
-        b"\x1a\xff\xff\xff\xff\xff\xff\xff\xff\xff\x01".as_slice(),
-        b"\x1a\x03\x12\x05\x08".as_slice(),
-    ] {
-        let fault = read_document(rt.alloc(), broken).err();
-        assert_eq!(rt;
-            fault,
-            Some(ReadError::BadWire { place: 0 }),
-            "at {broken:?}"
-        );
+        let place = bad_place(rt.alloc(), &twice);
+        assert_eq!(rt; place, Some(32), "cut at {end} behind 32");
     }
     Ok(())
 }
 
+const BROKEN: [&[u8]; 3] = [
+    b"\x1a\xff\xff\xff\xff\x0f",
+    b"\x1a\xff\xff\xff\xff\xff\xff\xff\xff\xff\x01",
+    b"\x1a\x03\x12\x05\x08",
+];
+
 #[test]
-fn a_document_past_the_limit_is_not_written(rt: HostRuntime) -> Result<(), Fail> {
-    let bytes = vec![in rt.alloc(); 0u8; 67_108_827]?;
-    let field = Field {
-        tag: Varint::minimal(130),
-        body: Body::Bytes {
-            width: 4,
-            bytes: Items::from_vec(bytes),
-        },
-    };
-    let mut document = read_document(rt.alloc(), &T0)?;
-    document.items.push(TileItem::Plain(field))?;
-    assert_eq!(rt; size(&document), None);
-    assert_eq!(rt;
-        write_document(rt.alloc(), &document).err(),
-        Some(WriteError::TooLarge)
-    );
-    Ok(())
+fn a_broken_layer_is_refused_where_it_begins(rt: HostRuntime) {
+    for broken in &BROKEN {
+        let place = bad_place(rt.alloc(), broken);
+        assert_eq!(rt; place, Some(0), "at {broken:?}");
+    }
 }
 
 #[test]
