@@ -1,3 +1,2 @@
 pub mod InMemory
 pub mod LongScripts
-pub mod NumberOption

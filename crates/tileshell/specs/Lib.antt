@@ -1,2 +1,1 @@
-pub mod Depth
 pub mod InMemory

@@ -2,11 +2,9 @@
 //! as a function.
 //!
 //! - `edit` is `run` over bytes in memory; its clauses are in the README.
-//! - Wherever the command line is accepted, `--depth` has a numeral of a number from 1 to 10,000
-//!   (`matched`), and `depth_in` returns that number, so the condition of `run` is met. Both
-//!   functions are private. That it is the numeral that was written, or 100 where none was, and
-//!   that the run has this depth, is tested, and so are the texts and statuses of the program
-//!   (`shell`).
+//! - `shell` is the program, from its words to its status: it opens the files that the command line
+//!   names, and has `run` go over them. That the run has the depth that is asked for is tested, and
+//!   so are the texts and statuses of the program.
 //!
 //! It passes on `run` and the types that `run` takes and gives, `parse_line`, `listing`, `quote`,
 //! the commands, requests and refusals with their limits, the devices of the standard library, and

@@ -1,21 +1,17 @@
 //! The program, from its words to its status.
 
-ghost use Rattle.std.specs.Prelude.{◌≤◌, IfOk};
+ghost use Rattle.std.specs.Prelude.{◌≤◌};
 ghost use Rattle.mvt_history.specs.declared.TheConstants.{MAX_DEPTH};
-ghost use Rattle.tileshell.specs.Depth.{HasDepth, TellsDepth};
+ghost use Rattle.tile_command_line.specs.Depth.{HasDepth};
 
 use crate::created::Created;
-use clap::{Arg, ArgAction, ArgMatches, Command, value_parser};
-use mvt_history::MAX_DEPTH;
-use std::alloc::Global;
+use clap::ArgMatches;
 use std::fs;
 use std::io::{self, BufWriter, Read};
 use std::rt::Files;
+use tile_command_line::{depth_in, matched};
 use tile_device::{FromRead, FromWrite};
 use tile_run::{DeviceName, Options, Outcome, run};
-
-/// What `--version` tells behind the name of the program.
-const VERSION: &str = "0.1.0";
 
 /// Runs the program on its words, of which the first is its name, and gives its status.
 pub fn shell<R: Files + Input + Print + Eprint + AllocGlobal>(rt: &R, words: &[&str]) -> u8 {
@@ -26,51 +22,6 @@ pub fn shell<R: Files + Input + Print + Eprint + AllocGlobal>(rt: &R, words: &[&
             if error.use_stderr() { 2 } else { 0 }
         }
     }
-}
-
-fn matched<'a>(alloc: Global, words: &'a [&'a str]) -> Result<ArgMatches<'a>, clap::Error>
-    ensures { IfOk result HasDepth }
-{
-    let tile = Arg::new(alloc, "TILE")
-        .required(true)
-        .help("The tile to edit, uncompressed");
-    let out = Arg::new(alloc, "OUT")
-        .required(true)
-        .help("The file for the edited tile");
-    let script = Arg::new(alloc, "script")
-        .long("script")
-        .value_name("FILE")
-        .help("The script, in place of standard input");
-    let strict = Arg::new(alloc, "strict")
-        .long("strict")
-        .action(ArgAction::SetTrue)
-        .help("Stop at the first refused line");
-    let depth = Arg::new(alloc, "depth")
-        .long("depth")
-        .value_name("N")
-        .action(ArgAction::Set)
-        .value_parser(value_parser!(u32).range(1..=i64::from(MAX_DEPTH)))
-        .default_value("100")
-        .help("How many steps undo goes back at most, from 1 to 10000");
-    Command::new(alloc, "tileshell")
-        .version(VERSION)
-        .about("Edits a vector tile by the lines of a script")
-        .arg(tile)?
-        .arg(out)?
-        .arg(script)?
-        .arg(strict)?
-        .arg(depth)?
-        .try_get_matches_from(words)
-}
-
-/// The depth that the words ask for, or else the default.
-fn depth_in(matches: &ArgMatches<'_>) -> u32
-    requires { HasDepth matches.now }
-    ensures tells { TellsDepth matches.now result }
-    ensures some_depth { 1 ≤ result }
-    ensures depth { result ≤ MAX_DEPTH }
-{
-    matches.get_one::<u32>("depth").unwrap()
 }
 
 fn edit_files<R: Files + Input + Print + Eprint + AllocGlobal>(

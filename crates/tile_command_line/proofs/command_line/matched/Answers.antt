@@ -9,9 +9,9 @@ use Rattle.clap.specs.declared.builder.value_parser.ValueParser.TheVariants as p
 use Rattle.clap.specs.declared.parser.matches.ArgMatches.{ArgMatches}
 use Rattle.clap.specs.Built.{IsParsedFrom}
 use Rattle.mvt_history.specs.declared.TheConstants.{MAX_DEPTH}
-use Rattle.tileshell.specs.Depth.{HasDepth}
-use Rattle.tileshell.proofs.NumberOption.{Awaits, IsDefaulted, awaits_begun, awaits_more, last_option_text, in_range}
-use Rattle.tileshell.proofs.program.matched.Goals as goal
+use Rattle.tile_command_line.specs.Depth.{HasDepth}
+use Rattle.tile_command_line.proofs.NumberOption.{Awaits, IsDefaulted, awaits_begun, awaits_more, last_option_text, in_range}
+use Rattle.tile_command_line.proofs.command_line.matched.Goals as goal
 
 abbrev depth_id : List ℕ
 depth_id = codes "depth"
