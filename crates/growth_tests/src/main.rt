@@ -1,8 +1,8 @@
 //! Changes that are prepared and carried out, and scripts that are run, while one growth is refused.
 //!
-//! A line of standard input names a trial, and how many growths are to be made before it. Of a change
-//! the answer says to which call of the trial a growth was refused, and of a script what was replied
-//! and which tile it gave. `tools/refused-growths` has each growth of each trial refused in turn.
+//! A line of standard input names a trial. Of a change the answer says to which call of the trial a
+//! growth was refused, and of a script what was replied and which tile it gave.
+//! `tools/refused-growths` has each growth of each trial refused in turn.
 #![tactic(auto)]
 
 mod fault;
@@ -13,16 +13,12 @@ mod trial;
 
 use crate::script::front_named;
 use crate::trial::{Trial, trial_named};
-use std::alloc::{AllocError, Global};
 use std::io;
 use std::io::Read;
 use std::process::ExitCode;
 
 /// Standard input has no more bytes than this.
 const ROOM: usize = 1024;
-
-/// How many growths are made behind the trial of a script, to see whether the refused one is there.
-const BEHIND: u64 = 1000;
 
 /// The status where no trial found a fault.
 const NO_FAULT: u8 = 0;
@@ -59,30 +55,16 @@ fn status<R: Input + Print + Eprint + AllocGlobal>(rt: &R) -> io::Result<u8> {
     Ok(NO_FAULT)
 }
 
-/// Runs the trial that the line asks for.
+/// Runs the trial that the line names.
 fn line_status<R: Print + Eprint + AllocGlobal>(rt: &R, line: &str) -> io::Result<u8> {
-    let Some((name, growths)) = asked(line) else {
-        return no_trial(rt, line);
-    };
-    if let Some(trial) = trial_named(name) {
-        grow(rt.alloc(), growths)?;
+    if let Some(trial) = trial_named(line) {
         return trial_status(rt, trial);
     }
-    let Some(front) = front_named(name) else {
+    let Some(front) = front_named(line) else {
         return no_trial(rt, line);
     };
-    grow(rt.alloc(), growths)?;
     front.run(rt)?;
-    tell_beyond(rt)?;
     Ok(NO_FAULT)
-}
-
-/// Tells it where a growth is refused only behind the trial.
-fn tell_beyond<R: Print + AllocGlobal>(rt: &R) -> io::Result<()> {
-    if grow(rt.alloc(), BEHIND).is_err() {
-        println!(rt; "beyond")?;
-    }
-    Ok(())
 }
 
 fn no_trial<R: Eprint>(rt: &R, line: &str) -> io::Result<u8> {
@@ -115,18 +97,4 @@ fn read_all<'a>(input: &mut (impl Read), room: &'a mut [u8]) -> io::Result<&'a [
         length += count;
     }
     Ok(&room[..length])
-}
-
-/// The name of the trial, and the number of growths before it.
-fn asked(line: &str) -> Option<(&str, u64)> {
-    let (name, growths) = line.split_once(' ')?;
-    Some((name, growths.parse().ok()?))
-}
-
-/// Makes so many growths.
-fn grow(alloc: Global, growths: u64) -> Result<(), AllocError> {
-    for growth in 0..growths {
-        Box::new(alloc, growth)?;
-    }
-    Ok(())
 }
