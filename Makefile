@@ -50,7 +50,7 @@ check: toolchain
 	mkdir -p build
 	cp crates/tileshell_program/out/tileshell_program build/tileshell
 	tools/transcripts
-	tools/no-copies
+	tools/types
 	tools/refused-growths
 
 ## make bench        speed and memory beside other programs; TILESHELL=PATH measures a program that was built before

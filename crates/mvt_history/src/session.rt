@@ -1,9 +1,6 @@
 //! The session: its document, the changes for undo and redo, the marks and the open step; each
 //! request.
 
-#[cfg(test)]
-mod fields;
-
 ghost use Rattle.std.specs.Prelude.{◌≡◌, ◌≤◌, ◌⊎◌, if◌then◌else◌, is_some, None, Ok, Err, OnErr, IfOk, IfErr, IsSomeAnd, length, option_map, slice_get};
 ghost use Rattle.mvt_history_error.specs.declared.HistoryError.TheVariants.{GroupOpen, NoMemory};
 ghost use Rattle.mvt_document.specs.Stands.{document_of};
