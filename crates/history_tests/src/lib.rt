@@ -1,16 +1,8 @@
-//! Tests of the changes that commands make, and of sessions: undo and redo, marks, and steps of
-//! several commands.
+//! Tests of the changes that commands make, and of a document that no session takes. What a session
+//! does line by line has rows in `row_tests`.
 #![tactic(auto)]
 
 #[cfg(test)]
-mod asked;
-#[cfg(test)]
 mod changes;
 #[cfg(test)]
-mod compound;
-#[cfg(test)]
 mod limits;
-#[cfg(test)]
-mod marks;
-#[cfg(test)]
-mod undo;

@@ -1,13 +1,10 @@
-//! A session at the limit of what a file can hold.
+//! A document past the limit of what a file can hold.
 
 ghost use Rattle.std.specs.Prelude.{IfOk};
 ghost use Rattle.mvt_wire.specs.Stands.{document_of};
 ghost use Rattle.mvt_wire.specs.Opens.{IsDocument};
 
-use crate::asked::{Step, assert_goes_on, session};
-use mvt_edit::Refusal;
 use mvt_history::{Session, StartError};
-use mvt_tests::asked::rename_first;
 use mvt_tests::tiles::T0;
 use mvt_wire::{
     Body, Document, Field, Items, TileItem, Varint, WriteError, read_document, size, write_document,
@@ -25,25 +22,6 @@ fn t0_and_zeros(alloc: Global, count: usize) -> Result<Document, Fail>
     let body = Body::Bytes { width: 4, bytes };
     document.items.push(TileItem::Plain(Field { tag, body }))?;
     Ok(document)
-}
-
-/// `T0` and a field of zeros, as long as a file may be.
-fn longest_file(alloc: Global) -> Result<Vec<u8>, Fail> {
-    Ok(write_document(alloc, &t0_and_zeros(alloc, 67_108_826)?)?)
-}
-
-#[test]
-fn a_session_keeps_a_tile_within_the_limit(rt: HostRuntime) -> Result<(), Fail> {
-    let tile = longest_file(rt.alloc())?;
-    assert_eq!(rt; tile.len(), 67_108_864);
-    let mut session = session(&rt, tile.as_slice(), 100)?;
-    let longer = session.command(&rename_first(rt.alloc(), b"bb")?);
-    assert_eq!(rt; longer, Err(Refusal::TooLarge));
-    assert_goes_on(&rt, &mut session, &[Step::Reaches(0, 0)])?;
-    session.command(&rename_first(rt.alloc(), b"b")?)?;
-    assert_goes_on(&rt, &mut session, &[Step::Reaches(1, 0)])?;
-    assert_eq!(rt; size(session.document()), Some(67_108_864));
-    Ok(())
 }
 
 /// How many bytes the field has that stands behind the one layer of a document that is handed back

@@ -40,14 +40,12 @@ fn a_full_file_takes_no_longer_name(rt: HostRuntime) -> Result<(), Fail> {
     let ran = edited(
         rt.alloc(),
         &file,
-        b"rename-layer #0 \"bb\"\nrename-layer #0 \"b\"\n",
+        b"rename-layer #0 \"bb\"\nhistory\nrename-layer #0 \"b\"\nhistory\n",
         options(false),
     );
     assert_eq!(rt; ran.outcome, Outcome::SomeRefused);
-    assert_eq!(rt;
-        ran.replies.as_slice(),
-        b"line 1 refused 43 TooLarge\nok\n".as_slice()
-    );
+    let replies = b"line 1 refused 43 TooLarge\nundo 0 redo 0 depth 100\nok\nok\nundo 1 redo 0 depth 100\nok\n";
+    assert_eq!(rt; ran.replies.as_slice(), replies.as_slice());
     assert_eq!(rt; ran.tile.len(), 67_108_864);
     assert!(rt; ran.tile.as_slice().starts_with(b"\x1a\x1e\x0a\x01b"));
     assert_eq!(rt; &ran.tile[5..32], BEHIND_NAME.as_slice());
