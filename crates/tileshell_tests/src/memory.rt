@@ -1,12 +1,11 @@
-//! Runs over bytes in memory.
+//! Runs over devices.
 
 ghost use Rattle.std.specs.Prelude.{◌≤◌};
 ghost use Rattle.mvt_history.specs.declared.TheConstants.{MAX_DEPTH};
 
-use crate::drip::{Calls, DripSink, DripSource};
+use device_tests::drip::{Calls, DripSink, DripSource};
 use std::alloc::Global;
-use std::process::Abort;
-use tileshell::{DeviceName, FromRead, FromWrite, Options, Outcome, edit, run};
+use tileshell::{DeviceName, Options, Outcome, Sink, Source, run};
 
 /// How a run is to end, its replies, and the tile that it is to write.
 #[derive(Clone, Copy, Debug)]
@@ -32,26 +31,20 @@ pub fn options(strict: bool) -> Options
     Options { depth: 100, strict }
 }
 
-/// Runs the script on the tile, over readers and writers of std.
-pub fn edited(alloc: Global, tile: &[u8], script: &[u8], options: Options) -> Ran
+/// A run as a call, of which nothing is said but what it gives: what the contract of `run` says costs
+/// its time at each caller.
+pub fn outcome_of(
+    alloc: Global,
+    tile: &mut impl Source,
+    script: &mut impl Source,
+    replies: &mut impl Sink,
+    out: &mut impl Sink,
+    options: Options,
+) -> Outcome
     requires some_depth { 1 ≤ options.depth }
     requires depth { options.depth ≤ MAX_DEPTH }
 {
-    let mut replies = FromWrite::new(Vec::new(alloc));
-    let mut out = FromWrite::new(Vec::new(alloc));
-    let outcome = run(
-        alloc,
-        &mut FromRead::new(tile),
-        &mut FromRead::new(script),
-        &mut replies,
-        &mut out,
-        options,
-    );
-    Ran {
-        outcome,
-        replies: replies.into_inner(),
-        tile: out.into_inner(),
-    }
+    run(alloc, tile, script, replies, out, options)
 }
 
 /// The four devices of a run, each of which gives or takes one byte a call.
@@ -86,7 +79,7 @@ impl<'a> Drips<'a> {
         requires some_depth { 1 ≤ options.depth }
         requires depth { options.depth ≤ MAX_DEPTH }
     {
-        run(
+        outcome_of(
             alloc,
             &mut self.tile,
             &mut self.script,
@@ -94,37 +87,5 @@ impl<'a> Drips<'a> {
             &mut self.out,
             options,
         )
-    }
-}
-
-/// A run that ends so writes a tile.
-fn gives_tile(outcome: Outcome) -> bool {
-    matches!(outcome, Outcome::Done | Outcome::SomeRefused)
-}
-
-/// The script on the tile does what is wanted, over readers and writers of std and as a call.
-pub fn assert_edits(
-    rt: &(impl Abort + AllocGlobal),
-    tile: &[u8],
-    script: &[u8],
-    options: Options,
-    want: Wanted<'_>,
-)
-    requires some_depth { 1 ≤ options.depth }
-    requires depth { options.depth ≤ MAX_DEPTH }
-{
-    let ran = edited(rt.alloc(), tile, script, options);
-    assert_eq!(rt; ran.outcome, want.outcome);
-    assert_eq!(rt; ran.replies.as_slice(), want.replies);
-    assert!(rt; ran.tile.as_slice() == want.tile);
-    let called = edit(rt.alloc(), tile, script, options);
-    assert_eq!(rt; called.outcome, want.outcome);
-    assert_eq!(rt; called.replies.as_slice(), want.replies);
-    match &called.tile {
-        Some(bytes) => {
-            assert!(rt; gives_tile(want.outcome));
-            assert!(rt; bytes.as_slice() == want.tile);
-        }
-        None => assert!(rt; !gives_tile(want.outcome)),
     }
 }

@@ -1,13 +1,13 @@
 //! The order in which a run reads, replies and passes replies on.
 
-use crate::memory::options;
+use crate::memory::{options, outcome_of};
 use mvt_tests::bytes::joined;
 use mvt_tests::tiles::{RENAME, ROADS, T0};
 use std::alloc::{AllocError, Global};
 use std::cell::RefCell;
 use std::io::{self, Read, Write};
 use std::test::Fail;
-use tileshell::{FromRead, FromWrite, Outcome, run};
+use tileshell::{FromRead, FromWrite, Outcome};
 
 /// What was done on the devices of a run: the bytes read and written as they are, a `$` for a read
 /// that found the end, and a `|` for a flush.
@@ -72,7 +72,7 @@ impl Write for LoggedWriter<'_> {
 /// What a run of the script on `T0` does on the script, the replies and the tile that it writes.
 fn logged(alloc: Global, script: &[u8], strict: bool) -> (Outcome, Vec<u8>) {
     let log = Log::new(alloc);
-    let outcome = run(
+    let outcome = outcome_of(
         alloc,
         &mut FromRead::new(T0.as_slice()),
         &mut FromRead::new(LoggedReader {

@@ -1,14 +1,14 @@
 //! Runs whose devices are interrupted, and runs whose devices fail.
 
-use crate::drip::{Calls, DripSink, DripSource};
-use crate::memory::{Drips, Ran, Wanted, options};
-use crate::std_devices::{Deaf, Slip, SlipReader, SlipWriter};
+use crate::memory::{Drips, Ran, Wanted, options, outcome_of};
+use device_tests::drip::{Calls, DripSink, DripSource};
+use device_tests::std_devices::{Deaf, Slip, SlipReader, SlipWriter};
 use mvt_tests::tiles::{RENAME, ROADS, T0};
 use std::alloc::Global;
 use std::io::{BufWriter, ErrorKind};
 use std::process::Abort;
 use std::test::Fail;
-use tileshell::{DeviceName, FromRead, FromWrite, Outcome, Sink, run};
+use tileshell::{DeviceName, FromRead, FromWrite, Outcome, Sink};
 
 const FAULT_OF_TILE: Outcome = Outcome::Device(DeviceName::Tile);
 
@@ -18,25 +18,39 @@ const FAULT_OF_REPLIES: Outcome = Outcome::Device(DeviceName::Replies);
 
 const FAULT_OF_OUT: Outcome = Outcome::Device(DeviceName::Out);
 
-/// What was written is what the outcome says, where a run without trouble is as wanted.
-fn assert_written(rt: &impl Abort, drips: &Drips<'_>, outcome: Outcome, want: Wanted<'_>) {
-    let replies = drips.replies.taken.as_slice();
-    let tile = drips.out.taken.as_slice();
-    assert!(rt; want.replies.starts_with(replies));
-    assert!(rt; want.tile.starts_with(tile));
-    if outcome == want.outcome {
-        assert_eq!(rt; replies, want.replies);
-        assert_eq!(rt; tile, want.tile);
-    } else if outcome == FAULT_OF_OUT {
-        assert_eq!(rt; replies, want.replies);
-    } else {
-        assert_eq!(rt; drips.out.calls.made, 0);
+/// What was written is a prefix of what is wanted.
+fn assert_prefixes(rt: &impl Abort, drips: &Drips<'_>, want: Wanted<'_>) {
+    assert!(rt; want.replies.starts_with(&drips.replies.taken));
+    assert!(rt; want.tile.starts_with(&drips.out.taken));
+}
+
+/// All replies were written; and where the tile was, all of it.
+fn assert_whole(rt: &impl Abort, drips: &Drips<'_>, want: Wanted<'_>, has_tile: bool) {
+    assert_eq!(rt; drips.replies.taken.as_slice(), want.replies);
+    if has_tile {
+        assert_eq!(rt; drips.out.taken.as_slice(), want.tile);
     }
+}
+
+/// A device failed before the tile was written.
+fn assert_cut(rt: &impl Abort, drips: &Drips<'_>, outcome: Outcome) {
+    let replies = drips.replies.taken.as_slice();
+    assert_eq!(rt; drips.out.calls.made, 0);
     if outcome == FAULT_OF_SCRIPT {
         assert!(rt; replies.is_empty() || replies.ends_with(b"\n"));
     }
     if outcome == FAULT_OF_TILE {
         assert_eq!(rt; drips.replies.calls.made, 0);
+    }
+}
+
+/// What was written is what the outcome says, where a run without trouble is as wanted.
+fn assert_written(rt: &impl Abort, drips: &Drips<'_>, outcome: Outcome, want: Wanted<'_>) {
+    assert_prefixes(rt, drips, want);
+    if outcome == want.outcome || outcome == FAULT_OF_OUT {
+        assert_whole(rt, drips, want, outcome == want.outcome);
+    } else {
+        assert_cut(rt, drips, outcome);
     }
 }
 
@@ -167,7 +181,7 @@ fn replying_to<W: Sink>(
 ) -> (Outcome, u64, u64) {
     let mut script = DripSource::new(script, Calls::untroubled());
     let mut out = DripSink::new(alloc, Calls::untroubled());
-    let outcome = run(
+    let outcome = outcome_of(
         alloc,
         &mut FromRead::new(T0.as_slice()),
         &mut script,
@@ -208,17 +222,23 @@ fn what_a_failed_file_took_is_a_front(rt: HostRuntime) {
     assert_eq!(rt; drips.out.taken.as_slice(), &ROADS[..10]);
 }
 
+/// An error at the third call, where the devices are the same.
+fn slip_of(device: DeviceName, troubled: DeviceName, kind: ErrorKind) -> Slip {
+    let calls_before = if device == troubled { Some(2) } else { None };
+    Slip::new(calls_before, kind)
+}
+
 /// Renames over readers and writers of std, of which one answers an error at its third call.
 fn renamed_with_slip(alloc: Global, device: DeviceName, kind: ErrorKind) -> Ran {
-    let slip_of = |name: DeviceName| {
-        let calls_before = if name == device { Some(2) } else { None };
-        Slip::new(calls_before, kind)
-    };
-    let mut tile = FromRead::new(SlipReader::new(&T0, slip_of(DeviceName::Tile)));
-    let mut script = FromRead::new(SlipReader::new(RENAME, slip_of(DeviceName::Script)));
-    let mut replies = FromWrite::new(SlipWriter::new(alloc, slip_of(DeviceName::Replies)));
-    let mut out = FromWrite::new(SlipWriter::new(alloc, slip_of(DeviceName::Out)));
-    let outcome = run(
+    let tile_slip = slip_of(DeviceName::Tile, device, kind);
+    let script_slip = slip_of(DeviceName::Script, device, kind);
+    let replies_slip = slip_of(DeviceName::Replies, device, kind);
+    let mut tile = FromRead::new(SlipReader::new(&T0, tile_slip));
+    let mut script = FromRead::new(SlipReader::new(RENAME, script_slip));
+    let mut replies = FromWrite::new(SlipWriter::new(alloc, replies_slip));
+    let out_slip = slip_of(DeviceName::Out, device, kind);
+    let mut out = FromWrite::new(SlipWriter::new(alloc, out_slip));
+    let outcome = outcome_of(
         alloc,
         &mut tile,
         &mut script,

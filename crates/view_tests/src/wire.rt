@@ -50,6 +50,17 @@ fn a_field_is_read_at_the_front(rt: HostRuntime) {
 }
 
 #[test]
+fn a_group_is_found_at_the_front(rt: HostRuntime) {
+    let bytes = b"\x0b\x1b\x1a\x02\x0c\x0b\x1c\x0c\x0c";
+    let found = field_at_front(bytes);
+    assert!(rt; found.is_some());
+    if let Some((field, length)) = found {
+        assert_eq!(rt; (field.tag.value, length), (11, 8));
+        assert!(rt; matches!(field.body, BodyRef::Group(inside) if inside == &bytes[1..8]));
+    }
+}
+
+#[test]
 fn the_shortest_spelling_is_the_least(rt: HostRuntime) {
     for (value, width) in [
         (0, 1),
