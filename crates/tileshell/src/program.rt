@@ -6,11 +6,12 @@ ghost use Rattle.tile_command_line.specs.Depth.{HasDepth};
 
 use crate::created::Created;
 use clap::ArgMatches;
+use std::alloc::Global;
 use std::fs;
 use std::io::{self, BufWriter, Read};
 use std::rt::Files;
 use tile_command_line::{depth_in, matched};
-use tile_device::{FromRead, FromWrite};
+use tile_device::{FromRead, FromWrite, Sink, Source};
 use tile_run::{DeviceName, Options, Outcome, run};
 
 /// Runs the program on its words, of which the first is its name, and gives its status.
@@ -78,7 +79,7 @@ fn edit_opened<R: Files + Print + AllocGlobal, S: Read + Drop>(
     let Ok(replies) = BufWriter::new(rt.alloc(), io::writer(rt)) else {
         return Outcome::NoMemory;
     };
-    run(
+    outcome_of(
         rt.alloc(),
         &mut FromRead::new(tile),
         &mut FromRead::new(script),
@@ -86,6 +87,22 @@ fn edit_opened<R: Files + Print + AllocGlobal, S: Read + Drop>(
         &mut FromWrite::new(Created::new(rt, out)),
         options,
     )
+}
+
+/// The outcome of a run. Nothing else is said of it: at the types of files, what the contract of
+/// `run` says would take long to prove, and no caller here needs it.
+fn outcome_of(
+    alloc: Global,
+    tile: &mut impl Source,
+    script: &mut impl Source,
+    replies: &mut impl Sink,
+    out: &mut impl Sink,
+    options: Options,
+) -> Outcome
+    requires some_depth { 1 ≤ options.depth }
+    requires depth { options.depth ≤ MAX_DEPTH }
+{
+    run(alloc, tile, script, replies, out, options)
 }
 
 /// Tells on standard error why no tile was written, and gives the status.
