@@ -76,4 +76,4 @@ clean:
 
 toolchain:
 	@command -v rt > /dev/null || { echo "tileshell needs the Rattle toolchain: its command rt is not on the PATH" >&2; exit 1; }
-	@grep -qF "$$(rt version)" README.md || { echo "README.md names another Rattle toolchain than this one: $$(rt version)" >&2; exit 1; }
+	@version="$$(rt version)"; grep -qF "logic $${version##*logic }" README.md || { echo "README.md names another logic than this Rattle toolchain has: $$version" >&2; exit 1; }
