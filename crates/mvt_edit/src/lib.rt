@@ -8,13 +8,18 @@
 //!   plus half as many as these bytes together. The document is not touched: `prepare`.
 #![tactic(auto)]
 
+mod clear_id;
 mod commands;
 mod cut;
-mod drops;
-mod insertion;
-mod keep;
-mod moves;
+mod drop_feature;
+mod drop_layer;
+mod insert_feature;
+mod keep_layers;
+mod move_feature;
+mod move_layer;
 mod put_last;
+mod rename_layer;
+mod set_id;
 mod steps;
 
 pub use commands::prepare;

@@ -1,0 +1,40 @@
+//! A feature loses its id.
+
+ghost use Rattle.std.specs.Prelude.{◌≡◌};
+ghost use Rattle.mvt_document.specs.Stands.{document_of, field_of};
+ghost use Rattle.mvt_command.specs.Command.{ClearId};
+ghost use Rattle.mvt_command.specs.CommandStands.{feature_choice_of, layer_choice_of};
+ghost use Rattle.mvt_meaning.specs.Meaning.{is_id};
+ghost use Rattle.mvt_edit.specs.Prepared.{Prepares};
+
+use crate::cut::cut_out;
+use mvt_change::{Change, Place};
+use mvt_document::tags::ID;
+use mvt_document::{Body, Document, Field};
+use mvt_meaning::{FeatureChoice, LayerChoice, Refusal, find_feature, find_layer};
+use std::alloc::Global;
+
+/// The feature loses each of its id fields.
+pub(crate) fn clear_id(
+    alloc: Global,
+    document: &Document,
+    choice: &LayerChoice,
+    feature: &FeatureChoice,
+) -> Result<Change, Refusal>
+    ensures { Prepares (ClearId (layer_choice_of choice.now) (feature_choice_of feature.now)) (document_of document.now) result }
+{
+    let holder = find_layer(document, choice)?;
+    let found = find_feature(holder.layer, feature)?;
+    let place = Place::Feature {
+        layer: holder.position,
+        item: found.position,
+    };
+    let cut = cut_out(alloc, place, found.feature.fields.as_slice(), is_id)?;
+    Ok(cut.change)
+}
+
+fn is_id(field: &Field) -> bool
+    ensures { result ≡ is_id (field_of field.now) }
+{
+    field.tag.value / 8 == ID && matches!(field.body, Body::Number(_))
+}

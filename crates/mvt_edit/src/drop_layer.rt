@@ -1,0 +1,24 @@
+//! A layer goes.
+
+ghost use Rattle.mvt_document.specs.Stands.{document_of};
+ghost use Rattle.mvt_command.specs.Command.{DropLayer};
+ghost use Rattle.mvt_command.specs.CommandStands.{layer_choice_of};
+ghost use Rattle.mvt_edit.specs.Prepared.{Prepares};
+
+use crate::cut::item_out;
+use mvt_change::{Change, Place};
+use mvt_document::Document;
+use mvt_meaning::{LayerChoice, Refusal, find_layer};
+use std::alloc::Global;
+
+/// The layer goes.
+pub(crate) fn drop_layer(
+    alloc: Global,
+    document: &Document,
+    choice: &LayerChoice,
+) -> Result<Change, Refusal>
+    ensures { Prepares (DropLayer (layer_choice_of choice.now)) (document_of document.now) result }
+{
+    let found = find_layer(document, choice)?;
+    Ok(item_out(alloc, Place::Tile, found.position)?)
+}

@@ -1,0 +1,53 @@
+//! Layers of other names go.
+
+ghost use Rattle.std.specs.Prelude.{◌≡◌, map, false};
+ghost use Rattle.std.specs.List.{list_any};
+ghost use Rattle.std.specs.Option.{option_copied, option_map_or};
+ghost use Rattle.std.specs.Str.{bytes_eq};
+ghost use Rattle.mvt_document.specs.Stands.{document_of, tile_item_of};
+ghost use Rattle.mvt_command.specs.Command.{KeepLayers};
+ghost use Rattle.mvt_meaning.specs.Meaning.{is_kept};
+ghost use Rattle.mvt_edit.specs.Prepared.{Prepares};
+
+use crate::cut::cut_out;
+use mvt_change::{Change, Place};
+use mvt_document::{Document, Items, TileItem};
+use mvt_meaning::Refusal;
+use mvt_view::{LayerView, layer_count};
+use std::alloc::Global;
+
+/// The layers stay that have one of the names. Each layer's name is looked for once.
+pub(crate) fn keep_layers(
+    alloc: Global,
+    document: &Document,
+    names: &[Items<u8>],
+) -> Result<Change, Refusal>
+    ensures { Prepares (KeepLayers (map (λ name. name.items) names.now)) (document_of document.now) result }
+{
+    let items = document.items.as_slice();
+    let cut = cut_out(alloc, Place::Tile, items, |item| !is_kept(item, names))?;
+    // Layers alone go, so none stays where as many go as there are.
+    if cut.gone == layer_count(document) {
+        return Err(Refusal::NoLayer);
+    }
+    Ok(cut.change)
+}
+
+fn is_kept(item: &TileItem, names: &[Items<u8>]) -> bool
+    ensures { result ≡ is_kept (map (λ name. name.items) names.now) (tile_item_of item.now) }
+{
+    match item {
+        TileItem::Layer(layer) => is_one_of(LayerView::of(layer).name(), names),
+        TileItem::Plain(_) => true,
+    }
+}
+
+/// There is a text, and it is one of the names.
+fn is_one_of(text: Option<&[u8]>, names: &[Items<u8>]) -> bool
+    ensures { result ≡ list_any (λ name. option_map_or (bytes_eq name) (option_copied text.entry) false) (map (λ name. name.items) names.now) }
+{
+    match text {
+        Some(text) => names.iter().any(|name| name.as_slice() == text),
+        None => false,
+    }
+}
