@@ -1,23 +1,11 @@
 -- A layer that was found, and a feature of a layer, each with its ordinal and its position.
-use Rattle.std.specs.Prelude.{◌≡◌, ℕ, List, slice_get, Some, Ok}
+use Rattle.std.specs.Prelude.{◌≡◌, slice_get, Some, Ok}
 use Rattle.mvt_document.specs.Plain as plain
 use Rattle.mvt_document.specs.Stands.{feature_of, layer_of}
 use Rattle.mvt_command.specs.Command.{LayerChoice, FeatureChoice}
 use Rattle.mvt_meaning.specs.Selection.{feature_positions, layer_positions, selected, selected_feature}
-use Rattle.mvt_meaning.specs.declared.find.FoundLayer.{FoundLayer}
-use Rattle.mvt_meaning.specs.declared.find.FoundFeature.{FoundFeature}
-
--- the layer that was found has this ordinal among the layers, and stands at its position in the tile (tiles 4.1)
-pub record IsLayerAt (ordinal : ℕ) (document : plain.Document) (found : FoundLayer) : Type 0 where
-  pub same : found.ordinal ≡ ordinal
-  pub placed : slice_get (layer_positions document) found.ordinal ≡ Some found.position
-  pub there : slice_get document found.position ≡ Some (plain.OfLayer (layer_of found.layer.now))
-
--- the feature that was found has this ordinal among the features, and stands at its position in the layer (tiles 4.2)
-pub record IsFeatureAt (ordinal : ℕ) (items : List plain.LayerItem) (found : FoundFeature) : Type 0 where
-  pub same : found.ordinal ≡ ordinal
-  pub placed : slice_get (feature_positions items) found.ordinal ≡ Some found.position
-  pub there : slice_get items found.position ≡ Some (plain.OfFeature (feature_of found.feature.now))
+use Rattle.mvt_view.specs.declared.found.FoundLayer.{FoundLayer}
+use Rattle.mvt_view.specs.declared.found.FoundFeature.{FoundFeature}
 
 -- the layer that was found is the selected one, and stands at its position in the tile (tiles 4.1)
 pub record IsFoundLayer (choice : LayerChoice) (document : plain.Document) (found : FoundLayer) : Type 0 where
