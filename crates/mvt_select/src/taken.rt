@@ -1,6 +1,6 @@
 //! A layer that is to have a name, and whether another layer has it.
 
-ghost use Rattle.std.specs.Prelude.{◌≡◌, ℕ, List, [], ◌∷◌, ◌++◌, Err, IfErr, IfOk, filter, if◌then◌else◌};
+ghost use Rattle.std.specs.Prelude.{◌≡◌, ℕ, Bool, List, [], ◌∷◌, ◌++◌, Err, IfErr, IfOk, filter, if◌then◌else◌};
 ghost use Rattle.std.specs.Result.{result_map_both};
 ghost use Rattle.mvt_document.specs.Plain as plain;
 ghost use Rattle.mvt_document.specs.Stands.{document_of};
@@ -34,14 +34,26 @@ pub fn find_and_taken<'a>(
 {
     match choice {
         LayerChoice::Ordinal(_) => {
-            let found = find_layer(document, choice)?;
-            Ok((found, is_other(find_named(document, name), found.ordinal)))
+            with_taken(find_layer(document, choice), find_named(document, name))
         }
         LayerChoice::Name(chosen) => {
             let (chosen, named) = named_twice(document, chosen.as_slice(), name);
-            let found = chosen?;
-            Ok((found, is_other(named, found.ordinal)))
+            with_taken(chosen, named)
         }
+    }
+}
+
+/// What was found, and whether a layer of another ordinal is among those that have the name.
+fn with_taken<'a>(
+    found: Result<FoundLayer<'a>, Refusal>,
+    named: Result<FoundLayer<'a>, Refusal>,
+) -> Result<(FoundLayer<'a>, bool), Refusal>
+    ensures found { result_map_both (λ (answer : FoundLayer × Bool). answer.0) (λ refusal. refusal) result ≡ found.entry }
+    ensures taken { (name : List ℕ) (document : plain.Document) → result_map_both (λ (found : FoundLayer). found.ordinal) (λ refusal. refusal) named.entry ≡ selected (Named name) document → IfOk result (λ answer. answer.1 ≡ is_taken name answer.0.ordinal document) }
+{
+    match found {
+        Ok(found) => Ok((found, is_other(named, found.ordinal))),
+        Err(refusal) => Err(refusal),
     }
 }
 
@@ -70,8 +82,8 @@ fn and_layer<'a>(
     found: FoundLayer<'a>,
     counts: bool,
 ) -> Result<FoundLayer<'a>, Refusal>
-    ensures { (list : List (ℕ × (ℕ × plain.Layer))) → result_map_both found_layer_seen (λ refusal. refusal) before ≡ the_one NoLayer AmbiguousLayer list
-        → result_map_both found_layer_seen (λ refusal. refusal) result ≡ the_one NoLayer AmbiguousLayer (list ++ (if counts then found_layer_seen found ∷ [] else [])) }
+    ensures { (list : List (ℕ × (ℕ × plain.Layer))) → result_map_both found_layer_seen (λ refusal. refusal) before.entry ≡ the_one NoLayer AmbiguousLayer list
+        → result_map_both found_layer_seen (λ refusal. refusal) result ≡ the_one NoLayer AmbiguousLayer (list ++ (if counts then found_layer_seen found.entry ∷ [] else [])) }
 {
     match before {
         before if !counts => before,

@@ -21,7 +21,7 @@ item_more : {B : Type 0} (found : Option B) (position : ℕ) (placed : List (ℕ
 item_more None position placed items e = e
 item_more (Some x) position placed items e = ap (λ more. x ∷ more) e
 
-placed_items : {A B : Type 0} (pick : A → Option B) (position : ℕ) (items : List A) → map (λ (p : ℕ × B). p.1) (filter_map (with_position pick) (enumerate_from position items)) ≡ filter_map pick items
+pub placed_items : {A B : Type 0} (pick : A → Option B) (position : ℕ) (items : List A) → map (λ (p : ℕ × B). p.1) (filter_map (with_position pick) (enumerate_from position items)) ≡ filter_map pick items
 placed_items pick position [] = refl
 placed_items pick position (x ∷ items) = item_more (pick x) position (filter_map (with_position pick) (enumerate_from (position + 1) items)) (filter_map pick items) (placed_items pick (position + 1) items)
 
