@@ -14,7 +14,7 @@ use crate::cut::cut_out;
 use mvt_change::{Change, Place};
 use mvt_document::tags::ID;
 use mvt_document::{Body, Document, Field, Items, TileItem};
-use mvt_meaning::{FeatureChoice, LayerChoice, Refusal, find_feature, find_layer};
+use mvt_select::{FeatureChoice, LayerChoice, Refusal, find_feature, find_layer};
 use mvt_view::{LayerView, layer_count};
 use std::alloc::Global;
 

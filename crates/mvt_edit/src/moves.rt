@@ -8,8 +8,9 @@ ghost use Rattle.mvt_edit.specs.Prepared.{Prepares};
 use crate::steps::one_step;
 use mvt_change::{Change, Place, Step};
 use mvt_document::Document;
-use mvt_meaning::{
-    FeatureChoice, LayerChoice, Refusal, feature_at, find_feature, find_layer, layer_at,
+use mvt_select::{
+    FeatureChoice, LayerChoice, Refusal, find_feature, find_layer, place_of_feature,
+    place_of_layer,
 };
 use std::alloc::Global;
 
@@ -23,8 +24,7 @@ pub(crate) fn move_layer(
     ensures { Prepares (MoveLayer (layer_choice_of choice.now) index) (document_of document.now) result }
 {
     let from = find_layer(document, choice)?.position;
-    let items = document.items.as_slice();
-    let to = layer_at(items, index).ok_or(Refusal::BadPlace)?.position;
+    let to = place_of_layer(document, index).ok_or(Refusal::BadPlace)?;
     let place = Place::Tile;
     Ok(one_step(alloc, Step::Move { place, from, to })?)
 }
@@ -41,8 +41,7 @@ pub(crate) fn move_feature(
 {
     let found = find_layer(document, choice)?;
     let from = find_feature(found.layer, feature)?.position;
-    let items = found.layer.items.as_slice();
-    let to = feature_at(items, index).ok_or(Refusal::BadPlace)?.position;
+    let to = place_of_feature(found.layer, index).ok_or(Refusal::BadPlace)?;
     let place = Place::Layer {
         layer: found.position,
     };

@@ -72,6 +72,21 @@ past (x ∷ list) (suc index) e = let more = past list index e in omega arith
 pub none_stands : {A B : Type 0} (pick : A → Option B) (items : List A) (index : ℕ) → slice_get (found_in pick items) index ≡ None → length (filter_map pick items) ≤ index
 none_stands pick items index e = omega (arith, past (found_in pick items) index e, found_count pick items)
 
+-- the position of what has an index
+pub position_there : {A B : Type 0} (pick : A → Option B) (items : List A) (index : ℕ) (found : ℕ × (ℕ × B)) → slice_get (found_in pick items) index ≡ Some found → Some found.1.0 ≡ slice_get (positions_from (λ x. is_some (pick x)) 0 items) index
+position_there pick items index found e =
+    let at = stands pick items index found e in
+    sym at.placed ∙ ap (slice_get (positions_from (λ x. is_some (pick x)) 0 items)) at.ordinal
+
+none_at : {P : Type 0} (start : ℕ) (placed : List P) (index : ℕ) → slice_get (enumerate_from start placed) index ≡ None → slice_get placed index ≡ None
+none_at start [] index e = refl
+none_at start (x ∷ placed) zero e = absurd cc
+none_at start (x ∷ placed) (suc index) e = none_at (start + 1) placed index e
+
+pub no_position_there : {A B : Type 0} (pick : A → Option B) (items : List A) (index : ℕ) → slice_get (found_in pick items) index ≡ None → None ≡ slice_get (positions_from (λ x. is_some (pick x)) 0 items) index
+no_position_there {A} {B} pick items index e =
+    sym (ap (λ (positions : List ℕ). slice_get positions index) (sym (placed_positions pick 0 items)) ∙ slice_get-map (λ (p : ℕ × B). p.0) (placed_from pick 0 items) index ∙ ap (option_map (λ (p : ℕ × B). p.0)) (none_at 0 (placed_from pick 0 items) index e))
+
 -- ---- the one that passes
 
 ordinals_among : {B : Type 0} (passes : B → Bool) (start : ℕ) (placed : List (ℕ × B)) → map (λ (f : ℕ × (ℕ × B)). f.0) (filter (λ (f : ℕ × (ℕ × B)). passes f.1.1) (enumerate_from start placed)) ≡ positions_from passes start (map (λ (p : ℕ × B). p.1) placed)

@@ -1,13 +1,13 @@
 //! The selected layer and the selected feature, each with where it stands.
 
-ghost use Rattle.std.specs.Prelude.{◌≡◌, Err, IfErr, IfOk, filter};
+ghost use Rattle.std.specs.Prelude.{◌≡◌, Err, IfErr, IfOk, filter, slice_get};
 ghost use Rattle.std.specs.Result.{result_map_both};
 ghost use Rattle.mvt_document.specs.Stands.{document_of, layer_of};
 ghost use Rattle.mvt_view.specs.Found.{found_features, found_layers};
 ghost use Rattle.mvt_view.specs.Seen.{found_feature_seen, found_layer_seen};
 ghost use Rattle.mvt_view.specs.Views.{has_id, is_named, the_one};
 ghost use Rattle.mvt_command.specs.CommandStands.{feature_choice_of, layer_choice_of};
-ghost use Rattle.mvt_meaning.specs.Selection.{selected, selected_feature};
+ghost use Rattle.mvt_meaning.specs.Selection.{feature_positions, layer_positions, selected, selected_feature};
 ghost use Rattle.mvt_meaning.specs.declared.refusal.Refusal.TheVariants.{AmbiguousFeature, AmbiguousLayer, NoFeature, NoLayer};
 ghost use Rattle.mvt_select.specs.Found.{IsFoundFeature, IsFoundLayer};
 ghost use Rattle.mvt_select.specs.Refused.{feature_refusal, layer_refusal};
@@ -33,6 +33,26 @@ pub fn find_layer<'a>(
             layer(document, *ordinal as usize).ok_or(Refusal::NoLayer)
         }
         LayerChoice::Name(name) => find_named(document, name.as_slice()),
+    }
+}
+
+/// The position in the tile of the layer of this ordinal.
+pub fn place_of_layer(document: &Document, ordinal: u64) -> Option<usize>
+    ensures { result ≡ slice_get (layer_positions (document_of document.now)) ordinal }
+{
+    match layer(document, ordinal as usize) {
+        Some(found) => Some(found.position),
+        None => None,
+    }
+}
+
+/// The position in the layer of the feature of this ordinal.
+pub fn place_of_feature(layer: &Layer, ordinal: u64) -> Option<usize>
+    ensures { result ≡ slice_get (feature_positions (layer_of layer.now).items) ordinal }
+{
+    match LayerView::of(layer).feature(ordinal as usize) {
+        Some(found) => Some(found.position),
+        None => None,
     }
 }
 
