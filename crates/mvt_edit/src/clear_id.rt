@@ -11,7 +11,7 @@ use crate::cut::cut_out;
 use mvt_change::{Change, Place};
 use mvt_document::tags::ID;
 use mvt_document::{Body, Document, Field};
-use mvt_meaning::{FeatureChoice, LayerChoice, Refusal, find_feature, find_layer};
+use mvt_select::{FeatureChoice, LayerChoice, Refusal, find_feature, find_layer};
 use std::alloc::Global;
 
 /// The feature loses each of its id fields.

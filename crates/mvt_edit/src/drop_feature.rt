@@ -8,7 +8,7 @@ ghost use Rattle.mvt_edit.specs.Prepared.{Prepares};
 use crate::cut::item_out;
 use mvt_change::{Change, Place};
 use mvt_document::Document;
-use mvt_meaning::{FeatureChoice, LayerChoice, Refusal, find_feature, find_layer};
+use mvt_select::{FeatureChoice, LayerChoice, Refusal, find_feature, find_layer};
 use std::alloc::Global;
 
 /// The feature goes.

@@ -8,7 +8,7 @@ ghost use Rattle.mvt_edit.specs.Prepared.{Prepares};
 use crate::cut::item_out;
 use mvt_change::{Change, Place};
 use mvt_document::Document;
-use mvt_meaning::{LayerChoice, Refusal, find_layer};
+use mvt_select::{LayerChoice, Refusal, find_layer};
 use std::alloc::Global;
 
 /// The layer goes.

@@ -17,7 +17,7 @@ use mvt_change::{Change, Step};
 use mvt_document::tags::{FEATURE_TAG, GEOMETRY_TAG, KIND_TAG};
 use mvt_document::{Body, Document, Feature, Field, Items, LayerItem, Varint};
 use mvt_geometry::{EncodeError, Geometry, Kind, encode_geometry};
-use mvt_meaning::{LayerChoice, Refusal, find_layer};
+use mvt_select::{LayerChoice, Refusal, find_layer};
 use std::alloc::{AllocError, Global};
 
 /// A feature with this geometry comes into the layer.

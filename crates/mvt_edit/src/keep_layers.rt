@@ -12,7 +12,7 @@ ghost use Rattle.mvt_edit.specs.Prepared.{Prepares};
 use crate::cut::cut_out;
 use mvt_change::{Change, Place};
 use mvt_document::{Document, Items, TileItem};
-use mvt_meaning::Refusal;
+use mvt_select::Refusal;
 use mvt_view::{LayerView, layer_count};
 use std::alloc::Global;
 

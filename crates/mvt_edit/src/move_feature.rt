@@ -8,7 +8,7 @@ ghost use Rattle.mvt_edit.specs.Prepared.{Prepares};
 use crate::steps::one_step;
 use mvt_change::{Change, Place, Step};
 use mvt_document::Document;
-use mvt_meaning::{FeatureChoice, LayerChoice, Refusal, feature_at, find_feature, find_layer};
+use mvt_select::{FeatureChoice, LayerChoice, Refusal, find_feature, find_layer, place_of_feature};
 use std::alloc::Global;
 
 /// The feature comes to stand at this ordinal.
@@ -23,8 +23,7 @@ pub(crate) fn move_feature(
 {
     let found = find_layer(document, choice)?;
     let from = find_feature(found.layer, feature)?.position;
-    let items = found.layer.items.as_slice();
-    let to = feature_at(items, index).ok_or(Refusal::BadPlace)?.position;
+    let to = place_of_feature(found.layer, index).ok_or(Refusal::BadPlace)?;
     let place = Place::Layer {
         layer: found.position,
     };

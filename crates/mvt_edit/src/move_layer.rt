@@ -8,7 +8,7 @@ ghost use Rattle.mvt_edit.specs.Prepared.{Prepares};
 use crate::steps::one_step;
 use mvt_change::{Change, Place, Step};
 use mvt_document::Document;
-use mvt_meaning::{LayerChoice, Refusal, find_layer, layer_at};
+use mvt_select::{LayerChoice, Refusal, find_layer, place_of_layer};
 use std::alloc::Global;
 
 /// The layer comes to stand at this ordinal.
@@ -21,8 +21,7 @@ pub(crate) fn move_layer(
     ensures { Prepares (MoveLayer (layer_choice_of choice.now) index) (document_of document.now) result }
 {
     let from = find_layer(document, choice)?.position;
-    let items = document.items.as_slice();
-    let to = layer_at(items, index).ok_or(Refusal::BadPlace)?.position;
+    let to = place_of_layer(document, index).ok_or(Refusal::BadPlace)?;
     let place = Place::Tile;
     Ok(one_step(alloc, Step::Move { place, from, to })?)
 }

@@ -10,7 +10,7 @@ ghost use Rattle.mvt_change.specs.Changes.{LayerStep};
 ghost use Rattle.mvt_change.specs.ChangeStands.{step_of};
 ghost use Rattle.mvt_command.specs.Command.{RenameLayer};
 ghost use Rattle.mvt_command.specs.CommandStands.{layer_choice_of};
-ghost use Rattle.mvt_meaning.specs.Found.{IsFoundLayer};
+ghost use Rattle.mvt_select.specs.Found.{IsFoundLayer};
 ghost use Rattle.mvt_meaning.specs.Meaning.{applied, is_name, is_taken, named_items, new_content, with_text};
 ghost use Rattle.mvt_edit.specs.Prepared.{Prepares};
 ghost use Rattle.mvt_edit.specs.PutsLast.{PutsLast};
@@ -20,9 +20,7 @@ use crate::steps::{one_item, one_step_within_limit};
 use mvt_change::{Change, Step};
 use mvt_document::tags::NAME_TAG;
 use mvt_document::{Body, Document, Field, Items, Layer, LayerItem, Varint};
-use mvt_meaning::{
-    FoundLayer, LayerChoice, Refusal, is_other, last_name, layer_at, selected_and_named,
-};
+use mvt_select::{FoundLayer, LayerChoice, Refusal, find_and_taken, last_name};
 use std::alloc::{AllocError, Global};
 
 /// The layer gets the name.
@@ -50,12 +48,11 @@ fn layer_to_rename<'a>(
     ensures refused { IfErr result (λ refusal.
         applied (RenameLayer (layer_choice_of choice.now) name.now) (document_of document.now) ≡ Err refusal) }
 {
-    let (chosen, named) = selected_and_named(document, choice, name);
-    let ordinal = chosen?;
-    if is_other(named, ordinal) {
+    let (found, taken) = find_and_taken(document, choice, name)?;
+    if taken {
         return Err(Refusal::NameTaken);
     }
-    layer_at(document.items.as_slice(), ordinal as u64).ok_or(Refusal::NoLayer)
+    Ok(found)
 }
 
 /// The step that gives the name to the layer at this position of the tile.

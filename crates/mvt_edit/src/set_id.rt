@@ -18,7 +18,7 @@ use crate::steps::{one_item, one_step_within_limit};
 use mvt_change::{Change, Step};
 use mvt_document::tags::ID_TAG;
 use mvt_document::{Body, Document, Feature, Field, Varint};
-use mvt_meaning::{FeatureChoice, LayerChoice, Refusal, find_feature, find_layer, last_id};
+use mvt_select::{FeatureChoice, LayerChoice, Refusal, find_feature, find_layer, last_id};
 use std::alloc::{AllocError, Global};
 
 /// The feature gets the id.

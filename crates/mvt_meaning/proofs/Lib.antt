@@ -9,8 +9,6 @@ pub mod FeatureCommands
 pub mod Positions
 pub mod Selecting
 pub mod SelectionLemmas
-pub mod Named
 pub mod Lengths
 pub mod Found
-pub mod Finding
 pub mod NeverOutOfMemory

@@ -1,6 +1,5 @@
 pub mod Ordinals
 pub mod Selection
-pub mod Found
 pub mod Meaning
 pub mod Kept
 pub mod LayerLaws

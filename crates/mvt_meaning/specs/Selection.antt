@@ -3,10 +3,6 @@ use Rattle.std.specs.Prelude.{ℕ, Bool, List, length, slice_get, Result, Ok, Er
 use Rattle.std.specs.Option.{option_map_or}
 use Rattle.mvt_document.specs.Plain.{LayerItem, Layer, TileItem, Document}
 use Rattle.mvt_view.specs.Views.{feature_in, features, has_id, is_named, layer_in, layers, ordinals_of, the_one}
-use Rattle.mvt_view.specs.declared.select.LayerError.{LayerError}
-use Rattle.mvt_view.specs.declared.select.LayerError.TheVariants as layers_seen
-use Rattle.mvt_view.specs.declared.select.FeatureError.{FeatureError}
-use Rattle.mvt_view.specs.declared.select.FeatureError.TheVariants as features_seen
 use Rattle.mvt_command.specs.Command.{LayerChoice, AtOrdinal, Named, FeatureChoice, FeatureAtOrdinal, WithId}
 use Rattle.mvt_meaning.specs.Ordinals.{positions_of}
 use Rattle.mvt_meaning.specs.declared.refusal.Refusal.{Refusal}
@@ -27,16 +23,6 @@ selected_feature (WithId id) layer = the_one NoFeature AmbiguousFeature (ordinal
 -- the ordinal of the selected feature in the layer of this ordinal, or the refusal (tiles 4.2)
 abbrev pub selected_in : FeatureChoice → ℕ → Document → Result ℕ Refusal
 selected_in choice ordinal document = option_map_or (selected_feature choice) (slice_get (layers document) ordinal) (Err NoLayer)
-
--- the refusal for a name that selects no layer: none has it, or several have it
-abbrev pub layer_refusal : LayerError → Refusal
-layer_refusal layers_seen.NoLayer = NoLayer
-layer_refusal layers_seen.AmbiguousLayer = AmbiguousLayer
-
--- the refusal for an id that selects no feature: none has it, or several have it
-abbrev pub feature_refusal : FeatureError → Refusal
-feature_refusal features_seen.NoFeature = NoFeature
-feature_refusal features_seen.AmbiguousFeature = AmbiguousFeature
 
 -- ---- positions
 

@@ -2,11 +2,9 @@
 
 ghost use Rattle.std.specs.Prelude.{◌≡◌};
 ghost use Rattle.mvt_meaning.specs.Meaning.{geometry_refusal};
-ghost use Rattle.mvt_meaning.specs.Selection.{feature_refusal, layer_refusal};
 ghost use Rattle.mvt_meaning.specs.declared.refusal.Refusal.TheVariants.{NoMemory};
 
 use mvt_geometry::EncodeError;
-use mvt_view::{FeatureError, LayerError};
 use std::alloc::{AllocError, AllocFailed};
 use thiserror::Error;
 
@@ -46,28 +44,6 @@ impl<T: Drop> From<AllocFailed<T>> for Refusal {
 
     fn from(_e: AllocFailed<T>) -> Refusal {
         Refusal::NoMemory
-    }
-}
-
-impl From<LayerError> for Refusal {
-    ghost from_gives = { λ error refusal. refusal ≡ layer_refusal error };
-
-    fn from(error: LayerError) -> Refusal {
-        match error {
-            LayerError::NoLayer => Refusal::NoLayer,
-            LayerError::AmbiguousLayer => Refusal::AmbiguousLayer,
-        }
-    }
-}
-
-impl From<FeatureError> for Refusal {
-    ghost from_gives = { λ error refusal. refusal ≡ feature_refusal error };
-
-    fn from(error: FeatureError) -> Refusal {
-        match error {
-            FeatureError::NoFeature => Refusal::NoFeature,
-            FeatureError::AmbiguousFeature => Refusal::AmbiguousFeature,
-        }
     }
 }
 

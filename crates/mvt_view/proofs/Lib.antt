@@ -1,3 +1,4 @@
 pub mod TagPairs
 pub mod Yielded
+pub mod Placing
 pub mod Integers

@@ -1,4 +1,5 @@
 pub mod Views
+pub mod Found
 pub mod Seen
 pub mod Attributes
 pub mod Tags

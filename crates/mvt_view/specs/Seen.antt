@@ -4,6 +4,8 @@ use Rattle.mvt_document.specs.Plain as plain
 use Rattle.mvt_document.specs.Stands.{layer_of, feature_of}
 use Rattle.mvt_view.specs.declared.views.LayerView.{LayerView}
 use Rattle.mvt_view.specs.declared.views.FeatureView.{FeatureView}
+use Rattle.mvt_view.specs.declared.found.FoundLayer.{FoundLayer}
+use Rattle.mvt_view.specs.declared.found.FoundFeature.{FoundFeature}
 use Rattle.mvt_view.specs.declared.attributes.Pair.{Pair}
 
 -- the plain layer that a view shows
@@ -13,6 +15,14 @@ layer_seen view = layer_of view.layer.now
 -- the plain feature that a view shows
 abbrev pub feature_seen : FeatureView → plain.Feature
 feature_seen view = feature_of view.feature.now
+
+-- the plain layer that was found, with its ordinal and its position
+abbrev pub found_layer_seen : FoundLayer → ℕ × (ℕ × plain.Layer)
+found_layer_seen found = (found.ordinal, (found.position, layer_of found.layer.now))
+
+-- the plain feature that was found, with its ordinal and its position
+abbrev pub found_feature_seen : FoundFeature → ℕ × (ℕ × plain.Feature)
+found_feature_seen found = (found.ordinal, (found.position, feature_of found.feature.now))
 
 -- the ordinals of the key and the value of a pair
 abbrev pub pair_seen : Pair → ℕ × ℕ

@@ -108,11 +108,11 @@ kind_of feature = unwrap_or (last_value 3 feature.fields) 0
 abbrev pub ordinals_of : {A : Type 0} → (A → Bool) → List A → List ℕ
 ordinals_of {A} passes items = map (λ p. p.0) (filter (λ (p : ℕ × A). passes p.1) (enumerate_from 0 items))
 
--- the ordinal where there is exactly one; else the error for none, or the error for several
-abbrev pub the_one : {E : Type 0} → E → E → List ℕ → Result ℕ E
+-- the item where there is exactly one; else the error for none, or the error for several
+abbrev pub the_one : {A E : Type 0} → E → E → List A → Result A E
 the_one none several [] = Err none
-the_one none several (ordinal ∷ []) = Ok ordinal
-the_one none several (ordinal ∷ next ∷ more) = Err several
+the_one none several (item ∷ []) = Ok item
+the_one none several (item ∷ next ∷ more) = Err several
 
 -- the layer has this name (tiles 4.1)
 abbrev pub is_named : List ℕ → Layer → Bool

@@ -1,9 +1,10 @@
 //! What a field holds, and the items of a message that hold something.
 
-ghost use Rattle.std.specs.Prelude.{◌≡◌, ◌∷◌, [], map, MatchOption};
+ghost use Rattle.std.specs.Prelude.{◌≡◌, ◌+◌, ◌<◌, ◌≤◌, ◌∷◌, [], length, map, IfSome, MatchOption};
 ghost use Rattle.std.specs.Option.{option_copied};
 ghost use Rattle.mvt_document.specs.Stands.{feature_of, field_of, layer_item_of, layer_of, tile_item_of};
-ghost use Rattle.mvt_view.specs.Views.{content_in, contents, features_in, last_value, layers, plain_fields, value_in};
+ghost use Rattle.mvt_view.specs.Found.{placed_from};
+ghost use Rattle.mvt_view.specs.Views.{content_in, contents, feature_in, last_value, layer_in, plain_fields, value_in};
 
 use mvt_document::{Body, Feature, Field, Layer, LayerItem, TileItem};
 
@@ -51,30 +52,30 @@ pub(crate) fn last_value_in_layer(items: &[LayerItem], number: u64) -> Option<u6
     last
 }
 
-/// The first layer, and the items behind it.
-pub(crate) fn first_layer(items: &[TileItem]) -> Option<(&Layer, &[TileItem])>
-    ensures { MatchOption result (layers (map tile_item_of items.now) ≡ []) (λ found. layers (map tile_item_of items.now) ≡ layer_of found.0.now ∷ layers (map tile_item_of found.1.now)) }
+/// The first layer from this position on, and its position.
+pub(crate) fn first_layer(items: &[TileItem], start: usize) -> Option<(usize, &Layer)>
+    requires { start ≤ length items.now }
+    ensures found { MatchOption result (placed_from layer_in start (map tile_item_of items.now) ≡ []) (λ found. placed_from layer_in start (map tile_item_of items.now) ≡ (found.0, layer_of found.1.now) ∷ placed_from layer_in (found.0 + 1) (map tile_item_of items.now)) }
+    ensures within { IfSome result (λ found. (start ≤ found.0) × (found.0 < length items.now)) }
 {
-    let mut rest = items;
-    while let Some((item, behind)) = rest.split_first() {
-        if let TileItem::Layer(layer) = item {
-            return Some((layer, behind));
+    for position in start..items.len() {
+        if let TileItem::Layer(layer) = &items[position] {
+            return Some((position, layer));
         }
-        rest = behind;
     }
     None
 }
 
-/// The first feature, and the items behind it.
-pub(crate) fn first_feature(items: &[LayerItem]) -> Option<(&Feature, &[LayerItem])>
-    ensures { MatchOption result (features_in (map layer_item_of items.now) ≡ []) (λ found. features_in (map layer_item_of items.now) ≡ feature_of found.0.now ∷ features_in (map layer_item_of found.1.now)) }
+/// The first feature from this position on, and its position.
+pub(crate) fn first_feature(items: &[LayerItem], start: usize) -> Option<(usize, &Feature)>
+    requires { start ≤ length items.now }
+    ensures found { MatchOption result (placed_from feature_in start (map layer_item_of items.now) ≡ []) (λ found. placed_from feature_in start (map layer_item_of items.now) ≡ (found.0, feature_of found.1.now) ∷ placed_from feature_in (found.0 + 1) (map layer_item_of items.now)) }
+    ensures within { IfSome result (λ found. (start ≤ found.0) × (found.0 < length items.now)) }
 {
-    let mut rest = items;
-    while let Some((item, behind)) = rest.split_first() {
-        if let LayerItem::Feature(feature) = item {
-            return Some((feature, behind));
+    for position in start..items.len() {
+        if let LayerItem::Feature(feature) = &items[position] {
+            return Some((position, feature));
         }
-        rest = behind;
     }
     None
 }

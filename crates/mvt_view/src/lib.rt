@@ -25,6 +25,7 @@
 
 mod attributes;
 mod fields;
+mod found;
 mod geometries;
 pub mod laws;
 mod lists;
@@ -32,6 +33,7 @@ mod select;
 mod views;
 
 pub use attributes::{Pair, PairsError, pairs};
+pub use found::{FoundFeature, FoundLayer};
 pub use geometries::geometry;
 pub use lists::{Contents, FeatureViews, LayerViews};
 pub use mvt_geometry::{

@@ -1,101 +1,135 @@
 //! The layers of a tile, and the features, keys and values of a layer, as iterators.
 
 use crate::fields::{first_content, first_feature, first_layer};
-use crate::views::{FeatureView, LayerView};
+use crate::found::{FoundFeature, FoundLayer};
 use mvt_document::{LayerItem, TileItem};
 use std::marker::Model;
 
-/// The layers of a tile, in order. Contracts see those that are left.
+/// The layers of a tile, in order, each with its ordinal and its position. Contracts see those that
+/// are left.
 #[derive(Clone, Debug, Drop)]
 pub struct LayerViews<'a> {
-    rest: &'a [TileItem],
+    items: &'a [TileItem],
+    // From where the next is looked for, and its ordinal.
+    position: usize,
+    ordinal: usize,
 }
 
 impl<'a> Model for LayerViews<'a> {
-    ghost use Rattle.std.specs.Prelude.{List, map};
+    ghost use Rattle.std.specs.Prelude.{ℕ, ◌≤◌, List, length, map};
     ghost use Rattle.mvt_document.specs.Plain.{Layer};
     ghost use Rattle.mvt_document.specs.Stands.{tile_item_of};
-    ghost use Rattle.mvt_view.specs.Views.{layers};
+    ghost use Rattle.mvt_view.specs.Found.{found_from};
+    ghost use Rattle.mvt_view.specs.Views.{layer_in};
 
-    ghost Value = { List Layer };
+    ghost Value = { List (ℕ × (ℕ × Layer)) };
 
-    ghost view = { λ l. layers (map tile_item_of l.rest.now) };
+    ghost view = { λ l. found_from layer_in l.ordinal l.position (map tile_item_of l.items.now) };
+
+    ghost invariant = { λ l. (l.ordinal ≤ l.position) × (l.position ≤ length l.items.now) };
 }
 
 impl<'a> LayerViews<'a> {
     ghost use Rattle.std.specs.Prelude.{◌≡◌, ◌<◌, ◌^◌, length, map};
     ghost use Rattle.mvt_document.specs.Stands.{tile_item_of};
-    ghost use Rattle.mvt_view.specs.Views.{layers};
+    ghost use Rattle.mvt_view.specs.Found.{found_layers};
 
     pub(crate) fn of(items: &'a [TileItem]) -> LayerViews<'a>
-        ensures items { result ≡ layers (map tile_item_of items.now) }
+        ensures items { result ≡ found_layers (map tile_item_of items.now) }
         ensures bound { length result < 2 ^ 64 }
     {
-        LayerViews { rest: items }
+        LayerViews {
+            items,
+            position: 0,
+            ordinal: 0,
+        }
     }
 }
 
 impl<'a> Iterator for LayerViews<'a> {
     ghost use Rattle.std.specs.Iterator.{YieldsFirstBy, item_count};
-    ghost use Rattle.mvt_view.specs.Seen.{layer_seen};
+    ghost use Rattle.mvt_view.specs.Seen.{found_layer_seen};
 
-    type Item = LayerView<'a>;
+    type Item = FoundLayer<'a>;
 
-    ghost next_gives = { YieldsFirstBy layer_seen (λ left. left) };
+    ghost next_gives = { YieldsFirstBy found_layer_seen (λ left. left) };
 
     ghost remaining = { item_count (λ left. left) };
 
-    fn next(&mut self) -> Option<LayerView<'a>> {
-        let (layer, behind) = first_layer(self.rest)?;
-        self.rest = behind;
-        Some(LayerView::of(layer))
+    fn next(&mut self) -> Option<FoundLayer<'a>> {
+        let (position, layer) = first_layer(self.items, self.position)?;
+        let ordinal = self.ordinal;
+        self.position = position + 1;
+        self.ordinal = ordinal + 1;
+        Some(FoundLayer {
+            ordinal,
+            position,
+            layer,
+        })
     }
 }
 
-/// The features of a layer, in order. Contracts see those that are left.
+/// The features of a layer, in order, each with its ordinal and its position. Contracts see those that
+/// are left.
 #[derive(Clone, Debug, Drop)]
 pub struct FeatureViews<'a> {
-    rest: &'a [LayerItem],
+    items: &'a [LayerItem],
+    // From where the next is looked for, and its ordinal.
+    position: usize,
+    ordinal: usize,
 }
 
 impl<'a> Model for FeatureViews<'a> {
-    ghost use Rattle.std.specs.Prelude.{List, map};
+    ghost use Rattle.std.specs.Prelude.{ℕ, ◌≤◌, List, length, map};
     ghost use Rattle.mvt_document.specs.Plain.{Feature};
     ghost use Rattle.mvt_document.specs.Stands.{layer_item_of};
-    ghost use Rattle.mvt_view.specs.Views.{features_in};
+    ghost use Rattle.mvt_view.specs.Found.{found_from};
+    ghost use Rattle.mvt_view.specs.Views.{feature_in};
 
-    ghost Value = { List Feature };
+    ghost Value = { List (ℕ × (ℕ × Feature)) };
 
-    ghost view = { λ l. features_in (map layer_item_of l.rest.now) };
+    ghost view = { λ l. found_from feature_in l.ordinal l.position (map layer_item_of l.items.now) };
+
+    ghost invariant = { λ l. (l.ordinal ≤ l.position) × (l.position ≤ length l.items.now) };
 }
 
 impl<'a> FeatureViews<'a> {
     ghost use Rattle.std.specs.Prelude.{◌≡◌, ◌<◌, ◌^◌, length, map};
     ghost use Rattle.mvt_document.specs.Stands.{layer_item_of};
-    ghost use Rattle.mvt_view.specs.Views.{features_in};
+    ghost use Rattle.mvt_view.specs.Found.{found_features};
 
     pub(crate) fn of(items: &'a [LayerItem]) -> FeatureViews<'a>
-        ensures items { result ≡ features_in (map layer_item_of items.now) }
+        ensures items { result ≡ found_features (map layer_item_of items.now) }
         ensures bound { length result < 2 ^ 64 }
     {
-        FeatureViews { rest: items }
+        FeatureViews {
+            items,
+            position: 0,
+            ordinal: 0,
+        }
     }
 }
 
 impl<'a> Iterator for FeatureViews<'a> {
     ghost use Rattle.std.specs.Iterator.{YieldsFirstBy, item_count};
-    ghost use Rattle.mvt_view.specs.Seen.{feature_seen};
+    ghost use Rattle.mvt_view.specs.Seen.{found_feature_seen};
 
-    type Item = FeatureView<'a>;
+    type Item = FoundFeature<'a>;
 
-    ghost next_gives = { YieldsFirstBy feature_seen (λ left. left) };
+    ghost next_gives = { YieldsFirstBy found_feature_seen (λ left. left) };
 
     ghost remaining = { item_count (λ left. left) };
 
-    fn next(&mut self) -> Option<FeatureView<'a>> {
-        let (feature, behind) = first_feature(self.rest)?;
-        self.rest = behind;
-        Some(FeatureView::of(feature))
+    fn next(&mut self) -> Option<FoundFeature<'a>> {
+        let (position, feature) = first_feature(self.items, self.position)?;
+        let ordinal = self.ordinal;
+        self.position = position + 1;
+        self.ordinal = ordinal + 1;
+        Some(FoundFeature {
+            ordinal,
+            position,
+            feature,
+        })
     }
 }
 

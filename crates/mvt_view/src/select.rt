@@ -1,15 +1,19 @@
 //! The layers of a document; the layer that a name selects, and the feature that an id selects.
 
-ghost use Rattle.std.specs.Prelude.{◌≡◌, ◌<◌, ◌^◌, ℕ, List, false, length, option_map, slice_get};
+ghost use Rattle.std.specs.Prelude.{◌≡◌, ◌<◌, ◌^◌, ℕ, List, false, filter, length, option_map, slice_get};
 ghost use Rattle.std.specs.Iterator.{AlwaysYields};
 ghost use Rattle.std.specs.Option.{option_copied, option_map_or};
+ghost use Rattle.std.specs.Result.{result_map_both};
 ghost use Rattle.std.specs.Str.{bytes_eq};
+ghost use Rattle.mvt_document.specs.Plain.{Feature, Layer};
 ghost use Rattle.mvt_document.specs.Stands.{document_of};
-ghost use Rattle.mvt_view.specs.Views.{features, has_id, is_named, layers, ordinals_of, the_one};
-ghost use Rattle.mvt_view.specs.Seen.{feature_seen, layer_seen};
+ghost use Rattle.mvt_view.specs.Found.{found_features, found_layers};
+ghost use Rattle.mvt_view.specs.Views.{has_id, is_named, layers, the_one};
+ghost use Rattle.mvt_view.specs.Seen.{feature_seen, found_feature_seen, found_layer_seen, layer_seen};
 ghost use Rattle.mvt_view.specs.declared.select.LayerError.TheVariants.{AmbiguousLayer, NoLayer};
 ghost use Rattle.mvt_view.specs.declared.select.FeatureError.TheVariants.{AmbiguousFeature, NoFeature};
 
+use crate::found::{FoundFeature, FoundLayer};
 use crate::lists::LayerViews;
 use crate::views::{FeatureView, LayerView};
 use mvt_document::Document;
@@ -35,7 +39,7 @@ pub enum FeatureError {
 
 /// The layers, in order.
 pub fn layers(document: &Document) -> LayerViews<'_>
-    ensures items { result ≡ layers (document_of document.now) }
+    ensures items { result ≡ found_layers (document_of document.now) }
     ensures bound { length result < 2 ^ 64 }
 {
     LayerViews::of(document.items.as_slice())
@@ -48,53 +52,57 @@ pub fn layer_count(document: &Document) -> usize
 }
 
 /// The layer of this ordinal.
-pub fn layer(document: &Document, ordinal: usize) -> Option<LayerView<'_>>
-    ensures { option_map layer_seen result ≡ slice_get (layers (document_of document.now)) ordinal }
+pub fn layer(document: &Document, ordinal: usize) -> Option<FoundLayer<'_>>
+    ensures { option_map found_layer_seen result ≡ slice_get (found_layers (document_of document.now)) ordinal }
 {
     layers(document).nth(ordinal)
 }
 
-/// The ordinal of the one layer with this name.
-pub fn layer_named(document: &Document, name: &[u8]) -> Result<usize, LayerError>
-    ensures { result ≡ the_one NoLayer AmbiguousLayer (ordinals_of (is_named name.now) (layers (document_of document.now))) }
+/// The one layer with this name.
+pub fn layer_named<'a>(document: &'a Document, name: &[u8]) -> Result<FoundLayer<'a>, LayerError>
+    ensures { result_map_both found_layer_seen (λ error. error) result ≡ the_one NoLayer AmbiguousLayer (filter (λ found. is_named name.now found.1.1) (found_layers (document_of document.now))) }
 {
-    let named = layers(document)
-        .enumerate()
-        .filter(|(_, layer)| is_named(*layer, name))
-        .map(|(ordinal, _)| ordinal);
-    the_one(named, LayerError::NoLayer, LayerError::AmbiguousLayer)
+    the_one_layer(layers(document).filter(|found| is_named(found.view(), name)))
 }
 
-/// The ordinal of the one feature with this id.
-pub fn feature_by_id(layer: &LayerView, id: u64) -> Result<usize, FeatureError>
-    ensures { result ≡ the_one NoFeature AmbiguousFeature (ordinals_of (has_id id) (features (layer_seen layer.now))) }
+/// The one layer that comes, or which error it is that there is none or that there are several.
+fn the_one_layer<'a, I: Iterator<Item = FoundLayer<'a>>>(
+    mut layers: I,
+) -> Result<FoundLayer<'a>, LayerError>
+    requires { I.can_next layers }
+    ensures { (list : List (ℕ × (ℕ × Layer))) → AlwaysYields I.next_gives found_layer_seen layers list → result_map_both found_layer_seen (λ error. error) result ≡ the_one NoLayer AmbiguousLayer list }
 {
-    let found = layer
-        .features()
-        .enumerate()
-        .filter(|(_, feature)| has_id(*feature, id))
-        .map(|(ordinal, _)| ordinal);
-    the_one(
-        found,
-        FeatureError::NoFeature,
-        FeatureError::AmbiguousFeature,
-    )
+    match layers.next() {
+        None => Err(LayerError::NoLayer),
+        Some(found) => match layers.next() {
+            None => Ok(found),
+            Some(_) => Err(LayerError::AmbiguousLayer),
+        },
+    }
 }
 
-/// The one ordinal that comes, or which error it is that there is none or that there are several.
-fn the_one<I: Iterator<Item = usize>, E: Drop>(
-    mut ordinals: I,
-    none: E,
-    several: E,
-) -> Result<usize, E>
-    requires { I.can_next ordinals }
-    ensures { (list : List ℕ) → AlwaysYields I.next_gives (λ ordinal. ordinal) ordinals list → result ≡ the_one none several list }
+/// The one feature with this id.
+pub fn feature_by_id<'a>(
+    layer: &LayerView<'a>,
+    id: u64,
+) -> Result<FoundFeature<'a>, FeatureError>
+    ensures { result_map_both found_feature_seen (λ error. error) result ≡ the_one NoFeature AmbiguousFeature (filter (λ found. has_id id found.1.1) (found_features (layer_seen layer.now).items)) }
 {
-    match ordinals.next() {
-        None => Err(none),
-        Some(ordinal) => match ordinals.next() {
-            None => Ok(ordinal),
-            Some(_) => Err(several),
+    the_one_feature(layer.features().filter(|found| has_id(found.view(), id)))
+}
+
+/// The one feature that comes, or which error it is that there is none or that there are several.
+fn the_one_feature<'a, I: Iterator<Item = FoundFeature<'a>>>(
+    mut features: I,
+) -> Result<FoundFeature<'a>, FeatureError>
+    requires { I.can_next features }
+    ensures { (list : List (ℕ × (ℕ × Feature))) → AlwaysYields I.next_gives found_feature_seen features list → result_map_both found_feature_seen (λ error. error) result ≡ the_one NoFeature AmbiguousFeature list }
+{
+    match features.next() {
+        None => Err(FeatureError::NoFeature),
+        Some(found) => match features.next() {
+            None => Ok(found),
+            Some(_) => Err(FeatureError::AmbiguousFeature),
         },
     }
 }

@@ -5,9 +5,11 @@ ghost use Rattle.std.specs.Option.{option_copied};
 ghost use Rattle.mvt_document.specs.Stands.{feature_of, layer_of};
 ghost use Rattle.mvt_numbers.specs.Numbers.{numbers};
 ghost use Rattle.mvt_view.specs.Views.{extent_of, features, id_of, keys, kind_of, name_of, values, version_of};
-ghost use Rattle.mvt_view.specs.Seen.{feature_seen, layer_seen};
+ghost use Rattle.mvt_view.specs.Found.{found_features};
+ghost use Rattle.mvt_view.specs.Seen.{feature_seen, found_feature_seen, layer_seen};
 
 use crate::fields::{last_value, last_value_in_layer};
+use crate::found::FoundFeature;
 use crate::lists::{Contents, FeatureViews};
 use mvt_document::tags::{EXTENT, GEOMETRY, ID, KEYS, KIND, NAME, TAGS, VALUES, VERSION};
 use mvt_document::{Feature, Layer};
@@ -56,7 +58,7 @@ impl<'a> LayerView<'a> {
 
     /// The features, in order.
     pub fn features(self) -> FeatureViews<'a>
-        ensures items { result ≡ features (layer_seen self.entry) }
+        ensures items { result ≡ found_features (layer_seen self.entry).items }
         ensures bound { length result < 2 ^ 64 }
     {
         FeatureViews::of(self.layer.items.as_slice())
@@ -97,8 +99,8 @@ impl<'a> LayerView<'a> {
     }
 
     /// The feature of this ordinal.
-    pub fn feature(self, ordinal: usize) -> Option<FeatureView<'a>>
-        ensures { option_map feature_seen result ≡ slice_get (features (layer_seen self.entry)) ordinal }
+    pub fn feature(self, ordinal: usize) -> Option<FoundFeature<'a>>
+        ensures { option_map found_feature_seen result ≡ slice_get (found_features (layer_seen self.entry).items) ordinal }
     {
         self.features().nth(ordinal)
     }

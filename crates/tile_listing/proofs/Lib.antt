@@ -7,3 +7,4 @@ pub mod Listed
 pub mod LineLaws
 pub mod ListingLaws
 pub mod There
+mod Choosing

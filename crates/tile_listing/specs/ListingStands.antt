@@ -3,18 +3,18 @@ use Rattle.std.specs.Prelude.{ℕ, List, [], Result, map, slice_index_or}
 use Rattle.std.specs.Borrow.{Bor}
 use Rattle.std.specs.Result.{result_map_both}
 use Rattle.mvt_document.specs.Plain.{Feature, Layer}
-use Rattle.mvt_view.specs.Seen.{feature_seen, layer_seen}
-use Rattle.mvt_view.specs.declared.views.FeatureView.{FeatureView}
-use Rattle.mvt_view.specs.declared.views.LayerView.{LayerView}
+use Rattle.mvt_document.specs.Stands.{feature_of, layer_of}
+use Rattle.mvt_view.specs.declared.found.FoundFeature.{FoundFeature}
+use Rattle.mvt_view.specs.declared.found.FoundLayer.{FoundLayer}
 use Rattle.mvt_meaning.specs.declared.refusal.Refusal.{Refusal}
 
 -- a layer with its ordinal, or a refusal, as plain values
-abbrev pub layer_found : Result (ℕ × LayerView) Refusal → Result (ℕ × Layer) Refusal
-layer_found answer = result_map_both (λ (found : ℕ × LayerView). (found.0, layer_seen found.1)) (λ refusal. refusal) answer
+abbrev pub layer_found : Result FoundLayer Refusal → Result (ℕ × Layer) Refusal
+layer_found answer = result_map_both (λ (found : FoundLayer). (found.ordinal, layer_of found.layer.now)) (λ refusal. refusal) answer
 
 -- a feature with its ordinal, or a refusal, as plain values
-abbrev pub feature_found : Result (ℕ × FeatureView) Refusal → Result (ℕ × Feature) Refusal
-feature_found answer = result_map_both (λ (found : ℕ × FeatureView). (found.0, feature_seen found.1)) (λ refusal. refusal) answer
+abbrev pub feature_found : Result FoundFeature Refusal → Result (ℕ × Feature) Refusal
+feature_found answer = result_map_both (λ (found : FoundFeature). (found.ordinal, feature_of found.feature.now)) (λ refusal. refusal) answer
 
 -- what the slices hold
 abbrev pub contents_of : List (Bor (List ℕ)) → List (List ℕ)

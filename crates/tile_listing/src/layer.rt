@@ -99,8 +99,8 @@ fn put_feature_lines(text: &mut Vec<u8>, layer: LayerView) -> Result<(), AllocEr
     ensures { OnOk result (text.new.items
         ≡ text.old.items ++ joined_lines (numbered feature_line (features (layer_seen layer.entry)))) }
 {
-    for (ordinal, feature) in layer.features().enumerate() {
-        put_feature_line(text, ordinal, feature)?;
+    for found in layer.features() {
+        put_feature_line(text, found.ordinal, found.view())?;
     }
     Ok(())
 }

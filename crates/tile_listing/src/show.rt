@@ -1,8 +1,7 @@
 //! `listing`: the lines of a listing, and which layer or feature it is of.
 
 ghost use Rattle.std.specs.Prelude.{◌≡◌};
-ghost use Rattle.mvt_document.specs.Stands.{document_of};
-ghost use Rattle.mvt_view.specs.Seen.{layer_seen};
+ghost use Rattle.mvt_document.specs.Stands.{document_of, layer_of};
 ghost use Rattle.mvt_command.specs.CommandStands.{feature_choice_of, layer_choice_of};
 ghost use Rattle.tile_request.specs.RequestStands.{what_of};
 ghost use Rattle.tile_listing.specs.Listing.{Shows, chosen_feature, chosen_layer};
@@ -12,9 +11,8 @@ use crate::feature::put_feature;
 use crate::layer::put_layer;
 use crate::tile::put_tile;
 use mvt_command::{FeatureChoice, LayerChoice};
-use mvt_document::{Document, Items};
-use mvt_meaning::{Refusal, selected_feature, selected_layer};
-use mvt_view::{FeatureView, LayerView, layer};
+use mvt_document::{Document, Items, Layer};
+use mvt_select::{FoundFeature, FoundLayer, Refusal, find_feature, find_layer};
 use std::alloc::Global;
 use tile_request::What;
 
@@ -26,13 +24,13 @@ pub fn listing(alloc: Global, document: &Document, what: &What) -> Result<Items<
     match what {
         What::Whole => put_tile(&mut text, document)?,
         What::OneLayer(choice) => {
-            let (ordinal, layer) = chosen_layer(document, choice)?;
-            put_layer(&mut text, ordinal, layer)?;
+            let found = chosen_layer(document, choice)?;
+            put_layer(&mut text, found.ordinal, found.view())?;
         }
         What::OneFeature(layer_choice, choice) => {
-            let (_, layer) = chosen_layer(document, layer_choice)?;
-            let (ordinal, feature) = chosen_feature(layer, choice)?;
-            put_feature(alloc, &mut text, layer, ordinal, feature)?;
+            let holder = chosen_layer(document, layer_choice)?;
+            let found = chosen_feature(holder.layer, choice)?;
+            put_feature(alloc, &mut text, holder.view(), found.ordinal, found.view())?;
         }
     }
     Ok(Items::from_vec(text))
@@ -42,22 +40,18 @@ pub fn listing(alloc: Global, document: &Document, what: &What) -> Result<Items<
 fn chosen_layer<'a>(
     document: &'a Document,
     choice: &LayerChoice,
-) -> Result<(usize, LayerView<'a>), Refusal>
+) -> Result<FoundLayer<'a>, Refusal>
     ensures { layer_found result ≡ chosen_layer (layer_choice_of choice.now) (document_of document.now) }
 {
-    let ordinal = selected_layer(document, choice)?;
-    let layer = layer(document, ordinal).ok_or(Refusal::NoLayer)?;
-    Ok((ordinal, layer))
+    find_layer(document, choice)
 }
 
 /// The feature that is meant, with its ordinal.
 fn chosen_feature<'a>(
-    layer: LayerView<'a>,
+    layer: &'a Layer,
     choice: &FeatureChoice,
-) -> Result<(usize, FeatureView<'a>), Refusal>
-    ensures { feature_found result ≡ chosen_feature (feature_choice_of choice.now) (layer_seen layer.entry) }
+) -> Result<FoundFeature<'a>, Refusal>
+    ensures { feature_found result ≡ chosen_feature (feature_choice_of choice.now) (layer_of layer.now) }
 {
-    let ordinal = selected_feature(&layer, choice)?;
-    let feature = layer.feature(ordinal).ok_or(Refusal::NoFeature)?;
-    Ok((ordinal, feature))
+    find_feature(layer, choice)
 }

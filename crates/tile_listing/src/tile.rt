@@ -36,8 +36,8 @@ fn put_layer_lines(text: &mut Vec<u8>, document: &Document) -> Result<(), AllocE
     ensures { OnOk result (text.new.items
         ≡ text.old.items ++ joined_lines (numbered layer_line (layers (document_of document.now)))) }
 {
-    for (ordinal, layer) in layers(document).enumerate() {
-        put_layer_line(text, ordinal, layer)?;
+    for found in layers(document) {
+        put_layer_line(text, found.ordinal, found.view())?;
     }
     Ok(())
 }

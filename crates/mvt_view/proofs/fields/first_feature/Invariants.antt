@@ -1,10 +1,11 @@
-use Rattle.std.proofs.Common.{◌≡◌, map, length}
+use Rattle.std.proofs.Common.{◌≡◌, ◌≤◌, map}
 use Rattle.mvt_document.specs.Stands.{layer_item_of}
-use Rattle.mvt_view.specs.Views.{features_in}
+use Rattle.mvt_view.specs.Found.{placed_from}
+use Rattle.mvt_view.specs.Views.{feature_in}
 use Rattle.mvt_view.proofs.fields.first_feature.Given as goal
 
-abbrev pub invariant-loop-item : goal.invariant-loop-item
-invariant-loop-item l = features_in (map layer_item_of l.fn.items) ≡ features_in (map layer_item_of l.rest)
-
-abbrev pub decreases-loop-item : goal.decreases-loop-item
-decreases-loop-item l = length l.rest
+abbrev pub invariant-loop-position : goal.invariant-loop-position
+invariant-loop-position l = record {
+  after : l.start ≤ l.position;
+  rest : placed_from feature_in l.start (map layer_item_of l.items) ≡ placed_from feature_in l.position (map layer_item_of l.items);
+}

@@ -1,13 +1,11 @@
 use Rattle.std.proofs.Common.{rules}
-use Rattle.std.proofs.lemmas.Iterator.{YieldsList-from_map}
-use Rattle.std.proofs.lemmas.Iterator.Consumers.{YieldsList-at, YieldsList-from_enumerate, YieldsList-from_filter, YieldsList-from_first}
+use Rattle.std.proofs.lemmas.Iterator.Consumers.{YieldsList-at, YieldsList-from_filter, YieldsList-from_first}
 use Rattle.mvt_view.specs.Views.{has_id}
-use Rattle.mvt_view.specs.Seen.{feature_seen}
+use Rattle.mvt_view.specs.Seen.{found_feature_seen}
 use Rattle.mvt_view.proofs.Yielded.{always_from_yields_List}
 use Rattle.mvt_view.proofs.select.feature_by_id.Goals as goal
 
 pub returns : goal.returns
 returns c =
-    let all = YieldsList-from_first feature_seen (λ left. left) _ c.features.ensures.items in
-    let numbered = YieldsList-from_enumerate (YieldsList-at c.enumerate.ensures.source all) c.enumerate.ensures.count in
-    c.the_one.ensures _ (always_from_yields_List (YieldsList-from_map _ (λ p. p.0) (YieldsList-at c.map-found.ensures.source (YieldsList-from_filter _ (λ p. has_id c.args.id p.1) (YieldsList-at c.filter.ensures.source numbered) c.filter.ensures.closure (λ x b q k. search rules))) c.map-found.ensures.closure (λ x r q k. search rules)))
+    let all = YieldsList-from_first found_feature_seen (λ left. left) _ c.features.ensures.items in
+    c.the_one_feature.ensures _ (always_from_yields_List (YieldsList-from_filter _ (λ found. has_id c.args.id found.1.1) (YieldsList-at c.filter.ensures.source all) c.filter.ensures.closure (λ x b q k. search rules)))

@@ -1,15 +1,19 @@
-use Rattle.std.proofs.lemmas.Iterator.Consumers.{YieldsList-at, YieldsList-end, YieldsList-from_enumerate, YieldsList-from_first}
-use Rattle.mvt_view.specs.Seen.{layer_seen}
+use Rattle.std.proofs.Common.{◌++◌, ap, ◌∙◌}
+use Rattle.std.proofs.lemmas.Iterator.Consumers.{YieldsList-at, YieldsList-end, YieldsList-from_first}
+use Rattle.mvt_document.specs.Stands.{document_of}
+use Rattle.mvt_view.specs.Seen.{found_layer_seen}
+use Rattle.mvt_view.specs.Views.{layer_in}
+use Rattle.tile_lines.specs.Lines.{with_feed}
 use Rattle.tile_listing.specs.Listing.{layer_line}
-use Rattle.tile_listing.proofs.Lines.{line_seen_more, lines_all}
+use Rattle.tile_listing.proofs.Lines.{found_lines_all, found_line_more}
 use Rattle.tile_listing.proofs.tile.put_layer_lines.Goals as goal
 
-pub loop-ordinal-preserved : goal.loop-ordinal-preserved
-loop-ordinal-preserved c =
-    line_seen_more layer_seen layer_line c.args.text.now.items c.loop-ordinal.text.items _ c.loop-ordinal.yielded c.in-Some.ordinal c.in-Some.layer c.loop-ordinal.invariant c.in_ok-put_layer_line.ensures
+pub loop-found-preserved : goal.loop-found-preserved
+loop-found-preserved c =
+    found_line_more found_layer_seen layer_line c.args.text.now.items c.loop-found.text.items _ c.loop-found.yielded c.in-Some.found c.loop-found.invariant (c.in_ok-put_layer_line.ensures ∙ ap (λ seen. c.loop-found.text.items ++ with_feed (layer_line c.in-Some.found.ordinal seen)) c.view.ensures)
 
 pub returns : goal.returns
 returns c =
-    let all = YieldsList-from_enumerate (YieldsList-at c.enumerate-ordinal-items.ensures.source (YieldsList-from_first layer_seen (λ left. left) _ c.layers.ensures.items)) c.enumerate-ordinal-items.ensures.count in
-    let came = YieldsList-end (YieldsList-at c.into_iter-ordinal-iterator.ensures.into_iter_gives all) c.loop-ordinal.yielded _ c.loop-ordinal.yielded_by _ _ c.in-None.is c.next.ensures.steps in
-    lines_all layer_seen layer_line c.args.text.now.items c.loop-ordinal.text.items c.loop-ordinal.yielded _ c.loop-ordinal.invariant came.0
+    let all = YieldsList-from_first found_layer_seen (λ left. left) _ c.layers-found-items.ensures.items in
+    let came = YieldsList-end (YieldsList-at c.into_iter-found-iterator.ensures.into_iter_gives all) c.loop-found.yielded _ c.loop-found.yielded_by _ _ c.in-None.is c.next.ensures.steps in
+    found_lines_all found_layer_seen layer_line layer_in (document_of c.args.document.now) c.args.text.now.items c.loop-found.text.items c.loop-found.yielded c.loop-found.invariant came.0

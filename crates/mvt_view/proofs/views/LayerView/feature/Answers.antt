@@ -1,6 +1,6 @@
 use Rattle.std.proofs.lemmas.Iterator.Consumers.{nth_from_yields_List, YieldsList-from_first}
-use Rattle.mvt_view.specs.Seen.{feature_seen}
+use Rattle.mvt_view.specs.Seen.{found_feature_seen}
 use Rattle.mvt_view.proofs.views.LayerView.feature.Goals as goal
 
 pub returns : goal.returns
-returns c = nth_from_yields_List _ _ _ c.nth.ensures.ran (YieldsList-from_first feature_seen (λ left. left) _ c.features.ensures.items)
+returns c = nth_from_yields_List _ _ _ c.nth.ensures.ran (YieldsList-from_first found_feature_seen (λ left. left) _ c.features.ensures.items)

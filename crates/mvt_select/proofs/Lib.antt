@@ -1,0 +1,2 @@
+pub mod Meant
+mod Named

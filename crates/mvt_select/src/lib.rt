@@ -1,0 +1,21 @@
+//! Which layer and which feature are selected, and where they stand.
+//!
+//! - A layer is found by its ordinal or its name, and a feature of a layer by its ordinal or its
+//!   id, as the definitions say, each with its ordinal and its position, or refused as they say:
+//!   `find_layer`, `find_feature`.
+//! - The position of the layer or the feature of an ordinal: `place_of_layer`, `place_of_feature`.
+//! - In the same walk it is found whether a layer of another ordinal has a name: `find_and_taken`.
+//! - The last name of a layer and the last id of a feature, which are those that count, are found
+//!   by position: `last_name`, `last_id`.
+#![tactic(auto)]
+
+mod find;
+mod last;
+mod taken;
+
+pub use find::{find_feature, find_layer, place_of_feature, place_of_layer};
+pub use last::{last_id, last_name};
+pub use mvt_command::{FeatureChoice, LayerChoice};
+pub use mvt_meaning::Refusal;
+pub use mvt_view::{FoundFeature, FoundLayer};
+pub use taken::find_and_taken;
