@@ -9,8 +9,7 @@ use crate::steps::one_step;
 use mvt_change::{Change, Place, Step};
 use mvt_document::Document;
 use mvt_select::{
-    FeatureChoice, LayerChoice, Refusal, find_feature, find_layer, place_of_feature,
-    place_of_layer,
+    FeatureChoice, LayerChoice, Refusal, find_feature, find_layer, place_of_feature, place_of_layer,
 };
 use std::alloc::Global;
 
