@@ -53,9 +53,9 @@ stands {A} {B} pick items index found e =
     let ordinal : found.0 ≡ index = omega (arith, number.0) in
     let here : slice_get (placed_from pick 0 items) found.0 ≡ Some found.1 = ap (slice_get (placed_from pick 0 items)) ordinal ∙ number.1 in
     let placed : slice_get (positions_from (λ x. is_some (pick x)) 0 items) found.0 ≡ Some found.1.0 =
-        ap (λ (positions : List ℕ). slice_get positions found.0) (sym (placed_positions pick 0 items)) ∙ slice_get-map (λ (p : ℕ × B). p.0) (placed_from pick 0 items) found.0 ∙ ap (option_map (λ (p : ℕ × B). p.0)) here in
+    ap (λ (positions : List ℕ). slice_get positions found.0) (sym (placed_positions pick 0 items)) ∙ slice_get-map (λ (p : ℕ × B). p.0) (placed_from pick 0 items) found.0 ∙ ap (option_map (λ (p : ℕ × B). p.0)) here in
     let item : slice_get (filter_map pick items) found.0 ≡ Some found.1.1 =
-        ap (λ (list : List B). slice_get list found.0) (sym (placed_items pick 0 items)) ∙ slice_get-map (λ (p : ℕ × B). p.1) (placed_from pick 0 items) found.0 ∙ ap (option_map (λ (p : ℕ × B). p.1)) here in
+    ap (λ (list : List B). slice_get list found.0) (sym (placed_items pick 0 items)) ∙ slice_get-map (λ (p : ℕ × B). p.1) (placed_from pick 0 items) found.0 ∙ ap (option_map (λ (p : ℕ × B). p.1)) here in
     record {
       ordinal = ordinal;
       placed = placed;

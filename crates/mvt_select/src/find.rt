@@ -57,10 +57,7 @@ pub fn place_of_feature(layer: &Layer, ordinal: u64) -> Option<usize>
 }
 
 /// The one layer with this name.
-pub(crate) fn find_named<'a>(
-    document: &'a Document,
-    name: &[u8],
-) -> Result<FoundLayer<'a>, Refusal>
+pub(crate) fn find_named<'a>(document: &'a Document, name: &[u8]) -> Result<FoundLayer<'a>, Refusal>
     ensures { result_map_both found_layer_seen (λ refusal. refusal) result ≡ the_one NoLayer AmbiguousLayer (filter (λ found. is_named name.now found.1.1) (found_layers (document_of document.now))) }
 {
     match layer_named(document, name) {

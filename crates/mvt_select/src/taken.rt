@@ -62,7 +62,10 @@ fn named_twice<'a>(
     document: &'a Document,
     one: &[u8],
     other: &[u8],
-) -> (Result<FoundLayer<'a>, Refusal>, Result<FoundLayer<'a>, Refusal>)
+) -> (
+    Result<FoundLayer<'a>, Refusal>,
+    Result<FoundLayer<'a>, Refusal>,
+)
     ensures one { result_map_both found_layer_seen (λ refusal. refusal) result.0 ≡ the_one NoLayer AmbiguousLayer (filter (λ found. is_named one.now found.1.1) (found_layers (document_of document.now))) }
     ensures other { result_map_both found_layer_seen (λ refusal. refusal) result.1 ≡ the_one NoLayer AmbiguousLayer (filter (λ found. is_named other.now found.1.1) (found_layers (document_of document.now))) }
 {

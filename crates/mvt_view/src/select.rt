@@ -82,10 +82,7 @@ fn the_one_layer<'a, I: Iterator<Item = FoundLayer<'a>>>(
 }
 
 /// The one feature with this id.
-pub fn feature_by_id<'a>(
-    layer: &LayerView<'a>,
-    id: u64,
-) -> Result<FoundFeature<'a>, FeatureError>
+pub fn feature_by_id<'a>(layer: &LayerView<'a>, id: u64) -> Result<FoundFeature<'a>, FeatureError>
     ensures { result_map_both found_feature_seen (λ error. error) result ≡ the_one NoFeature AmbiguousFeature (filter (λ found. has_id id found.1.1) (found_features (layer_seen layer.now).items)) }
 {
     the_one_feature(layer.features().filter(|found| has_id(found.view(), id)))

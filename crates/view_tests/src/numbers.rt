@@ -63,8 +63,8 @@ fn assert_tags(
     bad: Option<usize>,
 ) -> Result<(), Fail> {
     let document = tile_of(rt.alloc(), fields)?;
-    let seen = layer(&document, 0).expect(rt, "a layer");
-    let feature = seen.feature(0).expect(rt, "a feature");
+    let seen = layer(&document, 0).expect(rt, "a layer").view();
+    let feature = seen.feature(0).expect(rt, "a feature").view();
     Ok(assert_found(rt, feature.tags(), wanted, bad)?)
 }
 
@@ -74,8 +74,8 @@ fn assert_pairs(
     document: &Document,
     wanted: Option<&[Pair]>,
 ) -> Result<(), Fail> {
-    let seen = layer(document, 0).expect(rt, "a layer");
-    let feature = seen.feature(0).expect(rt, "a feature");
+    let seen = layer(document, 0).expect(rt, "a layer").view();
+    let feature = seen.feature(0).expect(rt, "a feature").view();
     let found = pairs(rt.alloc(), &seen, &feature);
     match wanted {
         Some(wanted) => assert_eq!(rt; found?.as_slice(), wanted),
@@ -176,8 +176,8 @@ fn bad_tags_are_no_pairs(rt: HostRuntime) -> Result<(), Fail> {
 #[test]
 fn geometry_has_numbers(rt: HostRuntime) -> Result<(), Fail> {
     let document = read_document(rt.alloc(), &T0)?;
-    let seen = layer(&document, 0).expect(&rt, "a layer");
-    let feature = seen.feature(0).expect(&rt, "a feature");
+    let seen = layer(&document, 0).expect(&rt, "a layer").view();
+    let feature = seen.feature(0).expect(&rt, "a feature").view();
     let wanted = [(9, 1, 3, 0), (50, 1, 3, 1), (34, 1, 3, 2)];
     assert_found(&rt, feature.geometry_numbers(), &wanted, None)?;
     Ok(())

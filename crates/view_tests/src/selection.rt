@@ -1,6 +1,6 @@
 //! Which layer is selected, and which feature of a layer.
 
-use mvt_meaning::{FeatureChoice, LayerChoice, Refusal, selected_feature, selected_layer};
+use mvt_select::{FeatureChoice, LayerChoice, Refusal, find_feature, find_layer};
 use mvt_tests::tiles::T0;
 use mvt_view::layer;
 use mvt_wire::{Items, read_document};
@@ -24,8 +24,9 @@ fn assert_feature(
     wanted: Result<usize, Refusal>,
 ) -> Result<(), Fail> {
     let document = read_document(rt.alloc(), tile)?;
-    let seen = layer(&document, 0).expect(rt, "a layer");
-    assert_eq!(rt; selected_feature(&seen, &choice), wanted);
+    let holder = layer(&document, 0).expect(rt, "a layer");
+    let found = find_feature(holder.layer, &choice).map(|found| found.ordinal);
+    assert_eq!(rt; found, wanted);
     Ok(())
 }
 
@@ -66,7 +67,8 @@ fn a_layer_is_meant_by_ordinal_or_name(rt: HostRuntime) -> Result<(), Fail> {
         (named(rt.alloc(), b"b")?, Ok(0)),
         (named(rt.alloc(), b"k")?, Err(Refusal::NoLayer)),
     ] {
-        assert_eq!(rt; selected_layer(&document, &choice), wanted);
+        let found = find_layer(&document, &choice).map(|found| found.ordinal);
+        assert_eq!(rt; found, wanted);
     }
     Ok(())
 }

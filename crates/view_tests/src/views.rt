@@ -44,7 +44,7 @@ fn assert_layer(
     name: Option<&[u8]>,
     wanted: [u64; 5],
 ) {
-    let seen = layer(document, ordinal).expect(rt, "a layer");
+    let seen = layer(document, ordinal).expect(rt, "a layer").view();
     assert!(rt; seen.name() == name);
     assert_eq!(rt; numbers(seen), wanted);
 }
@@ -58,7 +58,7 @@ fn assert_pair(
     key: Option<&[u8]>,
     value: Option<&[u8]>,
 ) {
-    let seen = layer(document, ordinal).expect(rt, "a layer");
+    let seen = layer(document, ordinal).expect(rt, "a layer").view();
     assert!(rt; seen.key(at) == key);
     assert!(rt; seen.value(at) == value);
 }
@@ -72,8 +72,8 @@ fn assert_feature(
     id: Option<u64>,
     kind: u64,
 ) {
-    let seen = layer(document, ordinal).expect(rt, "a layer");
-    let feature = seen.feature(at).expect(rt, "a feature");
+    let seen = layer(document, ordinal).expect(rt, "a layer").view();
+    let feature = seen.feature(at).expect(rt, "a feature").view();
     assert!(rt; feature.id() == id);
     assert_eq!(rt; feature.kind(), kind);
 }
@@ -93,7 +93,7 @@ fn past_the_last_there_is_none(rt: HostRuntime) -> Result<(), Fail> {
     let document = read_document(rt.alloc(), &T0)?;
     assert!(rt; layer(&document, 1).is_none());
     assert_pair(&rt, &document, 0, 1, None, None);
-    let seen = layer(&document, 0).expect(&rt, "a layer");
+    let seen = layer(&document, 0).expect(&rt, "a layer").view();
     assert!(rt; seen.feature(1).is_none());
     Ok(())
 }
@@ -118,8 +118,8 @@ fn the_last_field_of_the_right_type_counts(rt: HostRuntime) -> Result<(), Fail> 
 /// The extents of the layers.
 fn extents(alloc: Global, document: &Document) -> Result<Vec<u64>, AllocError> {
     let mut extents = Vec::new(alloc);
-    for seen in layers(document) {
-        extents.push(seen.extent())?;
+    for found in layers(document) {
+        extents.push(found.view().extent())?;
     }
     Ok(extents)
 }
@@ -136,8 +136,8 @@ fn layers_come_in_their_order(rt: HostRuntime) -> Result<(), Fail> {
 /// The ids of the features.
 fn ids(alloc: Global, seen: LayerView) -> Result<Vec<Option<u64>>, AllocError> {
     let mut ids = Vec::new(alloc);
-    for feature in seen.features() {
-        ids.push(feature.id())?;
+    for found in seen.features() {
+        ids.push(found.view().id())?;
     }
     Ok(ids)
 }
@@ -145,7 +145,7 @@ fn ids(alloc: Global, seen: LayerView) -> Result<Vec<Option<u64>>, AllocError> {
 #[test]
 fn features_come_in_their_order(rt: HostRuntime) -> Result<(), Fail> {
     let document = several(rt.alloc())?;
-    let seen = layer(&document, 1).expect(&rt, "a layer");
+    let seen = layer(&document, 1).expect(&rt, "a layer").view();
     let ids = ids(rt.alloc(), seen)?;
     assert!(rt; ids.as_slice() == [Some(9), None, Some(9), Some(8)].as_slice());
     Ok(())
@@ -164,7 +164,7 @@ fn barred(alloc: Global, contents: Contents) -> Result<Vec<u8>, AllocError> {
 #[test]
 fn keys_and_values_come_in_their_order(rt: HostRuntime) -> Result<(), Fail> {
     let document = several(rt.alloc())?;
-    let seen = layer(&document, 1).expect(&rt, "a layer");
+    let seen = layer(&document, 1).expect(&rt, "a layer").view();
     let keys = barred(rt.alloc(), seen.keys())?;
     assert_eq!(rt; keys.as_slice(), b"m|n|".as_slice());
     let values = barred(rt.alloc(), seen.values())?;
@@ -181,7 +181,8 @@ fn a_name_means_the_one_layer_that_has_it(rt: HostRuntime) -> Result<(), Fail> {
         (b"x".as_slice(), Err(LayerError::NoLayer)),
         (b"".as_slice(), Err(LayerError::NoLayer)),
     ] {
-        assert_eq!(rt; layer_named(&document, name), wanted, "of {name:?}");
+        let named = layer_named(&document, name).map(|found| found.ordinal);
+        assert_eq!(rt; named, wanted, "of {name:?}");
     }
     Ok(())
 }
@@ -189,14 +190,15 @@ fn a_name_means_the_one_layer_that_has_it(rt: HostRuntime) -> Result<(), Fail> {
 #[test]
 fn an_id_means_the_one_feature_that_has_it(rt: HostRuntime) -> Result<(), Fail> {
     let document = several(rt.alloc())?;
-    let seen = layer(&document, 1).expect(&rt, "a layer");
+    let seen = layer(&document, 1).expect(&rt, "a layer").view();
     for (id, wanted) in [
         (8, Ok(3)),
         (9, Err(FeatureError::AmbiguousFeature)),
         (7, Err(FeatureError::NoFeature)),
         (0, Err(FeatureError::NoFeature)),
     ] {
-        assert_eq!(rt; feature_by_id(&seen, id), wanted, "of {id}");
+        let found = feature_by_id(&seen, id).map(|found| found.ordinal);
+        assert_eq!(rt; found, wanted, "of {id}");
     }
     Ok(())
 }

@@ -14,6 +14,6 @@ pub loop-position-preserved : goal.loop-position-preserved
 loop-position-preserved c = record {
   after = omega (arith, c.loop-position.invariant.after);
   rest = c.loop-position.invariant.rest
-    ∙ placed_from-more tile_item_of layer_in c.loop-position.position c.args.items.now c.index-items-position.result c.loop-position-test.true c.index-items-position.is
-    ∙ rw c.in_default.is refl;
+      ∙ placed_from-more tile_item_of layer_in c.loop-position.position c.args.items.now c.index-items-position.result c.loop-position-test.true c.index-items-position.is
+      ∙ rw c.in_default.is refl;
 }
