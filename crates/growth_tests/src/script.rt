@@ -9,9 +9,9 @@ use crate::scripts::{
     BACK_OVER_STEPS, CANCELLED_KEEPS, CANCELLED_STEP, FEATURES, IDS_LISTED, KEPT_LAYERS, LAYERS,
     LISTINGS, MARKS, ON_OVER_STEPS, RENAME_AND_UNDO, SIZES, STEP, TWO_MARKS,
 };
-use mvt_tests::tiles::{T0, TWO_IDS};
 use std::fmt;
 use std::io::{self, Cursor};
+use test_fixtures::tiles::{T0, TWO_IDS};
 use tileshell::{FromRead, FromWrite, Options, run};
 
 /// Neither the replies of a script nor its tile have more bytes than this.

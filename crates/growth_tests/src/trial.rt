@@ -3,16 +3,16 @@
 use crate::fault::Fault;
 use crate::refused::{Refused, flip_twice, prepare};
 use mvt_edit::Command;
-use mvt_tests::asked::{
+use std::alloc::{AllocError, Global};
+use std::fmt;
+use test_fixtures::asked::{
     clear_id, drop_feature, drop_layer, insert_polygon, keep, move_feature, move_layer, rename,
     set_id,
 };
-use mvt_tests::bytes::joined;
-use mvt_tests::edits::Edit;
-use mvt_tests::series::Series;
-use mvt_tests::tiles::{OTHER, T0, TWO_IDS};
-use std::alloc::{AllocError, Global};
-use std::fmt;
+use test_fixtures::bytes::joined;
+use test_fixtures::edits::Edit;
+use test_fixtures::series::Series;
+use test_fixtures::tiles::{OTHER, T0, TWO_IDS};
 
 /// A change that is prepared, flipped, and flipped again.
 #[derive(Clone, Copy, Debug, PartialEq, Eq)]

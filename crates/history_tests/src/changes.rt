@@ -2,16 +2,16 @@
 
 use mvt_change::Step;
 use mvt_edit::Command;
-use mvt_tests::asked::{
-    clear_id, drop_feature, drop_layer, insert_polygon, keep, move_feature, move_layer, rename,
-    set_id,
-};
-use mvt_tests::bytes::joined;
-use mvt_tests::edits::{Edit, Seen};
-use mvt_tests::tiles::{OTHER, ROADS, T0, TWO_IDS};
 use std::alloc::{AllocError, Global};
 use std::process::Abort;
 use std::test::Fail;
+use test_fixtures::asked::{
+    clear_id, drop_feature, drop_layer, insert_polygon, keep, move_feature, move_layer, rename,
+    set_id,
+};
+use test_fixtures::bytes::joined;
+use test_fixtures::edits::{Edit, Seen};
+use test_fixtures::tiles::{OTHER, ROADS, T0, TWO_IDS};
 
 /// A field that is no layer.
 const FIELD: &[u8] = b"\x80\x01\x07";

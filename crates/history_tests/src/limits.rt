@@ -5,12 +5,12 @@ ghost use Rattle.mvt_wire.specs.Stands.{document_of};
 ghost use Rattle.mvt_wire.specs.Opens.{IsDocument};
 
 use mvt_history::{Session, StartError};
-use mvt_tests::tiles::T0;
 use mvt_wire::{
     Body, Document, Field, Items, TileItem, Varint, WriteError, read_document, size, write_document,
 };
 use std::alloc::Global;
 use std::test::Fail;
+use test_fixtures::tiles::T0;
 
 /// `T0` and a field of so many zeros, which no file need have room for.
 fn t0_and_zeros(alloc: Global, count: usize) -> Result<Document, Fail>

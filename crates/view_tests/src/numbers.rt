@@ -1,12 +1,12 @@
 //! The numbers of a feature's tags and geometry, and its tags in pairs.
 
-use mvt_tests::bytes::joined;
-use mvt_tests::tiles::T0;
 use mvt_view::{Numbers, Pair, PairsError, layer, pairs};
 use mvt_wire::{Document, read_document};
 use std::alloc::{AllocError, Global};
 use std::process::Abort;
 use std::test::Fail;
+use test_fixtures::bytes::joined;
+use test_fixtures::tiles::T0;
 
 /// A tag, a length of one byte, and the content.
 fn delimited(alloc: Global, tag: u8, content: &[u8]) -> Result<Vec<u8>, Fail> {

@@ -1,12 +1,12 @@
 //! Which layer is selected, and which feature of a layer.
 
 use mvt_meaning::{FeatureChoice, LayerChoice, Refusal, selected_feature, selected_layer};
-use mvt_tests::tiles::T0;
 use mvt_view::layer;
 use mvt_wire::{Items, read_document};
 use std::alloc::{AllocError, Global};
 use std::process::Abort;
 use std::test::Fail;
+use test_fixtures::tiles::T0;
 
 /// A layer `b` with a key, and then with two features of id 7 and one of id 8.
 const TWINS: &[u8] = b"\

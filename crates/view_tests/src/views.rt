@@ -1,7 +1,5 @@
 //! Views of layers and features.
 
-use mvt_tests::bytes::joined;
-use mvt_tests::tiles::T0;
 use mvt_view::{
     Contents, FeatureError, LayerError, LayerView, feature_by_id, layer, layer_count, layer_named,
     layers,
@@ -10,6 +8,8 @@ use mvt_wire::{Document, read_document};
 use std::alloc::{AllocError, Global};
 use std::process::Abort;
 use std::test::Fail;
+use test_fixtures::bytes::joined;
+use test_fixtures::tiles::T0;
 
 /// A layer with two names, versions and extents, and with fields of its numbers and other types.
 const DOUBLES: &[u8] = b"\

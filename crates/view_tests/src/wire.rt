@@ -1,12 +1,12 @@
 //! Numbers, fields and documents at the limits of the wire format.
 
-use mvt_tests::bytes::joined;
-use mvt_tests::tiles::T0;
 use mvt_wire::{
     BodyRef, ReadError, Varint, field_at_front, read_document, read_varint, size, write_document,
 };
 use std::alloc::Global;
 use std::test::Fail;
+use test_fixtures::bytes::joined;
+use test_fixtures::tiles::T0;
 
 #[test]
 fn numbers_are_read_as_they_are_spelled(rt: HostRuntime) {

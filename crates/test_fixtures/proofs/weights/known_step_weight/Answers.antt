@@ -1,5 +1,5 @@
 use Rattle.std.proofs.lemmas.List.Folds.{flat_map-map}
-use Rattle.mvt_tests.proofs.weights.known_step_weight.Goals as goal
+use Rattle.test_fixtures.proofs.weights.known_step_weight.Goals as goal
 
 pub returns-in-InTile : goal.returns-in-InTile
 returns-in-InTile c = rw (c.in-InTile.is, flat_map-map, ← c.as_slice.ensures) c.known_bytes.ensures

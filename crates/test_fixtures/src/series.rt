@@ -21,7 +21,7 @@ pub struct Series {
 impl Model for Series {
     ghost use Rattle.mvt_wire.specs.Stands.{document_of};
     ghost use Rattle.mvt_change.specs.ChangeStands.{change_of};
-    ghost use Rattle.mvt_tests.specs.Edits.{Series as PlainSeries, IsSeries};
+    ghost use Rattle.test_fixtures.specs.Edits.{Series as PlainSeries, IsSeries};
 
     ghost Value = { PlainSeries };
 

@@ -26,7 +26,7 @@ pub struct Seen {
 impl Model for Edit {
     ghost use Rattle.mvt_wire.specs.Stands.{document_of};
     ghost use Rattle.mvt_change.specs.ChangeStands.{change_of};
-    ghost use Rattle.mvt_tests.specs.Edits.{Edit as PlainEdit, IsReady};
+    ghost use Rattle.test_fixtures.specs.Edits.{Edit as PlainEdit, IsReady};
 
     ghost Value = { PlainEdit };
 
@@ -38,7 +38,7 @@ impl Model for Edit {
 impl Edit {
     ghost use Rattle.mvt_wire.specs.Stands.{document_of};
     ghost use Rattle.mvt_change.specs.ChangeStands.{change_of};
-    ghost use Rattle.mvt_tests.specs.Edits.{IsReady};
+    ghost use Rattle.test_fixtures.specs.Edits.{IsReady};
 
     /// A document, and a change that is known to fit it.
     pub(crate) fn of(document: Document, change: Change) -> Edit
