@@ -1,4 +1,5 @@
-//! Bytes by name, and bytes that are made of them.
+//! Bytes by name, and bytes that are made of them. A piece is pairs of hexadecimal digits, or a name of
+//! before; `3*PIECE` is three of it.
 
 use std::alloc::{AllocError, Global};
 
