@@ -5,9 +5,9 @@
 
 use crate::fault::Fault;
 use mvt_edit::{Command, Refusal};
-use mvt_tests::edits::Edit;
 use std::alloc::Global;
 use std::fmt;
+use test_fixtures::edits::Edit;
 
 /// To which call a growth was refused.
 #[derive(Clone, Copy, Debug, PartialEq, Eq)]

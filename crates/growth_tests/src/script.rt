@@ -6,12 +6,13 @@
 ghost use Rattle.std.specs.Prelude.{◌≤◌};
 
 use crate::scripts::{
-    BACK_OVER_STEPS, CANCELLED_KEEPS, CANCELLED_STEP, FEATURES, IDS_LISTED, KEPT_LAYERS, LAYERS,
-    LISTINGS, MARKS, ON_OVER_STEPS, RENAME_AND_UNDO, SIZES, STEP, TWO_MARKS,
+    BACK_OVER_STEPS, CANCELLED_KEEPS, CANCELLED_STEP, FEATURES, FLOOR, ID_SET_TWICE, IDS_APART,
+    IDS_CLEARED, IDS_LISTED, KEPT_LAYERS, LAYERS, LISTINGS, MARKS, ON_OVER_STEPS, RENAME_AND_UNDO,
+    SIZES, STEP, TWO_MARKS,
 };
-use mvt_tests::tiles::{T0, TWO_IDS};
 use std::fmt;
 use std::io::{self, Cursor};
+use test_fixtures::tiles::{T0, TWO_IDS};
 use tileshell::{FromRead, FromWrite, Options, run};
 
 /// Neither the replies of a script nor its tile have more bytes than this.
@@ -33,9 +34,12 @@ pub enum Script {
     BackOverSteps,
     OnOverSteps,
     CancelledKeeps,
+    IdsCleared,
+    IdSetTwice,
+    Floor,
 }
 
-const SCRIPTS: [Script; 13] = [
+const SCRIPTS: [Script; 16] = [
     Script::RenameAndUndo,
     Script::Listings,
     Script::IdsListed,
@@ -49,6 +53,9 @@ const SCRIPTS: [Script; 13] = [
     Script::BackOverSteps,
     Script::OnOverSteps,
     Script::CancelledKeeps,
+    Script::IdsCleared,
+    Script::IdSetTwice,
+    Script::Floor,
 ];
 
 fn script_named(name: &str) -> Option<Script> {
@@ -76,6 +83,9 @@ impl Script {
             Script::BackOverSteps => "back-over-steps",
             Script::OnOverSteps => "on-over-steps",
             Script::CancelledKeeps => "cancelled-keeps",
+            Script::IdsCleared => "ids-cleared",
+            Script::IdSetTwice => "id-set-twice",
+            Script::Floor => "floor",
         }
     }
 
@@ -94,6 +104,9 @@ impl Script {
             Script::BackOverSteps => BACK_OVER_STEPS,
             Script::OnOverSteps => ON_OVER_STEPS,
             Script::CancelledKeeps => CANCELLED_KEEPS,
+            Script::IdsCleared => IDS_CLEARED,
+            Script::IdSetTwice => ID_SET_TWICE,
+            Script::Floor => FLOOR,
         }
     }
 
@@ -104,6 +117,7 @@ impl Script {
             | Script::OnOverSteps
             | Script::CancelledKeeps => LAYERS,
             Script::Features => TWO_IDS,
+            Script::IdsCleared => IDS_APART,
             _ => &T0,
         }
     }

@@ -1,9 +1,12 @@
-//! The scripts of the trials, and the tile that several of them edit.
+//! The scripts of the trials, and the tiles that only they edit.
 
 /// Seven layers of nothing but a name, "a" to "g".
 pub const LAYERS: &[u8] = b"\
     \x1a\x03\x0a\x01a\x1a\x03\x0a\x01b\x1a\x03\x0a\x01c\x1a\x03\x0a\x01d\
     \x1a\x03\x0a\x01e\x1a\x03\x0a\x01f\x1a\x03\x0a\x01g";
+
+/// A layer of one feature, whose kind stands between two ids.
+pub const IDS_APART: &[u8] = b"\x1a\x08\x12\x06\x08\x05\x18\x01\x08\x06";
 
 pub const RENAME_AND_UNDO: &str = "\
 rename-layer \"a\" \"roads\"
@@ -139,4 +142,32 @@ keep \"a\" \"c\" \"e\" \"g\"
 keep \"c\" \"g\"
 cancel
 history
+";
+
+/// Ids go in two steps on one list, and come back.
+pub const IDS_CLEARED: &str = "\
+clear-id #0 0
+undo
+redo
+undo
+";
+
+/// Both commands of the step change the same field.
+pub const ID_SET_TWICE: &str = "\
+begin
+set-id #0 0 300
+set-id #0 0 7
+end
+undo
+redo
+";
+
+/// Nothing is to undo, or to redo, whatever memory there is.
+pub const FLOOR: &str = "\
+undo
+rename-layer #0 \"b\"
+undo
+undo
+redo
+redo
 ";

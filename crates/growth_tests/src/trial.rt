@@ -1,18 +1,20 @@
-//! The trials: for each command one, and one for a change of several steps.
+//! The trials: for each command one, one for ids that go in two steps, and two for the changes of
+//! several commands as one.
 
 use crate::fault::Fault;
 use crate::refused::{Refused, flip_twice, prepare};
+use crate::scripts::IDS_APART;
 use mvt_edit::Command;
-use mvt_tests::asked::{
+use std::alloc::{AllocError, Global};
+use std::fmt;
+use test_fixtures::asked::{
     clear_id, drop_feature, drop_layer, insert_polygon, keep, move_feature, move_layer, rename,
     set_id,
 };
-use mvt_tests::bytes::joined;
-use mvt_tests::edits::Edit;
-use mvt_tests::series::Series;
-use mvt_tests::tiles::{OTHER, T0, TWO_IDS};
-use std::alloc::{AllocError, Global};
-use std::fmt;
+use test_fixtures::bytes::joined;
+use test_fixtures::edits::Edit;
+use test_fixtures::series::Series;
+use test_fixtures::tiles::{OTHER, T0, TWO_IDS};
 
 /// A change that is prepared, flipped, and flipped again.
 #[derive(Clone, Copy, Debug, PartialEq, Eq)]
@@ -26,11 +28,15 @@ pub enum Trial {
     DropFeature,
     SetId,
     ClearId,
+    /// Two ids that are no neighbours.
+    ClearIds,
+    /// The changes of two commands on one field, as one change.
+    SetTwice,
     /// The changes of seven steps of several commands, as one change.
     Series,
 }
 
-const TRIALS: [Trial; 10] = [
+const TRIALS: [Trial; 12] = [
     Trial::RenameLayer,
     Trial::MoveLayer,
     Trial::DropLayer,
@@ -40,6 +46,8 @@ const TRIALS: [Trial; 10] = [
     Trial::DropFeature,
     Trial::SetId,
     Trial::ClearId,
+    Trial::ClearIds,
+    Trial::SetTwice,
     Trial::Series,
 ];
 
@@ -70,6 +78,8 @@ impl Trial {
             Trial::DropFeature => "drop-feature",
             Trial::SetId => "set-id",
             Trial::ClearId => "clear-id",
+            Trial::ClearIds => "clear-ids",
+            Trial::SetTwice => "set-twice",
             Trial::Series => "series",
         }
     }
@@ -97,6 +107,8 @@ impl Trial {
             Trial::DropFeature => there_and_back(alloc, TWO_IDS, drop_feature()),
             Trial::SetId => there_and_back(alloc, &T0, set_id(300)),
             Trial::ClearId => there_and_back(alloc, &T0, clear_id()),
+            Trial::ClearIds => there_and_back(alloc, IDS_APART, clear_id()),
+            Trial::SetTwice => flip_twice(alloc, &mut set_twice(alloc)?),
             Trial::Series => flip_twice(alloc, &mut a_series(alloc)?),
         }
     }
@@ -124,6 +136,14 @@ fn four_layers(alloc: Global) -> Result<Vec<u8>, AllocError> {
     joined(alloc, &[TWO_IDS, OTHER, OTHER, OTHER])
 }
 
+/// One change sets an id, and then sets it anew.
+fn set_twice(alloc: Global) -> Result<Edit, Fault> {
+    let series = Series::read(alloc, &T0)?
+        .then(alloc, &set_id(300))?
+        .then(alloc, &set_id(7))?;
+    with_steps(series.into_edit(), 2)
+}
+
 /// One change drops a feature, sets an id, and moves the layer between the others. Then it names the
 /// layer, drops the others in two steps, and inserts a feature.
 fn a_series(alloc: Global) -> Result<Edit, Fault> {
@@ -134,8 +154,12 @@ fn a_series(alloc: Global) -> Result<Edit, Fault> {
         .then(alloc, &rename(alloc, b"a", b"roads")?)?
         .then(alloc, &keep(alloc, b"roads")?)?
         .then(alloc, &polygon(alloc)?)?;
-    let edit = series.into_edit();
-    if edit.change().steps.len() == 7 {
+    with_steps(series.into_edit(), 7)
+}
+
+/// The edit, where its change has so many steps.
+fn with_steps(edit: Edit, count: usize) -> Result<Edit, Fault> {
+    if edit.change().steps.len() == count {
         Ok(edit)
     } else {
         Err(Fault::WrongSteps)

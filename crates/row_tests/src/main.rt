@@ -7,8 +7,7 @@
 //! between rows. A line is a word and what stands behind it:
 //!
 //! - `#`: a comment.
-//! - `piece NAME = PIECES`: names bytes. A piece is pairs of hexadecimal digits, or a name of before;
-//!   `3*PIECE` is three of it. What is named is known in the files behind, too.
+//! - `piece NAME = PIECES`: names bytes, for the files behind too. `test_fixtures` says what a piece is.
 //! - `row NAME`: begins a row.
 //! - `depth N`, `strict`: how the script is run, where it is not with depth 100 or not strict.
 //! - `tile PIECES`: the tile that is read.
@@ -19,15 +18,14 @@
 //!   ends otherwise than as `Done` or `SomeRefused`, none is.
 #![tactic(auto)]
 
-mod pieces;
 mod row;
 mod runs;
 
-use crate::pieces::Pieces;
 use crate::row::Row;
 use std::process::ExitCode;
 use std::rt::{Env, Files};
 use std::{env, fs, io};
+use test_fixtures::pieces::Pieces;
 
 fn main(rt: HostRuntime) -> ExitCode {
     match run_tables(&rt) {

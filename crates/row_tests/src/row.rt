@@ -2,10 +2,10 @@
 
 ghost use Rattle.std.specs.Prelude.{◌≤◌};
 
-use crate::pieces::Pieces;
 use crate::runs::{Ran, called, dripped, streamed};
 use std::alloc::{AllocError, Global};
 use std::io;
+use test_fixtures::pieces::Pieces;
 use tileshell::Options;
 
 /// What is read, and what should come of it.

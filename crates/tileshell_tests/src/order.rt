@@ -1,12 +1,12 @@
 //! The order in which a run reads, replies and passes replies on.
 
 use crate::memory::{options, outcome_of};
-use mvt_tests::bytes::joined;
-use mvt_tests::tiles::{RENAME, ROADS, T0};
 use std::alloc::{AllocError, Global};
 use std::cell::RefCell;
 use std::io::{self, Read, Write};
 use std::test::Fail;
+use test_fixtures::bytes::joined;
+use test_fixtures::tiles::{RENAME, ROADS, T0};
 use tileshell::{FromRead, FromWrite, Outcome};
 
 /// What was done on the devices of a run: the bytes read and written as they are, a `$` for a read

@@ -3,11 +3,11 @@
 use crate::memory::{Drips, Ran, Wanted, options, outcome_of};
 use device_tests::drip::{Calls, DripSink, DripSource};
 use device_tests::std_devices::{Deaf, Slip, SlipReader, SlipWriter};
-use mvt_tests::tiles::{RENAME, ROADS, T0};
 use std::alloc::Global;
 use std::io::{BufWriter, ErrorKind};
 use std::process::Abort;
 use std::test::Fail;
+use test_fixtures::tiles::{RENAME, ROADS, T0};
 use tileshell::{DeviceName, FromRead, FromWrite, Outcome, Sink};
 
 const FAULT_OF_TILE: Outcome = Outcome::Device(DeviceName::Tile);

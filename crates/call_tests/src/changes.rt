@@ -1,0 +1,94 @@
+//! The changes of commands: what they weigh, their steps, and the way back.
+//!
+//! A command is given as a line of a script, and prepared on the tile.
+
+use crate::broken::{Answer, Broken};
+use crate::given::{Given, said};
+use mvt_change::Step;
+use std::alloc::Global;
+use test_fixtures::edits::{Edit, Seen};
+use tile_request::Request;
+use tile_script::parse_line;
+
+pub fn answer(alloc: Global, call: &str, given: Given<'_>) -> Answer {
+    let mut edit = prepared(alloc, given)?;
+    match call {
+        "weights" => weights(alloc, &mut edit),
+        "steps" => steps(alloc, &edit),
+        "turned_steps" => {
+            edit.flip(alloc)?;
+            steps(alloc, &edit)
+        }
+        "flips" => flips(alloc, given.tile, &mut edit),
+        _ => Err(Broken::NoCall),
+    }
+}
+
+/// The tile and the change of the command, which is not carried out yet.
+fn prepared(alloc: Global, given: Given<'_>) -> Result<Edit, Broken> {
+    let mut edit = Edit::read(alloc, given.tile)?;
+    match parse_line(alloc, given.bytes) {
+        Ok(Some(Request::Edit(command))) => {
+            let prepared = edit.prepare(alloc, &command);
+            prepared.map_err(|_| Broken::BadGiven)?;
+            Ok(edit)
+        }
+        _ => Err(Broken::BadGiven),
+    }
+}
+
+/// How much the change brings, and how much what leads back.
+fn weights(alloc: Global, edit: &mut Edit) -> Answer {
+    let there = edit.weight();
+    edit.flip(alloc)?;
+    let back = edit.weight();
+    Ok(format!(in alloc; "{there:?} {back:?}")?.into_bytes())
+}
+
+/// How many steps there are, and for each on the tile's list its index, how many items it takes, and
+/// how many it puts.
+fn steps(alloc: Global, edit: &Edit) -> Answer {
+    let steps = edit.change().steps.as_slice();
+    if steps.len() > 10 {
+        return Ok(format!(in alloc; "steps {}", steps.len())?.into_bytes());
+    }
+    let mut line = format!(in alloc; "steps {}", steps.len())?.into_bytes();
+    for step in steps {
+        let Step::InTile { index, take, put } = step else {
+            return said(alloc, "a step on another list");
+        };
+        let told = format!(in alloc; "; {index} {take} {}", put.len())?;
+        line.extend_from_slice(told.as_bytes())?;
+    }
+    Ok(line)
+}
+
+/// The tile that the change makes. The tile as it was has its own size, and so has what is made;
+/// flipped once more, the change makes the tile and the change that were there first, and then the
+/// same again.
+fn flips(alloc: Global, tile: &[u8], edit: &mut Edit) -> Answer {
+    let before = seen(alloc, edit)?;
+    let after = flipped(alloc, edit)?;
+    let again = flipped(alloc, edit)?;
+    let after_again = flipped(alloc, edit)?;
+    if before.tile.as_slice() != tile || !has_its_size(&before) || !has_its_size(&after) {
+        return said(alloc, "wrong size");
+    }
+    if again != before || after_again != after {
+        return said(alloc, "does not come back");
+    }
+    Ok(after.tile)
+}
+
+fn seen(alloc: Global, edit: &Edit) -> Result<Seen, Broken> {
+    edit.seen(alloc).map_err(|_| Broken::NoMemory)
+}
+
+fn flipped(alloc: Global, edit: &mut Edit) -> Result<Seen, Broken> {
+    edit.flip(alloc)?;
+    seen(alloc, edit)
+}
+
+fn has_its_size(seen: &Seen) -> bool {
+    seen.size == Some(seen.tile.len() as u64)
+}

@@ -1,0 +1,65 @@
+//! The numbers of the tags and the geometry of a tile's first feature, and its tags in pairs.
+
+use crate::broken::{Answer, Broken};
+use crate::given::{Given, told};
+use mvt_view::{LayerView, Numbers, layer, pairs};
+use mvt_wire::read_document;
+use std::alloc::{AllocError, Global};
+
+pub fn answer(alloc: Global, call: &str, given: Given<'_>) -> Answer {
+    let document = read_document(alloc, given.tile)?;
+    let seen = layer(&document, 0).ok_or(Broken::BadTile)?.view();
+    match call {
+        "tags" => tags(alloc, seen),
+        "geometry_numbers" => geometry_numbers(alloc, seen),
+        "pairs" => paired(alloc, seen),
+        _ => Err(Broken::NoCall),
+    }
+}
+
+fn tags(alloc: Global, seen: LayerView<'_>) -> Answer {
+    let feature = seen.feature(0).ok_or(Broken::BadTile)?.view();
+    Ok(numbers_told(alloc, feature.tags())?)
+}
+
+fn geometry_numbers(alloc: Global, seen: LayerView<'_>) -> Answer {
+    let feature = seen.feature(0).ok_or(Broken::BadTile)?.view();
+    Ok(numbers_told(alloc, feature.geometry_numbers())?)
+}
+
+/// Each number with its width, the position of its field and its place there. A bad chunk has the
+/// position of its field.
+fn numbers_told(alloc: Global, numbers: Numbers<'_>) -> Result<Vec<u8>, AllocError> {
+    let mut line = Vec::new(alloc);
+    for number in numbers {
+        let told = match number {
+            Ok(n) => {
+                let (value, width) = (n.varint.value, n.varint.width);
+                format!(in alloc;
+                    "{value} width {width} field {} place {}; ",
+                    n.field, n.place
+                )?
+            }
+            Err(chunk) => format!(in alloc; "bad chunk field {}; ", chunk.field)?,
+        };
+        line.extend_from_slice(told.as_bytes())?;
+    }
+    line.extend_from_slice(b"end")?;
+    Ok(line)
+}
+
+/// The pairs of a key and a value.
+fn paired(alloc: Global, seen: LayerView<'_>) -> Answer {
+    let feature = seen.feature(0).ok_or(Broken::BadTile)?.view();
+    match pairs(alloc, &seen, &feature) {
+        Ok(pairs) => {
+            let mut line = b"pairs".to_vec(alloc)?;
+            for pair in pairs.as_slice() {
+                let told = format!(in alloc; " {}={}", pair.key, pair.value)?;
+                line.extend_from_slice(told.as_bytes())?;
+            }
+            Ok(line)
+        }
+        Err(error) => told(alloc, error),
+    }
+}

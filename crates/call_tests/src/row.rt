@@ -1,0 +1,119 @@
+//! A row: read from its lines, tried, and held against what it should be.
+
+use crate::broken::Broken;
+use crate::calls::answer;
+use crate::given::Given;
+use std::alloc::{AllocError, Global};
+use std::io;
+use test_fixtures::pieces::Pieces;
+
+/// What the lines up to here say of a row.
+#[derive(Drop)]
+pub struct Row<'a> {
+    call: &'a str,
+    tile: Vec<u8>,
+    given: Vec<u8>,
+}
+
+/// What a line of a table is.
+#[derive(Drop)]
+pub enum Line {
+    Taken,
+    Unknown,
+    /// The call should answer this.
+    Answers(Vec<u8>),
+}
+
+impl<'a> Row<'a> {
+    /// A row of no call.
+    pub fn new(alloc: Global) -> Self {
+        Row {
+            call: "",
+            tile: Vec::new(alloc),
+            given: Vec::new(alloc),
+        }
+    }
+
+    /// Takes what the line says.
+    pub fn read(
+        &mut self,
+        alloc: Global,
+        pieces: &mut Pieces,
+        line: &'a str,
+    ) -> Result<Line, AllocError> {
+        let (word, rest) = line.split_once(' ').unwrap_or((line, ""));
+        match word {
+            "" | "#" => Ok(Line::Taken),
+            "piece" if pieces.name(alloc, rest)? => Ok(Line::Taken),
+            "call" => {
+                self.call = rest;
+                self.tile = Vec::new(alloc);
+                Ok(Line::Taken)
+            }
+            _ => self.read_bytes(alloc, pieces, word, rest),
+        }
+    }
+
+    /// Takes what a line says whose word stands for bytes.
+    fn read_bytes(
+        &mut self,
+        alloc: Global,
+        pieces: &Pieces,
+        word: &str,
+        rest: &str,
+    ) -> Result<Line, AllocError> {
+        let mut bytes = Vec::new(alloc);
+        if matches!(word, ">" | "<") {
+            bytes.extend_from_slice(rest.as_bytes())?;
+        } else if !pieces.put(alloc, rest, &mut bytes)? {
+            return Ok(Line::Unknown);
+        }
+        match word {
+            "tile" => self.tile = bytes,
+            ">" | ">>" => self.given = bytes,
+            "<" | "<<" => return Ok(Line::Answers(bytes)),
+            _ => return Ok(Line::Unknown),
+        }
+        Ok(Line::Taken)
+    }
+
+    /// Whether the call answers as it should. Where it does not, that is told.
+    pub fn holds<R: Eprint + AllocGlobal>(&self, rt: &R, wanted: &[u8]) -> io::Result<bool> {
+        let given = Given {
+            tile: &self.tile,
+            bytes: &self.given,
+        };
+        let answered = match answer(rt.alloc(), self.call, given) {
+            Ok(answered) => answered,
+            Err(broken) => return self.tell_broken(rt, broken),
+        };
+        if answered.as_slice() == wanted {
+            return Ok(true);
+        }
+        self.tell_given(rt)?;
+        tell(rt, "answers", &answered)?;
+        tell(rt, "should answer", wanted)?;
+        Ok(false)
+    }
+
+    /// Tells why the row cannot be tried.
+    fn tell_broken<R: Eprint + AllocGlobal>(&self, rt: &R, broken: Broken) -> io::Result<bool> {
+        self.tell_given(rt)?;
+        eprintln!(rt; "{broken}")?;
+        Ok(false)
+    }
+
+    /// Tells the call, and what it is given.
+    fn tell_given<R: Eprint + AllocGlobal>(&self, rt: &R) -> io::Result<()> {
+        eprintln!(rt; "call {}", self.call)?;
+        tell(rt, "given", &self.given)
+    }
+}
+
+/// Tells bytes behind the word: as a text where they are one, else in hexadecimal digits.
+fn tell<R: Eprint + AllocGlobal>(rt: &R, word: &str, bytes: &[u8]) -> io::Result<()> {
+    match str::from_utf8(bytes) {
+        Ok(text) => eprintln!(rt; "{word}: {text}"),
+        Err(_) => eprintln!(rt; "{word}, in digits: {}", hex::encode(rt.alloc(), bytes)?),
+    }
+}

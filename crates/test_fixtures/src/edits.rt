@@ -1,0 +1,92 @@
+//! A document with a change that fits it, as tests of changes have it.
+
+use crate::weights::known_weight;
+use mvt_change::{Change, flip, weight};
+use mvt_edit::{Command, Refusal, prepare};
+use mvt_wire::{Document, Items, ReadError, WriteError, read_document, size, write_document};
+use std::alloc::{AllocError, Global};
+use std::marker::Model;
+
+/// A document, and a change that fits it.
+#[derive(Debug, Drop)]
+pub struct Edit {
+    document: Document,
+    change: Change,
+}
+
+/// What can be seen of an edit: the bytes of its tile, how many they are by the sizes that its lists
+/// keep, and its change.
+#[derive(Debug, Drop, PartialEq, Eq)]
+pub struct Seen {
+    pub tile: Vec<u8>,
+    pub size: Option<u64>,
+    pub change: String,
+}
+
+impl Model for Edit {
+    ghost use Rattle.mvt_wire.specs.Stands.{document_of};
+    ghost use Rattle.mvt_change.specs.ChangeStands.{change_of};
+    ghost use Rattle.test_fixtures.specs.Edits.{Edit as PlainEdit, IsReady};
+
+    ghost Value = { PlainEdit };
+
+    ghost view = { λ e. record { document = document_of e.document; change = change_of e.change } };
+
+    ghost invariant = { λ e. IsReady (record { document = document_of e.document; change = change_of e.change }) };
+}
+
+impl Edit {
+    ghost use Rattle.mvt_wire.specs.Stands.{document_of};
+    ghost use Rattle.mvt_change.specs.ChangeStands.{change_of};
+    ghost use Rattle.test_fixtures.specs.Edits.{IsReady};
+
+    /// A document, and a change that is known to fit it.
+    pub(crate) fn of(document: Document, change: Change) -> Edit
+        requires { IsReady (record { document = document_of document; change = change_of change }) }
+    {
+        Edit { document, change }
+    }
+
+    /// The document of a file, and a change of no steps.
+    pub fn read(alloc: Global, file: &[u8]) -> Result<Edit, ReadError> {
+        let steps = Items::from_vec(Vec::new(alloc));
+        Ok(Edit {
+            document: read_document(alloc, file)?,
+            change: Change { steps },
+        })
+    }
+
+    pub fn document(&self) -> &Document {
+        &self.document
+    }
+
+    pub fn change(&self) -> &Change {
+        &self.change
+    }
+
+    pub fn seen(&self, alloc: Global) -> Result<Seen, WriteError> {
+        let change = &self.change;
+        Ok(Seen {
+            tile: write_document(alloc, &self.document)?,
+            size: size(&self.document),
+            change: format!(in alloc; "{change:?}")?,
+        })
+    }
+
+    /// How much the change brings.
+    pub fn weight(&self) -> Option<u64> {
+        known_weight(&self.change)?;
+        Some(weight(&self.change))
+    }
+
+    /// The change of the command comes in place of the one that there is.
+    pub fn prepare(&mut self, alloc: Global, command: &Command) -> Result<(), Refusal> {
+        self.change = prepare(alloc, &self.document, command)?;
+        Ok(())
+    }
+
+    /// Carries the change out, and turns it.
+    pub fn flip(&mut self, alloc: Global) -> Result<(), AllocError> {
+        flip(alloc, &mut self.document, &mut self.change)
+    }
+}
