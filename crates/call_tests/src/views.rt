@@ -29,7 +29,10 @@ pub fn answer(alloc: Global, call: &str, given: Given<'_>) -> Answer {
         }
         "selected_layer" => {
             let choice = layer_choice(alloc, given.word(alloc)?).map_err(|_| Broken::BadGiven)?;
-            told(alloc, find_layer(&document, &choice).map(|found| found.ordinal))
+            told(
+                alloc,
+                find_layer(&document, &choice).map(|found| found.ordinal),
+            )
         }
         _ => {
             let (ordinal, rest) = given.ordinal_and_rest()?;
@@ -106,7 +109,10 @@ fn feature_selected(alloc: Global, holder: FoundLayer<'_>, word: &str) -> Answer
     {
         [word] => {
             let choice = feature_choice(*word).map_err(|_| Broken::BadGiven)?;
-            told(alloc, find_feature(holder.layer, &choice).map(|found| found.ordinal))
+            told(
+                alloc,
+                find_feature(holder.layer, &choice).map(|found| found.ordinal),
+            )
         }
         _ => Err(Broken::BadGiven),
     }
