@@ -7,3 +7,4 @@ pub mod Spelling
 pub mod Steps
 pub mod Wholes
 pub mod Exchanged
+pub mod Signed

@@ -13,3 +13,4 @@ pub mod Stands
 pub mod Parts
 pub mod Settle
 pub mod Splicing
+pub mod Signed

@@ -4,7 +4,8 @@
 //! - A number is read in the width in which it is spelled, and nothing is found only where there is
 //!   none: `read_varint`. It is written in the width that is asked for, at the end of a room that
 //!   has as many bytes: `put_number`. The shortest spelling of a number is the least width in which
-//!   it fits: `Varint::minimal`.
+//!   it fits: `Varint::minimal`. A signed number has one ZigZag, and each ZigZag is that of one:
+//!   `to_zigzag`, `from_zigzag`.
 //! - How many bytes a value takes, where a file may have as many, or where they are within any
 //!   limit: `Measured::size` and `size_within`, those of `Message`, and `size_of_all`. So are those
 //!   beside a part of a list (`size_beside_part`), and those of a message with a content of a given
@@ -36,6 +37,7 @@ mod measure;
 mod message;
 pub mod tags;
 mod varint;
+mod zigzag;
 
 pub use body::Body;
 pub use document::{Document, Feature, Field, Layer, LayerItem, TileItem};
@@ -43,6 +45,7 @@ pub use items::Items;
 pub use measure::{Measured, message_size, size_beside_part, size_of_all, sum_within};
 pub use message::Message;
 pub use varint::{Varint, least_width, put_number, read_varint};
+pub use zigzag::{from_zigzag, to_zigzag};
 
 /// The longest tile in bytes.
 pub const MAX_FILE: usize = 67_108_864;

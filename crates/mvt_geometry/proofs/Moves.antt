@@ -2,8 +2,8 @@
 use Rattle.std.proofs.Common.{◌≡◌, ℕ, ◌<◌, ◌≤◌, ℤ, ◌-ℤ◌, List, [], ◌∷◌, ◌++◌, length, drop, get_or, refl, sym, ap, ◌∙◌, subst, arith, append_assoc}
 use Rattle.std.proofs.lemmas.Int.{ints}
 use Rattle.std.proofs.lemmas.List.{append-nil}
-use Rattle.mvt_zigzag.specs.Signed.{zigzag}
-use Rattle.mvt_zigzag.proofs.Apart.{one_in_zigzag}
+use Rattle.mvt_document.specs.Signed.{zigzag}
+use Rattle.mvt_document.proofs.Signed.{one_in_zigzag}
 use Rattle.mvt_geometry.specs.Shapes.{Point, IsPlaced}
 use Rattle.mvt_geometry.specs.Integers.{last_from}
 use Rattle.mvt_geometry.specs.Walks.{IsStep, IsMove, Leads, GoesOn}

@@ -2,7 +2,7 @@
 use Rattle.std.specs.Prelude.{◌≡◌, ℕ, ◌+◌, ◌-◌, ◌*◌, ◌^◌, ◌<◌, ℤ, pos, ◌-ℤ◌, unsigned_abs, List, [], ◌∷◌, ◌++◌, length, map}
 use Rattle.std.specs.List.{AllByRecursion, flat_map}
 use Rattle.mvt_document.specs.Wire.{spell, minimal_width}
-use Rattle.mvt_zigzag.specs.Signed.{zigzag}
+use Rattle.mvt_document.specs.Signed.{zigzag}
 use Rattle.mvt_geometry.specs.Shapes.{Point, Kind, Dots, Lines, Areas, number_of, Geometry, IsGeometry}
 
 -- ---- commands: MoveTo is 1, LineTo is 2, ClosePath is 7

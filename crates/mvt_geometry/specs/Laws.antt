@@ -1,11 +1,12 @@
--- Laws of geometries and their integers.
-use Rattle.std.specs.Prelude.{◌≡◌, ℕ, ◌^◌, ◌<◌, List, map}
+-- Laws of geometries and their integers, and of the geometry of numbers as a function.
+use Rattle.std.specs.Prelude.{◌≡◌, ◌↔◌, ℕ, ◌^◌, ◌<◌, List, Some, map}
 use Rattle.std.specs.List.{flat_map, AllByRecursion}
 use Rattle.mvt_document.specs.Plain.{Number}
 use Rattle.mvt_document.specs.Wire.{minimal_width, spelling}
 use Rattle.mvt_document.specs.Groups.{IsNumber}
 use Rattle.mvt_geometry.specs.Shapes.{Geometry, number_of, IsGeometry}
 use Rattle.mvt_geometry.specs.Integers.{integers, IsInRange, HasGeometry, encoded}
+use Rattle.mvt_geometry.specs.Found.{geometry_in}
 
 -- numbers have at most one geometry of a kind
 abbrev pub OneGeometry : Type 0
@@ -34,3 +35,7 @@ pub record PacksIntegers (g : Geometry) : Type 0 where
 -- bits (guide, Packed Repeated Fields)
 abbrev pub EncodedArePacked : Type 0
 EncodedArePacked = (g : Geometry) → IsGeometry g → IsInRange g → PacksIntegers g
+
+-- a geometry is found in the numbers of a kind exactly where they have it
+abbrev pub GeometryIn : Type 0
+GeometryIn = (kind : ℕ) (numbers : List ℕ) (g : Geometry) → (geometry_in kind numbers ≡ Some g) ↔ HasGeometry kind numbers g

@@ -1,7 +1,7 @@
 -- The integers of a geometry as they are gone through, one after the other.
 use Rattle.std.specs.Prelude.{◌≡◌, ℕ, ◌-◌, ◌^◌, ◌≤◌, ◌<◌, ℤ, ◌-ℤ◌, unsigned_abs, List, [], ◌∷◌, ◌++◌, length}
 use Rattle.std.specs.List.{AllByRecursion}
-use Rattle.mvt_zigzag.specs.Signed.{zigzag}
+use Rattle.mvt_document.specs.Signed.{zigzag}
 use Rattle.mvt_geometry.specs.Shapes.{Point, Kind, Dots, Lines, Areas, IsPlaced}
 use Rattle.mvt_geometry.specs.Integers.{command, ways, parameters, last_from, closing_of, path, paths, IsWay, IsRepeated}
 

@@ -2,7 +2,7 @@
 
 ghost use Rattle.std.specs.Prelude.{◌≡◌, ◌+◌, ◌*◌, ◌^◌, ◌<◌, ◌≤◌, ◌-ℤ◌, [], ◌∷◌, ◌++◌, length, IfOk, OnOk, IsErrOf};
 ghost use Rattle.std.specs.List.{AllByRecursion};
-ghost use Rattle.mvt_zigzag.specs.Signed.{zigzag};
+ghost use Rattle.mvt_document.specs.Signed.{zigzag};
 ghost use Rattle.mvt_geometry.specs.Integers.{ways, parameters, last_from, IsWay, IsInRange, shortest, packed, encoded};
 ghost use Rattle.mvt_geometry.specs.Walks.{integers_of_part, IsPartInRange};
 
@@ -11,8 +11,7 @@ use crate::geometry::Geometry;
 use crate::path::{LINE_TO, MOVE_TO_ONE};
 use crate::read::{CLOSE_PATH, MOVE_TO};
 use crate::shapes::{Kind, ORIGIN, Point};
-use mvt_document::{Items, least_width, put_number};
-use mvt_zigzag::to_zigzag;
+use mvt_document::{Items, least_width, put_number, to_zigzag};
 use std::alloc::{AllocError, Global};
 
 /// How many bytes a number takes at most.

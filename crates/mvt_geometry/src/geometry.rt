@@ -32,7 +32,7 @@ impl Geometry {
     pub fn new(kind: Kind, parts: Items<Part>) -> Result<Geometry, Items<Part>>
         ensures valid { IsOk result ↔ IsGeometry (geometry_with kind parts.items) }
         ensures ok { IfOk result (λ geometry. geometry ≡ geometry_with kind parts.items) }
-        ensures err { IfErr result (λ back. back.items ≡ parts.items) }
+        ensures err { IfErr result (λ back. back ≡ parts) }
     {
         if is_geometry(kind, parts.as_slice()) {
             Ok(Geometry { kind, parts })

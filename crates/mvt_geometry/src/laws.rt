@@ -1,6 +1,6 @@
 //! Laws of geometries, their integers and their bytes. Each is the contract of a function that does nothing.
 
-ghost use Rattle.mvt_geometry.specs.Laws.{OneGeometry, IntegersHaveTheirs, EncodedArePacked};
+ghost use Rattle.mvt_geometry.specs.Laws.{OneGeometry, IntegersHaveTheirs, EncodedArePacked, GeometryIn};
 
 /// Numbers have one geometry of a kind at most.
 pub fn one_geometry()
@@ -16,4 +16,9 @@ pub fn integers_have_theirs()
 /// of 32 bits, so a reader of packed numbers finds just these.
 pub fn encoded_are_packed()
     ensures { EncodedArePacked }
+{}
+
+/// A geometry is found in the numbers of a kind exactly where they have it.
+pub fn geometry_in()
+    ensures { GeometryIn }
 {}

@@ -8,7 +8,7 @@ ghost use Rattle.mvt_geometry.specs.Walks.{IsStep, IsMove, GoesOn};
 use crate::faults::GeometryError;
 use crate::shapes::Point;
 use crate::valid::MAX_COORDINATE;
-use mvt_zigzag::from_zigzag;
+use mvt_document::from_zigzag;
 use std::alloc::Global;
 
 /// The one parameter that leads too far: the ZigZag of -2^31.

@@ -7,7 +7,7 @@ use Rattle.mvt_document.specs.Groups.{wire_type, IsBodyWith, IsGroup, StoresBody
 use Rattle.mvt_document.proofs.Spelling.{minimal_spelling, minimal_width_some, minimal_width_short, spell-one}
 use Rattle.mvt_document.proofs.Steps.{first_spelling, width_within-low}
 use Rattle.std.specs.Int.{from_bool}
-use Rattle.mvt_zigzag.specs.Signed.{zigzag}
+use Rattle.mvt_document.specs.Signed.{zigzag}
 use Rattle.mvt_value.specs.Values.{Value, OfText, OfFloat, OfDouble, OfInt, OfUint, OfSint, OfBool}
 use Rattle.mvt_value.specs.Signed.{twos_complement}
 use Rattle.mvt_value.specs.Messages.{BodyHas, HasValue, shortest, encoded, IsInRange}

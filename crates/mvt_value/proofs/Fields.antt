@@ -9,8 +9,8 @@ use Rattle.mvt_document.specs.Wire.{field_bytes}
 use Rattle.mvt_document.specs.Groups.{IsBodyWith, IsWholeFieldWith, IsGroup, StoresBody, StoresField}
 use Rattle.mvt_document.specs.Opens.{IsField}
 use Rattle.mvt_document.proofs.Prefixes as prefixes
-use Rattle.mvt_zigzag.specs.Signed.{zigzag}
-use Rattle.mvt_zigzag.proofs.Apart.{one_in_zigzag}
+use Rattle.mvt_document.specs.Signed.{zigzag}
+use Rattle.mvt_document.proofs.Signed.{one_in_zigzag}
 use Rattle.mvt_value.specs.Values.{Value, OfText, OfFloat, OfDouble, OfInt, OfUint, OfSint, OfBool}
 use Rattle.mvt_value.specs.Signed.{twos_complement}
 use Rattle.mvt_value.specs.Stands.{shown_by}

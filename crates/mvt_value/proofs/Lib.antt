@@ -1,2 +1,4 @@
 pub mod Fields
 pub mod Encoded
+mod Signed
+pub mod Found

@@ -5,7 +5,7 @@ use Rattle.mvt_document.specs.Plain.{Body, Spelled, Eight, Four, Delimited, Fiel
 use Rattle.mvt_document.specs.Wire.{spell, minimal_width, field_bytes}
 use Rattle.mvt_document.specs.Groups.{StoresField}
 use Rattle.mvt_document.specs.Opens.{IsField}
-use Rattle.mvt_zigzag.specs.Signed.{zigzag}
+use Rattle.mvt_document.specs.Signed.{zigzag}
 use Rattle.mvt_value.specs.Values.{Value, OfText, OfFloat, OfDouble, OfInt, OfUint, OfSint, OfBool}
 use Rattle.mvt_value.specs.Signed.{twos_complement}
 

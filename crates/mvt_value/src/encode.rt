@@ -6,8 +6,7 @@ ghost use Rattle.mvt_value.specs.Stands.{new_value_of};
 
 use crate::tags::{BOOL_TAG, DOUBLE_TAG, FLOAT_TAG, INT_TAG, SINT_TAG, STRING_TAG, UINT_TAG};
 use crate::value::NewValue;
-use mvt_document::{Items, least_width, put_number};
-use mvt_zigzag::to_zigzag;
+use mvt_document::{Items, least_width, put_number, to_zigzag};
 use std::alloc::{AllocError, Global};
 
 /// How many bytes a number takes at most.

@@ -1,6 +1,6 @@
 //! Laws of values and their bytes. Each is the contract of a function that does nothing.
 
-ghost use Rattle.mvt_value.specs.Laws.{EncodedIsRead, OneValue, ReadIsInRange, OneField};
+ghost use Rattle.mvt_value.specs.Laws.{EncodedIsRead, OneValue, ReadIsInRange, OneField, ValueIn};
 
 /// The bytes of a value in range have that value.
 pub fn encoded_is_read()
@@ -21,4 +21,9 @@ pub fn read_is_in_range()
 /// and it has that value.
 pub fn one_field()
     ensures { OneField }
+{}
+
+/// A value is found in bytes exactly where they have it.
+pub fn value_in()
+    ensures { ValueIn }
 {}

@@ -10,9 +10,8 @@ ghost use Rattle.mvt_value.specs.Stands.{shown_by, raw_of};
 
 use crate::tags::{BOOL, DOUBLE, FLOAT, INT, SINT, STRING, UINT};
 use crate::value::Value;
-use mvt_document::Varint;
+use mvt_document::{Varint, from_zigzag};
 use mvt_read::{BodyRef, FieldRef, field_at_front};
-use mvt_zigzag::from_zigzag;
 
 /// The value whose bytes these are: those of one field with a number and a wire type that a value
 /// may have. All other bytes are `Raw`.

@@ -5,7 +5,7 @@ use Rattle.std.specs.List.{list_all, AllByRecursion}
 use Rattle.std.specs.Option.{option_and_then}
 use Rattle.std.proofs.lemmas.Bool.Decides.{nat_tests}
 use Rattle.std.proofs.lemmas.List.{append-nil}
-use Rattle.mvt_zigzag.specs.Signed.{zigzag}
+use Rattle.mvt_document.specs.Signed.{zigzag}
 use Rattle.mvt_document.specs.Plain.{Feature}
 use Rattle.mvt_numbers.specs.Numbers.{numbers}
 use Rattle.mvt_geometry.specs.declared.shapes.Point.{Point}

@@ -1,7 +1,8 @@
 //! `geometry`: the geometry that the numbers of a feature have.
 
-ghost use Rattle.std.specs.Prelude.{◌≡◌, Some, None, IfOk};
+ghost use Rattle.std.specs.Prelude.{◌≡◌, Some, None, IfOk, is_some};
 ghost use Rattle.std.specs.Result.{IsErrOf};
+ghost use Rattle.mvt_numbers.specs.Numbers.{numbers};
 ghost use Rattle.mvt_numbers.specs.Seen.{number_seen};
 ghost use Rattle.mvt_geometry.specs.Shapes.{Geometry as PlainGeometry};
 ghost use Rattle.mvt_view.specs.FeatureGeometry.{HasFeatureGeometry, integer_in, integers_in};
@@ -12,13 +13,30 @@ use mvt_geometry::{Geometry, GeometryError, geometry_of};
 use mvt_numbers::{BadChunk, Number, Numbers};
 use std::alloc::Global;
 
-/// The geometry whose numbers the feature has, for its kind.
+/// The geometry whose numbers the feature has, for its kind. Where one of them can't be read, or
+/// has more than 32 bits, no memory is asked for.
 pub fn geometry(alloc: Global, feature: &FeatureView) -> Result<Geometry, GeometryError>
     ensures found { IfOk result (HasFeatureGeometry (feature_seen feature.now)) }
     ensures bad { IsErrOf result GeometryError.BadGeometry → (geometry : PlainGeometry) → HasFeatureGeometry (feature_seen feature.now) geometry → ⊥ }
+    ensures unreadable { integers_in (numbers 4 (feature_seen feature.now).fields) ≡ None → IsErrOf result GeometryError.BadGeometry }
 {
+    if !are_integers(feature.geometry_numbers()) {
+        return Err(GeometryError::BadGeometry);
+    }
     let integers = integers(alloc, feature.geometry_numbers())?;
     geometry_of(alloc, feature.kind(), integers.as_slice())
+}
+
+/// Whether all the numbers are integers of 32 bits.
+fn are_integers(numbers: Numbers<'_>) -> bool
+    ensures { result ≡ is_some (integers_in numbers.entry) }
+{
+    for number in numbers {
+        if integer(number).is_none() {
+            return false;
+        }
+    }
+    true
 }
 
 /// The numbers as integers of 32 bits.

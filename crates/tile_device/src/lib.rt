@@ -25,5 +25,5 @@ mod transfer;
 pub use counts::Counts;
 pub use device::{Sink, Source, Trouble};
 pub use retries::Retries;
-pub use std_device::{FromRead, FromWrite};
+pub use std_device::{FromRead, FromStd, FromWrite};
 pub use transfer::{ReadFault, read_some, read_to_limit, write_all, write_and_flush};

@@ -9,38 +9,46 @@ use crate::device::{Sink, Source, Trouble};
 use std::io::{self, ErrorKind, Read, Write};
 use std::marker::Model;
 
-/// A reader of std as a source. It tells its bytes, where the reader does, until its first trouble.
+/// A reader or a writer of std, and its troubles.
 #[derive(Debug, Drop)]
-pub struct FromRead<R> {
-    reader: R,
+pub struct FromStd<D> {
+    device: D,
     counts: Counts,
 }
 
-impl<R> Model for FromRead<R> {
-    ghost Value = { Counted R };
+/// A reader of std as a source. It tells its bytes, where the reader does, until its first trouble.
+pub type FromRead<R> = FromStd<R>;
+
+/// A writer of std as a sink. It tells its bytes, where the writer does, until its first trouble.
+/// A write that takes none of at least one byte has failed, and so has every flush that answers an
+/// error.
+pub type FromWrite<W> = FromStd<W>;
+
+impl<D> Model for FromStd<D> {
+    ghost Value = { Counted D };
 
     ghost view = { λ d. record {
-      device = d.reader;
+      device = d.device;
       interruptions = d.counts.interruptions;
       failures = d.counts.failures;
     } };
 }
 
-impl<R> FromRead<R> {
-    pub fn new(reader: R) -> Self
-        ensures { result ≡ record { device = reader; interruptions = 0; failures = 0 } }
+impl<D> FromStd<D> {
+    pub fn new(device: D) -> Self
+        ensures { result ≡ record { device = device; interruptions = 0; failures = 0 } }
     {
-        FromRead {
-            reader,
+        FromStd {
+            device,
             counts: Counts::default(),
         }
     }
 
-    pub fn into_inner(self) -> R
+    pub fn into_inner(self) -> D
         ensures { result ≡ self.device }
     {
-        let FromRead { reader, .. } = self;
-        reader
+        let FromStd { device, .. } = self;
+        device
     }
 
     pub fn interruptions(&self) -> u64
@@ -56,7 +64,7 @@ impl<R> FromRead<R> {
     }
 }
 
-impl<R: Read> Source for FromRead<R> {
+impl<R: Read> Source for FromStd<R> {
     ghost left = { λ d. R.remaining d.device };
 
     ghost tells = { is_untroubled };
@@ -66,7 +74,7 @@ impl<R: Read> Source for FromRead<R> {
     ghost failures = { λ d. d.failures };
 
     fn read(&mut self, buffer: &mut [u8]) -> Result<usize, Trouble> {
-        match self.reader.read(buffer) {
+        match self.device.read(buffer) {
             Ok(count) => Ok(count),
             Err(error) => {
                 let trouble = trouble_of(&error);
@@ -77,56 +85,7 @@ impl<R: Read> Source for FromRead<R> {
     }
 }
 
-/// A writer of std as a sink. It tells its bytes, where the writer does, until its first trouble.
-/// A write that takes none of at least one byte has failed, and so has every flush that answers an
-/// error.
-#[derive(Debug, Drop)]
-pub struct FromWrite<W> {
-    writer: W,
-    counts: Counts,
-}
-
-impl<W> Model for FromWrite<W> {
-    ghost Value = { Counted W };
-
-    ghost view = { λ d. record {
-      device = d.writer;
-      interruptions = d.counts.interruptions;
-      failures = d.counts.failures;
-    } };
-}
-
-impl<W> FromWrite<W> {
-    pub fn new(writer: W) -> Self
-        ensures { result ≡ record { device = writer; interruptions = 0; failures = 0 } }
-    {
-        FromWrite {
-            writer,
-            counts: Counts::default(),
-        }
-    }
-
-    pub fn into_inner(self) -> W
-        ensures { result ≡ self.device }
-    {
-        let FromWrite { writer, .. } = self;
-        writer
-    }
-
-    pub fn interruptions(&self) -> u64
-        ensures { result ≡ self.now.interruptions }
-    {
-        self.counts.interruptions
-    }
-
-    pub fn failures(&self) -> u64
-        ensures { result ≡ self.now.failures }
-    {
-        self.counts.failures
-    }
-}
-
-impl<W: Write> Sink for FromWrite<W> {
+impl<W: Write> Sink for FromStd<W> {
     ghost written = { λ d. W.contents d.device };
 
     ghost tells = { is_untroubled };
@@ -136,7 +95,7 @@ impl<W: Write> Sink for FromWrite<W> {
     ghost failures = { λ d. d.failures };
 
     fn write(&mut self, bytes: &[u8]) -> Result<usize, Trouble> {
-        let trouble = match self.writer.write(bytes) {
+        let trouble = match self.device.write(bytes) {
             Ok(count) if count > 0 || bytes.is_empty() => return Ok(count),
             Ok(_) => Trouble::Failed,
             Err(error) => trouble_of(&error),
@@ -146,7 +105,7 @@ impl<W: Write> Sink for FromWrite<W> {
     }
 
     fn flush(&mut self) -> Result<(), Trouble> {
-        match self.writer.flush() {
+        match self.device.flush() {
             Ok(()) => Ok(()),
             Err(_) => {
                 self.counts.count(Trouble::Failed);

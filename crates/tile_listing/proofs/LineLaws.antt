@@ -11,10 +11,10 @@ use Rattle.mvt_numbers.specs.Numbers.{numbers}
 use Rattle.mvt_geometry.specs.Shapes.{Geometry, IsGeometry}
 use Rattle.mvt_view.specs.Views.{extent_of, features, id_of, keys, kind_of, layers, name_of, values, version_of}
 use Rattle.mvt_view.specs.Attributes.{attributes, values_in}
-use Rattle.mvt_shown.specs.Values.{value_in}
-use Rattle.mvt_shown.specs.Geometries.{geometry_in}
-use Rattle.mvt_shown.proofs.Values.{value_in_bytes}
-use Rattle.mvt_shown.proofs.Geometries.{geometry_in_numbers}
+use Rattle.mvt_value.specs.Found.{value_in}
+use Rattle.mvt_geometry.specs.Found.{geometry_in}
+use Rattle.mvt_value.proofs.Found.{value_in_bytes}
+use Rattle.mvt_geometry.proofs.Found.{geometry_in_numbers}
 use Rattle.tile_text.specs.Texts.{text_form, value_form, raw_form, geometry_form}
 use Rattle.tile_text.proofs.Feeds.{text_form_feedless, value_form_feedless, raw_form_feedless, geometry_form_feedless}
 use Rattle.tile_lines.specs.Lines.{is_line_feed, HasNoLineFeed}

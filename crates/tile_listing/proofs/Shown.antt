@@ -13,10 +13,10 @@ use Rattle.mvt_geometry.specs.Shapes.{Geometry}
 use Rattle.mvt_view.specs.Views.{kind_of}
 use Rattle.mvt_view.specs.Attributes.{values_in}
 use Rattle.mvt_view.specs.FeatureGeometry.{HasFeatureGeometry}
-use Rattle.mvt_shown.specs.Values.{value_in}
-use Rattle.mvt_shown.specs.Geometries.{geometry_in}
-use Rattle.mvt_shown.proofs.Values.{shown_value_in}
-use Rattle.mvt_shown.proofs.Geometries.{found_geometry, no_geometry_in}
+use Rattle.mvt_value.specs.Found.{value_in}
+use Rattle.mvt_geometry.specs.Found.{geometry_in}
+use Rattle.mvt_value.proofs.Found.{shown_value_in}
+use Rattle.mvt_geometry.proofs.Found.{found_geometry, no_geometry_in}
 use Rattle.tile_text.specs.Texts.{value_form, raw_form}
 use Rattle.tile_text.specs.TextStands.{shown_form}
 use Rattle.tile_listing.specs.Listing.{value_shown, geometry_of}

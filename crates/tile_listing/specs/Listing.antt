@@ -13,8 +13,8 @@ use Rattle.mvt_meaning.specs.Meaning.{◌>>=◌}
 use Rattle.mvt_meaning.specs.Selection.{selected, selected_feature}
 use Rattle.mvt_meaning.specs.declared.refusal.Refusal.{Refusal}
 use Rattle.mvt_meaning.specs.declared.refusal.Refusal.TheVariants.{NoFeature, NoLayer, NoMemory}
-use Rattle.mvt_shown.specs.Values.{value_in}
-use Rattle.mvt_shown.specs.Geometries.{geometry_in}
+use Rattle.mvt_value.specs.Found.{value_in}
+use Rattle.mvt_geometry.specs.Found.{geometry_in}
 use Rattle.tile_text.specs.Texts.{geometry_form, raw_form, text_form, value_form}
 use Rattle.tile_lines.specs.Lines.{with_feed}
 use Rattle.tile_request.specs.Request.{What, Whole, OneLayer, OneFeature}

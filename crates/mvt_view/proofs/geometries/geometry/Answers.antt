@@ -1,18 +1,14 @@
-use Rattle.std.proofs.lemmas.Result.{err_from_is_err_and, IfOk-weaker}
-use Rattle.mvt_geometry.specs.Integers.{HasGeometry}
-use Rattle.mvt_view.specs.FeatureGeometry.{HasFeatureGeometry}
+use Rattle.std.proofs.Common.{◌≡◌, Option, Some, None, false, is_some, refl, sym, ◌∙◌}
+use Rattle.mvt_view.specs.FeatureGeometry.{integers_in}
 use Rattle.mvt_view.specs.Seen.{feature_seen}
-use Rattle.mvt_view.proofs.Integers.{geometry_found, no_geometry}
+use Rattle.mvt_view.proofs.Integers.{no_geometry}
 use Rattle.mvt_view.proofs.geometries.geometry.Goals as goal
 
-pub returns-in_err-integers-clause-bad : goal.returns-in_err-integers-clause-bad
-returns-in_err-integers-clause-bad c =
-    let p = err_from_is_err_and c.from_residual.result c.from_residual.ensures.1 in
-    λ bad geometry has. no_geometry (feature_seen c.args.feature.now) geometry (rw c.geometry_numbers.ensures at (c.in_err-integers.ensures.bad (let b = rw p.1 at bad in cc))) has
+none_is : {A : Type 0} (found : Option A) → is_some found ≡ false → found ≡ None
+none_is None e = refl
+none_is (Some x) e = absurd (cc)
 
-pub returns-clause-found : goal.returns-clause-found
-returns-clause-found c =
-    let integers = c.in_ok-integers.integers.items in
-    IfOk-weaker c.geometry_of.result (HasGeometry c.kind.result c.as_slice.result.now) (HasFeatureGeometry (feature_seen c.args.feature.now))
-    (λ geometry has. geometry_found (feature_seen c.args.feature.now) c.kind.result integers c.as_slice.result.now geometry (rw c.geometry_numbers.ensures at c.in_ok-integers.ensures.found) c.as_slice.ensures.value c.kind.ensures has)
-    c.geometry_of.ensures.found
+pub returns-then-not-are_integers-clause-bad : goal.returns-then-not-are_integers-clause-bad
+returns-then-not-are_integers-clause-bad c =
+    let none = none_is (integers_in c.geometry_numbers.result) (sym c.are_integers.ensures ∙ c.if-not-are_integers.true) in
+    λ bad geometry has. no_geometry (feature_seen c.args.feature.now) geometry (rw c.geometry_numbers.ensures at none) has

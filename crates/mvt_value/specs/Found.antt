@@ -1,11 +1,12 @@
--- The value of bytes, as a function. Which value bytes have is defined by the relation `HasValue` (of `mvt_value`); the
--- law `ValueIn` says that this function is that relation.
+-- The value of bytes, as a function. Which value bytes have is defined by the relation `HasValue`; the law `ValueIn`
+-- says that this function is that relation.
 use Rattle.std.specs.Prelude.{ℕ, ◌+◌, ◌*◌, ◌==◌, not, List, [], ◌∷◌, length, Option, Some, None, option_map, option_and_then, if◌then◌else◌}
 use Rattle.std.specs.List.{flat_map}
 use Rattle.mvt_document.specs.Plain.{Number}
 use Rattle.mvt_numbers.specs.Numbers.{pieces, number_in}
 use Rattle.mvt_value.specs.Values.{Value, OfText, OfFloat, OfDouble, OfInt, OfUint, OfSint, OfBool}
-use Rattle.mvt_shown.specs.Signed.{signed, unzigzag}
+use Rattle.mvt_document.specs.Signed.{unzigzag}
+use Rattle.mvt_value.specs.Signed.{signed}
 
 -- a number at the beginning of bytes, and the bytes behind it (guide, Base 128 Varints)
 pub record Front : Type 0 where

@@ -1,4 +1,4 @@
--- Whether numbers have a geometry: each definition of `mvt_geometry` on the way to `HasGeometry`, as a truth value.
+-- Whether numbers have a geometry: each definition on the way to `HasGeometry`, as a truth value.
 use Rattle.std.specs.Prelude.{ℕ, ◌^◌, ◌&&◌, ◌==◌, nat_le, nat_lt, Bool, ℤ, unsigned_abs, List, length}
 use Rattle.std.specs.List.{list_all}
 use Rattle.std.specs.Str.{bytes_eq}

@@ -11,13 +11,12 @@ use Rattle.mvt_geometry.specs.declared.shapes.Kind.{Kind}
 use Rattle.mvt_geometry.specs.declared.shapes.Kind.TheVariants.{Dots, Lines, Areas}
 use Rattle.mvt_geometry.specs.Shapes.{number_of, Geometry, IsPart, IsGeometry}
 use Rattle.mvt_geometry.specs.Integers.{command, origin, parameters, last_from, path, paths, joined, integers_of, HasGeometry}
-use Rattle.mvt_zigzag.specs.Signed.{zigzag}
-use Rattle.mvt_shown.specs.Signed.{unzigzag}
-use Rattle.mvt_shown.specs.Checks.{has_geometry}
-use Rattle.mvt_shown.specs.Geometries.{moved, points_in, parts_in, parts_of, kind_of, guessed, geometry_in}
-use Rattle.mvt_shown.specs.Laws.{GeometryIn}
-use Rattle.mvt_shown.proofs.Signed.{unzigzag-zigzag}
-use Rattle.mvt_shown.proofs.Checks.{has_geometry-Decides}
+use Rattle.mvt_document.specs.Signed.{zigzag, unzigzag}
+use Rattle.mvt_geometry.specs.Checks.{has_geometry}
+use Rattle.mvt_geometry.specs.Found.{moved, points_in, parts_in, parts_of, kind_of, guessed, geometry_in}
+use Rattle.mvt_geometry.specs.Laws.{GeometryIn}
+use Rattle.mvt_document.proofs.Signed.{unzigzag-zigzag}
+use Rattle.mvt_geometry.proofs.Checks.{has_geometry-Decides}
 
 -- ---- points
 

@@ -1,13 +1,13 @@
--- The geometry of numbers, as a function. Which geometry numbers have is defined by the relation `HasGeometry` (of
--- `mvt_geometry`); the law `GeometryIn` says that this function is that relation.
+-- The geometry of numbers, as a function. Which geometry numbers have is defined by the relation `HasGeometry`; the
+-- law `GeometryIn` says that this function is that relation.
 use Rattle.std.specs.Prelude.{ℕ, suc, ◌+◌, ◌*◌, ◌/◌, ◌==◌, ◌+ℤ◌, List, [], ◌∷◌, length, take, drop, Option, Some, None, if◌then◌else◌}
 use Rattle.mvt_geometry.specs.declared.shapes.Point.{Point}
 use Rattle.mvt_geometry.specs.declared.shapes.Kind.{Kind}
 use Rattle.mvt_geometry.specs.declared.shapes.Kind.TheVariants.{Dots, Lines, Areas}
 use Rattle.mvt_geometry.specs.Shapes.{Geometry}
 use Rattle.mvt_geometry.specs.Integers.{origin, last_from}
-use Rattle.mvt_shown.specs.Signed.{unzigzag}
-use Rattle.mvt_shown.specs.Checks.{has_geometry}
+use Rattle.mvt_document.specs.Signed.{unzigzag}
+use Rattle.mvt_geometry.specs.Checks.{has_geometry}
 
 -- ---- a guess, which takes the numbers at their word
 

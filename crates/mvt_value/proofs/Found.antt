@@ -14,10 +14,12 @@ use Rattle.mvt_numbers.specs.Numbers.{pieces, number_in}
 use Rattle.mvt_numbers.proofs.Pieces.{pieces-joined, pieces-spelling, number_in-spell, spelling_of_piece}
 use Rattle.mvt_value.specs.Values.{Value, OfText, OfFloat, OfDouble, OfInt, OfUint, OfSint, OfBool}
 use Rattle.mvt_value.specs.Messages.{BodyHas, FieldHas, HasValue}
-use Rattle.mvt_shown.specs.Signed.{signed, unzigzag}
-use Rattle.mvt_shown.specs.Values.{Front, first_piece, front_in, if_length, delimited_in, value_of_number, value_behind, value_in}
-use Rattle.mvt_shown.specs.Laws.{ValueIn}
-use Rattle.mvt_shown.proofs.Signed.{unzigzag-zigzag, zigzag-unzigzag, signed-twos_complement, signed_is}
+use Rattle.mvt_document.specs.Signed.{unzigzag}
+use Rattle.mvt_value.specs.Signed.{signed}
+use Rattle.mvt_value.specs.Found.{Front, first_piece, front_in, if_length, delimited_in, value_of_number, value_behind, value_in}
+use Rattle.mvt_value.specs.Laws.{ValueIn}
+use Rattle.mvt_document.proofs.Signed.{unzigzag-zigzag, zigzag-unzigzag}
+use Rattle.mvt_value.proofs.Signed.{signed-twos_complement, signed_is}
 
 -- ---- the number at the front
 

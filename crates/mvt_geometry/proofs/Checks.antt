@@ -1,4 +1,4 @@
--- Each truth says what the definition of mvt_geometry says.
+-- Each truth says what the definition says whose truth it is.
 use Rattle.std.proofs.Common.{◌≡◌, ℕ, ◌^◌, ◌≤◌, Bool, leb, List, [], ◌∷◌, length, refl}
 use Rattle.std.specs.Prelude.{unsigned_abs, Decides}
 use Rattle.std.specs.List.{list_all, AllByRecursion}
@@ -10,7 +10,7 @@ use Rattle.mvt_geometry.specs.declared.shapes.Kind.{Kind}
 use Rattle.mvt_geometry.specs.declared.shapes.Kind.TheVariants.{Dots, Lines, Areas}
 use Rattle.mvt_geometry.specs.Shapes.{number_of, Geometry, IsPartCount, least_points, IsPlaced, IsPart, IsGeometry}
 use Rattle.mvt_geometry.specs.Integers.{origin, ways, joined, integers, IsWay, repeats, IsRepeated, IsInRange, HasGeometry}
-use Rattle.mvt_shown.specs.Checks.{is_part_count, is_placed, is_part, is_geometry, is_way, is_repeated, is_in_range, has_geometry}
+use Rattle.mvt_geometry.specs.Checks.{is_part_count, is_placed, is_part, is_geometry, is_way, is_repeated, is_in_range, has_geometry}
 
 leb-Decides : (a b : ℕ) → Decides (leb a b) (a ≤ b)
 leb-Decides a b = (leb-true a b, le-leb a b)

@@ -1,7 +1,7 @@
 //! The ZigZag of a number, and the number of a ZigZag.
 
 ghost use Rattle.std.specs.Prelude.{◌≡◌};
-ghost use Rattle.mvt_zigzag.specs.Signed.{zigzag};
+ghost use Rattle.mvt_document.specs.Signed.{zigzag};
 
 /// The ZigZag of the number.
 pub fn to_zigzag(number: i64) -> u64

@@ -1,4 +1,0 @@
-pub mod Signed
-pub mod Values
-pub mod Checks
-pub mod Geometries
