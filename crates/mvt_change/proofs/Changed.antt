@@ -5,7 +5,7 @@ use Rattle.std.specs.List.{flat_map}
 use Rattle.std.specs.Option.{IfSome, IsSomeAnd, option_and_then}
 use Rattle.mvt_document.specs.Kept.{bytes_beside}
 use Rattle.mvt_document.specs.Splicing.{part, splice, moved}
-use Rattle.mvt_change.specs.Lists.{change_at}
+use Rattle.mvt_document.specs.Lists.{change_at}
 
 pub map-part : {A B : Type 0} (g : A → B) (index count : ℕ) (items : List A) → map g (part index count items) ≡ part index count (map g items)
 map-part g index count items = sym (take-map g count (drop index items)) ∙ ap (take count) (sym (drop-map g index items))

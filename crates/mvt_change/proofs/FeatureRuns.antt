@@ -16,10 +16,10 @@ use Rattle.mvt_splices.proofs.Runs.{length-spliced}
 use Rattle.mvt_change.specs.declared.change.Step.{Step}
 use Rattle.mvt_change.specs.declared.change.Step.TheVariants.{InTile, InLayer, InFeature, Move}
 use Rattle.mvt_change.specs.ChangeStands.{step_of}
-use Rattle.mvt_change.specs.Lists.{change_at}
+use Rattle.mvt_document.specs.Lists.{change_at}
 use Rattle.mvt_change.specs.Changes.{Fits}
 use Rattle.mvt_change.specs.Room.{capacity}
-use Rattle.mvt_change.specs.HeldPlaces.{held_items_in, held_fields_in_at, held_fields_at, in_held_layer, in_held_feature, change_held_at, change_held_fields}
+use Rattle.mvt_document.specs.HeldPlaces.{held_items_in, held_fields_in_at, held_fields_at, in_held_layer, in_held_feature, change_held_at, change_held_fields}
 use Rattle.mvt_change.specs.HeldChanges.{exchanged, go_held_step, go_held, IsBack, AreTurned}
 use Rattle.mvt_change.specs.Runs.{feature_splice, turned_in_feature, held_part, IsRoomierStep}
 use Rattle.mvt_change.specs.LayerRuns.{AreMade, exchanged_all}

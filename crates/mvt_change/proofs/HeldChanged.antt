@@ -11,9 +11,9 @@ use Rattle.mvt_document.specs.declared.document.Layer.{Layer}
 use Rattle.mvt_document.specs.declared.document.TileItem.{TileItem}
 use Rattle.mvt_document.specs.declared.document.TileItem.TheVariants as in_tile
 use Rattle.mvt_document.specs.declared.document.Document.{Document}
-use Rattle.mvt_change.specs.Lists.{change_at}
+use Rattle.mvt_document.specs.Lists.{change_at}
 use Rattle.mvt_change.specs.Room.{capacity, KeepsList, KeepsField, KeepsLayerItem, KeepsTileItem, KeepsDocument}
-use Rattle.mvt_change.specs.HeldPlaces.{change_held_at}
+use Rattle.mvt_document.specs.HeldPlaces.{change_held_at}
 use Rattle.mvt_change.specs.HeldChanges.{exchanged, held_moved}
 use Rattle.mvt_change.proofs.Keeping.{Order, zip_same}
 

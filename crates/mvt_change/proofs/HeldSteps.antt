@@ -16,12 +16,12 @@ use Rattle.mvt_change.specs.declared.change.Place.TheVariants.{Tile, Layer, Feat
 use Rattle.mvt_change.specs.declared.change.Step.{Step}
 use Rattle.mvt_change.specs.declared.change.Step.TheVariants.{InTile, InLayer, InFeature, Move}
 use Rattle.mvt_change.specs.ChangeStands.{place_of, step_of}
-use Rattle.mvt_change.specs.Lists.{CanMove, CanSplice, HasPart}
-use Rattle.mvt_change.specs.Places.{items_in, fields_in, items_at, fields_in_at, fields_at}
+use Rattle.mvt_document.specs.Lists.{CanMove, CanSplice, HasPart}
+use Rattle.mvt_document.specs.Places.{items_in, fields_in, items_at, fields_in_at, fields_at}
 use Rattle.mvt_change.specs.Changes as plain_change
 use Rattle.mvt_change.specs.Changes.{TileStep, LayerStep, FeatureStep, MoveStep, FitsMove, FitsStep, Finds}
 use Rattle.mvt_change.specs.Room.{KeepsDocument}
-use Rattle.mvt_change.specs.HeldPlaces.{held_items_in, held_fields_in, held_items_at, held_fields_in_at, held_fields_at}
+use Rattle.mvt_document.specs.HeldPlaces.{held_items_in, held_fields_in, held_items_at, held_fields_in_at, held_fields_at}
 use Rattle.mvt_change.specs.HeldChanges.{HasRoom, CanMoveHeld, CanMoveAt, move_held_at, go_held_step, StepHasRoom, HaveRoom}
 use Rattle.mvt_change.proofs.Keeping.{document_order, field_order, layer_item_order, tile_item_order}
 use Rattle.mvt_change.proofs.RoomLenses.{tile_room, layer_room, feature_room, go_keeps, has_room_keeps, go_move_keeps, can_move_alike, move_back, move_fits}

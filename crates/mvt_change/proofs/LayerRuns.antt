@@ -15,10 +15,10 @@ use Rattle.mvt_splices.proofs.Runs.{length-spliced, length_within}
 use Rattle.mvt_change.specs.declared.change.Step.{Step}
 use Rattle.mvt_change.specs.declared.change.Step.TheVariants.{InTile, InLayer, InFeature, Move}
 use Rattle.mvt_change.specs.ChangeStands.{step_of}
-use Rattle.mvt_change.specs.Lists.{change_at}
+use Rattle.mvt_document.specs.Lists.{change_at}
 use Rattle.mvt_change.specs.Changes.{Fits}
 use Rattle.mvt_change.specs.Room.{capacity, KeepsList}
-use Rattle.mvt_change.specs.HeldPlaces.{held_items_in, held_items_at, in_held_layer, change_held_items}
+use Rattle.mvt_document.specs.HeldPlaces.{held_items_in, held_items_at, in_held_layer, change_held_items}
 use Rattle.mvt_change.specs.HeldChanges.{exchanged, go_held_step, go_held, IsBack, AreTurned}
 use Rattle.mvt_change.specs.Runs.{layer_splice, turned_in_layer, held_part, IsRoomierStep}
 use Rattle.mvt_change.specs.LayerRuns.{IsInLayer, exchanged_all, AreMade}

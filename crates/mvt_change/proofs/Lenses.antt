@@ -5,8 +5,8 @@ use Rattle.std.specs.Option.{IfSome, IsSomeAnd, option_and_then}
 use Rattle.mvt_document.specs.Plain.{Field, LayerItem, OfFeature, PlainInLayer, TileItem, OfLayer, PlainInTile, Document}
 use Rattle.mvt_document.specs.Opens.{IsField, IsLayerItem, IsTileItem, IsDocument}
 use Rattle.mvt_document.specs.Splicing.{splice, moved}
-use Rattle.mvt_change.specs.Lists.{change_at, CanSplice, CanMove}
-use Rattle.mvt_change.specs.Places.{items_in, fields_in, items_at, fields_at, in_layer, in_feature, change_items, change_fields}
+use Rattle.mvt_document.specs.Lists.{change_at, CanSplice, CanMove}
+use Rattle.mvt_document.specs.Places.{items_in, fields_in, items_at, fields_at, in_layer, in_feature, change_items, change_fields}
 use Rattle.mvt_change.specs.Changes.{taken_out}
 use Rattle.mvt_change.proofs.Splicing.{length-part, part-splice, splice-back, moved-back, all_splice, all_moved, can_splice_back, can_move_back}
 

@@ -10,9 +10,9 @@ use Rattle.mvt_document.specs.declared.document.LayerItem.TheVariants as in_laye
 use Rattle.mvt_document.specs.declared.document.TileItem.{TileItem}
 use Rattle.mvt_document.specs.declared.document.TileItem.TheVariants as in_tile
 use Rattle.mvt_document.specs.declared.document.Document.{Document}
-use Rattle.mvt_change.specs.Lists.{change_at}
+use Rattle.mvt_document.specs.Lists.{change_at}
 use Rattle.mvt_change.specs.Room.{capacity, KeepsList, KeepsField, KeepsLayerItem, KeepsTileItem, KeepsDocument}
-use Rattle.mvt_change.specs.HeldPlaces.{held_items_in, held_fields_in, held_items_at, held_fields_at, in_held_layer, in_held_feature, change_held_at, change_held_tile, change_held_items, change_held_fields}
+use Rattle.mvt_document.specs.HeldPlaces.{held_items_in, held_fields_in, held_items_at, held_fields_at, in_held_layer, in_held_feature, change_held_at, change_held_tile, change_held_items, change_held_fields}
 use Rattle.mvt_change.specs.HeldChanges.{exchanged, held_moved, held_taken_out, HasRoom, CanMoveHeld}
 use Rattle.mvt_change.proofs.Keeping.{Order, zip_same, layer_item_order, tile_item_order, exchanged_keeps, moved_keeps, room_keeps, can_move_keeps, leads_back, move_leads_back, back_has_room, move_back_fits}
 

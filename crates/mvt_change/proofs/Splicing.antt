@@ -3,7 +3,7 @@ use Rattle.std.proofs.Common.{◌≡◌, ℕ, zero, suc, ◌+◌, ◌<◌, ◌�
 use Rattle.std.proofs.lemmas.List.{length-take-le, take_at, drop_at, drop-drop}
 use Rattle.std.specs.List.{AllByRecursion}
 use Rattle.mvt_document.specs.Splicing.{part, splice, moved}
-use Rattle.mvt_change.specs.Lists.{CanSplice, CanMove}
+use Rattle.mvt_document.specs.Lists.{CanSplice, CanMove}
 
 pub length-part : {A : Type 0} (index count : ℕ) (items : List A) → index + count ≤ length items → length (part index count items) ≡ count
 length-part index count items within = length-take-le count (drop index items) (omega (arith, length-drop index items))

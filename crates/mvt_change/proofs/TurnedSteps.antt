@@ -16,11 +16,11 @@ use Rattle.mvt_change.specs.declared.change.Place.TheVariants.{Tile, Layer, Feat
 use Rattle.mvt_change.specs.declared.change.Step.{Step}
 use Rattle.mvt_change.specs.declared.change.Step.TheVariants.{InTile, InLayer, InFeature, Move}
 use Rattle.mvt_change.specs.ChangeStands.{place_of, step_of}
-use Rattle.mvt_change.specs.Lists.{change_at}
-use Rattle.mvt_change.specs.Places.{items_at, fields_at, in_layer, in_feature, change_items, change_fields}
+use Rattle.mvt_document.specs.Lists.{change_at}
+use Rattle.mvt_document.specs.Places.{items_at, fields_at, in_layer, in_feature, change_items, change_fields}
 use Rattle.mvt_change.specs.Changes.{TileStep, LayerStep, FeatureStep, Finds, move_at, go_step, go, turn_step, taken_out}
 use Rattle.mvt_change.specs.Room.{KeepsDocument}
-use Rattle.mvt_change.specs.HeldPlaces.{held_items_at, held_fields_at, in_held_layer, in_held_feature, change_held_at, change_held_items, change_held_fields}
+use Rattle.mvt_document.specs.HeldPlaces.{held_items_at, held_fields_at, in_held_layer, in_held_feature, change_held_at, change_held_items, change_held_fields}
 use Rattle.mvt_change.specs.HeldChanges.{exchanged, held_moved, held_taken_out, move_held_at, go_held_step, go_held, StepHasRoom, IsTurned}
 use Rattle.mvt_change.proofs.Changed.{map-part, map-splice, map-moved}
 use Rattle.mvt_change.proofs.Keeping.{document_order, field_order, layer_item_order, tile_item_order}

@@ -4,7 +4,7 @@ use Rattle.std.proofs.lemmas.List.{append-nil}
 use Rattle.mvt_document.specs.Plain.{Document}
 use Rattle.mvt_document.specs.Opens.{IsDocument}
 use Rattle.mvt_document.specs.Splicing.{part, splice}
-use Rattle.mvt_change.specs.Places.{items_at, fields_at, change_items, change_fields}
+use Rattle.mvt_document.specs.Places.{items_at, fields_at, change_items, change_fields}
 use Rattle.mvt_change.specs.Changes.{Place, OfTheTile, OfTheLayer, OfTheFeature, Step, TileStep, LayerStep, FeatureStep, MoveStep, Change, move_at, go_step, go, FitsMove, FitsStep, Fits, turn_step, turn, taken_out}
 use Rattle.mvt_change.specs.Laws.{ChangeMakesDocument, TurnedFits, TurnedLeadsBack, TurnedTwice, JoinedGo, JoinedFit}
 use Rattle.mvt_change.proofs.Lenses.{tile_lens, layer_lens, feature_lens, step_back, step_fits, step_put, step_count, step_valid, move_back, move_fits, move_valid}

@@ -10,8 +10,8 @@ use Rattle.mvt_document.specs.Wire.{spell, minimal_width, spelling, delimited, b
 use Rattle.mvt_document.specs.Groups.{IsNumber, IsBodyWith, IsGroupWithin, IsGroup}
 use Rattle.mvt_document.specs.Opens.{IsField, IsLayerItem, IsTileItem}
 use Rattle.mvt_document.proofs.Spelling.{length-spell, spelling_some, minimal_width_some}
-use Rattle.mvt_change.specs.Lists.{CanSplice}
-use Rattle.mvt_change.specs.Places.{items_at, fields_at}
+use Rattle.mvt_document.specs.Lists.{CanSplice}
+use Rattle.mvt_document.specs.Places.{items_at, fields_at}
 use Rattle.mvt_change.specs.Changes.{Step, TileStep, LayerStep, FeatureStep, MoveStep, go_step, FitsStep, step_weight, put_count}
 use Rattle.mvt_change.specs.Laws.{FieldWeighs, LayerItemWeighs, TileItemWeighs, NothingPut}
 

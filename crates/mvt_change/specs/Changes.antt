@@ -6,8 +6,8 @@ use Rattle.mvt_document.specs.Plain.{Field, LayerItem, TileItem, Document}
 use Rattle.mvt_document.specs.Wire.{field_bytes, layer_item_bytes, tile_item_bytes}
 use Rattle.mvt_document.specs.Opens.{IsField, IsLayerItem, IsTileItem}
 use Rattle.mvt_document.specs.Splicing.{part, splice, moved}
-use Rattle.mvt_change.specs.Lists.{CanSplice, CanMove, HasPart}
-use Rattle.mvt_change.specs.Places.{items_at, fields_at, change_items, change_fields}
+use Rattle.mvt_document.specs.Lists.{CanSplice, CanMove, HasPart}
+use Rattle.mvt_document.specs.Places.{items_at, fields_at, change_items, change_fields}
 
 -- a list of a document: that of the tile, of the layer at a position, or of the feature at a position of that layer
 pub data Place : Type 0 where

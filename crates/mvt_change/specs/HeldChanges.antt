@@ -11,8 +11,8 @@ use Rattle.mvt_change.specs.declared.change.Place.{Place}
 use Rattle.mvt_change.specs.declared.change.Place.TheVariants.{Tile, Layer, Feature}
 use Rattle.mvt_change.specs.declared.change.Step.{Step}
 use Rattle.mvt_change.specs.declared.change.Step.TheVariants.{InTile, InLayer, InFeature, Move}
-use Rattle.mvt_change.specs.Lists.{CanMove}
-use Rattle.mvt_change.specs.HeldPlaces.{held_items_at, held_fields_at, change_held_tile, change_held_items, change_held_fields}
+use Rattle.mvt_document.specs.Lists.{CanMove}
+use Rattle.mvt_document.specs.HeldPlaces.{held_items_at, held_fields_at, change_held_tile, change_held_items, change_held_fields}
 use Rattle.mvt_change.specs.Room.{capacity}
 
 -- ---- one list

@@ -1,11 +1,8 @@
-pub mod Lists
-pub mod Places
 pub mod Changes
 pub mod Joining
 pub mod ChangeStands
 pub mod Laws
 pub mod Room
-pub mod HeldPlaces
 pub mod HeldChanges
 pub mod Runs
 pub mod RunLaws

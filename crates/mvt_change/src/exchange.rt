@@ -4,11 +4,11 @@ ghost use Rattle.std.specs.Prelude.{◌≡◌, map, is_ok, if◌then◌else◌};
 ghost use Rattle.std.specs.Option.{IsSomeAnd, option_and_then};
 ghost use Rattle.mvt_document.specs.Stands.{document_of, field_of, layer_item_of, tile_item_of};
 ghost use Rattle.mvt_document.specs.Splicing.{splice};
-ghost use Rattle.mvt_change.specs.Lists.{HasPart, change_at};
+ghost use Rattle.mvt_document.specs.Lists.{HasPart, change_at};
 ghost use Rattle.mvt_change.specs.Room.{KeepsDocument, KeepsLayerItem, KeepsList, KeepsTileItem};
-ghost use Rattle.mvt_change.specs.HeldPlaces.{change_held_at, change_held_fields, change_held_items, held_fields_at, held_fields_in, held_fields_in_at, held_items_at, held_items_in, in_held_feature, in_held_layer};
+ghost use Rattle.mvt_document.specs.HeldPlaces.{change_held_at, change_held_fields, change_held_items, held_fields_at, held_fields_in, held_fields_in_at, held_items_at, held_items_in, in_held_feature, in_held_layer};
 ghost use Rattle.mvt_change.specs.HeldChanges.{TakesOut, exchanged};
-ghost use Rattle.mvt_change.specs.Places.{change_fields, change_items, fields_at, fields_in, fields_in_at, in_feature, in_layer, items_at, items_in};
+ghost use Rattle.mvt_document.specs.Places.{change_fields, change_items, fields_at, fields_in, fields_in_at, in_feature, in_layer, items_at, items_in};
 ghost use Rattle.mvt_change.specs.Changes.{taken_out};
 
 use mvt_document::{Document, Field, Items, LayerItem, Message, TileItem};

@@ -7,7 +7,7 @@ ghost use Rattle.mvt_document.specs.Stands.{document_of};
 ghost use Rattle.mvt_splices.specs.Splices.{FitAll};
 ghost use Rattle.mvt_change.specs.ChangeStands.{step_of};
 ghost use Rattle.mvt_change.specs.Changes.{Fits, go, turn};
-ghost use Rattle.mvt_change.specs.HeldPlaces.{change_held_at, held_fields_in, held_fields_in_at, held_items_in, in_held_feature, in_held_layer};
+ghost use Rattle.mvt_document.specs.HeldPlaces.{change_held_at, held_fields_in, held_fields_in_at, held_items_in, in_held_feature, in_held_layer};
 ghost use Rattle.mvt_change.specs.LayerRuns.{AreMade, exchanged_all};
 ghost use Rattle.mvt_change.specs.FeatureRuns.{IsInFeature};
 ghost use Rattle.mvt_change.specs.Room.{KeepsDocument, KeepsLayerItem, KeepsList, KeepsTileItem};

@@ -7,7 +7,7 @@ ghost use Rattle.mvt_document.specs.Stands.{document_of};
 ghost use Rattle.mvt_splices.specs.Splices.{FitAll};
 ghost use Rattle.mvt_change.specs.ChangeStands.{step_of};
 ghost use Rattle.mvt_change.specs.Changes.{Fits, go, turn};
-ghost use Rattle.mvt_change.specs.HeldPlaces.{held_items_in, in_held_layer};
+ghost use Rattle.mvt_document.specs.HeldPlaces.{held_items_in, in_held_layer};
 ghost use Rattle.mvt_change.specs.LayerRuns.{AreMade, IsInLayer, exchanged_all};
 ghost use Rattle.mvt_change.specs.Room.{KeepsDocument, KeepsTileItem};
 ghost use Rattle.mvt_change.specs.Runs.{LeadsBack, layer_splice, turned_in_layer};

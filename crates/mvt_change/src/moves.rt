@@ -5,11 +5,11 @@ ghost use Rattle.std.specs.Option.{IsSomeAnd, option_and_then};
 ghost use Rattle.mvt_document.specs.Stands.{document_of, layer_item_of, tile_item_of};
 ghost use Rattle.mvt_document.specs.Splicing.{moved};
 ghost use Rattle.mvt_change.specs.ChangeStands.{place_of};
-ghost use Rattle.mvt_change.specs.Lists.{CanMove, change_at};
-ghost use Rattle.mvt_change.specs.Places.{change_fields, change_items, fields_at, fields_in, fields_in_at, in_feature, in_layer, items_at, items_in};
+ghost use Rattle.mvt_document.specs.Lists.{CanMove, change_at};
+ghost use Rattle.mvt_document.specs.Places.{change_fields, change_items, fields_at, fields_in, fields_in_at, in_feature, in_layer, items_at, items_in};
 ghost use Rattle.mvt_change.specs.Changes.{FitsMove, move_at};
 ghost use Rattle.mvt_change.specs.Room.{KeepsDocument, KeepsLayerItem, KeepsList, KeepsTileItem};
-ghost use Rattle.mvt_change.specs.HeldPlaces.{change_held_at, change_held_fields, change_held_items, in_held_feature, in_held_layer};
+ghost use Rattle.mvt_document.specs.HeldPlaces.{change_held_at, change_held_fields, change_held_items, in_held_feature, in_held_layer};
 ghost use Rattle.mvt_change.specs.HeldChanges.{held_moved, move_held_at};
 
 use crate::change::Place;

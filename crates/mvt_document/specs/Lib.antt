@@ -13,4 +13,7 @@ pub mod Stands
 pub mod Parts
 pub mod Settle
 pub mod Splicing
+pub mod Lists
+pub mod Places
+pub mod HeldPlaces
 pub mod Signed

@@ -3,7 +3,7 @@ use Rattle.std.proofs.Common.{◌≡◌, ℕ, suc, ◌+◌, ◌≤◌, ◌==◌,
 use Rattle.std.proofs.lemmas.Bool.{cases_Bool, eqb-true}
 use Rattle.std.proofs.lemmas.List.{append-nil, length-take-le, take_at, take-take, drop_at, drop-drop, drop-take}
 use Rattle.mvt_document.specs.Splicing.{part, splice}
-use Rattle.mvt_change.specs.Lists.{HasPart}
+use Rattle.mvt_document.specs.Lists.{HasPart}
 use Rattle.mvt_edit.specs.Cuts.{and_item, runs_from}
 use Rattle.mvt_edit.specs.declared.cut.Run.{Run}
 

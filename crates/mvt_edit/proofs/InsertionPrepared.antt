@@ -13,8 +13,8 @@ use Rattle.mvt_geometry.specs.Integers.{IsInRange}
 use Rattle.mvt_geometry.specs.declared.EncodeError.{EncodeError}
 use Rattle.mvt_geometry.specs.declared.EncodeError.TheVariants as encode_errors
 use Rattle.mvt_view.specs.Views.{features_in}
-use Rattle.mvt_change.specs.Lists.{CanSplice}
-use Rattle.mvt_change.specs.Places.{change_items}
+use Rattle.mvt_document.specs.Lists.{CanSplice}
+use Rattle.mvt_document.specs.Places.{change_items}
 use Rattle.mvt_change.specs.Changes.{FitsStep, LayerStep, go_step}
 use Rattle.mvt_command.specs.Command.{InsertFeature, LayerChoice}
 use Rattle.mvt_meaning.specs.Meaning.{applied, feature_count, geometry_refusal, is_in_range, new_feature, within_limit}

@@ -2,8 +2,8 @@
 use Rattle.std.proofs.Common.{◌≡◌, ℕ, zero, suc, List, [], ◌∷◌, slice_get, Option, Some, None, refl, ap, ◌∙◌}
 use Rattle.std.specs.Option.{IfSome, option_and_then}
 use Rattle.mvt_document.specs.Plain.{Field, LayerItem, OfFeature, PlainInLayer, TileItem, OfLayer, PlainInTile, Document}
-use Rattle.mvt_change.specs.Lists.{change_at}
-use Rattle.mvt_change.specs.Places.{items_in, fields_in, items_at, fields_at, in_layer, in_feature, change_items, change_fields}
+use Rattle.mvt_document.specs.Lists.{change_at}
+use Rattle.mvt_document.specs.Places.{items_in, fields_in, items_at, fields_at, in_layer, in_feature, change_items, change_fields}
 
 -- a part of a whole, found in it and changed in it
 pub record Changing {A X : Type 0} (find : A → Option X) (change : (X → X) → A → A) : Type 0 where

@@ -5,7 +5,7 @@ use Rattle.std.specs.Option.{IsSomeAnd}
 use Rattle.mvt_document.specs.Plain.{LayerItem, OfFeature, PlainInLayer, Layer, OfLayer, PlainInTile, Document}
 use Rattle.mvt_document.specs.Splicing.{moved}
 use Rattle.mvt_view.specs.Views.{feature_in, features_in, layer_in, layers}
-use Rattle.mvt_change.specs.Lists.{CanMove}
+use Rattle.mvt_document.specs.Lists.{CanMove}
 use Rattle.mvt_change.specs.Changes.{MoveStep, OfTheLayer, OfTheTile}
 use Rattle.mvt_command.specs.Command.{FeatureChoice, LayerChoice, MoveFeature, MoveLayer}
 use Rattle.mvt_meaning.specs.Meaning.{applied, feature_count, layer_count}

@@ -9,8 +9,8 @@ use Rattle.mvt_document.specs.Plain.{Field, Feature, LayerItem, OfFeature, Layer
 use Rattle.mvt_document.specs.Wire.{bytes_of, field_bytes, layer_item_bytes}
 use Rattle.mvt_document.specs.Opens.{IsField, IsLayerItem}
 use Rattle.mvt_document.specs.Splicing.{part, splice}
-use Rattle.mvt_change.specs.Lists.{CanSplice}
-use Rattle.mvt_change.specs.Places.{change_fields, change_items, fields_at, items_at}
+use Rattle.mvt_document.specs.Lists.{CanSplice}
+use Rattle.mvt_document.specs.Places.{change_fields, change_items, fields_at, items_at}
 use Rattle.mvt_change.specs.Changes.{Step, FeatureStep, LayerStep, FitsStep, go_step, step_weight, taken_out, turn_step, weight}
 use Rattle.mvt_change.specs.ChangeStands.{change_of}
 use Rattle.mvt_change.specs.declared.change.Change.{Change}

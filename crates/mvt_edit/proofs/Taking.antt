@@ -8,8 +8,8 @@ use Rattle.mvt_document.specs.Plain.{Document}
 use Rattle.mvt_document.specs.Wire.{field_bytes, layer_item_bytes, tile_item_bytes}
 use Rattle.mvt_document.specs.Opens.{IsField, IsLayerItem}
 use Rattle.mvt_document.specs.Splicing.{part, splice}
-use Rattle.mvt_change.specs.Lists.{CanSplice, HasPart}
-use Rattle.mvt_change.specs.Places.{items_at, fields_at, change_items, change_fields}
+use Rattle.mvt_document.specs.Lists.{CanSplice, HasPart}
+use Rattle.mvt_document.specs.Places.{items_at, fields_at, change_items, change_fields}
 use Rattle.mvt_change.specs.Changes.{Place, OfTheTile, OfTheLayer, OfTheFeature, Step, Change, go_step, go, FitsStep, Fits, turn_step, turn, taken_out, step_weight, weight}
 use Rattle.mvt_change.proofs.Lenses.{layer_lens, feature_lens}
 use Rattle.mvt_change.proofs.Turning.{go_joined, fits_joined}

@@ -2,7 +2,7 @@
 use Rattle.std.specs.Prelude.{◌≡◌, ℕ, Bool, List, length}
 use Rattle.std.specs.List.{flat_map}
 use Rattle.mvt_document.specs.Splicing.{part, splice}
-use Rattle.mvt_change.specs.Lists.{CanSplice}
+use Rattle.mvt_document.specs.Lists.{CanSplice}
 use Rattle.mvt_change.specs.Changes.{Step}
 use Rattle.mvt_meaning.specs.Weights.{weigh_last}
 

@@ -3,7 +3,7 @@ use Rattle.std.proofs.Common.{◌≡◌, ℕ, Some, None, Ok, List, ◌∷◌, �
 use Rattle.std.specs.List.{filter_map}
 use Rattle.mvt_document.specs.Plain.{Field, Feature, LayerItem, OfFeature, PlainInLayer, Layer, TileItem, OfLayer, PlainInTile, Document}
 use Rattle.mvt_command.specs.Command.{LayerChoice, FeatureChoice}
-use Rattle.mvt_change.specs.Places.{in_feature, in_layer}
+use Rattle.mvt_document.specs.Places.{in_feature, in_layer}
 use Rattle.mvt_view.specs.Views.{feature_in, layer_in, layers, plain_in}
 use Rattle.mvt_meaning.specs.Ordinals.{change_first, change_nth}
 use Rattle.mvt_meaning.specs.Selection.{is_feature, selected, selected_feature}

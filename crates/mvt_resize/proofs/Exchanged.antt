@@ -10,8 +10,8 @@ use Rattle.mvt_document.specs.Kept.{bytes_beside}
 use Rattle.mvt_document.specs.Splicing.{splice, moved}
 use Rattle.mvt_document.proofs.Beside.{spliced_size, moved_size}
 use Rattle.mvt_document.proofs.Sizes.{length-message}
-use Rattle.mvt_change.specs.Lists.{change_at}
-use Rattle.mvt_change.specs.Places.{in_layer, in_feature}
+use Rattle.mvt_document.specs.Lists.{change_at}
+use Rattle.mvt_document.specs.Places.{in_layer, in_feature}
 use Rattle.mvt_change.specs.Changes.{Place, OfTheTile, OfTheLayer, OfTheFeature, move_at}
 use Rattle.mvt_change.proofs.Changed.{map-splice}
 

@@ -11,8 +11,8 @@ ghost use Rattle.mvt_document.specs.Stands.{document_of, field_of, layer_item_of
 ghost use Rattle.mvt_document.specs.Kept.{bytes_beside};
 ghost use Rattle.mvt_document.specs.Splicing.{splice};
 ghost use Rattle.mvt_change.specs.ChangeStands.{step_of};
-ghost use Rattle.mvt_change.specs.Lists.{HasPart, change_at};
-ghost use Rattle.mvt_change.specs.Places.{change_fields, change_items, fields_at, fields_in, fields_in_at, in_feature, in_layer, items_at, items_in};
+ghost use Rattle.mvt_document.specs.Lists.{HasPart, change_at};
+ghost use Rattle.mvt_document.specs.Places.{change_fields, change_items, fields_at, fields_in, fields_in_at, in_feature, in_layer, items_at, items_in};
 ghost use Rattle.mvt_change.specs.Changes.{FitsStep, go_step};
 
 use mvt_change::Step;

@@ -2,11 +2,11 @@ use Rattle.std.proofs.Common.{map, is_ok, cond, sym, ap, ◌∙◌}
 use Rattle.std.specs.Option.{option_and_then}
 use Rattle.mvt_document.specs.Stands.{field_of, tile_item_of}
 use Rattle.mvt_document.specs.Splicing.{splice}
-use Rattle.mvt_change.specs.Lists.{change_at}
-use Rattle.mvt_change.specs.Places.{fields_in_at, items_in, in_feature, in_layer}
+use Rattle.mvt_document.specs.Lists.{change_at}
+use Rattle.mvt_document.specs.Places.{fields_in_at, items_in, in_feature, in_layer}
 use Rattle.mvt_change.specs.Changes.{taken_out}
 use Rattle.mvt_change.proofs.Changed.{get-map, set_or_keeps}
-use Rattle.mvt_change.specs.HeldPlaces.{in_held_layer, in_held_feature, change_held_at}
+use Rattle.mvt_document.specs.HeldPlaces.{in_held_layer, in_held_feature, change_held_at}
 use Rattle.mvt_change.specs.HeldChanges.{exchanged}
 use Rattle.mvt_change.proofs.Keeping.{tile_item_order}
 use Rattle.mvt_change.proofs.HeldChanged.{changed_or_kept, document_or_kept}

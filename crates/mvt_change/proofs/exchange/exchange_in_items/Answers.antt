@@ -1,10 +1,10 @@
 use Rattle.std.proofs.Common.{map, is_ok, cond, ap, ◌∙◌}
 use Rattle.mvt_document.specs.Stands.{field_of, layer_item_of}
 use Rattle.mvt_document.specs.Splicing.{splice}
-use Rattle.mvt_change.specs.Places.{fields_in, in_feature}
+use Rattle.mvt_document.specs.Places.{fields_in, in_feature}
 use Rattle.mvt_change.specs.Changes.{taken_out}
 use Rattle.mvt_change.proofs.Changed.{beside_set, found_in, set_or_keeps}
-use Rattle.mvt_change.specs.HeldPlaces.{in_held_feature}
+use Rattle.mvt_document.specs.HeldPlaces.{in_held_feature}
 use Rattle.mvt_change.specs.HeldChanges.{exchanged}
 use Rattle.mvt_change.proofs.Keeping.{layer_item_order}
 use Rattle.mvt_change.proofs.HeldChanged.{changed_or_kept}

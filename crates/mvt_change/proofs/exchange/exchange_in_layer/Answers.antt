@@ -1,10 +1,10 @@
 use Rattle.std.proofs.Common.{map, is_ok, cond, ap, ◌∙◌}
 use Rattle.mvt_document.specs.Stands.{layer_item_of, tile_item_of}
 use Rattle.mvt_document.specs.Splicing.{splice}
-use Rattle.mvt_change.specs.Places.{items_in, in_layer}
+use Rattle.mvt_document.specs.Places.{items_in, in_layer}
 use Rattle.mvt_change.specs.Changes.{taken_out}
 use Rattle.mvt_change.proofs.Changed.{beside_set, found_in, set_or_keeps}
-use Rattle.mvt_change.specs.HeldPlaces.{in_held_layer, change_held_at}
+use Rattle.mvt_document.specs.HeldPlaces.{in_held_layer, change_held_at}
 use Rattle.mvt_change.specs.HeldChanges.{exchanged}
 use Rattle.mvt_change.proofs.Keeping.{tile_item_order}
 use Rattle.mvt_change.proofs.HeldChanged.{changed_or_kept, document_or_kept}

@@ -1,5 +1,5 @@
 use Rattle.std.proofs.Common.{is_ok, refl}
-use Rattle.mvt_change.specs.HeldPlaces.{change_held_at, in_held_feature}
+use Rattle.mvt_document.specs.HeldPlaces.{change_held_at, in_held_feature}
 use Rattle.mvt_change.specs.HeldChanges.{exchanged}
 use Rattle.mvt_change.proofs.HeldChanged.{layer_or_kept}
 use Rattle.mvt_change.proofs.exchange.exchange_in_tile_item.Goals as goal

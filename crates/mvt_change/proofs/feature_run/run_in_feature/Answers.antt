@@ -7,7 +7,7 @@ use Rattle.mvt_splices.specs.Splices.{FitAll}
 use Rattle.mvt_change.specs.ChangeStands.{step_of}
 use Rattle.mvt_change.specs.Changes.{turn}
 use Rattle.mvt_change.specs.Room.{KeepsDocument}
-use Rattle.mvt_change.specs.HeldPlaces.{held_items_in, held_fields_in_at, in_held_layer, in_held_feature, change_held_at, change_held_fields}
+use Rattle.mvt_document.specs.HeldPlaces.{held_items_in, held_fields_in_at, in_held_layer, in_held_feature, change_held_at, change_held_fields}
 use Rattle.mvt_change.specs.HeldChanges.{go_held, AreTurned}
 use Rattle.mvt_change.specs.Runs.{feature_splice, turned_in_feature, LeadsBack}
 use Rattle.mvt_change.specs.LayerRuns.{AreMade, exchanged_all}

@@ -1,6 +1,6 @@
 use Rattle.std.proofs.Common.{is_ok}
 use Rattle.mvt_change.specs.Runs.{feature_splice}
-use Rattle.mvt_change.specs.HeldPlaces.{in_held_feature}
+use Rattle.mvt_document.specs.HeldPlaces.{in_held_feature}
 use Rattle.mvt_change.specs.LayerRuns.{exchanged_all}
 use Rattle.mvt_change.proofs.Changed.{beside_set}
 use Rattle.mvt_change.proofs.Keeping.{layer_item_order}

@@ -1,6 +1,6 @@
 use Rattle.std.proofs.Common.{is_ok, refl}
 use Rattle.mvt_change.specs.Runs.{feature_splice}
-use Rattle.mvt_change.specs.HeldPlaces.{change_held_at, in_held_feature}
+use Rattle.mvt_document.specs.HeldPlaces.{change_held_at, in_held_feature}
 use Rattle.mvt_change.specs.LayerRuns.{exchanged_all}
 use Rattle.mvt_change.proofs.HeldChanged.{layer_or_kept}
 use Rattle.mvt_change.proofs.feature_run.run_in_tile_item.Goals as goal

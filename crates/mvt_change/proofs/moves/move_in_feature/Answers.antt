@@ -1,9 +1,9 @@
 use Rattle.mvt_document.specs.Stands.{tile_item_of}
 use Rattle.mvt_document.specs.Splicing.{moved}
-use Rattle.mvt_change.specs.Lists.{change_at}
-use Rattle.mvt_change.specs.Places.{in_feature, in_layer}
+use Rattle.mvt_document.specs.Lists.{change_at}
+use Rattle.mvt_document.specs.Places.{in_feature, in_layer}
 use Rattle.mvt_change.proofs.Changed.{set_changes}
-use Rattle.mvt_change.specs.HeldPlaces.{in_held_layer, in_held_feature, change_held_at}
+use Rattle.mvt_document.specs.HeldPlaces.{in_held_layer, in_held_feature, change_held_at}
 use Rattle.mvt_change.specs.HeldChanges.{held_moved}
 use Rattle.mvt_change.proofs.Keeping.{tile_item_order}
 use Rattle.mvt_change.proofs.HeldChanged.{changed_kept}

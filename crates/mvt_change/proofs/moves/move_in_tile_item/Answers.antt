@@ -1,5 +1,5 @@
 use Rattle.std.proofs.Common.{true, refl}
-use Rattle.mvt_change.specs.HeldPlaces.{change_held_at, in_held_feature}
+use Rattle.mvt_document.specs.HeldPlaces.{change_held_at, in_held_feature}
 use Rattle.mvt_change.specs.HeldChanges.{held_moved}
 use Rattle.mvt_change.proofs.HeldChanged.{layer_or_kept}
 use Rattle.mvt_change.proofs.moves.move_in_tile_item.Goals as goal

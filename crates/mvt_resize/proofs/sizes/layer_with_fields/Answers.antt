@@ -3,8 +3,8 @@ use Rattle.mvt_document.specs.declared.TheConstants.{MAX_FILE}
 use Rattle.mvt_document.specs.Stands.{field_of, layer_item_of}
 use Rattle.mvt_document.specs.Wire.{layer_item_bytes}
 use Rattle.mvt_document.specs.Splicing.{splice}
-use Rattle.mvt_change.specs.Lists.{HasPart}
-use Rattle.mvt_change.specs.Places.{fields_in, in_feature}
+use Rattle.mvt_document.specs.Lists.{HasPart}
+use Rattle.mvt_document.specs.Places.{fields_in, in_feature}
 use Rattle.mvt_document.proofs.Sizes.{told_so}
 use Rattle.mvt_change.proofs.Changed.{found_below}
 use Rattle.mvt_resize.proofs.Exchanged.{changed_message, changed_within}

@@ -3,8 +3,8 @@ use Rattle.mvt_document.specs.declared.TheConstants.{MAX_FILE}
 use Rattle.mvt_document.specs.Stands.{field_of, tile_item_of}
 use Rattle.mvt_document.specs.Wire.{tile_item_bytes}
 use Rattle.mvt_document.specs.Splicing.{splice}
-use Rattle.mvt_change.specs.Lists.{HasPart, change_at}
-use Rattle.mvt_change.specs.Places.{fields_in_at, in_feature, in_layer, items_in}
+use Rattle.mvt_document.specs.Lists.{HasPart, change_at}
+use Rattle.mvt_document.specs.Places.{fields_in_at, in_feature, in_layer, items_in}
 use Rattle.mvt_document.proofs.Sizes.{told_so}
 use Rattle.mvt_resize.proofs.Exchanged.{changed_size, below_found}
 use Rattle.mvt_resize.proofs.sizes.tile_with_fields.Goals as goal

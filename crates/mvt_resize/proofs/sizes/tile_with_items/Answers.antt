@@ -3,8 +3,8 @@ use Rattle.mvt_document.specs.declared.TheConstants.{MAX_FILE}
 use Rattle.mvt_document.specs.Stands.{layer_item_of, tile_item_of}
 use Rattle.mvt_document.specs.Wire.{tile_item_bytes}
 use Rattle.mvt_document.specs.Splicing.{splice}
-use Rattle.mvt_change.specs.Lists.{HasPart}
-use Rattle.mvt_change.specs.Places.{in_layer, items_in}
+use Rattle.mvt_document.specs.Lists.{HasPart}
+use Rattle.mvt_document.specs.Places.{in_layer, items_in}
 use Rattle.mvt_document.proofs.Sizes.{told_so}
 use Rattle.mvt_change.proofs.Changed.{found_below}
 use Rattle.mvt_resize.proofs.Exchanged.{changed_size}

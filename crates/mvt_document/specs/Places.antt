@@ -3,7 +3,7 @@
 use Rattle.std.specs.Prelude.{ℕ, List, slice_get, Option, Some, None}
 use Rattle.std.specs.Option.{option_and_then}
 use Rattle.mvt_document.specs.Plain.{Field, LayerItem, OfFeature, PlainInLayer, TileItem, OfLayer, PlainInTile, Document}
-use Rattle.mvt_change.specs.Lists.{change_at}
+use Rattle.mvt_document.specs.Lists.{change_at}
 
 -- ---- the list at a place; there is none where the position is not that of a layer, or of a feature
 

@@ -8,7 +8,7 @@ use Rattle.mvt_document.specs.declared.document.LayerItem.TheVariants as in_laye
 use Rattle.mvt_document.specs.declared.document.TileItem.{TileItem}
 use Rattle.mvt_document.specs.declared.document.TileItem.TheVariants as in_tile
 use Rattle.mvt_document.specs.declared.document.Document.{Document}
-use Rattle.mvt_change.specs.Lists.{change_at}
+use Rattle.mvt_document.specs.Lists.{change_at}
 
 -- the items of the layer that an item of a tile is, or none
 abbrev pub held_items_in : TileItem → Option (Held LayerItem)
