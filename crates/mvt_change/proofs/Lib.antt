@@ -16,3 +16,4 @@ pub mod Underway
 pub mod TileRuns
 pub mod LayerRuns
 pub mod FeatureRuns
+pub mod Resized

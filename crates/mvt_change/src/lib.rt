@@ -1,5 +1,5 @@
 //! Changes of a document as values: what they make, what leads back, and a change carried out in
-//! place.
+//! place; and whether a file can hold what a step makes.
 //!
 //! - A change is carried out in place as the definition says, and becomes the change that leads
 //!   back, every field and every width equal. Where memory runs out, neither the document nor the
@@ -8,7 +8,11 @@
 //!   first one last, and the list is then empty. Where memory runs out the list has what it had,
 //!   which it does for no list of one change or none: `join`.
 //! - The bytes of all items that a change puts are counted: `weight`.
-//! - Conditions: the change fits the document (`flip`); the sum is below 2^64 (`weight`).
+//! - Whether a file can hold a tile once a step is carried out on it is told before that, exactly,
+//!   for every document and each step that fits it: also for a tile that no file can hold, and
+//!   where the length of a layer or of a feature comes to take more bytes or fewer: `fits_after`.
+//! - Conditions: the change fits the document (`flip`), or the step does (`fits_after`); the sum is
+//!   below 2^64 (`weight`).
 #![tactic(auto)]
 
 mod change;
@@ -20,6 +24,7 @@ pub mod laws;
 mod layer_run;
 mod moves;
 mod run;
+mod sizes;
 mod steps;
 mod taking_back;
 mod weigh;
@@ -27,4 +32,5 @@ mod weigh;
 pub use change::{Change, Place, Step};
 pub use flip_change::flip;
 pub use joining::join;
+pub use sizes::fits_after;
 pub use weigh::weight;

@@ -8,10 +8,9 @@ ghost use Rattle.mvt_change.specs.Changes.{FitsStep, go_step};
 ghost use Rattle.mvt_change.specs.ChangeStands.{change_of, step_of};
 ghost use Rattle.mvt_meaning.specs.declared.refusal.Refusal.TheVariants.{NoMemory, TooLarge};
 
-use mvt_change::{Change, Step};
+use mvt_change::{Change, Step, fits_after};
 use mvt_document::{Document, Items};
 use mvt_meaning::Refusal;
-use mvt_resize::fits_after;
 use std::alloc::{AllocError, Global};
 
 /// The change of this step alone.

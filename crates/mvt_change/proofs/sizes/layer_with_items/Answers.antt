@@ -4,8 +4,8 @@ use Rattle.mvt_document.specs.declared.TheConstants.{MAX_FILE}
 use Rattle.mvt_document.specs.Stands.{layer_item_of}
 use Rattle.mvt_document.specs.Wire.{layer_item_bytes}
 use Rattle.mvt_document.proofs.Sizes.{told_so}
-use Rattle.mvt_resize.proofs.Exchanged.{exchanged_message, exchanged_within}
-use Rattle.mvt_resize.proofs.sizes.layer_with_items.Goals as goal
+use Rattle.mvt_change.proofs.Resized.{exchanged_message, exchanged_within}
+use Rattle.mvt_change.proofs.sizes.layer_with_items.Goals as goal
 
 pub returns-in_err-beside-in-Layer : goal.returns-in_err-beside-in-Layer
 returns-in_err-beside-in-Layer c =

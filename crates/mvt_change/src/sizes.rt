@@ -15,7 +15,7 @@ ghost use Rattle.mvt_document.specs.Lists.{HasPart, change_at};
 ghost use Rattle.mvt_document.specs.Places.{change_fields, change_items, fields_at, fields_in, fields_in_at, in_feature, in_layer, items_at, items_in};
 ghost use Rattle.mvt_change.specs.Changes.{FitsStep, go_step};
 
-use mvt_change::Step;
+use crate::change::Step;
 use mvt_document::{
     Document, Field, LayerItem, MAX_FILE, Measured, Message, TileItem, message_size,
     size_beside_part, size_of_all, sum_within,

@@ -4,8 +4,8 @@ use Rattle.mvt_document.specs.declared.TheConstants.{MAX_FILE}
 use Rattle.mvt_document.specs.Stands.{field_of}
 use Rattle.mvt_document.specs.Wire.{field_bytes}
 use Rattle.mvt_document.proofs.Sizes.{told_so}
-use Rattle.mvt_resize.proofs.Exchanged.{exchanged_message, exchanged_within}
-use Rattle.mvt_resize.proofs.sizes.feature_with_fields.Goals as goal
+use Rattle.mvt_change.proofs.Resized.{exchanged_message, exchanged_within}
+use Rattle.mvt_change.proofs.sizes.feature_with_fields.Goals as goal
 
 pub returns-in_err-beside-in-Feature : goal.returns-in_err-beside-in-Feature
 returns-in_err-beside-in-Feature c =

@@ -7,8 +7,8 @@ use Rattle.mvt_document.specs.Lists.{HasPart}
 use Rattle.mvt_document.specs.Places.{in_layer, items_in}
 use Rattle.mvt_document.proofs.Sizes.{told_so}
 use Rattle.mvt_change.proofs.Changed.{found_below}
-use Rattle.mvt_resize.proofs.Exchanged.{changed_size}
-use Rattle.mvt_resize.proofs.sizes.tile_with_items.Goals as goal
+use Rattle.mvt_change.proofs.Resized.{changed_size}
+use Rattle.mvt_change.proofs.sizes.tile_with_items.Goals as goal
 
 pub size_with-requires : goal.size_with-requires
 size_with-requires c = found_below items_in tile_item_of c.args.layer c.args.document.now.items.items (HasPart c.args.index c.args.taken) c.requires

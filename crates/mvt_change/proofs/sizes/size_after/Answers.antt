@@ -5,8 +5,8 @@ use Rattle.mvt_document.specs.Stands.{document_of, tile_item_of}
 use Rattle.mvt_document.specs.Wire.{tile_item_bytes}
 use Rattle.mvt_change.specs.ChangeStands.{place_of}
 use Rattle.mvt_document.proofs.Sizes.{told_so}
-use Rattle.mvt_resize.proofs.Exchanged.{exchanged_size, moved_same}
-use Rattle.mvt_resize.proofs.sizes.size_after.Goals as goal
+use Rattle.mvt_change.proofs.Resized.{exchanged_size, moved_same}
+use Rattle.mvt_change.proofs.sizes.size_after.Goals as goal
 
 pub returns-in_err-beside-in-InTile : goal.returns-in_err-beside-in-InTile
 returns-in_err-beside-in-InTile c =

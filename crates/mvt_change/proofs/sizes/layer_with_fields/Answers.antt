@@ -7,8 +7,8 @@ use Rattle.mvt_document.specs.Lists.{HasPart}
 use Rattle.mvt_document.specs.Places.{fields_in, in_feature}
 use Rattle.mvt_document.proofs.Sizes.{told_so}
 use Rattle.mvt_change.proofs.Changed.{found_below}
-use Rattle.mvt_resize.proofs.Exchanged.{changed_message, changed_within}
-use Rattle.mvt_resize.proofs.sizes.layer_with_fields.Goals as goal
+use Rattle.mvt_change.proofs.Resized.{changed_message, changed_within}
+use Rattle.mvt_change.proofs.sizes.layer_with_fields.Goals as goal
 
 pub size_with-requires : goal.size_with-requires
 size_with-requires c = found_below fields_in layer_item_of c.args.item c.in-Layer.layer.items.items (HasPart c.args.index c.args.taken) (rw c.in-Layer.is at c.requires)

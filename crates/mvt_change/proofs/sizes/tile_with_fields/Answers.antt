@@ -6,8 +6,8 @@ use Rattle.mvt_document.specs.Splicing.{splice}
 use Rattle.mvt_document.specs.Lists.{HasPart, change_at}
 use Rattle.mvt_document.specs.Places.{fields_in_at, in_feature, in_layer, items_in}
 use Rattle.mvt_document.proofs.Sizes.{told_so}
-use Rattle.mvt_resize.proofs.Exchanged.{changed_size, below_found}
-use Rattle.mvt_resize.proofs.sizes.tile_with_fields.Goals as goal
+use Rattle.mvt_change.proofs.Resized.{changed_size, below_found}
+use Rattle.mvt_change.proofs.sizes.tile_with_fields.Goals as goal
 
 pub size_with-requires : goal.size_with-requires
 size_with-requires c = below_found items_in (fields_in_at c.args.item) tile_item_of c.args.layer c.args.document.now.items.items (HasPart c.args.index c.args.taken) c.requires
