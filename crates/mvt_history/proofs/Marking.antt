@@ -6,18 +6,20 @@ use Rattle.std.proofs.lemmas.Bool.{cases_Bool}
 use Rattle.std.proofs.lemmas.Bool.Decides.{nat_tests}
 use Rattle.mvt_history.specs.Marks.{Mark, has_name, point_of, bound, unbound}
 use Rattle.mvt_history.specs.History.{History, at_point, with_marks, marked, unmarked, gone_back}
-use Rattle.mvt_history.specs.Moves.{Walk, walked}
+use Rattle.mvt_history.specs.Moves.{walk_in, moved, IsWay}
 use Rattle.mvt_history.specs.Standing.{Standing, IsReady}
 use Rattle.mvt_history.specs.Held.{IsReached, IsHeld}
-use Rattle.mvt_history.specs.Session.{StandsFor, Answers, StopsAt, AnswersBack}
+use Rattle.mvt_history.specs.Session.{StandsFor, Answers, IsOnTheWay, StopsAt, AnswersBack}
 use Rattle.mvt_history.specs.declared.TheConstants.{MAX_MARKS}
+use Rattle.mvt_history.specs.declared.steps.Direction.{Direction}
+use Rattle.mvt_history.specs.declared.steps.Direction.TheVariants.{Undo, Redo}
 use Rattle.mvt_history_error.specs.declared.HistoryError.{HistoryError}
 use Rattle.mvt_history_error.specs.declared.HistoryError.TheVariants.{NoMark, TooManyMarks, Stopped}
 use Rattle.mvt_history.proofs.Counting.{counted_length, counted_point_of, counted_bound, counted_unbound}
 use Rattle.mvt_history.proofs.MarkOrder.{all_bound, all_filtered, order_bound, order_unbound, few_bound, length_filtered, point_holds}
 use Rattle.mvt_history.proofs.Sound.{sound_bound, sound_unbound}
 use Rattle.mvt_history.proofs.Closed.{is_closed}
-use Rattle.mvt_history.proofs.Moving.{undo_walk, redo_walk, undone_to, redone_to, undone_held, redone_held, undone_stands, redone_stands}
+use Rattle.mvt_history.proofs.Moving.{walked_stands}
 
 -- the session with these marks
 abbrev pub with_names : List Mark → Standing → Standing
@@ -168,7 +170,7 @@ unmark_kept name session seen (Some done) says same = tt
 -- ---- back to a mark
 
 -- undo or redo reaches the point that a name marks
-pub point_reached : (undo_room redo_room : ℕ) (name : List ℕ) (point : ℕ) (session : Standing) → point_of name session.marks ≡ Some point → IsHeld undo_room redo_room session → point ≤ length session.undo + length session.redo
+point_reached : (undo_room redo_room : ℕ) (name : List ℕ) (point : ℕ) (session : Standing) → point_of name session.marks ≡ Some point → IsHeld undo_room redo_room session → point ≤ length session.undo + length session.redo
 point_reached undo_room redo_room name point session found held = point_holds (λ point. point ≤ length session.undo + length session.redo) name session.marks held.reached point found
 
 pub back_refused : (name : List ℕ) (session : Standing) (history : History) → session.pending ≡ None → point_of name session.marks ≡ None → StandsFor session history → gone_back name history ≡ Err NoMark
@@ -186,80 +188,55 @@ goes_back name point session history closed found stands =
     let there = marked_there name point session history found stands in
     rw (none, there) refl
 
-pub back_by_undos : (name : List ℕ) (point : ℕ) (session : Standing) (history : History) → session.pending ≡ None → IsReady session → point_of name session.marks ≡ Some point → point < length session.undo → StandsFor session history → (after : History) × (gone_back name history ≡ Ok after) × StandsFor (undone_to (walked (length session.undo - point) (undo_walk session)) session) after
-back_by_undos name point session history closed ready found before stands =
-    let back = stands.undo_reaches in
-    let there : history.present - (length session.undo - point) ≡ history.floor + point = omega arith in
-    let gone = undone_stands (length session.undo - point) session history closed ready (omega arith) stands in
-    (at_point (history.floor + point) history, goes_back name point session history closed found stands, rw there at gone)
+-- the way from the present point, counted from 0
+way_counted : (direction : Direction) (floor count from to point : ℕ) → IsWay direction count from to → floor + from ≡ point → IsWay direction count point (floor + to)
+way_counted Undo floor count from to point way is = omega (arith, way, is)
+way_counted Redo floor count from to point way is = omega (arith, way, is)
 
-pub back_by_redos : (name : List ℕ) (point : ℕ) (session : Standing) (history : History) → session.pending ≡ None → IsReady session → point_of name session.marks ≡ Some point → length session.undo ≤ point → point ≤ length session.undo + length session.redo → StandsFor session history → (after : History) × (gone_back name history ≡ Ok after) × StandsFor (redone_to (walked (point - length session.undo) (redo_walk session)) session) after
-back_by_redos name point session history closed ready found behind within stands =
-    let back = stands.undo_reaches in
-    let there : history.present + (point - length session.undo) ≡ history.floor + point = omega arith in
-    let gone = redone_stands (point - length session.undo) session history closed ready (omega arith) stands in
-    (at_point (history.floor + point) history, goes_back name point session history closed found stands, rw there at gone)
+-- a part of a way
+part_of_way : (direction : Direction) (taken count from to : ℕ) → taken < count → IsWay direction count from to → (at : ℕ) × IsWay direction taken from at × IsOnTheWay from to taken at
+part_of_way Undo taken count from to less way = (from - taken, omega (arith, way, less), inl (omega (arith, way, less), omega (arith, way, less)))
+part_of_way Redo taken count from to less way = (from + taken, refl, inr (refl, omega (arith, way, less)))
 
-pub stops_at_undo : (name : List ℕ) (point taken : ℕ) (session : Standing) (history : History) → session.pending ≡ None → IsReady session → point_of name session.marks ≡ Some point → point < length session.undo → taken < length session.undo - point → StandsFor session history → (between : History) × StopsAt name history taken between × StandsFor (undone_to (walked taken (undo_walk session)) session) between
-stops_at_undo name point taken session history closed ready found before some_left stands =
-    let back = stands.undo_reaches in (
-      at_point (history.present - taken) history,
-      record {
-        is_closed = is_closed session history closed stands;
-        to = history.floor + point;
-        marked = marked_there name point session history found stands;
-        at = history.present - taken;
-        on_the_way = inl (omega arith, omega arith);
-        stands = refl;
-      },
-      undone_stands taken session history closed ready (omega arith) stands,
-    )
+-- as many changes lie ahead as the way to a mark has steps
+way_within : (direction : Direction) (count to : ℕ) (session : Standing) → IsWay direction count (length session.undo) to → to ≤ length session.undo + length session.redo → count ≤ length (walk_in direction session).ahead
+way_within Undo count to session way within = omega (arith, way)
+way_within Redo count to session way within = omega (arith, way, within)
 
-pub stops_at_redo : (name : List ℕ) (point taken : ℕ) (session : Standing) (history : History) → session.pending ≡ None → IsReady session → point_of name session.marks ≡ Some point → point ≤ length session.undo + length session.redo → taken < point - length session.undo → StandsFor session history → (between : History) × StopsAt name history taken between × StandsFor (redone_to (walked taken (redo_walk session)) session) between
-stops_at_redo name point taken session history closed ready found within some_left stands =
-    let back = stands.undo_reaches in (
-      at_point (history.present + taken) history,
-      record {
-        is_closed = is_closed session history closed stands;
-        to = history.floor + point;
-        marked = marked_there name point session history found stands;
-        at = history.present + taken;
-        on_the_way = inr (refl, omega arith);
-        stands = refl;
-      },
-      redone_stands taken session history closed ready (omega arith) stands,
-    )
+-- so many steps in a direction lead to the point of a mark, and as many changes lie ahead
+pub record IsWayToMark (name : List ℕ) (point : ℕ) (direction : Direction) (count : ℕ) (session : Standing) : Type 0 where
+  pub found : point_of name session.marks ≡ Some point
+  pub way : IsWay direction count (length session.undo) point
+  pub enough : count ≤ length (walk_in direction session).ahead
+
+pub way_to_mark : (undo_room redo_room : ℕ) (name : List ℕ) (point : ℕ) (direction : Direction) (count : ℕ) (session seen : Standing) → session ≡ seen → point_of name session.marks ≡ Some point → IsWay direction count (length session.undo) point → IsHeld undo_room redo_room session → IsWayToMark name point direction count seen
+way_to_mark undo_room redo_room name point direction count session seen same found way held =
+    let here : IsWayToMark name point direction count session = record { found = found; way = way; enough = way_within direction count point session way (point_reached undo_room redo_room name point session found held) } in
+    subst (IsWayToMark name point direction count) same here
 
 -- what is answered after a walk that ended, or was stopped
-pub undos_answer : (name : List ℕ) (point : ℕ) (session : Standing) (history : History) (walk : Walk) (ended : Result (Unit {0}) ℕ) (answer : Result (Unit {0}) HistoryError) → MatchResult ended (λ done. answer ≡ Ok done) (λ taken. answer ≡ Err (Stopped taken)) → session.pending ≡ None → IsReady session → point_of name session.marks ≡ Some point → point < length session.undo → OnOk ended (walk ≡ walked (length session.undo - point) (undo_walk session)) → IfErr ended (λ taken. (taken < length session.undo - point) × (walk ≡ walked taken (undo_walk session))) → StandsFor session history → AnswersBack name history answer (undone_to walk session)
-undos_answer name point session history walk (Ok done) answer is closed ready found before ok err stands =
-    rw is (subst (λ walk. (after : History) × (gone_back name history ≡ Ok after) × StandsFor (undone_to walk session) after) (sym ok) (back_by_undos name point session history closed ready found before stands))
-undos_answer name point session history walk (Err taken) answer is closed ready found before ok err stands =
-    let stopped = stops_at_undo name point taken session history closed ready found before err.0 stands in
-    rw is (inr (taken, stopped.0, refl, stopped.1, subst (λ walk. StandsFor (undone_to walk session) stopped.0) (sym err.1) stopped.2))
-
-pub redos_answer : (name : List ℕ) (point : ℕ) (session : Standing) (history : History) (walk : Walk) (ended : Result (Unit {0}) ℕ) (answer : Result (Unit {0}) HistoryError) → MatchResult ended (λ done. answer ≡ Ok done) (λ taken. answer ≡ Err (Stopped taken)) → session.pending ≡ None → IsReady session → point_of name session.marks ≡ Some point → length session.undo ≤ point → point ≤ length session.undo + length session.redo → OnOk ended (walk ≡ walked (point - length session.undo) (redo_walk session)) → IfErr ended (λ taken. (taken < point - length session.undo) × (walk ≡ walked taken (redo_walk session))) → StandsFor session history → AnswersBack name history answer (redone_to walk session)
-redos_answer name point session history walk (Ok done) answer is closed ready found behind within ok err stands =
-    rw is (subst (λ walk. (after : History) × (gone_back name history ≡ Ok after) × StandsFor (redone_to walk session) after) (sym ok) (back_by_redos name point session history closed ready found behind within stands))
-redos_answer name point session history walk (Err taken) answer is closed ready found behind within ok err stands =
-    let stopped = stops_at_redo name point taken session history closed ready found within err.0 stands in
-    rw is (inr (taken, stopped.0, refl, stopped.1, subst (λ walk. StandsFor (redone_to walk session) stopped.0) (sym err.1) stopped.2))
+pub back_answers : (name : List ℕ) (direction : Direction) (point count : ℕ) (session new : Standing) (history : History) (ended : Result (Unit {0}) ℕ) (answer : Result (Unit {0}) HistoryError) → MatchResult ended (λ done. answer ≡ Ok done) (λ taken. answer ≡ Err (Stopped taken)) → session.pending ≡ None → IsReady session → IsWayToMark name point direction count session → OnOk ended (new ≡ moved direction count session) → IfErr ended (λ taken. (taken < count) × (new ≡ moved direction taken session)) → StandsFor session history → AnswersBack name history answer new
+back_answers name direction point count session new history (Ok done) answer is closed ready mark ok err stands =
+    let whole = way_counted direction history.floor count (length session.undo) point history.present mark.way stands.undo_reaches in
+    let there = walked_stands direction count (history.floor + point) session history closed ready mark.enough whole stands in
+    rw is (at_point (history.floor + point) history, goes_back name point session history closed mark.found stands, subst (λ new. StandsFor new (at_point (history.floor + point) history)) (sym ok) there)
+back_answers name direction point count session new history (Err taken) answer is closed ready mark ok err stands =
+    let less = err.0 in
+    let whole = way_counted direction history.floor count (length session.undo) point history.present mark.way stands.undo_reaches in
+    let part = part_of_way direction taken count history.present (history.floor + point) less whole in
+    let between = at_point part.0 history in
+    let stops : StopsAt name history taken between = record {
+      is_closed = is_closed session history closed stands;
+      to = history.floor + point;
+      marked = marked_there name point session history mark.found stands;
+      at = part.0;
+      on_the_way = part.2;
+      stands = refl;
+    } in
+    rw is (inr (taken, between, refl, stops, subst (λ new. StandsFor new between) (sym err.1) (walked_stands direction taken part.0 session history closed ready (let enough = mark.enough in omega (arith, less, enough)) part.1 stands)))
 
 -- what `map_err` gives
 pub stopped_from : (ended : Result (Unit {0}) ℕ) (answer : Result (Unit {0}) HistoryError) (Gives : ℕ → HistoryError → Type 0) → ((taken : ℕ) (error : HistoryError) → Gives taken error → error ≡ Stopped taken) → MatchResult ended (λ done. answer ≡ Ok done) (λ taken. IsErrAnd answer (Gives taken)) → MatchResult ended (λ done. answer ≡ Ok done) (λ taken. answer ≡ Err (Stopped taken))
 stopped_from (Ok done) answer Gives says is = is
 stopped_from (Err taken) (Ok done) Gives says is = absurd is
 stopped_from (Err taken) (Err error) Gives says is = ap (λ error. Err error) (says taken error is)
-
--- the session is held wherever the walk ended
-pub undos_held : (undo_room redo_room count : ℕ) (session : Standing) (walk : Walk) (ended : Result (Unit {0}) ℕ) → session.pending ≡ None → count ≤ length session.undo → OnOk ended (walk ≡ walked count (undo_walk session)) → IfErr ended (λ taken. (taken < count) × (walk ≡ walked taken (undo_walk session))) → IsHeld undo_room redo_room session → IsHeld undo_room redo_room (undone_to walk session)
-undos_held undo_room redo_room count session walk (Ok done) closed enough ok err held =
-    subst (λ walk. IsHeld undo_room redo_room (undone_to walk session)) (sym ok) (undone_held undo_room redo_room count session closed enough held)
-undos_held undo_room redo_room count session walk (Err taken) closed enough ok err held =
-    let less = err.0 in subst (λ walk. IsHeld undo_room redo_room (undone_to walk session)) (sym err.1) (undone_held undo_room redo_room taken session closed (omega arith) held)
-
-pub redos_held : (undo_room redo_room count : ℕ) (session : Standing) (walk : Walk) (ended : Result (Unit {0}) ℕ) → session.pending ≡ None → count ≤ length session.redo → OnOk ended (walk ≡ walked count (redo_walk session)) → IfErr ended (λ taken. (taken < count) × (walk ≡ walked taken (redo_walk session))) → IsHeld undo_room redo_room session → IsHeld undo_room redo_room (redone_to walk session)
-redos_held undo_room redo_room count session walk (Ok done) closed enough ok err held =
-    subst (λ walk. IsHeld undo_room redo_room (redone_to walk session)) (sym ok) (redone_held undo_room redo_room count session closed enough held)
-redos_held undo_room redo_room count session walk (Err taken) closed enough ok err held =
-    let less = err.0 in subst (λ walk. IsHeld undo_room redo_room (redone_to walk session)) (sym err.1) (redone_held undo_room redo_room taken session closed (omega arith) held)

@@ -1,6 +1,7 @@
 -- What a session stands for, and that it is held, when steps were taken back or made again.
-use Rattle.std.proofs.Common.{◌≡◌, ℕ, zero, suc, ◌+◌, ◌-◌, ◌≤◌, false, is_some, if◌then◌else◌, ◌==◌, Result, Ok, Err, Option, Some, None, List, [], ◌∷◌, length, take, get_or, refl, sym, ap, ◌∙◌, subst, arith}
+use Rattle.std.proofs.Common.{◌≡◌, ℕ, zero, suc, ◌+◌, ◌-◌, ◌<◌, ◌≤◌, false, is_some, if◌then◌else◌, ◌==◌, Result, Ok, Err, Option, Some, None, List, [], ◌∷◌, length, take, get_or, refl, sym, ap, ◌∙◌, subst, inl, arith}
 use Rattle.std.specs.List.{AllByRecursion}
+use Rattle.std.specs.Result.{IsOk, OnOk, IfErr, result_or}
 use Rattle.std.specs.List.Sorted.{IsStrictlySortedBy}
 use Rattle.std.proofs.lemmas.Bool.Decides.{nat_tests}
 use Rattle.mvt_document.specs.declared.TheConstants.{MAX_FILE}
@@ -8,24 +9,26 @@ use Rattle.mvt_document.specs.Plain.{Document}
 use Rattle.mvt_document.specs.Wire.{bytes_of}
 use Rattle.mvt_document.specs.Opens.{IsDocument}
 use Rattle.mvt_command.specs.Command.{Command}
-use Rattle.mvt_change.specs.Changes.{Change, go, turn}
+use Rattle.mvt_change.specs.Changes.{Change, turn}
 use Rattle.mvt_change.specs.declared.change.Change.{Change as HeldChange}
 use Rattle.mvt_change.specs.Joining.{FitAlong}
 use Rattle.mvt_change.proofs.Turning.{change_makes, turned_back, turned_fits}
-use Rattle.mvt_history.specs.History.{History, begun, after_all, after_steps, document_at, commands_in, at_point, with_group, undone, redone, opened}
-use Rattle.mvt_history.specs.Moves.{Walk, stepped, walked}
-use Rattle.mvt_history.specs.Reached.{LeadsBack, LeadsOn, LeadBack, LeadOn, LeadOut}
+use Rattle.mvt_history.specs.History.{History, begun, after_all, after_steps, document_at, commands_in, at_point, with_group, opened}
+use Rattle.mvt_history.specs.Moves.{Walk, stepped, walked, walk_in, with_walk, moved, IsWay, gone}
+use Rattle.mvt_history.specs.Reached.{Leads, LeadBack, LeadOn, LeadOut, all_taken_by, all_put_by, step_allowance}
+use Rattle.mvt_history.specs.declared.steps.Direction.{Direction}
+use Rattle.mvt_history.specs.declared.steps.Direction.TheVariants.{Undo, Redo}
 use Rattle.mvt_history.specs.Standing.{Standing, IsReady}
 use Rattle.mvt_history.specs.Held.{from_last, IsReached, IsHeld}
 use Rattle.mvt_history.specs.declared.TheConstants.{MAX_DEPTH}
 use Rattle.mvt_history_error.specs.declared.HistoryError.{HistoryError}
-use Rattle.mvt_history_error.specs.declared.HistoryError.TheVariants.{GroupOpen}
-use Rattle.mvt_history.specs.Session.{StandsFor}
+use Rattle.mvt_history_error.specs.declared.HistoryError.TheVariants.{GroupOpen, NoMemory}
+use Rattle.mvt_history.specs.Session.{StandsFor, AnswersWithMemory}
 use Rattle.mvt_history.proofs.Sound.{begins_sound, sound_at_point, sound_with_group}
 use Rattle.mvt_history.proofs.Following.{next_document}
-use Rattle.mvt_history.proofs.Stepping.{length_from_last}
+use Rattle.mvt_history.proofs.Stepping.{walk_of, length_from_last}
 use Rattle.mvt_history.proofs.Closed.{is_closed, stands_present}
-use Rattle.mvt_history.proofs.Turned.{turned_leads_on, turned_leads_back}
+use Rattle.mvt_history.proofs.Turned.{turned_leads}
 
 -- ---- how many changes lie ahead and behind
 
@@ -65,87 +68,68 @@ walked_ready (suc count) walk ready =
 
 -- ---- what stands on the way
 
--- the document is that of the point, and from there the changes lead back and on
-record StandsAt (steps : List (List Command)) (start : Document) (point : ℕ) (document : Document) (undo redo : List Change) : Type 0 where
-  valid : IsDocument document
-  here : document ≡ after_steps (take point steps) start
-  back : LeadBack steps start point undo
-  on : LeadOn steps start point redo
+-- the changes lead along from a point in a direction
+abbrev LeadAlong : Direction → List (List Command) → Document → ℕ → List Change → Type 0
+LeadAlong Undo steps start point changes = LeadBack steps start point changes
+LeadAlong Redo steps start point changes = LeadOn steps start point changes
 
-one_back : (steps : List (List Command)) (start : Document) (point : ℕ) (document : Document) (undo redo : List Change) → suc point ≤ length steps → 1 ≤ length undo → StandsAt steps start (suc point) document undo redo → let walk = stepped (record { document = document; ahead = undo; behind = redo }) in StandsAt steps start point walk.document walk.ahead walk.behind
-one_back steps start point document [] redo inside some stands = absurd (omega (arith, some))
-one_back steps start point document (change ∷ undo) redo inside some stands =
+-- the other direction
+abbrev opposite : Direction → Direction
+opposite Undo = Redo
+opposite Redo = Undo
+
+-- the document is that of the point, and from there the changes lead along, ahead and behind
+record StandsAt (steps : List (List Command)) (start : Document) (direction : Direction) (point : ℕ) (walk : Walk) : Type 0 where
+  valid : IsDocument walk.document
+  here : walk.document ≡ after_steps (take point steps) start
+  ahead : LeadAlong direction steps start point walk.ahead
+  behind : LeadAlong (opposite direction) steps start point walk.behind
+
+one_back : (steps : List (List Command)) (start : Document) (point : ℕ) (document : Document) (ahead behind : List Change) → suc point ≤ length steps → 1 ≤ length ahead → StandsAt steps start Undo (suc point) (walk_of document ahead behind) → StandsAt steps start Undo point (stepped (walk_of document ahead behind))
+one_back steps start point document [] behind inside some stands = absurd (omega (arith, some))
+one_back steps start point document (change ∷ ahead) behind inside some stands =
     let step = get_or steps point [] in
     let before = after_steps (take point steps) start in
-    let leads = stands.back.0 in
-    let after : after_all step before ≡ document = sym (next_document steps start point (omega (arith, inside))) ∙ sym stands.here in
-    let valid : IsDocument (after_all step before) = subst IsDocument (sym after) stands.valid in
-    let made : go change document ≡ before = ap (go change) (sym after) ∙ leads.leads in
+    let here : document ≡ after_all step before = stands.here ∙ next_document steps start point (omega (arith, inside)) in
+    let leads = subst (λ d. Leads change d before (all_taken_by step before) (all_put_by step before) (step_allowance step before)) (sym here) stands.ahead.0 in
     record {
-      valid = subst IsDocument (ap (go change) after) (change_makes change (after_all step before) valid leads.fits);
-      here = made;
-      back = stands.back.1;
-      on = (subst (λ d. LeadsOn step before (turn change d)) after (turned_leads_on step before change valid leads), stands.on);
+      valid = change_makes change document stands.valid leads.fits;
+      here = leads.leads;
+      ahead = stands.ahead.1;
+      behind = (subst (λ d. Leads (turn change document) before d (all_put_by step before) (all_taken_by step before) (step_allowance step before)) here (turned_leads change document before (all_taken_by step before) (all_put_by step before) (step_allowance step before) stands.valid leads), stands.behind);
     }
 
-one_on : (steps : List (List Command)) (start : Document) (point : ℕ) (document : Document) (undo redo : List Change) → suc point ≤ length steps → 1 ≤ length redo → StandsAt steps start point document undo redo → let walk = stepped (record { document = document; ahead = redo; behind = undo }) in StandsAt steps start (suc point) walk.document walk.behind walk.ahead
-one_on steps start point document undo [] inside some stands = absurd (omega (arith, some))
-one_on steps start point document undo (change ∷ redo) inside some stands =
+one_on : (steps : List (List Command)) (start : Document) (point : ℕ) (document : Document) (ahead behind : List Change) → suc point ≤ length steps → 1 ≤ length ahead → StandsAt steps start Redo point (walk_of document ahead behind) → StandsAt steps start Redo (suc point) (stepped (walk_of document ahead behind))
+one_on steps start point document [] behind inside some stands = absurd (omega (arith, some))
+one_on steps start point document (change ∷ ahead) behind inside some stands =
     let step = get_or steps point [] in
     let before = after_steps (take point steps) start in
-    let leads = stands.on.0 in
-    let valid : IsDocument before = subst IsDocument stands.here stands.valid in
-    let made : go change document ≡ after_all step before = ap (go change) stands.here ∙ leads.leads in
+    let after = after_all step before in
+    let leads = subst (λ d. Leads change d after (all_put_by step before) (all_taken_by step before) (step_allowance step before)) (sym stands.here) stands.ahead.0 in
     record {
-      valid = subst (λ d. IsDocument (go change d)) (sym stands.here) (change_makes change before valid leads.fits);
-      here = made ∙ sym (next_document steps start point (omega (arith, inside)));
-      back = (subst (λ d. LeadsBack step before (turn change d)) (sym stands.here) (turned_leads_back step before change valid leads), stands.back);
-      on = stands.on.1;
+      valid = change_makes change document stands.valid leads.fits;
+      here = leads.leads ∙ sym (next_document steps start point (omega (arith, inside)));
+      ahead = stands.ahead.1;
+      behind = (subst (λ d. Leads (turn change document) after d (all_taken_by step before) (all_put_by step before) (step_allowance step before)) stands.here (turned_leads change document after (all_put_by step before) (all_taken_by step before) (step_allowance step before) stands.valid leads), stands.behind);
     }
 
-some_back : (steps : List (List Command)) (start : Document) (present count : ℕ) (walk : Walk) → present ≤ length steps → count ≤ present → count ≤ length walk.ahead → StandsAt steps start present walk.document walk.ahead walk.behind → StandsAt steps start (present - count) (walked count walk).document (walked count walk).ahead (walked count walk).behind
-some_back steps start present zero walk inside above enough stands =
-    let same : present ≡ present - 0 = omega arith in
-    subst (λ point. StandsAt steps start point walk.document walk.ahead walk.behind) same stands
-some_back steps start present (suc count) walk inside above enough stands =
+some_along : (direction : Direction) (steps : List (List Command)) (start : Document) (count from to : ℕ) (walk : Walk) → IsWay direction count from to → from ≤ length steps → to ≤ length steps → count ≤ length walk.ahead → StandsAt steps start direction from walk → StandsAt steps start direction to (walked count walk)
+some_along Undo steps start zero from to walk way low high enough stands =
+    let same : from ≡ to = omega (arith, way) in subst (λ point. StandsAt steps start Undo point walk) same stands
+some_along Redo steps start zero from to walk way low high enough stands =
+    let same : from ≡ to = omega (arith, way) in subst (λ point. StandsAt steps start Redo point walk) same stands
+some_along Undo steps start (suc count) from to walk way low high enough stands =
     let before = walked count walk in
-    let so_far = some_back steps start present count walk inside (omega (arith, above)) (omega (arith, enough)) stands in
     let left = walked_count count walk (omega (arith, enough)) in
-    let next : present - count ≡ suc (present - suc count) = omega (arith, above) in
-    let here = subst (λ point. StandsAt steps start point before.document before.ahead before.behind) next so_far in
-    one_back steps start (present - suc count) before.document before.ahead before.behind (omega (arith, inside, above)) (omega (arith, left, enough)) here
-
-some_on : (steps : List (List Command)) (start : Document) (present count : ℕ) (walk : Walk) → present + count ≤ length steps → count ≤ length walk.ahead → StandsAt steps start present walk.document walk.behind walk.ahead → StandsAt steps start (present + count) (walked count walk).document (walked count walk).behind (walked count walk).ahead
-some_on steps start present zero walk inside enough stands =
-    let same : present ≡ present + 0 = omega arith in
-    subst (λ point. StandsAt steps start point walk.document walk.behind walk.ahead) same stands
-some_on steps start present (suc count) walk inside enough stands =
+    let so_far = some_along Undo steps start count from (suc to) walk (omega (arith, way)) low (omega (arith, way, low)) (omega (arith, enough)) stands in
+    one_back steps start to before.document before.ahead before.behind (omega (arith, way, low)) (omega (arith, left, enough)) so_far
+some_along Redo steps start (suc count) from to walk way low high enough stands =
     let before = walked count walk in
-    let so_far = some_on steps start present count walk (omega (arith, inside)) (omega (arith, enough)) stands in
     let left = walked_count count walk (omega (arith, enough)) in
-    let next : suc (present + count) ≡ present + suc count = omega arith in
-    let made = one_on steps start (present + count) before.document before.behind before.ahead (omega (arith, inside)) (omega (arith, left, enough)) so_far in
-    subst (λ point. StandsAt steps start point (walked (suc count) walk).document (walked (suc count) walk).behind (walked (suc count) walk).ahead) next made
-
--- ---- sessions
-
--- what undo and redo walk over
-abbrev pub undo_walk : Standing → Walk
-undo_walk session = record { document = session.document; ahead = session.undo; behind = session.redo }
-
-abbrev pub redo_walk : Standing → Walk
-redo_walk session = record { document = session.document; ahead = session.redo; behind = session.undo }
-
--- the session with another document and other changes for undo and redo
-abbrev pub moved_to : Document → List Change → List Change → Standing → Standing
-moved_to document undo redo session = record { document = document; undo = undo; redo = redo; depth = session.depth; marks = session.marks; pending = session.pending }
-
--- the session when they went there
-abbrev pub undone_to : Walk → Standing → Standing
-undone_to walk session = moved_to walk.document walk.ahead walk.behind session
-
-abbrev pub redone_to : Walk → Standing → Standing
-redone_to walk session = moved_to walk.document walk.behind walk.ahead session
+    let next : suc (from + count) ≡ to = omega (arith, way) in
+    let so_far = some_along Redo steps start count from (from + count) walk refl low (omega (arith, way, high)) (omega (arith, enough)) stands in
+    let made = one_on steps start (from + count) before.document before.ahead before.behind (omega (arith, way, high)) (omega (arith, left, enough)) so_far in
+    subst (λ point. StandsAt steps start Redo point (walked (suc count) walk)) next made
 
 -- ---- where no step is open
 
@@ -168,15 +152,12 @@ none_pending (Some changes) answer done e is = absurd cc
 pub seen_closed : (session seen : Standing) (done : Unit {0}) → session ≡ seen → ◌≡◌ {A = Result (Unit {0}) HistoryError} (Ok done) (if is_some seen.pending then Err GroupOpen else Ok tt) → session.pending ≡ None
 seen_closed session seen done same is = ap (λ session. session.pending) same ∙ none_pending seen.pending (Ok done) done refl is
 
-pub some_from_last : (changes : List HeldChange) → (length changes == 0) ≡ false → 1 ≤ length (from_last changes)
-some_from_last changes some = let all = length_from_last changes in grind (arith, nat_tests)
-
 -- ---- undo and redo
 
 -- as many changes are kept as before
-moved_held : (undo_room redo_room : ℕ) (session : Standing) (document : Document) (undo redo : List Change) → session.pending ≡ None → IsDocument document → FitAlong undo document → FitAlong redo document → length session.undo + length session.redo ≡ length undo + length redo → IsHeld undo_room redo_room session → IsHeld undo_room redo_room (moved_to document undo redo session)
+moved_held : (undo_room redo_room : ℕ) (session : Standing) (document : Document) (undo redo : List Change) → session.pending ≡ None → IsDocument document → FitAlong undo document → FitAlong redo document → length session.undo + length session.redo ≡ length undo + length redo → IsHeld undo_room redo_room session → IsHeld undo_room redo_room (record session { document = document; undo = undo; redo = redo })
 moved_held undo_room redo_room session document undo redo closed valid undo_fit redo_fit all held = record {
-  ready = closed_ready (moved_to document undo redo session) closed valid undo_fit redo_fit;
+  ready = closed_ready (record session { document = document; undo = undo; redo = redo }) closed valid undo_fit redo_fit;
   some_depth = held.some_depth;
   little_depth = held.little_depth;
   room_for_undo = held.room_for_undo;
@@ -187,79 +168,111 @@ moved_held undo_room redo_room session document undo redo closed valid undo_fit 
   reached = subst (λ n. AllByRecursion (IsReached n) session.marks) all held.reached;
 }
 
-pub undone_held : (undo_room redo_room count : ℕ) (session : Standing) → session.pending ≡ None → count ≤ length session.undo → IsHeld undo_room redo_room session → IsHeld undo_room redo_room (undone_to (walked count (undo_walk session)) session)
-undone_held undo_room redo_room count session closed enough held =
-    let walk = walked count (undo_walk session) in
+pub walked_held : (direction : Direction) (undo_room redo_room count : ℕ) (session : Standing) → session.pending ≡ None → count ≤ length (walk_in direction session).ahead → IsHeld undo_room redo_room session → IsHeld undo_room redo_room (moved direction count session)
+walked_held Undo undo_room redo_room count session closed enough held =
+    let walk = walked count (walk_in Undo session) in
     let fit = closed_fits session closed held.ready in
-    let ready = walked_ready count (undo_walk session) (record { valid = held.ready.valid; ahead_fit = fit.0; behind_fit = fit.1 }) in
-    let left = walked_count count (undo_walk session) enough in
+    let ready = walked_ready count (walk_in Undo session) (record { valid = held.ready.valid; ahead_fit = fit.0; behind_fit = fit.1 }) in
+    let left = walked_count count (walk_in Undo session) enough in
     moved_held undo_room redo_room session walk.document walk.ahead walk.behind closed ready.valid ready.ahead_fit ready.behind_fit (omega (arith, left)) held
-
-pub redone_held : (undo_room redo_room count : ℕ) (session : Standing) → session.pending ≡ None → count ≤ length session.redo → IsHeld undo_room redo_room session → IsHeld undo_room redo_room (redone_to (walked count (redo_walk session)) session)
-redone_held undo_room redo_room count session closed enough held =
-    let walk = walked count (redo_walk session) in
+walked_held Redo undo_room redo_room count session closed enough held =
+    let walk = walked count (walk_in Redo session) in
     let fit = closed_fits session closed held.ready in
-    let ready = walked_ready count (redo_walk session) (record { valid = held.ready.valid; ahead_fit = fit.1; behind_fit = fit.0 }) in
-    let left = walked_count count (redo_walk session) enough in
+    let ready = walked_ready count (walk_in Redo session) (record { valid = held.ready.valid; ahead_fit = fit.1; behind_fit = fit.0 }) in
+    let left = walked_count count (walk_in Redo session) enough in
     moved_held undo_room redo_room session walk.document walk.behind walk.ahead closed ready.valid ready.behind_fit ready.ahead_fit (omega (arith, left)) held
 
+-- what is asked of the session that is seen, for the one that is kept
+pub closed_here : (session seen : Standing) → session ≡ seen → seen.pending ≡ None → session.pending ≡ None
+closed_here session seen same closed = ap (λ session. session.pending) same ∙ closed
+
+pub enough_here : (given direction : Direction) (count : ℕ) (session seen : Standing) → given ≡ direction → session ≡ seen → count ≤ length (walk_in given seen).ahead → count ≤ length (walk_in direction session).ahead
+enough_here given direction count session seen is same enough = subst (λ direction. count ≤ length (walk_in direction session).ahead) is (subst (λ session. count ≤ length (walk_in given session).ahead) (sym same) enough)
+
+-- wherever a walk ended the session is held, and has come so many steps
+pub ended_held : (direction : Direction) (undo_room redo_room count : ℕ) (session : Standing) (walk : Walk) (ended : Result (Unit {0}) ℕ) → session.pending ≡ None → count ≤ length (walk_in direction session).ahead → OnOk ended (walk ≡ walked count (walk_in direction session)) → IfErr ended (λ taken. (taken < count) × (walk ≡ walked taken (walk_in direction session))) → IsHeld undo_room redo_room session → IsHeld undo_room redo_room (with_walk direction walk session)
+ended_held direction undo_room redo_room count session walk (Ok done) closed enough ok err held =
+    subst (λ walk. IsHeld undo_room redo_room (with_walk direction walk session)) (sym ok) (walked_held direction undo_room redo_room count session closed enough held)
+ended_held direction undo_room redo_room count session walk (Err taken) closed enough ok err held =
+    let less = err.0 in subst (λ walk. IsHeld undo_room redo_room (with_walk direction walk session)) (sym err.1) (walked_held direction undo_room redo_room taken session closed (omega arith) held)
+
 -- what the session stands for at another point
-moved_stands : (point : ℕ) (session : Standing) (history : History) (document : Document) (undo redo : List Change) → session.pending ≡ None → StandsFor session history → StandsAt history.steps history.start point document undo redo → history.floor + length undo ≡ point → point + length redo ≡ length history.steps → StandsFor (moved_to document undo redo session) (at_point point history)
-moved_stands point session history document undo redo closed stands there back on =
+placed : (point : ℕ) (session : Standing) (history : History) (document : Document) (undo redo : List Change) → session.pending ≡ None → StandsFor session history → document ≡ document_at point history → LeadBack history.steps history.start point undo → LeadOn history.steps history.start point redo → history.floor + length undo ≡ point → point + length redo ≡ length history.steps → StandsFor (record session { document = document; undo = undo; redo = redo }) (at_point point history)
+placed point session history document undo redo closed stands here leads_back leads_on back on =
     let none = is_closed session history closed stands in
     record {
       sound = sound_at_point point history stands.sound (omega (arith, back)) (omega (arith, on));
       fits_in_file = stands.fits_in_file;
       depth = stands.depth;
-      document = there.here ∙ ap (λ group. after_all (commands_in group) (document_at point history)) (sym none);
+      document = here ∙ ap (λ group. after_all (commands_in group) (document_at point history)) (sym none);
       undo_reaches = back;
       redo_reaches = on;
-      undo_leads = there.back;
-      redo_leads = there.on;
+      undo_leads = leads_back;
+      redo_leads = leads_on;
       pending_leads = closed_leads history.group (document_at point history) session.pending none closed;
       marks = stands.marks;
     }
 
-stands_here : (session : Standing) (history : History) → session.pending ≡ None → IsReady session → StandsFor session history → StandsAt history.steps history.start history.present session.document session.undo session.redo
-stands_here session history closed ready stands = record { valid = ready.valid; here = stands_present session history closed stands; back = stands.undo_leads; on = stands.redo_leads }
-
-pub undone_stands : (count : ℕ) (session : Standing) (history : History) → session.pending ≡ None → IsReady session → count ≤ length session.undo → StandsFor session history → StandsFor (undone_to (walked count (undo_walk session)) session) (at_point (history.present - count) history)
-undone_stands count session history closed ready enough stands =
-    let walk = walked count (undo_walk session) in
+pub walked_stands : (direction : Direction) (count to : ℕ) (session : Standing) (history : History) → session.pending ≡ None → IsReady session → count ≤ length (walk_in direction session).ahead → IsWay direction count history.present to → StandsFor session history → StandsFor (moved direction count session) (at_point to history)
+walked_stands Undo count to session history closed ready enough way stands =
+    let walk = walked count (walk_in Undo session) in
     let back = stands.undo_reaches in
     let on = stands.redo_reaches in
-    let there = some_back history.steps history.start history.present count (undo_walk session) stands.sound.within_steps (omega arith) enough (stands_here session history closed ready stands) in
-    let left = walked_count count (undo_walk session) enough in
-    moved_stands (history.present - count) session history walk.document walk.ahead walk.behind closed stands there (omega (arith, left)) (omega (arith, left))
-
-pub redone_stands : (count : ℕ) (session : Standing) (history : History) → session.pending ≡ None → IsReady session → count ≤ length session.redo → StandsFor session history → StandsFor (redone_to (walked count (redo_walk session)) session) (at_point (history.present + count) history)
-redone_stands count session history closed ready enough stands =
-    let walk = walked count (redo_walk session) in
+    let within = stands.sound.within_steps in
+    let here : StandsAt history.steps history.start Undo history.present (walk_in Undo session) = record { valid = ready.valid; here = stands_present session history closed stands; ahead = stands.undo_leads; behind = stands.redo_leads } in
+    let there = some_along Undo history.steps history.start count history.present to (walk_in Undo session) way within (omega (arith, way, within)) enough here in
+    let left = walked_count count (walk_in Undo session) enough in
+    placed to session history walk.document walk.ahead walk.behind closed stands there.here there.ahead there.behind (omega (arith, left, way, back)) (omega (arith, left, way, on))
+walked_stands Redo count to session history closed ready enough way stands =
+    let walk = walked count (walk_in Redo session) in
     let back = stands.undo_reaches in
     let on = stands.redo_reaches in
-    let there = some_on history.steps history.start history.present count (redo_walk session) (omega arith) enough (stands_here session history closed ready stands) in
-    let left = walked_count count (redo_walk session) enough in
-    moved_stands (history.present + count) session history walk.document walk.behind walk.ahead closed stands there (omega (arith, left)) (omega (arith, left))
+    let within = stands.sound.within_steps in
+    let here : StandsAt history.steps history.start Redo history.present (walk_in Redo session) = record { valid = ready.valid; here = stands_present session history closed stands; ahead = stands.redo_leads; behind = stands.undo_leads } in
+    let there = some_along Redo history.steps history.start count history.present to (walk_in Redo session) way within (omega (arith, way, enough, on)) enough here in
+    let left = walked_count count (walk_in Redo session) enough in
+    placed to session history walk.document walk.behind walk.ahead closed stands there.here there.behind there.ahead (omega (arith, left, way, back)) (omega (arith, left, way, on))
 
--- ---- what one undo and one redo answer
+-- ---- what one undo or redo answers
 
-pub undo_answers : (session : Standing) (history : History) → session.pending ≡ None → IsReady session → 1 ≤ length session.undo → StandsFor session history → (after : History) × (undone history ≡ Ok after) × StandsFor (undone_to (stepped (undo_walk session)) session) after
-undo_answers session history closed ready some stands =
+not_moved : (direction : Direction) (session : Standing) → moved direction 0 session ≡ session
+not_moved Undo session = refl
+not_moved Redo session = refl
+
+step_goes : (direction : Direction) (session : Standing) (history : History) → session.pending ≡ None → IsReady session → 1 ≤ length (walk_in direction session).ahead → StandsFor session history → (after : History) × (gone direction history ≡ Ok after) × StandsFor (moved direction 1 session) after
+step_goes Undo session history closed ready some stands =
     let back = stands.undo_reaches in
     let none = is_closed session history closed stands in
     let apart : (history.present == history.floor) ≡ false = grind (arith, nat_tests) in
-    (at_point (history.present - 1) history, rw (none, apart) refl, undone_stands 1 session history closed ready some stands)
-
-pub redo_answers : (session : Standing) (history : History) → session.pending ≡ None → IsReady session → 1 ≤ length session.redo → StandsFor session history → (after : History) × (redone history ≡ Ok after) × StandsFor (redone_to (stepped (redo_walk session)) session) after
-redo_answers session history closed ready some stands =
+    (at_point (history.present - 1) history, rw (none, apart) refl, walked_stands Undo 1 (history.present - 1) session history closed ready some (omega arith) stands)
+step_goes Redo session history closed ready some stands =
     let on = stands.redo_reaches in
     let none = is_closed session history closed stands in
     let apart : (history.present == length history.steps) ≡ false = grind (arith, nat_tests) in
-    (at_point (history.present + 1) history, rw (none, apart) refl, redone_stands 1 session history closed ready some stands)
+    (at_point (history.present + 1) history, rw (none, apart) refl, walked_stands Redo 1 (history.present + 1) session history closed ready some refl stands)
+
+-- a list of changes that is not empty lies ahead
+pub some_ahead : (direction : Direction) (session : Standing) (changes : List HeldChange) → (walk_in direction session).ahead ≡ from_last changes → false ≡ (length changes == 0) → 1 ≤ length (walk_in direction session).ahead
+some_ahead direction session changes is some =
+    let long = ap length is ∙ length_from_last changes in
+    let apart = sym some in
+    let more : 1 ≤ length changes = grind (arith, nat_tests, apart) in
+    omega (arith, long, more)
+
+-- what is answered after one step that was made, or was not
+pub step_answers : (direction : Direction) (session new : Standing) (history : History) (ended : Result (Unit {0}) ℕ) → session.pending ≡ None → IsReady session → 1 ≤ length (walk_in direction session).ahead → OnOk ended (new ≡ moved direction 1 session) → IfErr ended (λ taken. (taken < 1) × (new ≡ moved direction taken session)) → StandsFor session history → AnswersWithMemory (gone direction history) history (result_or ended (Err NoMemory)) new
+step_answers direction session new history (Ok done) closed ready some ok err stands =
+    let made = step_goes direction session history closed ready some stands in
+    (made.0, made.1, subst (λ new. StandsFor new made.0) (sym ok) made.2)
+step_answers direction session new history (Err taken) closed ready some ok err stands =
+    let none : taken ≡ 0 = omega (arith, err.0) in
+    let made = step_goes direction session history closed ready some stands in
+    let same : new ≡ session = err.1 ∙ ap (λ n. moved direction n session) none ∙ not_moved direction session in
+    (inl (refl, subst IsOk (sym made.1) refl), subst (λ new. StandsFor new history) (sym same) stands)
 
 -- ---- a step that is opened
 
-pub opened_answers : (session : Standing) (history : History) → session.pending ≡ None → StandsFor session history → (after : History) × (opened history ≡ Ok after) × StandsFor (record { document = session.document; undo = session.undo; redo = session.redo; depth = session.depth; marks = session.marks; pending = Some [] }) after
+pub opened_answers : (session : Standing) (history : History) → session.pending ≡ None → StandsFor session history → (after : History) × (opened history ≡ Ok after) × StandsFor (record session { pending = Some [] }) after
 opened_answers session history closed stands =
     let none = is_closed session history closed stands in (
       with_group (Some []) history,

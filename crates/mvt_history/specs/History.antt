@@ -77,27 +77,25 @@ pub record IsSound (history : History) : Type 0 where
 
 -- the history with another present point
 abbrev pub at_point : ℕ → History → History
-at_point point history = record { start = history.start; steps = history.steps; present = point; floor = history.floor; depth = history.depth; marks = history.marks; group = history.group }
+at_point point history = record history { present = point }
 
 -- the history with other marks
 abbrev pub with_marks : List Mark → History → History
-with_marks marks history = record { start = history.start; steps = history.steps; present = history.present; floor = history.floor; depth = history.depth; marks = marks; group = history.group }
+with_marks marks history = record history { marks = marks }
 
 -- the history with another open step, or none
 abbrev pub with_group : Option (List Command) → History → History
-with_group group history = record { start = history.start; steps = history.steps; present = history.present; floor = history.floor; depth = history.depth; marks = history.marks; group = group }
+with_group group history = record history { group = group }
 
 -- the history with one more step, which stands: steps that were undone are forgotten, undo goes back no further than
 -- the depth, marks of points that are gone go too, and no step is open
 abbrev pub with_step : List Command → History → History
 with_step step history =
     let floor = max history.floor (history.present + 1 - history.depth) in
-    record {
-      start = history.start;
+    record history {
       steps = take history.present history.steps ++ step ∷ [];
       present = history.present + 1;
       floor = floor;
-      depth = history.depth;
       marks = between floor history.present history.marks;
       group = None;
     }

@@ -1,7 +1,12 @@
 -- Steps from one list of changes to another, over a document.
-use Rattle.std.specs.Prelude.{ℕ, zero, suc, List, [], ◌∷◌, Result, Ok, Err}
+use Rattle.std.specs.Prelude.{◌≡◌, ℕ, zero, suc, ◌+◌, List, [], ◌∷◌, Result, Ok, Err}
 use Rattle.mvt_document.specs.Plain.{Document}
 use Rattle.mvt_change.specs.Changes.{Change, go, turn}
+use Rattle.mvt_history.specs.History.{History, undone, redone}
+use Rattle.mvt_history.specs.Standing.{Standing}
+use Rattle.mvt_history.specs.declared.steps.Direction.{Direction}
+use Rattle.mvt_history.specs.declared.steps.Direction.TheVariants.{Undo, Redo}
+use Rattle.mvt_history_error.specs.declared.HistoryError.{HistoryError}
 
 -- a document, the changes that lie ahead, and those that lead back, each list with the next one first
 pub record Walk : Type 0 where
@@ -22,6 +27,34 @@ stepped walk = step_over walk.ahead walk
 abbrev pub walked : ℕ → Walk → Walk
 walked zero walk = walk
 walked (suc count) walk = stepped (walked count walk)
+
+-- ---- in a direction, undo or redo
+
+-- what a session walks over in a direction
+abbrev pub walk_in : Direction → Standing → Walk
+walk_in Undo session = record { document = session.document; ahead = session.undo; behind = session.redo }
+walk_in Redo session = record { document = session.document; ahead = session.redo; behind = session.undo }
+
+-- the session where its walk in a direction has come to this
+abbrev pub with_walk : Direction → Walk → Standing → Standing
+with_walk Undo walk session = record session { document = walk.document; undo = walk.ahead; redo = walk.behind }
+with_walk Redo walk session = record session { document = walk.document; undo = walk.behind; redo = walk.ahead }
+
+-- the session after a number of steps in a direction
+abbrev pub moved : Direction → ℕ → Standing → Standing
+moved direction count session = with_walk direction (walked count (walk_in direction session)) session
+
+-- so many steps in the direction lead from one point to another
+abbrev pub IsWay : Direction → ℕ → ℕ → ℕ → Type 0
+IsWay Undo count from to = to + count ≡ from
+IsWay Redo count from to = from + count ≡ to
+
+-- the history after the next step in a direction, or its refusal
+abbrev pub gone : Direction → History → Result History HistoryError
+gone Undo history = undone history
+gone Redo history = redone history
+
+-- ---- an open step
 
 -- how many changes were taken: all where the answer is `Ok`, else as many as the error says
 abbrev pub taken_of : Result (Unit {0}) ℕ → ℕ → ℕ

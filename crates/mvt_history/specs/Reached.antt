@@ -26,25 +26,24 @@ step_allowance commands document = 2 * length commands + all_taken_by commands d
 
 -- ---- one change
 
+-- the change leads from one document to another, holds at most so many bytes, and turned at most so many; twice its
+-- steps are within the allowance
+pub record Leads (change : Change) (from to : Document) (held turned allowance : ℕ) : Type 0 where
+  pub fits : Fits change from
+  pub leads : go change from ≡ to
+  pub holds : weight change ≤ held
+  pub becomes : weight (turn change from) ≤ turned
+  pub few_steps : 2 * length change ≤ allowance
+
 -- the change leads from the document after the step to the one before it, holds no more bytes than the step took out,
 -- and turned no more than it put in; its steps are at most one for each command of the step plus half as many as these
 -- bytes together
-pub record LeadsBack (step : List Command) (before : Document) (change : Change) : Type 0 where
-  pub fits : Fits change (after_all step before)
-  pub leads : go change (after_all step before) ≡ before
-  pub holds : weight change ≤ all_taken_by step before
-  pub becomes : weight (turn change (after_all step before)) ≤ all_put_by step before
-  pub few_steps : 2 * length change ≤ step_allowance step before
+abbrev pub LeadsBack : List Command → Document → Change → Type 0
+LeadsBack step before change = Leads change (after_all step before) before (all_taken_by step before) (all_put_by step before) (step_allowance step before)
 
--- the change leads from the document before the step to the one after it, holds no more bytes than the step put in, and
--- turned no more than it took out; its steps are at most one for each command of the step plus half as many as these
--- bytes together
-pub record LeadsOn (step : List Command) (before : Document) (change : Change) : Type 0 where
-  pub fits : Fits change before
-  pub leads : go change before ≡ after_all step before
-  pub holds : weight change ≤ all_put_by step before
-  pub becomes : weight (turn change before) ≤ all_taken_by step before
-  pub few_steps : 2 * length change ≤ step_allowance step before
+-- the change leads the other way, and holds and becomes what one that leads back becomes and holds
+abbrev pub LeadsOn : List Command → Document → Change → Type 0
+LeadsOn step before change = Leads change before (after_all step before) (all_put_by step before) (all_taken_by step before) (step_allowance step before)
 
 -- ---- lists of changes, the next one first
 
@@ -67,6 +66,5 @@ singles commands = map (λ command. command ∷ []) commands
 -- where no step is open
 abbrev pub LeadOut : Option (List Command) → Document → Option (List Change) → Type 0
 LeadOut None document None = Unit {0}
-LeadOut None document (Some changes) = ⊥
-LeadOut (Some commands) document None = ⊥
 LeadOut (Some commands) document (Some changes) = (length changes ≡ length commands) × LeadBack (singles commands) document (length commands) changes
+LeadOut group document pending = ⊥

@@ -41,27 +41,14 @@ asked_all (request ∷ requests) history = asked_all requests (asked request his
 
 -- the request does not set the mark of this name
 abbrev pub SetsOther : List ℕ → Request → Type 0
-SetsOther name (Edit command) = Unit {0}
-SetsOther name Undo = Unit {0}
-SetsOther name Redo = Unit {0}
 SetsOther name (SetMark other) = ¬ (other ≡ name)
-SetsOther name (TakeMark other) = Unit {0}
-SetsOther name (GoBack other) = Unit {0}
-SetsOther name Begin = Unit {0}
-SetsOther name End = Unit {0}
-SetsOther name Cancel = Unit {0}
+SetsOther name request = Unit {0}
 
 -- the request neither ends nor cancels the open step
 abbrev pub LeavesOpen : Request → Type 0
-LeavesOpen (Edit command) = Unit {0}
-LeavesOpen Undo = Unit {0}
-LeavesOpen Redo = Unit {0}
-LeavesOpen (SetMark name) = Unit {0}
-LeavesOpen (TakeMark name) = Unit {0}
-LeavesOpen (GoBack name) = Unit {0}
-LeavesOpen Begin = Unit {0}
 LeavesOpen End = ⊥
 LeavesOpen Cancel = ⊥
+LeavesOpen request = Unit {0}
 
 -- what is answered to a further request, where the one before was accepted; else its refusal
 abbrev pub and_then : Result History HistoryError → (History → Result History HistoryError) → Result History HistoryError

@@ -16,7 +16,7 @@ use Rattle.mvt_history_error.specs.declared.HistoryError.{HistoryError}
 use Rattle.mvt_history.specs.declared.error.StartError.{StartError}
 use Rattle.mvt_history.specs.declared.error.StartError.TheVariants as start
 use Rattle.mvt_history.specs.declared.error.StartError.TheVariants.{TooLarge}
-use Rattle.mvt_history_error.specs.declared.HistoryError.TheVariants.{NothingToUndo, NothingToRedo, NoMark, TooManyMarks, Stopped, GroupOpen, NoGroup, NoMemory}
+use Rattle.mvt_history_error.specs.declared.HistoryError.TheVariants.{Stopped, NoMemory}
 
 -- ---- which history a session holds
 
@@ -91,13 +91,7 @@ AnswersCancel history (Err error) new = ((cancelled history ≡ Err error) × St
 -- the error says that a request was stopped on the way
 abbrev pub IsStop : HistoryError → Type 0
 IsStop (Stopped taken) = Unit {0}
-IsStop NothingToUndo = ⊥
-IsStop NothingToRedo = ⊥
-IsStop NoMark = ⊥
-IsStop TooManyMarks = ⊥
-IsStop GroupOpen = ⊥
-IsStop NoGroup = ⊥
-IsStop NoMemory = ⊥
+IsStop error = ⊥
 
 -- ---- start
 
@@ -111,6 +105,5 @@ NotStarted document (start.NoMemory refused) = refused ≡ document
 -- what is returned of a mark, where there is one: its name, and its point less the present one
 abbrev pub SeesMark : ℕ → Option (Bor (List ℕ) × ℤ) → Option Mark → Type 0
 SeesMark present None None = Unit {0}
-SeesMark present None (Some mark) = ⊥
-SeesMark present (Some told) None = ⊥
 SeesMark present (Some told) (Some mark) = (told.0.now ≡ mark.name) × (told.1 ≡ pos mark.point -ℤ pos present)
+SeesMark present told mark = ⊥

@@ -1,7 +1,7 @@
 //! The session: its document, the changes for undo and redo, the marks and the open step; each
 //! request.
 
-ghost use Rattle.std.specs.Prelude.{◌≡◌, ◌≤◌, ◌⊎◌, if◌then◌else◌, is_some, None, Ok, Err, OnErr, IfOk, IfErr, IsSomeAnd, length, option_map, slice_get};
+ghost use Rattle.std.specs.Prelude.{◌≡◌, ◌<◌, ◌≤◌, ◌⊎◌, if◌then◌else◌, is_some, None, Ok, Err, OnOk, OnErr, IfOk, IfErr, IsSomeAnd, length, option_map, slice_get};
 ghost use Rattle.mvt_history_error.specs.declared.HistoryError.TheVariants.{GroupOpen, NoMemory};
 ghost use Rattle.mvt_document.specs.Stands.{document_of};
 ghost use Rattle.mvt_document.specs.Opens.{IsDocument};
@@ -9,12 +9,13 @@ ghost use Rattle.mvt_command.specs.CommandStands.{command_of};
 ghost use Rattle.mvt_history.specs.declared.TheConstants.{MAX_DEPTH};
 ghost use Rattle.mvt_history.specs.Marks.{point_of};
 ghost use Rattle.mvt_history.specs.History.{History, begun, closed, marked, opened, redone, standing_document, undone, unmarked};
+ghost use Rattle.mvt_history.specs.Moves.{gone, moved, walk_in};
 ghost use Rattle.mvt_history.specs.Session.{Answers, AnswersBack, AnswersCancel, AnswersCommand, AnswersWithMemory, IsStop, NotStarted, SeesMark, StandsFor};
 
 use crate::MAX_MARKS;
 use crate::error::StartError;
 use crate::marks::{Mark, bind, find_point, unbind};
-use crate::steps::{keep, step, take_back, walk};
+use crate::steps::{Direction, keep, take_back, walk, way};
 use circular_buffer::HeapCircularBuffer;
 use mvt_change::{Change, flip, join};
 use mvt_document::Document;
@@ -170,17 +171,7 @@ impl Session {
         ensures answer { (history : History) → StandsFor self.old history → AnswersWithMemory (undone history) history result self.new }
         ensures err { OnErr result (self.new ≡ self.old) }
     {
-        self.ensure_closed()?;
-        if self.undo.is_empty() {
-            return Err(HistoryError::NothingToUndo);
-        }
-        step(
-            self.alloc,
-            &mut self.document,
-            &mut self.undo,
-            &mut self.redo,
-        )?;
-        Ok(())
+        self.step(Direction::Undo)
     }
 
     /// Has the step stand again that was taken back last. `GroupOpen` while a step is open, else
@@ -189,17 +180,46 @@ impl Session {
         ensures answer { (history : History) → StandsFor self.old history → AnswersWithMemory (redone history) history result self.new }
         ensures err { OnErr result (self.new ≡ self.old) }
     {
+        self.step(Direction::Redo)
+    }
+
+    /// Makes the next step in a direction. `GroupOpen` while a step is open, else the refusal that
+    /// there is none.
+    fn step(&mut self, direction: Direction) -> Result<(), HistoryError>
+        ensures answer { (history : History) → StandsFor self.old history → AnswersWithMemory (gone direction history) history result self.new }
+        ensures err { OnErr result (self.new ≡ self.old) }
+    {
         self.ensure_closed()?;
-        if self.redo.is_empty() {
-            return Err(HistoryError::NothingToRedo);
+        match direction {
+            Direction::Undo if self.undo.is_empty() => Err(HistoryError::NothingToUndo),
+            Direction::Redo if self.redo.is_empty() => Err(HistoryError::NothingToRedo),
+            _ => self.walk(direction, 1).or(Err(HistoryError::NoMemory)),
         }
-        step(
-            self.alloc,
-            &mut self.document,
-            &mut self.redo,
-            &mut self.undo,
-        )?;
-        Ok(())
+    }
+
+    /// Makes so many steps in a direction. An `Err` says how many were made; these stand.
+    fn walk(&mut self, direction: Direction, count: usize) -> Result<(), usize>
+        requires closed { self.old.pending ≡ None }
+        requires enough { count ≤ length (walk_in direction self.old).ahead }
+        ensures ok { OnOk result (self.new ≡ moved direction count self.old) }
+        ensures err { IfErr result (λ taken. (taken < count) × (self.new ≡ moved direction taken self.old)) }
+    {
+        match direction {
+            Direction::Undo => walk(
+                self.alloc,
+                &mut self.document,
+                &mut self.undo,
+                &mut self.redo,
+                count,
+            ),
+            Direction::Redo => walk(
+                self.alloc,
+                &mut self.document,
+                &mut self.redo,
+                &mut self.undo,
+                count,
+            ),
+        }
     }
 
     /// Has the name mark the present point, and no other. `GroupOpen` while a step is open, else
@@ -238,26 +258,9 @@ impl Session {
         let Some(point) = find_point(self.marks.as_slice(), name) else {
             return Err(HistoryError::NoMark);
         };
-        let point = point as usize;
-        let present = self.undo.len();
-        let walked = if point < present {
-            walk(
-                self.alloc,
-                &mut self.document,
-                &mut self.undo,
-                &mut self.redo,
-                present - point,
-            )
-        } else {
-            walk(
-                self.alloc,
-                &mut self.document,
-                &mut self.redo,
-                &mut self.undo,
-                point - present,
-            )
-        };
-        walked.map_err(|taken| HistoryError::Stopped { taken })
+        let (direction, count) = way(self.undo.len(), point as usize);
+        self.walk(direction, count)
+            .map_err(|taken| HistoryError::Stopped { taken })
     }
 
     /// Opens a step: the commands from now on are one. `GroupOpen` where one is open.

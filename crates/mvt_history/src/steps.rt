@@ -1,5 +1,5 @@
-//! Changes that are carried out from one list and kept in another, one or many; a new change that
-//! is kept; those of an open step that are taken back.
+//! The directions in which a session goes. Changes that are carried out from one list and kept in
+//! another, one or many; a new change that is kept; those of an open step that are taken back.
 
 ghost use Rattle.std.specs.Prelude.{◌≡◌, ◌+◌, ◌-◌, ◌<◌, ◌≤◌, [], ◌∷◌, map, length, drop, take, is_ok, IfErr, OnOk, OnErr, IfOk, if◌then◌else◌};
 ghost use Rattle.circular_buffer.specs.Buffer.{buffer};
@@ -9,13 +9,31 @@ ghost use Rattle.mvt_change.specs.Joining.{FitAlong, go_along};
 ghost use Rattle.mvt_history.specs.declared.TheConstants.{MAX_DEPTH};
 ghost use Rattle.mvt_history.specs.Held.{from_last, mark_of};
 ghost use Rattle.mvt_history.specs.Marks.{between, counted_from};
-ghost use Rattle.mvt_history.specs.Moves.{Walk, stepped, taken_of, walked};
+ghost use Rattle.mvt_history.specs.Moves.{IsWay, Walk, stepped, taken_of, walked};
 
 use crate::marks::{Mark, keep_between};
 use circular_buffer::HeapCircularBuffer;
 use mvt_change::{Change, flip};
 use mvt_document::Document;
 use std::alloc::{AllocError, Global};
+
+/// The two ways along a history.
+#[derive(Clone, Copy)]
+pub(crate) enum Direction {
+    Undo,
+    Redo,
+}
+
+/// In which direction one point lies from another, and by how many steps.
+pub(crate) fn way(from: usize, to: usize) -> (Direction, usize)
+    ensures { IsWay result.0 result.1 from to }
+{
+    if to < from {
+        (Direction::Undo, from - to)
+    } else {
+        (Direction::Redo, to - from)
+    }
+}
 
 /// Keeps the change for undo, and none for redo any more. Where undo has no room for one more, the
 /// oldest goes. Marks stay as far as their points are still reached.

@@ -222,16 +222,8 @@ look_leaves history (Ok lines) told e = cc
 look_leaves history (Err refusal) told e = absurd cc
 
 pub looks_leave_history : LooksLeaveHistory
-looks_leave_history (Edit command) history told looks e = absurd looks
-looks_leave_history Undo history told looks e = absurd looks
-looks_leave_history Redo history told looks e = absurd looks
-looks_leave_history (SetMark name) history told looks e = absurd looks
-looks_leave_history (TakeMark name) history told looks e = absurd looks
-looks_leave_history (GoBack name) history told looks e = absurd looks
-looks_leave_history Begin history told looks e = absurd looks
-looks_leave_history End history told looks e = absurd looks
-looks_leave_history Cancel history told looks e = absurd looks
 looks_leave_history ListMarks history told looks e = look_leaves history (Ok (mark_lines history)) told e
 looks_leave_history TellHistory history told looks e = look_leaves history (Ok (history_lines history)) told e
 looks_leave_history Size history told looks e = look_leaves history (Ok (size_line (standing_document history))) told e
 looks_leave_history (Lists what) history told looks e = look_leaves history (listed what (standing_document history)) told e
+looks_leave_history request history told looks e = absurd looks

@@ -14,7 +14,7 @@ use Rattle.tile_device.specs.declared.device.Trouble.TheVariants.{Interrupted, F
 use Rattle.tile_lines.specs.Lines.{lines_of, whole_lines}
 use Rattle.tile_run.specs.Course.{Course, OpensAgain, retries_in, start_of, IsOpened, IsEdited, IsWritten, CarriesThrough, StopsBetween, StopsStrictly, OpensAsNothing, IsFaultOf, IsFaulty, lines_in}
 use Rattle.tile_run.specs.DeviceLaws.{HaveLowCounts}
-use Rattle.tile_run.specs.Headline.{Devices, HasLowCounts, Serves, AllServe, interruptions_between, all_interruptions, WritesNoneOutOfMemory, outcome_of, tile_written, IsRunOf, Headline, RefusesTile, Runs, WritesATile}
+use Rattle.tile_run.specs.Headline.{Devices, HasLowCounts, Serves, AllServe, interruptions_between, all_interruptions, WritesNoneOutOfMemory, outcome_of, tile_written, IsRunOf, Premises, Headline, RefusesTile, Runs, WritesATile}
 use Rattle.tile_reply.specs.Replies.{NoneIsOutOfMemory}
 use Rattle.tile_run.specs.Run.{Progress, after_lines, is_over, ran, tile_of, Walk}
 use Rattle.tile_run.specs.declared.runs.TheConstants.{MAX_RETRIES, MAX_SCRIPT}
@@ -163,42 +163,34 @@ first_lines_in intake script front all within = by_whole intake.is_whole refl
 
 -- ---- the headline
 
--- what the headline supposes of the devices
-record Premises (before after : Devices) (file script : List ℕ) : Type 0 where
-  file_is : before.tile.bytes ≡ Some file
-  script_is : before.script.bytes ≡ Some script
-  within : length script ≤ MAX_SCRIPT
-  serve : AllServe before after
-  none_out_of_memory : WritesNoneOutOfMemory before.replies.bytes after.replies.bytes
-
 -- a file opens as one document at most
 one_opening : (file : List ℕ) (d e : Document) → OpensAs file d → OpensAs file e → d ≡ e
 one_opening file d e p q = one_document_by_bytes d e p.settled q.settled (p.spelled ∙ sym q.spelled)
 
-module _ (options : Options) (before after : Devices) (outcome : Outcome) (r : Runs options before after outcome) (file script : List ℕ) (document : Document) where
-  tile_opened : Premises before after file script → OpensAs file document → (opened : Document) → IsOpened r.course.tile opened → opened ≡ document
-  tile_opened premises opens opened is =
-      one_opening file opened document (subst (λ (t : List ℕ). OpensAs t opened) (whole_file before.tile after.tile r.course.tile file premises.file_is premises.serve.tile r.tile is.whole) is.opens) opens
+module _ (options : Options) (before after : Devices) (outcome : Outcome) (r : Runs options before after outcome) (script : List ℕ) (document : Document) where
+  tile_opened : Premises document script before after outcome → (opened : Document) → IsOpened r.course.tile opened → opened ≡ document
+  tile_opened premises opened is =
+      one_opening premises.file opened document (subst (λ (t : List ℕ). OpensAs t opened) (whole_file before.tile after.tile r.course.tile premises.file premises.tile premises.serve.tile r.tile is.whole) is.opens) premises.opens
 
   -- a walk of which no reply says that memory was refused
-  lines_carried : Premises before after file script → (opened : Document) (progress : Progress) → Walk options.strict (start_of options opened) (lines_in r.course.script) progress
+  lines_carried : Premises document script before after outcome → (opened : Document) (progress : Progress) → Walk options.strict (start_of options opened) (lines_in r.course.script) progress
       → IsWritten r.course.replies progress.replies → progress ≡ after_lines options.strict (start_of options opened) (lines_in r.course.script)
   lines_carried premises opened progress walk written =
       walks_are_runs options.strict (start_of options opened) progress (lines_in r.course.script) progress.replies walk refl
       (none_out_of_memory_of before.replies.bytes after.replies.bytes progress.replies premises.none_out_of_memory (grown before.replies after.replies r.course.replies progress.replies premises.serve.replies r.replies written))
 
-  carried_through : Premises before after file script → OpensAs file document → (opened : Document) → IsOpened r.course.tile opened → (progress : Progress)
+  carried_through : Premises document script before after outcome → (opened : Document) → IsOpened r.course.tile opened → (progress : Progress)
       → CarriesThrough options.strict (start_of options opened) r.course.script r.course.replies progress → progress ≡ ran document options script
-  carried_through premises opens opened is progress carried =
+  carried_through premises opened is progress carried =
       let all : r.course.script.bytes ≡ script = whole_file before.script after.script r.course.script script premises.script_is premises.serve.script r.script carried.whole in
       lines_carried premises opened progress carried.walk carried.replies
       ∙ ap (after_lines options.strict (start_of options opened)) (whole_lines_in r.course.script carried.whole ∙ ap lines_of all)
-      ∙ ap (λ (d : Document). ran d options script) (tile_opened premises opens opened is)
+      ∙ ap (λ (d : Document). ran d options script) (tile_opened premises opened is)
 
   -- the lines behind the end of a strict run change nothing
-  stopped_strictly : Premises before after file script → OpensAs file document → (opened : Document) → IsOpened r.course.tile opened
+  stopped_strictly : Premises document script before after outcome → (opened : Document) → IsOpened r.course.tile opened
       → (stops : StopsStrictly options.strict (start_of options opened) r.course.script r.course.replies) → stops.progress ≡ ran document options script
-  stopped_strictly premises opens opened is stops =
+  stopped_strictly premises opened is stops =
       let start = start_of options opened in
       let front = front_given before.script.bytes after.script.bytes r.course.script.bytes script premises.script_is (r.script.bytes premises.serve.script.tells) in
       let short = file_within before.script after.script r.course.script script premises.script_is premises.serve.script r.script in
@@ -208,7 +200,7 @@ module _ (options : Options) (before after : Devices) (outcome : Outcome) (r : R
       ∙ ap (λ (p : Progress). after_lines options.strict p first.0) carried
       ∙ sym (after_lines-append options.strict start (lines_in r.course.script) first.0)
       ∙ ap (after_lines options.strict start) (sym first.1)
-      ∙ ap (λ (d : Document). ran d options script) (tile_opened premises opens opened is)
+      ∙ ap (λ (d : Document). ran d options script) (tile_opened premises opened is)
 
   -- a run that comes to the progress of the script on the document
   comes_to : (progress : Progress) → progress ≡ ran document options script → outcome ≡ outcome_of options.strict progress
@@ -241,14 +233,14 @@ record Comes (options : Options) (document : Document) (script : List ℕ) (befo
   run : IsRunOf options document script before after outcome
   opens : is_over options.strict (ran document options script) ≡ false → OpensAgain (ran document options script)
 
-is_edited : (options : Options) (before after : Devices) (any_refused : Bool) (outcome : Outcome) (r : Runs options before after outcome) (file script : List ℕ) (document : Document)
-    → Premises before after file script → OpensAs file document
+is_edited : (options : Options) (before after : Devices) (any_refused : Bool) (outcome : Outcome) (r : Runs options before after outcome) (script : List ℕ) (document : Document)
+    → Premises document script before after outcome
     → ((progress : Progress) → is_over options.strict progress ≡ false → progress.any_refused ≡ any_refused → outcome ≡ outcome_of options.strict progress)
     → IsEdited options any_refused r.course → Comes options document script before after outcome
-is_edited options before after any_refused outcome r file script document premises opens ends edited =
-    let made = carried_through options before after outcome r file script document premises opens edited.document edited.opened edited.progress edited.carried in
+is_edited options before after any_refused outcome r script document premises ends edited =
+    let made = carried_through options before after outcome r script document premises edited.document edited.opened edited.progress edited.carried in
     record {
-      run = comes_to options before after outcome r file script document edited.progress made
+      run = comes_to options before after outcome r script document edited.progress made
           (ends edited.progress edited.carried.goes_on edited.refused)
           (grown before.replies after.replies r.course.replies edited.progress.replies premises.serve.replies r.replies edited.carried.replies)
           (subst (Appends before.out.bytes after.out.bytes) (tile_is_written options.strict edited.progress edited.carried.goes_on)
@@ -256,12 +248,12 @@ is_edited options before after any_refused outcome r file script document premis
       opens = λ on. subst OpensAgain made edited.opens;
     }
 
-is_stopped : (options : Options) (before after : Devices) (r : Runs options before after outcomes.StrictStop) (file script : List ℕ) (document : Document)
-    → Premises before after file script → OpensAs file document → StopsBetween options StopsStrictly r.course → Comes options document script before after outcomes.StrictStop
-is_stopped options before after r file script document premises opens stopped =
-    let made = stopped_strictly options before after outcomes.StrictStop r file script document premises opens stopped.document stopped.opened stopped.between in
+is_stopped : (options : Options) (before after : Devices) (r : Runs options before after outcomes.StrictStop) (script : List ℕ) (document : Document)
+    → Premises document script before after outcomes.StrictStop → StopsBetween options StopsStrictly r.course → Comes options document script before after outcomes.StrictStop
+is_stopped options before after r script document premises stopped =
+    let made = stopped_strictly options before after outcomes.StrictStop r script document premises stopped.document stopped.opened stopped.between in
     record {
-      run = comes_to options before after outcomes.StrictStop r file script document stopped.between.progress made
+      run = comes_to options before after outcomes.StrictStop r script document stopped.between.progress made
           (ends_strictly options.strict stopped.between.progress stopped.between.over)
           (grown before.replies after.replies r.course.replies stopped.between.progress.replies premises.serve.replies r.replies stopped.between.replies)
           (subst (Appends before.out.bytes after.out.bytes) (no_tile_is_written options.strict stopped.between.progress stopped.between.over)
@@ -284,35 +276,27 @@ not_cut A trouble size none within (inl some) = not_some A trouble none some
 not_cut A trouble size none within (inr long) = let no : ⊥ = omega (arith, within, long) in absurd no
 
 -- a run where no device and no growth fails
-comes : (options : Options) (before after : Devices) (outcome : Outcome) → Runs options before after outcome → (file script : List ℕ) (document : Document) → before.tile.bytes ≡ Some file → OpensAs file document
-    → before.script.bytes ≡ Some script → length script ≤ MAX_SCRIPT → AllServe before after → WritesNoneOutOfMemory before.replies.bytes after.replies.bytes → (outcome ≡ outcomes.NoMemory → ⊥)
+comes : (options : Options) (before after : Devices) (outcome : Outcome) → Runs options before after outcome → (document : Document) (script : List ℕ) → Premises document script before after outcome
     → Comes options document script before after outcome
-comes options before after outcome r file script document file_is opens script_is within serve none_out_of_memory not_memory =
-    by_outcome outcome r not_memory
-  where
-    premises : Premises before after file script
-    premises = record { file_is = file_is; script_is = script_is; within = within; serve = serve; none_out_of_memory = none_out_of_memory }
-
-    by_outcome : (outcome : Outcome) (r : Runs options before after outcome) → (outcome ≡ outcomes.NoMemory → ⊥) → Comes options document script before after outcome
-    by_outcome outcomes.Done r not_memory = is_edited options before after false outcomes.Done r file script document premises opens (ends_done options.strict) r.ends
-    by_outcome outcomes.SomeRefused r not_memory = is_edited options before after true outcomes.SomeRefused r file script document premises opens (ends_refused options.strict) r.ends
-    by_outcome outcomes.StrictStop r not_memory = is_stopped options before after r file script document premises opens r.ends
-    by_outcome (outcomes.TileRefused fault) r not_memory = not_faulty _ fault before.tile after.tile r.course.tile file document file_is serve.tile r.tile opens r.ends.1
-    by_outcome (outcomes.Device devices.Tile) r not_memory = not_some _ r.course.tile.trouble (untroubled options before after (outcomes.Device devices.Tile) r serve).tile r.ends.0
-    by_outcome (outcomes.Device devices.Script) r not_memory =
-        let short = file_within before.script after.script r.course.script script script_is serve.script r.script in
-        not_cut _ r.course.script.trouble (length r.course.script.bytes) (untroubled options before after (outcomes.Device devices.Script) r serve).script (omega (arith, short, within)) r.ends.between.cause
-    by_outcome (outcomes.Device devices.Replies) r not_memory = not_some _ r.course.replies.trouble (untroubled options before after (outcomes.Device devices.Replies) r serve).replies r.ends.between.trouble
-    by_outcome (outcomes.Device devices.Out) r not_memory = not_some _ r.course.out.trouble (untroubled options before after (outcomes.Device devices.Out) r serve).out r.ends.trouble
-    by_outcome outcomes.NoMemory r not_memory = absurd (not_memory refl)
+comes options before after outcomes.Done r document script premises = is_edited options before after false outcomes.Done r script document premises (ends_done options.strict) r.ends
+comes options before after outcomes.SomeRefused r document script premises = is_edited options before after true outcomes.SomeRefused r script document premises (ends_refused options.strict) r.ends
+comes options before after outcomes.StrictStop r document script premises = is_stopped options before after r script document premises r.ends
+comes options before after (outcomes.TileRefused fault) r document script premises =
+    not_faulty _ fault before.tile after.tile r.course.tile premises.file document premises.tile premises.serve.tile r.tile premises.opens r.ends.1
+comes options before after (outcomes.Device devices.Tile) r document script premises = not_some _ r.course.tile.trouble (untroubled options before after (outcomes.Device devices.Tile) r premises.serve).tile r.ends.0
+comes options before after (outcomes.Device devices.Script) r document script premises =
+    let short = file_within before.script after.script r.course.script script premises.script_is premises.serve.script r.script in
+    not_cut _ r.course.script.trouble (length r.course.script.bytes) (untroubled options before after (outcomes.Device devices.Script) r premises.serve).script (omega (arith, short, premises.within)) r.ends.between.cause
+comes options before after (outcomes.Device devices.Replies) r document script premises =
+    not_some _ r.course.replies.trouble (untroubled options before after (outcomes.Device devices.Replies) r premises.serve).replies r.ends.between.trouble
+comes options before after (outcomes.Device devices.Out) r document script premises = not_some _ r.course.out.trouble (untroubled options before after (outcomes.Device devices.Out) r premises.serve).out r.ends.trouble
+comes options before after outcomes.NoMemory r document script premises = absurd (premises.has_memory refl)
 
 pub headline : (options : Options) (before after : Devices) (outcome : Outcome) → Runs options before after outcome → Headline options before after outcome
-headline options before after outcome r file script document file_is opens script_is within serve none_out_of_memory not_memory =
-    (comes options before after outcome r file script document file_is opens script_is within serve none_out_of_memory not_memory).run
+headline options before after outcome r document script premises = (comes options before after outcome r document script premises).run
 
 pub writes_a_tile : (options : Options) (before after : Devices) (outcome : Outcome) → Runs options before after outcome → WritesATile options before after outcome
-writes_a_tile options before after outcome r file script document file_is opens script_is within serve none_out_of_memory not_memory on =
-    (comes options before after outcome r file script document file_is opens script_is within serve none_out_of_memory not_memory).opens on
+writes_a_tile options before after outcome r document script premises = (comes options before after outcome r document script premises).opens
 
 -- ---- a tile that opens as no document
 

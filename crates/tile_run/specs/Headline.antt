@@ -67,9 +67,8 @@ pub record AllServe (before after : Devices) : Type 0 where
 
 -- the replies written between two moments are known, and none of them is 60 or 54, out of memory (`NoneIsOutOfMemory`)
 abbrev pub WritesNoneOutOfMemory : Option (List ℕ) → Option (List ℕ) → Type 0
-WritesNoneOutOfMemory None new = ⊥
-WritesNoneOutOfMemory (Some old) None = ⊥
 WritesNoneOutOfMemory (Some old) (Some new) = NoneIsOutOfMemory (appended_bytes old new)
+WritesNoneOutOfMemory old new = ⊥
 
 -- the outcome of a run that comes to this progress: `StrictStop` where a strict run is over, else `SomeRefused` where a
 -- line was refused, else `Done`
@@ -88,22 +87,28 @@ pub record IsRunOf (options : Options) (document : Document) (script : List ℕ)
   pub out : Appends before.out.bytes after.out.bytes (tile_written options.strict (ran document options script))
   pub prefixes : (front more : List ℕ) → script ≡ front ++ 10 ∷ more → ran document options script ≡ after_lines options.strict (ran document options (front ++ 10 ∷ [])) (lines_of more)
 
--- for every tile that opens, as the document, and every script of at most 16,777,216 bytes, where all devices serve,
--- the replies are known and none is 60 or 54, and the outcome is not `NoMemory`: the outcome, the replies and what is
--- written are those of the script on the document
+-- the tile opens, as the document; the script has at most 16,777,216 bytes; all devices serve, the replies are known
+-- and none is 60 or 54, and the outcome is not `NoMemory`
+pub record Premises (document : Document) (script : List ℕ) (before after : Devices) (outcome : Outcome) : Type 0 where
+  pub file : List ℕ
+  pub tile : before.tile.bytes ≡ Some file
+  pub opens : OpensAs file document
+  pub script_is : before.script.bytes ≡ Some script
+  pub within : length script ≤ MAX_SCRIPT
+  pub serve : AllServe before after
+  pub none_out_of_memory : WritesNoneOutOfMemory before.replies.bytes after.replies.bytes
+  pub has_memory : outcome ≢ outcomes.NoMemory
+
+-- under these premises: the outcome, the replies and what is written are those of the script on the document
 abbrev pub Headline : Options → Devices → Devices → Outcome → Type 0
 Headline options before after outcome =
-    (file script : List ℕ) (document : Document) → before.tile.bytes ≡ Some file → OpensAs file document
-    → before.script.bytes ≡ Some script → length script ≤ MAX_SCRIPT
-    → AllServe before after → WritesNoneOutOfMemory before.replies.bytes after.replies.bytes → outcome ≢ outcomes.NoMemory
+    (document : Document) (script : List ℕ) → Premises document script before after outcome
     → IsRunOf options document script before after outcome
 
 -- under the same premises, where a strict run is not over: the tile that is written opens again
 abbrev pub WritesATile : Options → Devices → Devices → Outcome → Type 0
 WritesATile options before after outcome =
-    (file script : List ℕ) (document : Document) → before.tile.bytes ≡ Some file → OpensAs file document
-    → before.script.bytes ≡ Some script → length script ≤ MAX_SCRIPT
-    → AllServe before after → WritesNoneOutOfMemory before.replies.bytes after.replies.bytes → outcome ≢ outcomes.NoMemory
+    (document : Document) (script : List ℕ) → Premises document script before after outcome
     → is_over options.strict (ran document options script) ≡ false → OpensAgain (ran document options script)
 
 -- for every tile that opens as no document, where all devices serve and the outcome is not `NoMemory`: the outcome is
@@ -130,22 +135,11 @@ pub record Runs (options : Options) (before after : Devices) (outcome : Outcome)
 abbrev pub LeavesOut : Outcome → Type 0
 LeavesOut outcomes.Done = ⊥
 LeavesOut outcomes.SomeRefused = ⊥
-LeavesOut outcomes.StrictStop = Unit {0}
-LeavesOut (outcomes.TileRefused fault) = Unit {0}
-LeavesOut (outcomes.Device devices.Tile) = Unit {0}
-LeavesOut (outcomes.Device devices.Script) = Unit {0}
-LeavesOut (outcomes.Device devices.Replies) = Unit {0}
 LeavesOut (outcomes.Device devices.Out) = ⊥
-LeavesOut outcomes.NoMemory = Unit {0}
+LeavesOut outcome = Unit {0}
 
 -- the outcomes after which script and replies are as they were: the tile was refused, or its device is at fault
 abbrev pub LeavesReplies : Outcome → Type 0
-LeavesReplies outcomes.Done = ⊥
-LeavesReplies outcomes.SomeRefused = ⊥
-LeavesReplies outcomes.StrictStop = ⊥
 LeavesReplies (outcomes.TileRefused fault) = Unit {0}
 LeavesReplies (outcomes.Device devices.Tile) = Unit {0}
-LeavesReplies (outcomes.Device devices.Script) = ⊥
-LeavesReplies (outcomes.Device devices.Replies) = ⊥
-LeavesReplies (outcomes.Device devices.Out) = ⊥
-LeavesReplies outcomes.NoMemory = ⊥
+LeavesReplies outcome = ⊥

@@ -29,15 +29,15 @@ at_first document depth = record { lines = 0; history = begun document depth; re
 
 -- the progress after a line that asks for nothing: it is counted
 abbrev pub silent : Progress → Progress
-silent p = record { lines = p.lines + 1; history = p.history; replies = p.replies; any_refused = p.any_refused }
+silent p = record p { lines = p.lines + 1 }
 
 -- the progress after an accepted line: its history, and its lines and `ok` as the reply
 abbrev pub accepted : Told → Progress → Progress
-accepted told p = record { lines = p.lines + 1; history = told.history; replies = p.replies ++ accepted_reply told.lines; any_refused = p.any_refused }
+accepted told p = record p { lines = p.lines + 1; history = told.history; replies = p.replies ++ accepted_reply told.lines }
 
 -- the progress after a refused line: it changes nothing but the count, the replies, and that a line was refused
 abbrev pub refused_for : Refused → Progress → Progress
-refused_for reason p = record { lines = p.lines + 1; history = p.history; replies = p.replies ++ refused_reply (p.lines + 1) reason; any_refused = true }
+refused_for reason p = record p { lines = p.lines + 1; replies = p.replies ++ refused_reply (p.lines + 1) reason; any_refused = true }
 
 -- the progress after a line whose request was accepted or refused
 abbrev pub settled_by : Progress → Result Told Refused → Progress
@@ -78,7 +78,7 @@ without_memory p = refused_for (refused.Parse parse.NoMemory) p
 -- the progress after a line that was stopped with `taken` steps, or commands, taken: it is refused so, and the history
 -- `between` stands
 abbrev pub stopped_at : ℕ → History → Progress → Progress
-stopped_at taken between p = record { lines = p.lines + 1; history = between; replies = p.replies ++ refused_reply (p.lines + 1) (refused.History (Stopped taken)); any_refused = true }
+stopped_at taken between p = refused_for (refused.History (Stopped taken)) (record p { history = between })
 
 -- the line asks to go back or to cancel, and was stopped where it may be (`MayStop`)
 pub record IsStopped (p : Progress) (line : List ℕ) (q : Progress) : Type 0 where

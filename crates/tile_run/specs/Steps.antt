@@ -21,8 +21,7 @@ use Rattle.tile_run.specs.declared.runs.TheConstants.{MAX_SCRIPT}
 use Rattle.mvt_history.specs.declared.session.Session.{Session}
 use Rattle.tile_run.specs.Course.{IsOpened, IsFaulty, IsWritten, CarriesThrough, StopsStrictly, StopsAtScript, StopsAtReplies}
 use Rattle.mvt_history.specs.History.{History}
-use Rattle.tile_reply.specs.Replies.{accepted_reply, refused_reply}
-use Rattle.tile_run.specs.Run.{Progress, is_over, MayFollow, Walk}
+use Rattle.tile_run.specs.Run.{Progress, silent, accepted, refused_for, is_over, MayFollow, Walk}
 use Rattle.mvt_history.specs.Session.{StandsFor}
 
 -- ---- devices, with the retries that are left before a step and after it
@@ -58,9 +57,9 @@ told_in (Err reason) = Err reason
 
 -- the progress after a line with this answer, at which the history stands
 abbrev pub answered : Progress → History → Option (Result (Held ℕ) Refused) → Progress
-answered p history None = record { lines = p.lines + 1; history = history; replies = p.replies; any_refused = p.any_refused }
-answered p history (Some (Ok told)) = record { lines = p.lines + 1; history = history; replies = p.replies ++ accepted_reply told.items; any_refused = p.any_refused }
-answered p history (Some (Err reason)) = record { lines = p.lines + 1; history = history; replies = p.replies ++ refused_reply (p.lines + 1) reason; any_refused = true }
+answered p history None = silent (record p { history = history })
+answered p history (Some (Ok told)) = accepted (record { lines = told.items; history = history }) p
+answered p history (Some (Err reason)) = refused_for reason (record p { history = history })
 
 -- the session holds the history of a progress that may follow
 pub record CarriesOut (session : Session) (line : List ℕ) (answer : Option (Result (Held ℕ) Refused)) (p : Progress) : Type 0 where

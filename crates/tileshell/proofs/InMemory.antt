@@ -89,8 +89,16 @@ module _ (options : Options) (tile script replies out : List ℕ) where
       → NoneIsOutOfMemory replies → outcome ≢ outcomes.NoMemory → outcome ≢ outcomes.Device devices.Replies → outcome ≢ outcomes.Device devices.Out
       → IsRunOf options document script before (after outcome r) outcome
   is_run_of outcome r document opens within none_out_of_memory memory other_replies other_out =
-      headline options before (after outcome r) outcome r.runs tile script document refl opens refl within
-      (all_serve outcome r other_replies other_out) (subst NoneIsOutOfMemory (sym (drop_at [] replies 0 refl)) none_out_of_memory) memory
+      headline options before (after outcome r) outcome r.runs document script (record {
+        file = tile;
+        tile = refl;
+        opens = opens;
+        script_is = refl;
+        within = within;
+        serve = all_serve outcome r other_replies other_out;
+        none_out_of_memory = subst NoneIsOutOfMemory (sym (drop_at [] replies 0 refl)) none_out_of_memory;
+        has_memory = memory;
+      })
 
 -- ---- the tile that is handed out
 
