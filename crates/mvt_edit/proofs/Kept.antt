@@ -2,10 +2,12 @@
 use Rattle.std.proofs.Common.{◌≡◌, ◌≢◌, ℕ, suc, ◌*◌, ◌<◌, ◌≤◌, Bool, true, false, not, List, [], ◌∷◌, length, filter, Ok, Err, refl, sym, ap, ◌∙◌, inl, inr, arith}
 use Rattle.std.proofs.lemmas.Bool.{cases_Bool, or_parts, false_from_ne_true, true_from_ne_false}
 use Rattle.std.proofs.lemmas.List.Elements.{filter_agree}
+use Rattle.std.proofs.lemmas.List.Sorted.{list_any-IsPermutation}
 use Rattle.std.specs.List.{flat_map, list_any}
+use Rattle.std.specs.List.Sorted.{IsPermutation}
 use Rattle.mvt_document.specs.Plain.{TileItem, OfLayer, PlainInTile, Document}
 use Rattle.mvt_document.specs.Wire.{tile_item_bytes}
-use Rattle.mvt_view.specs.Views.{layers}
+use Rattle.mvt_view.specs.Views.{is_named, layers}
 use Rattle.mvt_change.specs.Changes.{Change, OfTheTile}
 use Rattle.mvt_command.specs.Command.{KeepLayers}
 use Rattle.mvt_meaning.specs.Meaning.{applied, is_kept}
@@ -18,6 +20,11 @@ use Rattle.mvt_edit.proofs.Taking.{in_the_tile, takes_out, length-steps}
 -- an item that goes
 abbrev pub goes : List (List ℕ) → TileItem → Bool
 goes names item = not (is_kept names item)
+
+-- the order of the names is all one
+pub kept_alike : (names others : List (List ℕ)) → IsPermutation names others → (item : TileItem) → is_kept others item ≡ is_kept names item
+kept_alike names others same (OfLayer layer) = sym (list_any-IsPermutation (λ name. is_named name layer) names others same)
+kept_alike names others same (PlainInTile field) = refl
 
 abbrev some_stay : List (List ℕ) → Document → Bool
 some_stay names document = list_any (λ layer. is_kept names (OfLayer layer)) (layers document)

@@ -2,6 +2,7 @@ pub mod Cutting
 pub mod CutFromBack
 pub mod ListPlaces
 pub mod Taking
+pub mod Searched
 pub mod Kept
 pub mod PlainRuns
 pub mod Gone
