@@ -1,7 +1,7 @@
 //! Why a line was refused, in the words of a reply.
 
 ghost use Rattle.std.specs.Prelude.{◌≡◌};
-ghost use Rattle.tile_reply.specs.Replies.{refusal_number, refusal_name, parse_number, parse_name, edit_number, edit_name, history_number, history_name, taken_in};
+ghost use Rattle.tile_reply.specs.Replies.{refusal_number, refusal_name, taken_in};
 ghost use Rattle.tile_reply.specs.declared.refused.Refused.TheVariants.{Edit, History};
 
 use mvt_history_error::HistoryError;
@@ -44,21 +44,49 @@ impl Refused {
     pub fn number(self) -> u8
         ensures { result ≡ refusal_number self }
     {
-        match self {
-            Refused::Parse(error) => parse_number(error),
-            Refused::Edit(refusal) => edit_number(refusal),
-            Refused::History(error) => history_number(error),
-        }
+        let (number, _) = self.number_and_name();
+        number
     }
 
     /// The name that a reply tells.
     pub fn name(self) -> &'static str
         ensures { result.now ≡ refusal_name self }
     {
+        let (_, name) = self.number_and_name();
+        name
+    }
+
+    fn number_and_name(self) -> (u8, &'static str)
+        ensures number { result.0 ≡ refusal_number self }
+        ensures name { result.1.now ≡ refusal_name self }
+    {
         match self {
-            Refused::Parse(error) => parse_name(error),
-            Refused::Edit(refusal) => edit_name(refusal),
-            Refused::History(error) => history_name(error),
+            Refused::Parse(ParseError::BadUtf8) => (10, "BadUtf8"),
+            Refused::Parse(ParseError::BadWord) => (11, "BadWord"),
+            Refused::Parse(ParseError::UnknownCommand) => (12, "UnknownCommand"),
+            Refused::Parse(ParseError::BadArguments) => (13, "BadArguments"),
+            Refused::Parse(ParseError::BadNumber) => (14, "BadNumber"),
+            Refused::Parse(ParseError::BadValue) => (15, "BadValue"),
+            Refused::Parse(ParseError::BadGeometryText) => (16, "BadGeometryText"),
+            Refused::Parse(ParseError::LineTooLong) => (17, "LineTooLong"),
+            Refused::Parse(ParseError::NoMemory) => (60, "NoMemory"),
+            Refused::Edit(Refusal::NoLayer) => (20, "NoLayer"),
+            Refused::Edit(Refusal::AmbiguousLayer) => (21, "AmbiguousLayer"),
+            Refused::Edit(Refusal::NoFeature) => (22, "NoFeature"),
+            Refused::Edit(Refusal::BadPlace) => (24, "BadPlace"),
+            Refused::Edit(Refusal::AmbiguousFeature) => (25, "AmbiguousFeature"),
+            Refused::Edit(Refusal::NameTaken) => (40, "NameTaken"),
+            Refused::Edit(Refusal::OutOfRange) => (42, "OutOfRange"),
+            Refused::Edit(Refusal::TooLarge) => (43, "TooLarge"),
+            Refused::Edit(Refusal::NoMemory) => (60, "NoMemory"),
+            Refused::History(HistoryError::NothingToUndo) => (50, "NothingToUndo"),
+            Refused::History(HistoryError::NothingToRedo) => (51, "NothingToRedo"),
+            Refused::History(HistoryError::NoMark) => (52, "NoMark"),
+            Refused::History(HistoryError::TooManyMarks) => (53, "TooManyMarks"),
+            Refused::History(HistoryError::Stopped { .. }) => (54, "Stopped"),
+            Refused::History(HistoryError::GroupOpen) => (55, "GroupOpen"),
+            Refused::History(HistoryError::NoGroup) => (56, "NoGroup"),
+            Refused::History(HistoryError::NoMemory) => (60, "NoMemory"),
         }
     }
 
@@ -71,99 +99,5 @@ impl Refused {
             Refused::History(HistoryError::Stopped { taken }) => Some(taken),
             _ => None,
         }
-    }
-}
-
-fn parse_number(error: ParseError) -> u8
-    ensures { result ≡ parse_number error }
-{
-    match error {
-        ParseError::BadUtf8 => 10,
-        ParseError::BadWord => 11,
-        ParseError::UnknownCommand => 12,
-        ParseError::BadArguments => 13,
-        ParseError::BadNumber => 14,
-        ParseError::BadValue => 15,
-        ParseError::BadGeometryText => 16,
-        ParseError::LineTooLong => 17,
-        ParseError::NoMemory => 60,
-    }
-}
-
-fn parse_name(error: ParseError) -> &'static str
-    ensures { result.now ≡ parse_name error }
-{
-    match error {
-        ParseError::BadUtf8 => "BadUtf8",
-        ParseError::BadWord => "BadWord",
-        ParseError::UnknownCommand => "UnknownCommand",
-        ParseError::BadArguments => "BadArguments",
-        ParseError::BadNumber => "BadNumber",
-        ParseError::BadValue => "BadValue",
-        ParseError::BadGeometryText => "BadGeometryText",
-        ParseError::LineTooLong => "LineTooLong",
-        ParseError::NoMemory => "NoMemory",
-    }
-}
-
-fn edit_number(refusal: Refusal) -> u8
-    ensures { result ≡ edit_number refusal }
-{
-    match refusal {
-        Refusal::NoLayer => 20,
-        Refusal::AmbiguousLayer => 21,
-        Refusal::NoFeature => 22,
-        Refusal::BadPlace => 24,
-        Refusal::AmbiguousFeature => 25,
-        Refusal::NameTaken => 40,
-        Refusal::OutOfRange => 42,
-        Refusal::TooLarge => 43,
-        Refusal::NoMemory => 60,
-    }
-}
-
-fn edit_name(refusal: Refusal) -> &'static str
-    ensures { result.now ≡ edit_name refusal }
-{
-    match refusal {
-        Refusal::NoLayer => "NoLayer",
-        Refusal::AmbiguousLayer => "AmbiguousLayer",
-        Refusal::NoFeature => "NoFeature",
-        Refusal::BadPlace => "BadPlace",
-        Refusal::AmbiguousFeature => "AmbiguousFeature",
-        Refusal::NameTaken => "NameTaken",
-        Refusal::OutOfRange => "OutOfRange",
-        Refusal::TooLarge => "TooLarge",
-        Refusal::NoMemory => "NoMemory",
-    }
-}
-
-fn history_number(error: HistoryError) -> u8
-    ensures { result ≡ history_number error }
-{
-    match error {
-        HistoryError::NothingToUndo => 50,
-        HistoryError::NothingToRedo => 51,
-        HistoryError::NoMark => 52,
-        HistoryError::TooManyMarks => 53,
-        HistoryError::Stopped { .. } => 54,
-        HistoryError::GroupOpen => 55,
-        HistoryError::NoGroup => 56,
-        HistoryError::NoMemory => 60,
-    }
-}
-
-fn history_name(error: HistoryError) -> &'static str
-    ensures { result.now ≡ history_name error }
-{
-    match error {
-        HistoryError::NothingToUndo => "NothingToUndo",
-        HistoryError::NothingToRedo => "NothingToRedo",
-        HistoryError::NoMark => "NoMark",
-        HistoryError::TooManyMarks => "TooManyMarks",
-        HistoryError::Stopped { .. } => "Stopped",
-        HistoryError::GroupOpen => "GroupOpen",
-        HistoryError::NoGroup => "NoGroup",
-        HistoryError::NoMemory => "NoMemory",
     }
 }
