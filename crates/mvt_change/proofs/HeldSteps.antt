@@ -1,5 +1,5 @@
 -- Steps on documents of the program that are the same and have room, and what plain documents say of them.
-use Rattle.std.proofs.Common.{◌≡◌, ℕ, zero, suc, ◌+◌, ◌<◌, ◌≤◌, List, [], ◌∷◌, length, map, slice_get, Option, Some, None, option_map, refl, sym, ap, ◌∙◌, subst, arith}
+use Rattle.std.proofs.Common.{◌≡◌, ℕ, zero, suc, ◌<◌, List, [], ◌∷◌, length, map, slice_get, Option, Some, None, option_map, refl, sym, ap, ◌∙◌, subst, arith}
 use Rattle.std.specs.Option.{IsSomeAnd, option_and_then}
 use Rattle.std.proofs.lemmas.List.{length-map}
 use Rattle.mvt_document.specs.Held.{Held}
@@ -22,7 +22,7 @@ use Rattle.mvt_change.specs.Changes as plain_change
 use Rattle.mvt_change.specs.Changes.{TileStep, LayerStep, FeatureStep, MoveStep, FitsMove, FitsStep, Finds}
 use Rattle.mvt_change.specs.Room.{KeepsDocument}
 use Rattle.mvt_document.specs.HeldPlaces.{held_items_in, held_fields_in, held_items_at, held_fields_in_at, held_fields_at}
-use Rattle.mvt_change.specs.HeldChanges.{HasRoom, CanMoveHeld, CanMoveAt, move_held_at, go_held_step, StepHasRoom, HaveRoom}
+use Rattle.mvt_change.specs.HeldChanges.{HasHeldPart, HasRoom, CanMoveHeld, CanMoveAt, move_held_at, go_held_step, StepHasRoom, HaveRoom}
 use Rattle.mvt_change.proofs.Keeping.{document_order, field_order, layer_item_order, tile_item_order}
 use Rattle.mvt_change.proofs.RoomLenses.{tile_room, layer_room, feature_room, go_keeps, has_room_keeps, go_move_keeps, can_move_alike, move_back, move_fits}
 
@@ -105,9 +105,6 @@ pub fields_at_stand : (layer item : ℕ) (document : Document) → fields_at lay
 fields_at_stand layer item document = ap (option_and_then (fields_in_at item)) (items_at_stand layer document) ∙ fields_in_stand item (held_items_at layer document)
 
 -- ---- so the part that a step takes out is in both
-
-abbrev pub HasHeldPart : {T : Type 0} → ℕ → ℕ → Held T → Type 0
-HasHeldPart index count list = index + count ≤ length list.items
 
 pub part_held : {T P : Type 0} (g : T → P) (index count : ℕ) (list : Held T) → HasPart index count (plain_list g list) → HasHeldPart index count list
 part_held g index count list has = omega (arith, length-map list.items g, has)

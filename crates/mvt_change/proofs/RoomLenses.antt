@@ -1,5 +1,5 @@
 -- The list at a place of a document of the program, in documents that are the same and have room.
-use Rattle.std.proofs.Common.{◌≡◌, ℕ, zero, suc, ◌+◌, ◌≤◌, List, [], ◌∷◌, length, slice_get, Option, Some, None, option_map, refl, sym, ap, ◌∙◌, subst, arith}
+use Rattle.std.proofs.Common.{◌≡◌, ℕ, zero, suc, ◌+◌, ◌≤◌, Bool, true, false, cond, List, [], ◌∷◌, length, slice_get, Option, Some, None, option_map, refl, sym, ap, ◌∙◌, subst, arith}
 use Rattle.std.specs.List.{AllZip}
 use Rattle.std.specs.Option.{IfSome, IsSomeAnd, option_and_then}
 use Rattle.std.proofs.lemmas.List.Elements.{length_all_zip}
@@ -14,7 +14,7 @@ use Rattle.mvt_document.specs.Lists.{change_at}
 use Rattle.mvt_change.specs.Room.{capacity, KeepsList, KeepsField, KeepsLayerItem, KeepsTileItem, KeepsDocument}
 use Rattle.mvt_document.specs.HeldPlaces.{held_items_in, held_fields_in, held_items_at, held_fields_at, in_held_layer, in_held_feature, change_held_at, change_held_tile, change_held_items, change_held_fields}
 use Rattle.mvt_change.specs.HeldChanges.{exchanged, held_moved, held_taken_out, HasRoom, CanMoveHeld}
-use Rattle.mvt_change.proofs.Keeping.{Order, zip_same, layer_item_order, tile_item_order, exchanged_keeps, moved_keeps, room_keeps, can_move_keeps, leads_back, move_leads_back, back_has_room, move_back_fits}
+use Rattle.mvt_change.proofs.Keeping.{Order, layer_item_order, tile_item_order, exchanged_keeps, moved_keeps, room_keeps, can_move_keeps, leads_back, move_leads_back, back_has_room, move_back_fits}
 
 -- both are there, and this holds of them; or neither is
 abbrev pub Alike : {X Y : Type 0} → (X → Y → Type 0) → Option X → Option Y → Type 0
@@ -39,7 +39,35 @@ pub record RoomLens {A X : Type 0} (find : A → Option X) (change : (X → X) �
   pub found : (f : X → X) (a : A) → find (change f a) ≡ option_map f (find a)
   pub finds : (a b : A) → Whole a b → Alike Part (find a) (find b)
   pub changes : (f g : X → X) (a b : A) → Whole a b → Alike (λ x y. Part (f x) (g y)) (find a) (find b) → Whole (change f a) (change g b)
-  pub back : (f g : X → X) (a : A) → IfSome (find a) (λ x. Part x (g (f x))) → Whole a (change g (change f a))
+  pub same : (a : A) → change (λ x. x) a ≡ a
+  pub twice : (f g : X → X) (a : A) → change g (change f a) ≡ change (λ x. g (f x)) a
+
+-- what the part was made of is what the whole was made of
+module _ {A X : Type 0} {find : A → Option X} {change : (X → X) → A → A} {Whole : A → A → Type 0} {Part : X → X → Type 0} (whole : Order Whole) (lens : RoomLens find change Whole Part) where
+  made_keeps_found : (f : X → X) (a b : A) (o : Option X) → find a ≡ o → IsSomeAnd o (λ x. (made : X) × Part (f x) made × (b ≡ change (λ y. made) a)) → Whole (change f a) b
+  made_keeps_found f a b None is there = absurd there
+  made_keeps_found f a b (Some x) is there =
+      let made = there.0 in
+      let both : Alike (λ y z. Part (f y) made) (find a) (find a) = subst (λ o. Alike (λ y z. Part (f y) made) o o) (sym is) there.1 in
+      subst (Whole (change f a)) (sym there.2) (lens.changes f (λ y. made) a a (whole.same a) both)
+
+  pub made_keeps : (f : X → X) (a b : A) → IsSomeAnd (find a) (λ x. (made : X) × Part (f x) made × (b ≡ change (λ y. made) a)) → Whole (change f a) b
+  made_keeps f a b there = made_keeps_found f a b (find a) refl there
+
+  pub made_or_kept : (done : Bool) (f : X → X) (a b : A) → IsSomeAnd (find a) (λ x. (made : X) × Part (cond done (f x) x) made × (b ≡ change (λ y. made) a)) → Whole (cond done (change f a) a) b
+  made_or_kept true f a b there = made_keeps f a b there
+  made_or_kept false f a b there = subst (λ d. Whole d b) (lens.same a) (made_keeps (λ x. x) a b there)
+
+  alike_self : (P : X → X → Type 0) (o : Option X) → IfSome o (λ x. P x x) → Alike P o o
+  alike_self P None both = tt
+  alike_self P (Some x) both = both
+
+  -- where a part that was changed twice is as it was, the whole is
+  pub leads_there : (f g : X → X) (a : A) → IfSome (find a) (λ x. Part x (g (f x))) → Whole a (change g (change f a))
+  leads_there f g a same =
+      let h : X → X = λ x. g (f x) in
+      let made = lens.changes (λ x. x) h a a (whole.same a) (alike_self (λ x y. Part x (h y)) (find a) same) in
+      subst (Whole a) (sym (lens.twice f g a)) (subst (λ b. Whole b (change h a)) (lens.same a) made)
 
 -- ---- the items of a layer, and the fields of a feature
 
@@ -59,12 +87,16 @@ items_changes f g (in_tile.Layer a) (in_tile.Plain b) keeps both = absurd keeps
 items_changes f g (in_tile.Plain a) (in_tile.Layer b) keeps both = absurd keeps
 items_changes f g (in_tile.Plain a) (in_tile.Plain b) keeps both = keeps
 
-items_back : (f g : Held LayerItem → Held LayerItem) (a : TileItem) → IfSome (held_items_in a) (λ x. KeepsList KeepsLayerItem x (g (f x))) → KeepsTileItem a (in_held_layer g (in_held_layer f a))
-items_back f g (in_tile.Layer a) same = record { tag = refl; width = refl; items = same }
-items_back f g (in_tile.Plain a) same = refl
+items_same : (item : TileItem) → in_held_layer (λ x. x) item ≡ item
+items_same (in_tile.Layer layer) = refl
+items_same (in_tile.Plain field) = refl
+
+items_twice : (f g : Held LayerItem → Held LayerItem) (item : TileItem) → in_held_layer g (in_held_layer f item) ≡ in_held_layer (λ x. g (f x)) item
+items_twice f g (in_tile.Layer layer) = refl
+items_twice f g (in_tile.Plain field) = refl
 
 items_lens : RoomLens held_items_in in_held_layer KeepsTileItem (KeepsList KeepsLayerItem)
-items_lens = record { found = items_found; finds = items_finds; changes = items_changes; back = items_back }
+items_lens = record { found = items_found; finds = items_finds; changes = items_changes; same = items_same; twice = items_twice }
 
 fields_found : (f : Held Field → Held Field) (item : LayerItem) → held_fields_in (in_held_feature f item) ≡ option_map f (held_fields_in item)
 fields_found f (in_layer.Feature feature) = refl
@@ -82,12 +114,16 @@ fields_changes f g (in_layer.Feature a) (in_layer.Plain b) keeps both = absurd k
 fields_changes f g (in_layer.Plain a) (in_layer.Feature b) keeps both = absurd keeps
 fields_changes f g (in_layer.Plain a) (in_layer.Plain b) keeps both = keeps
 
-fields_back : (f g : Held Field → Held Field) (a : LayerItem) → IfSome (held_fields_in a) (λ x. KeepsList KeepsField x (g (f x))) → KeepsLayerItem a (in_held_feature g (in_held_feature f a))
-fields_back f g (in_layer.Feature a) same = record { tag = refl; width = refl; fields = same }
-fields_back f g (in_layer.Plain a) same = refl
+fields_same : (item : LayerItem) → in_held_feature (λ x. x) item ≡ item
+fields_same (in_layer.Feature feature) = refl
+fields_same (in_layer.Plain field) = refl
+
+fields_twice : (f g : Held Field → Held Field) (item : LayerItem) → in_held_feature g (in_held_feature f item) ≡ in_held_feature (λ x. g (f x)) item
+fields_twice f g (in_layer.Feature feature) = refl
+fields_twice f g (in_layer.Plain field) = refl
 
 fields_lens : RoomLens held_fields_in in_held_feature KeepsLayerItem (KeepsList KeepsField)
-fields_lens = record { found = fields_found; finds = fields_finds; changes = fields_changes; back = fields_back }
+fields_lens = record { found = fields_found; finds = fields_finds; changes = fields_changes; same = fields_same; twice = fields_twice }
 
 -- ---- what a lens finds in the item at a position of a list
 
@@ -114,10 +150,15 @@ module _ {A X : Type 0} {find : A → Option X} {change : (X → X) → A → A}
   at_changes f g zero (x ∷ xs) (y ∷ ys) all both = (lens.changes f g x y all.0 both, all.1)
   at_changes f g (suc at) (x ∷ xs) (y ∷ ys) all both = (all.0, at_changes f g at xs ys all.1 both)
 
-  at_back : (f g : X → X) (at : ℕ) (items : List A) → IfSome (option_and_then find (slice_get items at)) (λ x. Part x (g (f x))) → AllZip Whole items (change_at (change g) at (change_at (change f) at items))
-  at_back f g at [] same = tt
-  at_back f g zero (a ∷ items) same = (lens.back f g a same, zip_same order items)
-  at_back f g (suc at) (a ∷ items) same = (order.same a, at_back f g at items same)
+  at_same : (at : ℕ) (items : List A) → change_at (change (λ x. x)) at items ≡ items
+  at_same at [] = refl
+  at_same zero (a ∷ items) = ap (λ b. b ∷ items) (lens.same a)
+  at_same (suc at) (a ∷ items) = ap (λ rest. a ∷ rest) (at_same at items)
+
+  at_twice : (f g : X → X) (at : ℕ) (items : List A) → change_at (change g) at (change_at (change f) at items) ≡ change_at (change (λ x. g (f x))) at items
+  at_twice f g at [] = refl
+  at_twice f g zero (a ∷ items) = ap (λ b. b ∷ items) (lens.twice f g a)
+  at_twice f g (suc at) (a ∷ items) = ap (λ rest. a ∷ rest) (at_twice f g at items)
 
   list_changes : (f g : X → X) (at : ℕ) (a b : Held A) → KeepsList Whole a b → Alike (λ x y. Part (f x) (g y)) (find_at find at a) (find_at find at b) → KeepsList Whole (change_held_at (change f) at a) (change_held_at (change g) at b)
   list_changes f g at a b keeps both =
@@ -127,18 +168,16 @@ module _ {A X : Type 0} {find : A → Option X} {change : (X → X) → A → A}
       let room : capacity a ≤ capacity b = keeps.room in
       record { items = items; room = omega arith }
 
-  list_back : (f g : X → X) (at : ℕ) (a : Held A) → IfSome (find_at find at a) (λ x. Part x (g (f x))) → KeepsList Whole a (change_held_at (change g) at (change_held_at (change f) at a))
-  list_back f g at a same =
-      let items = at_back f g at a.items same in
-      let long : length a.items ≡ length (change_at (change g) at (change_at (change f) at a.items)) = length_all_zip Whole a.items (change_at (change g) at (change_at (change f) at a.items)) items in
-      record { items = items; room = omega arith }
+  abbrev with_items : Held A → List A → Held A
+  with_items list items = record list { items = items }
 
   pub at_lens : (at : ℕ) → RoomLens (λ (list : Held A). find_at find at list) (λ (f : X → X) list. change_held_at (change f) at list) (KeepsList Whole) Part
   at_lens at = record {
     found = λ f a. at_found f at a.items;
     finds = λ a b keeps. at_finds at a.items b.items keeps.items;
     changes = λ f g a b keeps both. list_changes f g at a b keeps both;
-    back = λ f g a same. list_back f g at a same;
+    same = λ a. ap (with_items a) (at_same at a.items);
+    twice = λ f g a. ap (with_items a) (at_twice f g at a.items);
   }
 
 -- ---- what a lens finds in what another finds
@@ -160,16 +199,13 @@ module _ {A X Y : Type 0} {find : A → Option X} {change : (X → X) → A → 
   through_changes f g (Some x) None both new = absurd both
   through_changes f g (Some x) (Some y) both new = second.changes f g x y both new
 
-  through_back : (f g : Y → Y) (o : Option X) → IfSome (option_and_then deeper o) (λ y. Deep y (g (f y))) → IfSome o (λ x. Part x (deep g (deep f x)))
-  through_back f g None same = tt
-  through_back f g (Some x) same = second.back f g x same
-
   through : RoomLens (λ (a : A). option_and_then deeper (find a)) (λ (f : Y → Y) a. change (deep f) a) Whole Deep
   through = record {
     found = λ f a. ap (option_and_then deeper) (first.found (deep f) a) ∙ through_found f (find a);
     finds = λ a b keeps. through_finds (find a) (find b) (first.finds a b keeps);
     changes = λ f g a b keeps new. first.changes (deep f) (deep g) a b keeps (through_changes f g (find a) (find b) (first.finds a b keeps) new);
-    back = λ f g a same. first.back (deep f) (deep g) a (through_back f g (find a) same);
+    same = λ a. (λ i. change (λ x. second.same x i) a) ∙ first.same a;
+    twice = λ f g a. first.twice (deep f) (deep g) a ∙ (λ i. change (λ x. second.twice f g x i) a);
   }
 
 -- ---- the lists of a document
@@ -182,7 +218,8 @@ tile_room = record {
   found = tile_found;
   finds = λ a b keeps. keeps;
   changes = λ f g a b keeps both. both;
-  back = λ f g a same. same;
+  same = λ a. refl;
+  twice = λ f g a. refl;
 }
 
 pub layer_room : (layer : ℕ) → RoomLens (held_items_at layer) (λ f document. change_held_items f layer document) KeepsDocument (KeepsList KeepsLayerItem)
@@ -212,7 +249,7 @@ module _ {A T : Type 0} {find : A → Option (Held T)} {change : (Held T → Hel
   exchange_leads_back index taken put back a b there is keeps =
       let f = exchanged index taken put in
       let g = exchanged index (length put.items) back in
-      whole.joined a (change g (change f a)) (change g b) (lens.back f g a (found_back index taken put back (find a) there is)) (go_keeps index (length put.items) back (change f a) b keeps)
+      whole.joined a (change g (change f a)) (change g b) (leads_there whole lens f g a (found_back index taken put back (find a) there is)) (go_keeps index (length put.items) back (change f a) b keeps)
 
   found_room : (index taken : ℕ) (put back : Held T) (o : Option (Held T)) → IsSomeAnd o (λ list. index + taken ≤ length list.items) → back.items ≡ held_taken_out index taken o → capacity put ≤ capacity back → IsSomeAnd (option_map (exchanged index taken put) o) (HasRoom index (length put.items) back)
   found_room index taken put back None there is room = there
@@ -241,7 +278,7 @@ module _ {A T : Type 0} {find : A → Option (Held T)} {change : (Held T → Hel
   found_move_back from to (Some x) can = move_leads_back items from to x can
 
   pub move_back : (from to : ℕ) (a : A) → IsSomeAnd (find a) (CanMoveHeld from to) → Whole a (change (held_moved to from) (change (held_moved from to) a))
-  move_back from to a can = lens.back (held_moved from to) (held_moved to from) a (found_move_back from to (find a) can)
+  move_back from to a can = leads_there whole lens (held_moved from to) (held_moved to from) a (found_move_back from to (find a) can)
 
   found_move_fits : (from to : ℕ) (o : Option (Held T)) → IsSomeAnd o (CanMoveHeld from to) → IsSomeAnd (option_map (held_moved from to) o) (CanMoveHeld to from)
   found_move_fits from to None can = can

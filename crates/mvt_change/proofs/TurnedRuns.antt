@@ -1,5 +1,5 @@
 -- Several steps that were turned: what they stand for, that they have room, and that they lead back.
-use Rattle.std.proofs.Common.{arith, slice_index_or, slice_set, ◌≡◌, List, [], ◌∷◌, ◌++◌, length, map, reverse, refl, sym, ap, ◌∙◌, subst}
+use Rattle.std.proofs.Common.{Bool, true, false, cond, arith, slice_index_or, slice_set, ◌≡◌, List, [], ◌∷◌, ◌++◌, length, map, reverse, refl, sym, ap, ◌∙◌, subst}
 use Rattle.std.specs.List.{AllZip}
 use Rattle.std.proofs.lemmas.List.{map-append, reverse-append}
 use Rattle.mvt_document.specs.Plain as plain
@@ -11,7 +11,7 @@ use Rattle.mvt_document.specs.declared.document.TileItem.TheVariants as in_tile_
 use Rattle.mvt_document.specs.declared.document.Document.{Document}
 use Rattle.mvt_change.specs.declared.change.Step.{Step}
 use Rattle.mvt_change.specs.ChangeStands.{step_of}
-use Rattle.mvt_change.specs.Changes.{Fits, go_step, turn}
+use Rattle.mvt_change.specs.Changes.{Fits, go, go_step, turn}
 use Rattle.mvt_change.specs.Room.{KeepsLayerItem, KeepsTileItem, KeepsDocument}
 use Rattle.mvt_change.specs.HeldChanges.{go_held_step, go_held, HaveRoom, IsTurned, AreTurned}
 use Rattle.mvt_change.specs.Runs.{LeadsBack}
@@ -47,6 +47,10 @@ tile_item_stands (in_tile_item.Plain x) (in_tile_item.Plain y) keeps = ap (λ fi
 
 pub keeps_stands : (a b : Document) → KeepsDocument a b → document_of a ≡ document_of b
 keeps_stands a b keeps = zip_stands KeepsTileItem tile_item_of tile_item_stands a.items.items b.items.items keeps.items
+
+-- what is the same as what a step makes stands for what the plain step makes
+pub kept_goes : (step : Step) (document after : Document) → KeepsDocument (go_held_step step document) after → document_of after ≡ go_step (step_of step) (document_of document)
+kept_goes step document after keeps = sym (keeps_stands (go_held_step step document) after keeps) ∙ step_stands step document
 
 -- ---- joined steps
 
@@ -117,7 +121,23 @@ all_lead_back steps document turned after fits are keeps =
       back = document_order.joined document (go_held (reverse turned) (go_held steps document)) (go_held (reverse turned) after) (all_lead steps document turned fits are) (steps_keep (reverse turned) (go_held steps document) after keeps);
     }
 
--- and so does the one step that there is
+-- ---- the one step that there is
+
+pub one_goes : (done : Bool) (steps : List Step) (d : Step) (document after : Document) → length steps ≡ 1 → KeepsDocument (cond done (go_held_step (slice_index_or steps 0 d) document) document) after → document_of after ≡ cond done (go (map step_of steps) (document_of document)) (document_of document)
+one_goes done [] d document after one keeps = absurd (omega arith)
+one_goes true (step ∷ []) d document after one keeps = kept_goes step document after keeps
+one_goes false (step ∷ []) d document after one keeps = sym (keeps_stands document after keeps)
+one_goes done (step ∷ other ∷ steps) d document after one keeps = absurd (omega arith)
+
+pub one_turned : (steps : List Step) (d next : Step) (document : Document) → length steps ≡ 1 → IsTurned (slice_index_or steps 0 d) document next → map step_of (reverse (slice_set steps 0 next)) ≡ turn (map step_of steps) (document_of document)
+one_turned [] d next document one is = absurd (omega arith)
+one_turned (step ∷ []) d next document one is = all_stand (step ∷ []) document (next ∷ []) (is, tt)
+one_turned (step ∷ other ∷ steps) d next document one is = absurd (omega arith)
+
+pub one_same : (steps : List Step) (d next : Step) → length steps ≡ 1 → step_of next ≡ step_of (slice_index_or steps 0 d) → map step_of (slice_set steps 0 next) ≡ map step_of steps
+one_same [] d next one is = refl
+one_same (step ∷ steps) d next one is = ap (λ s. s ∷ map step_of steps) is
+
 pub one_leads_back : (steps : List Step) (d next : Step) (document after : Document) → length steps ≡ 1 → Fits (map step_of steps) (document_of document) → IsTurned (slice_index_or steps 0 d) document next → KeepsDocument (go_held_step (slice_index_or steps 0 d) document) after → LeadsBack (reverse (slice_set steps 0 next)) document after
 one_leads_back [] d next document after one fits is keeps = absurd (omega arith)
 one_leads_back (step ∷ []) d next document after one fits is keeps = all_lead_back (step ∷ []) document (next ∷ []) after fits (is, tt) keeps

@@ -1,5 +1,5 @@
 -- What steps make of a document of the program, with the room of its lists, and when no list has to grow.
-use Rattle.std.specs.Prelude.{◌≡◌, ℕ, ◌+◌, ◌-◌, ◌≤◌, Bool, List, [], ◌∷◌, length, Option, Some, IsTrue, if◌then◌else◌}
+use Rattle.std.specs.Prelude.{◌≡◌, ℕ, ◌+◌, ◌-◌, ◌≤◌, Bool, List, [], ◌∷◌, length, Option, Some, IsTrue, if◌then◌else◌, slice_index_or}
 use Rattle.std.specs.Option.{IsSomeAnd, option_map_or}
 use Rattle.mvt_document.specs.Held.{Held}
 use Rattle.mvt_document.specs.Splicing.{part, splice, moved}
@@ -13,7 +13,7 @@ use Rattle.mvt_change.specs.declared.change.Step.{Step}
 use Rattle.mvt_change.specs.declared.change.Step.TheVariants.{InTile, InLayer, InFeature, Move}
 use Rattle.mvt_document.specs.Lists.{CanMove}
 use Rattle.mvt_document.specs.HeldPlaces.{held_items_at, held_fields_at, change_held_tile, change_held_items, change_held_fields}
-use Rattle.mvt_change.specs.Room.{capacity}
+use Rattle.mvt_change.specs.Room.{capacity, KeepsList}
 
 -- ---- one list
 
@@ -47,6 +47,15 @@ pub record TakesOut {T : Type 0} (index taken : ℕ) (done : Bool) (list : Optio
   pub items : new.items ≡ (if done then held_taken_out index taken list else old.items)
   pub room : capacity old ≤ capacity new
   pub succeeds : IsSomeAnd list (HasRoom index taken old) → IsTrue done
+
+-- there are `count` items of the list from `index`
+abbrev pub HasHeldPart : {T : Type 0} → ℕ → ℕ → Held T → Type 0
+HasHeldPart index count list = index + count ≤ length list.items
+
+-- a list is exchanged with the first of those to put, if the exchange was done, and is kept if not
+pub record ExchangesFirst {T : Type 0} (Keeps : T → T → Type 0) (index taken : ℕ) (done : Bool) (list made : Held T) (puts left : List (Held T)) : Type 0 where
+  pub kept : (other : Held T) → KeepsList Keeps (if done then exchanged index taken (slice_index_or puts 0 other) list else list) made
+  pub given : (other : Held T) → TakesOut index taken done (Some list) (slice_index_or puts 0 other) (slice_index_or left 0 other)
 
 -- ---- a document
 

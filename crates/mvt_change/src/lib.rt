@@ -16,13 +16,12 @@
 #![tactic(auto)]
 
 mod change;
-mod exchange;
 mod feature_run;
 mod flip_change;
 mod joining;
 pub mod laws;
 mod layer_run;
-mod moves;
+mod lists;
 mod run;
 mod sizes;
 mod steps;

@@ -1,15 +1,14 @@
 //! A step carried out in place, and turned into the step that leads back.
 
-ghost use Rattle.std.specs.Prelude.{◌≡◌, is_ok, if◌then◌else◌, IsOk, OnOk};
+ghost use Rattle.std.specs.Prelude.{◌≡◌, is_ok, if◌then◌else◌, IsOk, OnErr, OnOk};
 ghost use Rattle.mvt_document.specs.Stands.{document_of};
 ghost use Rattle.mvt_change.specs.ChangeStands.{step_of};
-ghost use Rattle.mvt_change.specs.Changes.{Finds, go_step, turn_step};
+ghost use Rattle.mvt_change.specs.Changes.{Finds};
 ghost use Rattle.mvt_change.specs.Room.{KeepsDocument};
 ghost use Rattle.mvt_change.specs.HeldChanges.{IsTurned, StepHasRoom, go_held_step};
 
 use crate::change::Step;
-use crate::exchange::{exchange_in_feature, exchange_in_layer};
-use crate::moves::move_at;
+use crate::lists::{exchange_in_feature, exchange_in_layer, move_at};
 use mvt_document::Document;
 use std::alloc::AllocError;
 use std::mem;
@@ -19,14 +18,9 @@ use std::mem;
 /// changed.
 pub(crate) fn flip_step(document: &mut Document, step: &mut Step) -> Result<(), AllocError>
     requires { Finds (step_of step.old) (document_of document.old) }
-    ensures document { document_of document.new ≡ (if is_ok result
-        then go_step (step_of step.old) (document_of document.old)
-        else document_of document.old) }
-    ensures step { step_of step.new ≡ (if is_ok result
-        then turn_step (step_of step.old) (document_of document.old)
-        else step_of step.old) }
     ensures kept { KeepsDocument (if is_ok result then go_held_step step.old document.old else document.old) document.new }
     ensures turned { OnOk result (IsTurned step.old document.old step.new) }
+    ensures same { OnErr result (step_of step.new ≡ step_of step.old) }
     ensures succeeds { StepHasRoom step.old document.old → IsOk result }
 {
     match step {

@@ -8,3 +8,4 @@ pub mod Steps
 pub mod Wholes
 pub mod Exchanged
 pub mod Signed
+pub mod Placing

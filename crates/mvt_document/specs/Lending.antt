@@ -1,6 +1,6 @@
--- What a list ends as where a `&mut` to one of its items, or to its vector, is returned.
-use Rattle.std.specs.Prelude.{ℕ, ◌-◌, Option, slice_set, vec_len, vec_capacity}
-use Rattle.std.specs.Borrow.{Lends, LendsIf, Fml, RattleType, MutBor}
+-- What a list ends as where a `&mut` to its vector is returned.
+use Rattle.std.specs.Prelude.{ℕ, ◌-◌, slice_set, vec_len, vec_capacity}
+use Rattle.std.specs.Borrow.{Lends, Fml, RattleType, MutBor}
 use Rattle.std.specs.declared.alloc.Global.{Global}
 use Rattle.std.specs.declared.vec.Vec.{Vec}
 use Rattle.std.specs.contracts.alloc.Global as global
@@ -24,12 +24,3 @@ vec_row T = vec.the_row T global.the_row ghosts
 -- once the borrow `r` ends, the list is what the vector is
 abbrev pub LendsVec : (T : RattleType) → MutBor (Held T.Denot) → MutBor (vec_row T).Denot → Fml
 LendsVec T list r = Lends (the_row T) (vec_row T) list r held_in
-
-module _ (T : RattleType) (list : MutBor (Held T.Denot)) (at : ℕ) where
-  -- once the borrow `r` ends, the item at this index is the last value written through `r`, and all else is as it was
-  abbrev pub LendsItem : MutBor T.Denot → Fml
-  LendsItem r = Lends (the_row T) T list r (with_item list.now at)
-
-  -- the same where `r` is a reference; where there is none the list stays as it is
-  abbrev pub LendsItemIf : Option (MutBor T.Denot) → Fml
-  LendsItemIf r = LendsIf (the_row T) T list r (with_item list.now at) list.now

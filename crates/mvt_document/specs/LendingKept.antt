@@ -1,6 +1,6 @@
 -- What a message ends as where a `&mut` to one of its items, or to its vector, is returned.
-use Rattle.std.specs.Prelude.{ℕ, Option}
-use Rattle.std.specs.Borrow.{Lends, LendsIf, Fml, RattleType, MutBor}
+use Rattle.std.specs.Prelude.{ℕ}
+use Rattle.std.specs.Borrow.{Lends, Fml, RattleType, MutBor}
 use Rattle.mvt_document.specs.Held.{Held}
 use Rattle.mvt_document.specs.Lending.{with_item, held_in, vec_row}
 use Rattle.mvt_document.specs.contracts.message.Message.{the_row}
@@ -11,10 +11,6 @@ module _ (T : RattleType) (measured : Ghosts T.Denot) (list : MutBor (Held T.Den
   -- is as it was
   abbrev pub LendsKept : MutBor T.Denot → Fml
   LendsKept r = Lends (the_row T measured) T list r (with_item list.now at)
-
-  -- the same where `r` is a reference; where there is none the message stays as it is
-  abbrev pub LendsKeptIf : Option (MutBor T.Denot) → Fml
-  LendsKeptIf r = LendsIf (the_row T measured) T list r (with_item list.now at) list.now
 
 -- once the borrow `r` ends, the message is what the vector is
 abbrev pub LendsVecKept : (T : RattleType) → Ghosts T.Denot → MutBor (Held T.Denot) → MutBor (vec_row T).Denot → Fml

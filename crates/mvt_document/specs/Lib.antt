@@ -16,4 +16,5 @@ pub mod Splicing
 pub mod Lists
 pub mod Places
 pub mod HeldPlaces
+pub mod Made
 pub mod Signed

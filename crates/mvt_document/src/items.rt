@@ -22,11 +22,10 @@ impl<T> Model for Items<T> {
 }
 
 impl<T> Items<T> {
-    ghost use Rattle.std.specs.Prelude.{Some, slice_get, take, reverse as reversed, ◌+◌, ◌<◌, ◌≤◌, max, ◌∷◌, [], ◌++◌, if◌then◌else◌, is_ok, IsOk, OnOk, OnErr, vec_len, vec_capacity};
+    ghost use Rattle.std.specs.Prelude.{reverse as reversed, ◌+◌, ◌<◌, ◌≤◌, max, ◌∷◌, [], ◌++◌, if◌then◌else◌, is_ok, IsOk, OnOk, OnErr, vec_len, vec_capacity};
     ghost use Rattle.mvt_document.specs.Splicing.{moved, part, splice};
     ghost use Rattle.std.specs.Borrow.{sem};
-    ghost use Rattle.std.specs.Option.{option_copied_mut};
-    ghost use Rattle.mvt_document.specs.Lending.{LendsItem, LendsItemIf, LendsVec, held_in};
+    ghost use Rattle.mvt_document.specs.Lending.{LendsVec, held_in};
 
     /// The list of a vector's items, in the vector's own memory.
     pub fn from_vec(inner: Vec<T>) -> Self
@@ -61,21 +60,6 @@ impl<T> Items<T> {
         ensures { result ≡ length self.now.items }
     {
         self.inner.len()
-    }
-
-    pub fn get_mut(&mut self, index: usize) -> Option<&mut T>
-        ensures* writes_back { sem 𝓛 (LendsItemIf T.row self.entry index result) }
-        ensures value { option_copied_mut result ≡ slice_get self.old.items index }
-    {
-        self.inner.get_mut(index)
-    }
-
-    pub fn item_mut(&mut self, index: usize) -> &mut T
-        requires { index < length self.old.items }
-        ensures* writes_back { sem 𝓛 (LendsItem T.row self.entry index result) }
-        ensures value { slice_get self.old.items index ≡ Some result.now }
-    {
-        &mut self.inner[index]
     }
 
     /// Makes room for so many more items, and for no more than those. An `Err` changes nothing.
@@ -148,14 +132,5 @@ impl<T> Items<T> {
         ensures room { self.new.room ≡ self.old.room }
     {
         self.inner.reverse();
-    }
-
-    /// Keeps so many items at the front.
-    pub fn truncate(&mut self, length: usize)
-    where
-        T: Drop,
-        ensures { self.new.items ≡ take length self.old.items }
-    {
-        self.inner.truncate(length);
     }
 }

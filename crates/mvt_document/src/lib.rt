@@ -15,14 +15,17 @@
 //!   and an item moves within its list: `exchange` and `move_item` of `Items` and of `Message`.
 //!   Where memory runs out nothing has changed, and it does not where both lists have the room
 //!   (`succeeds`).
+//! - The list of a layer, or of a feature, is changed where it stands, all else is kept, and the
+//!   sizes are right after it: `Document::change_items`, `Document::change_fields`.
 //! - A list makes room for a number of items and for no more, or lends the vector that it is in,
 //!   and ends as what that does (`writes_back`): `reserve_exact` and `as_vec_mut` of `Items`, and
 //!   `as_vec_mut`, `known_size` and `know_size` of `Message`, whose size is given back with it.
 //! - The bytes of a group are fields, groups among them, and then an end tag of its own number,
 //!   with at most 100 groups open at one place (`IsGroup`); the type of a field keeps that
 //!   (`is_group`).
-//! - Conditions: an index, a part and both positions are within the list (`item_mut`, `exchange`,
-//!   `move_item`, `size_beside_part`); a size that is given is that of the items, or of those
+//! - Conditions: there is a list at the place, and the change takes it (`change_items`,
+//!   `change_fields`); an index, a part and both positions are within the list (`item_mut`,
+//!   `exchange`, `move_item`, `size_beside_part`); a size that is given is that of the items, or of those
 //!   beside one (`Message::of_size`, `know_size`, `remember`); a width is at least 1, and the room
 //!   has as many bytes (`put_number`).
 #![tactic(auto)]
@@ -35,6 +38,7 @@ pub mod laws;
 mod lengths;
 mod measure;
 mod message;
+mod places;
 pub mod tags;
 mod varint;
 mod zigzag;

@@ -34,22 +34,15 @@ impl<T: Measured> Model for Message<T> {
 }
 
 impl<T: Measured> Message<T> {
-    ghost use Rattle.std.specs.Prelude.{Some, IfSome, slice_get, take, ◌<◌, ◌∷◌, [], ◌++◌, if◌then◌else◌, is_ok, IsOk};
+    ghost use Rattle.std.specs.Prelude.{Some, IfSome, slice_get, ◌<◌, ◌∷◌, [], ◌++◌, if◌then◌else◌, is_ok, IsOk};
     ghost use Rattle.mvt_document.specs.Splicing.{moved, part, splice};
     ghost use Rattle.std.specs.Borrow.{sem};
-    ghost use Rattle.std.specs.Option.{option_copied_mut};
     ghost use Rattle.mvt_document.specs.Kept.{IsKept, bytes_beside};
     ghost use Rattle.mvt_document.specs.Lending.{held_in};
-    ghost use Rattle.mvt_document.specs.LendingKept.{LendsKept, LendsKeptIf, LendsVecKept};
+    ghost use Rattle.mvt_document.specs.LendingKept.{LendsKept, LendsVecKept};
 
-    /// The message of a vector's items, in the vector's own memory.
-    pub fn from_vec(inner: Vec<T>) -> Self
-        ensures { result.items ≡ inner.items }
-    {
-        Message { inner, sum: None }
-    }
-
-    /// The same, where it is known how many bytes the items take.
+    /// The message of a vector's items, in the vector's own memory, where it is known how many bytes
+    /// they take.
     pub fn of_size(inner: Vec<T>, sum: usize) -> Self
         requires { sum ≡ length (flat_map T.bytes inner.items) }
         ensures { result.items ≡ inner.items }
@@ -87,14 +80,6 @@ impl<T: Measured> Message<T> {
         ensures { SomeIff result (length (flat_map T.bytes self.now.items) ≤ MAX_FILE) (length (flat_map T.bytes self.now.items)) }
     {
         self.size_within(MAX_FILE)
-    }
-
-    /// How many bytes the first so many items take, where that is known.
-    fn size_of_front(&self, length: usize) -> Option<usize>
-        ensures { IsKept T.bytes (take length self.now.items) result }
-    {
-        let behind = self.inner.get(length..)?;
-        Some(self.sum? - size_of_all(behind, MAX_FILE)?)
     }
 
     /// How many bytes the items beside this one take, where that is known.
@@ -137,15 +122,6 @@ impl<T: Measured> Message<T> {
         ensures { self.new ≡ self.old }
     {
         self.sum = self.size_with(index, beside);
-    }
-
-    /// The item at this index. The size is no longer known: see `remember`.
-    pub fn get_mut(&mut self, index: usize) -> Option<&mut T>
-        ensures* writes_back { sem 𝓛 (LendsKeptIf T.row T.Measured self.entry index result) }
-        ensures value { option_copied_mut result ≡ slice_get self.old.items index }
-    {
-        self.sum = None;
-        self.inner.get_mut(index)
     }
 
     /// The item at this index. The size is no longer known: see `remember`.
@@ -233,16 +209,6 @@ impl<T: Measured> Message<T> {
         ensures room { self.new.room ≡ self.old.room }
     {
         move_item(self.inner.as_mut_slice(), from, to);
-    }
-
-    /// Keeps so many items at the front.
-    pub fn truncate(&mut self, length: usize)
-    where
-        T: Drop,
-        ensures { self.new.items ≡ take length self.old.items }
-    {
-        self.sum = self.size_of_front(length);
-        self.inner.truncate(length);
     }
 }
 

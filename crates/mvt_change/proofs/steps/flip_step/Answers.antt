@@ -1,24 +1,18 @@
-use Rattle.std.proofs.Common.{◌≡◌, true, false, Result, Ok, Err, is_ok, IsErr, length, map, refl, sym, ap, ◌∙◌}
-use Rattle.std.proofs.lemmas.List.{length-map}
-use Rattle.mvt_document.specs.Stands.{tile_item_of}
+use Rattle.std.proofs.Common.{◌≡◌, true, false, Result, Ok, Err, is_ok, IsErr, length, refl}
 use Rattle.mvt_change.specs.declared.change.Step.TheVariants.{InTile, InLayer, InFeature}
-use Rattle.mvt_change.specs.Changes.{TileStep}
-use Rattle.mvt_change.proofs.Changed.{map-part, map-splice}
 use Rattle.mvt_change.proofs.Keeping.{tile_item_order}
+use Rattle.mvt_change.proofs.HeldSteps.{items_part, fields_part, fits_held_move}
 use Rattle.mvt_change.proofs.HeldChanged.{exchanged_or_kept}
 use Rattle.mvt_change.proofs.steps.flip_step.Goals as goal
 
-pub returns-in_ok-exchange-in-InTile-clause-document : goal.returns-in_ok-exchange-in-InTile-clause-document
-returns-in_ok-exchange-in-InTile-clause-document c =
-    rw c.in-InTile.is (ap (map tile_item_of) c.in_ok-exchange-in-InTile.ensures.items ∙ map-splice tile_item_of c.in-InTile.index c.in-InTile.take c.in-InTile.put.items c.args.document.now.items.items)
+pub exchange_in_layer-requires : goal.exchange_in_layer-requires
+exchange_in_layer-requires c = items_part c.in-InLayer.layer c.in-InLayer.index c.in-InLayer.take c.args.document.now (rw c.in-InLayer.is at c.requires)
 
-pub returns-in_ok-exchange-in-InTile-clause-step : goal.returns-in_ok-exchange-in-InTile-clause-step
-returns-in_ok-exchange-in-InTile-clause-step c =
-    let put = c.in-InTile.put.items in
-    rw c.in-InTile.is (
-    ap (λ n. TileStep c.in-InTile.index n (map tile_item_of c.exchange.new.put.items)) (c.len-given.ensures ∙ sym (length-map put tile_item_of))
-    ∙ ap (TileStep c.in-InTile.index (length (map tile_item_of put))) (ap (map tile_item_of) c.in_ok-exchange-in-InTile.ensures.put ∙ map-part tile_item_of c.in-InTile.index c.in-InTile.take c.args.document.now.items.items)
-    )
+pub exchange_in_feature-requires : goal.exchange_in_feature-requires
+exchange_in_feature-requires c = fields_part c.in-InFeature.layer c.in-InFeature.item c.in-InFeature.index c.in-InFeature.take c.args.document.now (rw c.in-InFeature.is at c.requires)
+
+pub move_at-requires : goal.move_at-requires
+move_at-requires c = fits_held_move c.in-Move.place c.in-Move.from c.in-Move.to c.args.document.now (rw c.in-Move.is at c.requires)
 
 -- ---- what is kept, and what leads back
 

@@ -1,0 +1,9 @@
+use Rattle.std.proofs.Common.{is_ok}
+use Rattle.mvt_change.proofs.Keeping.{field_order}
+use Rattle.mvt_change.proofs.HeldChanged.{exchanges_first}
+use Rattle.mvt_change.proofs.lists.fn.exchange_in_feature.change_fields.Goals as goal
+
+pub returns : goal.returns
+returns c =
+    let met = c.exchange.ensures in
+    exchanges_first field_order (is_ok c.exchange.result) c.captures.index c.captures.taken c.args.list.now c.exchange.new.self c.exchange.new.put c.args.put.now c.index-put-0.result c.requires.1 met.items met.put met.room met.put_room met.succeeds

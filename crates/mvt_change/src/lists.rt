@@ -1,0 +1,108 @@
+//! The list at a place of a document: an item of it moves, or some change places with those of a
+//! step.
+
+ghost use Rattle.std.specs.Prelude.{◌<◌, length, is_ok, if◌then◌else◌};
+ghost use Rattle.std.specs.Option.{IsSomeAnd};
+ghost use Rattle.mvt_document.specs.HeldPlaces.{change_held_fields, change_held_items, held_fields_at, held_items_at};
+ghost use Rattle.mvt_change.specs.Room.{KeepsDocument, KeepsField, KeepsLayerItem, KeepsList};
+ghost use Rattle.mvt_change.specs.HeldChanges.{CanMoveAt, CanMoveHeld, ExchangesFirst, HasHeldPart, TakesOut, exchanged, held_moved, move_held_at};
+
+use crate::change::Place;
+use mvt_document::{Document, Field, Items, LayerItem};
+use std::alloc::AllocError;
+use std::slice;
+
+/// Moves an item of the list at this place.
+pub(crate) fn move_at(document: &mut Document, place: Place, from: usize, to: usize)
+    requires { CanMoveAt place from to document.old }
+    ensures { KeepsDocument (move_held_at place from to document.old) document.new }
+{
+    match place {
+        Place::Tile => document.items.move_item(from, to),
+        Place::Layer { layer } => move_in_layer(document, layer, from, to),
+        Place::Feature { layer, item } => move_in_feature(document, layer, item, from, to),
+    }
+}
+
+fn move_in_layer(document: &mut Document, layer: usize, from: usize, to: usize)
+    requires { IsSomeAnd (held_items_at layer document.old) (CanMoveHeld from to) }
+    ensures { KeepsDocument (change_held_items (held_moved from to) layer document.old) document.new }
+{
+    let none: &mut [()] = &mut [];
+    document.change_items(
+        layer,
+        none,
+        |list, _none|
+            requires { CanMoveHeld from to list.old }
+            ensures { KeepsList KeepsLayerItem (held_moved from to list.old) list.new }
+        {
+            list.move_item(from, to);
+        },
+    );
+}
+
+fn move_in_feature(document: &mut Document, layer: usize, item: usize, from: usize, to: usize)
+    requires { IsSomeAnd (held_fields_at layer item document.old) (CanMoveHeld from to) }
+    ensures { KeepsDocument (change_held_fields (held_moved from to) layer item document.old) document.new }
+{
+    let none: &mut [()] = &mut [];
+    document.change_fields(
+        layer,
+        item,
+        none,
+        |list, _none|
+            requires { CanMoveHeld from to list.old }
+            ensures { KeepsList KeepsField (held_moved from to list.old) list.new }
+        {
+            list.move_item(from, to);
+        },
+    );
+}
+
+/// In the layer at a position of the tile, so many items from an index on change places with the
+/// ones to put.
+pub(crate) fn exchange_in_layer(
+    document: &mut Document,
+    layer: usize,
+    index: usize,
+    taken: usize,
+    put: &mut Items<LayerItem>,
+) -> Result<(), AllocError>
+    requires { IsSomeAnd (held_items_at layer document.old) (HasHeldPart index taken) }
+    ensures kept { KeepsDocument (if is_ok result then change_held_items (exchanged index taken put.old) layer document.old else document.old) document.new }
+    ensures given { TakesOut index taken (is_ok result) (held_items_at layer document.old) put.old put.new }
+{
+    document.change_items(
+        layer,
+        slice::from_mut(put),
+        |list, put|
+            requires { HasHeldPart index taken list.old × (0 < length put.old) }
+            ensures { ExchangesFirst KeepsLayerItem index taken (is_ok result) list.old list.new put.old put.new }
+        { list.exchange(index, taken, &mut put[0]) },
+    )
+}
+
+/// In the feature at a position of the layer at a position of the tile, so many fields from an
+/// index on change places with the ones to put.
+pub(crate) fn exchange_in_feature(
+    document: &mut Document,
+    layer: usize,
+    item: usize,
+    index: usize,
+    taken: usize,
+    put: &mut Items<Field>,
+) -> Result<(), AllocError>
+    requires { IsSomeAnd (held_fields_at layer item document.old) (HasHeldPart index taken) }
+    ensures kept { KeepsDocument (if is_ok result then change_held_fields (exchanged index taken put.old) layer item document.old else document.old) document.new }
+    ensures given { TakesOut index taken (is_ok result) (held_fields_at layer item document.old) put.old put.new }
+{
+    document.change_fields(
+        layer,
+        item,
+        slice::from_mut(put),
+        |list, put|
+            requires { HasHeldPart index taken list.old × (0 < length put.old) }
+            ensures { ExchangesFirst KeepsField index taken (is_ok result) list.old list.new put.old put.new }
+        { list.exchange(index, taken, &mut put[0]) },
+    )
+}

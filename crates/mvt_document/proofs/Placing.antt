@@ -1,0 +1,98 @@
+-- A list inside a document, changed where it stands: what the layers and the features around it are, and what is found.
+use Rattle.std.proofs.Common.{◌≡◌, ℕ, zero, suc, List, [], ◌∷◌, slice_get, slice_set, Option, Some, None, refl, sym, ap, ◌∙◌, subst}
+use Rattle.std.specs.Option.{IsSomeAnd, option_and_then}
+use Rattle.std.proofs.Props.{props}
+use mathlib.Core.HLevel.{is_prop→PathP}
+use Rattle.std.specs.Fn.{Once}
+use Rattle.std.specs.Borrow.{MutBor}
+use Rattle.mvt_document.specs.Held.{Held}
+use Rattle.mvt_document.specs.Shape.{IsWidth}
+use Rattle.mvt_document.specs.declared.document.Feature.{Feature}
+use Rattle.mvt_document.specs.declared.document.Layer.{Layer}
+use Rattle.mvt_document.specs.declared.document.LayerItem.{LayerItem}
+use Rattle.mvt_document.specs.declared.document.TileItem.{TileItem}
+use Rattle.mvt_document.specs.declared.document.TileItem.TheVariants as in_tile
+use Rattle.mvt_document.specs.declared.document.Document.{Document}
+use Rattle.mvt_document.specs.declared.document.Field.{Field}
+use Rattle.mvt_document.specs.Lists.{change_at}
+use Rattle.mvt_document.specs.HeldPlaces.{held_items_in, held_items_at, held_fields_in_at, held_fields_at, in_held_layer, in_held_feature, change_held_at, change_held_items, change_held_fields}
+use Rattle.mvt_document.specs.Made.{Makes, MakesThere}
+
+-- ---- what differs in nothing but the facts that it keeps is the same
+
+pub same_layer : (a b : Layer) → a.tag ≡ b.tag → a.width ≡ b.width → a.items ≡ b.items → a ≡ b
+same_layer a b tag width items = λ i. record {
+  tag = tag i;
+  width = width i;
+  items = items i;
+  is_layer = is_prop→PathP (λ j. (tag j).value ≡ 26) (λ j. hlevel props) a.is_layer b.is_layer i;
+  is_width = is_prop→PathP (λ j. IsWidth (width j)) (λ j. hlevel props) a.is_width b.is_width i;
+}
+
+pub same_feature : (a b : Feature) → a.tag ≡ b.tag → a.width ≡ b.width → a.fields ≡ b.fields → a ≡ b
+same_feature a b tag width fields = λ i. record {
+  tag = tag i;
+  width = width i;
+  fields = fields i;
+  is_feature = is_prop→PathP (λ j. (tag j).value ≡ 18) (λ j. hlevel props) a.is_feature b.is_feature i;
+  is_width = is_prop→PathP (λ j. IsWidth (width j)) (λ j. hlevel props) a.is_width b.is_width i;
+}
+
+-- ---- the item at a position of a list
+
+-- the list with the item changed is the one with what was made of it
+pub set_changed : {A : Type 0} (change : A → A) (at : ℕ) (items : List A) (x y : A) → slice_get items at ≡ Some x → y ≡ change x → slice_set items at y ≡ change_at change at items
+set_changed change at [] x y is made = refl
+set_changed change zero (z ∷ items) x y is made =
+    let same : z ≡ x = cc in
+    ap (λ w. w ∷ items) (made ∙ ap change (sym same))
+set_changed change (suc at) (z ∷ items) x y is made = ap (λ rest. z ∷ rest) (set_changed change at items x y is made)
+
+-- what is found in it is found at the position
+pub found_there : {A X : Type 0} (find : A → Option X) (at : ℕ) (items : List A) (x : A) → slice_get items at ≡ Some x → find x ≡ option_and_then find (slice_get items at)
+found_there find at items x is = sym (ap (option_and_then find) is)
+
+-- ---- the list that is found is changed to what it was made
+
+items_made : (f : Held LayerItem → Held LayerItem) (layer : ℕ) (items : List TileItem) (list : Held LayerItem) → option_and_then held_items_in (slice_get items layer) ≡ Some list → change_at (in_held_layer (λ x. f list)) layer items ≡ change_at (in_held_layer f) layer items
+items_made f layer [] list is = refl
+items_made f zero (in_tile.Layer layer ∷ items) list is =
+    let same : list ≡ layer.items = cc in
+    ap (λ made. in_tile.Layer (record layer { items = f made }) ∷ items) same
+items_made f zero (in_tile.Plain field ∷ items) list is = refl
+items_made f (suc layer) (item ∷ items) list is = ap (λ rest. item ∷ rest) (items_made f layer items list is)
+
+pub some_each : {X : Type 0} (o : Option X) (P Q : X → Type 0) → ((x : X) → P x → Q x) → IsSomeAnd o P → IsSomeAnd o Q
+some_each None P Q each there = absurd there
+some_each (Some x) P Q each there = each x there
+
+-- ---- what a closure made there
+
+module _ {F L W R : Type 0} (g : Once F (MutBor L × (MutBor W × Unit {0})) (R × (MutBor L × (MutBor W × Unit {0})))) (change : F) where
+  -- what is known of each call is known of the one that made this
+  pub made_as : (list : L) (beside : W) (r : R) (made : L) (left : W) → Makes g change list beside r made left → (P : L → W → R → L → W → Type 0)
+      → ((x : MutBor L) (y : MutBor W) (r : R) (v : MutBor L) (w : MutBor W) → g.post change (x, (y, tt)) (r, (v, (w, tt))) → P x.now y.now r v.now w.now) → P list beside r made left
+  made_as list beside r made left makes P each =
+      let met = each makes.shown makes.given r makes.ended makes.passed makes.met in
+      subst (λ l. P l beside r made left) makes.shows.0 (
+      subst (λ b. P makes.shown.now b r made left) makes.shows.1 (
+      subst (λ m. P makes.shown.now makes.given.now r m left) makes.leaves.0 (
+      subst (λ n. P makes.shown.now makes.given.now r makes.ended.now n) makes.leaves.1 met)))
+
+  pub makes_more : (o p : Option L) (beside : W) (r : R) (left : W) (P Q : L → Type 0) → o ≡ p → ((made : L) → P made → Q made) → MakesThere g change o beside r left P → MakesThere g change p beside r left Q
+  makes_more None p beside r left P Q is each there = absurd there
+  makes_more (Some list) p beside r left P Q is each there = subst (λ found. MakesThere g change found beside r left Q) is (there.0, there.1, each there.0 there.2)
+
+-- what was made of the fields of a feature was made of the items of its layer
+module _ {F W R : Type 0} (g : Once F (MutBor (Held Field) × (MutBor W × Unit {0})) (R × (MutBor (Held Field) × (MutBor W × Unit {0})))) (change : F) where
+  pub fields_made : (layer item : ℕ) (document new : Document) (beside : W) (r : R) (left : W) (o : Option (Held LayerItem)) → held_items_at layer document ≡ o
+      → IsSomeAnd o (λ list. (made : Held LayerItem) × MakesThere g change (held_fields_in_at item list) beside r left (λ inner. made ≡ change_held_at (in_held_feature (λ x. inner)) item list) × (new ≡ change_held_items (λ x. made) layer document))
+      → MakesThere g change (held_fields_at layer item document) beside r left (λ inner. new ≡ change_held_fields (λ x. inner) layer item document)
+  fields_made layer item document new beside r left None is there = absurd there
+  fields_made layer item document new beside r left (Some list) is there =
+      let with : List TileItem → Document = λ items. record document { items = record document.items { items = items } } in
+      makes_more g change (held_fields_in_at item list) (held_fields_at layer item document) beside r left _ _ (ap (option_and_then (held_fields_in_at item)) (sym is))
+      (λ inner made.
+      let f = change_held_at (in_held_feature (λ x. inner)) item in
+      there.2 ∙ ap (λ m. change_held_items (λ x. m) layer document) made ∙ ap with (items_made f layer document.items.items list is))
+      there.1

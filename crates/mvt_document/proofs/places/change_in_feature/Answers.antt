@@ -1,0 +1,8 @@
+use Rattle.std.proofs.Common.{refl, ap}
+use Rattle.mvt_document.specs.declared.document.LayerItem.TheVariants.{Feature}
+use Rattle.mvt_document.proofs.Placing.{same_feature}
+use Rattle.mvt_document.proofs.places.change_in_feature.Goals as goal
+
+pub returns : goal.returns
+returns g c =
+    rw c.in-Feature.is (c.change.new.arg2, record { shown = _; given = _; shows = (refl, refl); ended = _; passed = _; met = c.change.ensures; leaves = (refl, refl) }, ap Feature (same_feature _ _ refl refl refl))

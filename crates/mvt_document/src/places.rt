@@ -1,0 +1,97 @@
+//! A list inside a document, changed where it stands.
+
+ghost use Rattle.std.specs.Prelude.{◌≡◌};
+ghost use Rattle.std.specs.Option.{IsSomeAnd, option_and_then};
+ghost use Rattle.mvt_document.specs.Made.{MakesThere, TakesList};
+ghost use Rattle.mvt_document.specs.HeldPlaces.{change_held_at, change_held_fields, change_held_items, held_fields_at, held_fields_in, held_fields_in_at, held_items_at, held_items_in, in_held_feature, in_held_layer};
+
+use crate::document::{Document, Field, LayerItem, TileItem};
+use crate::items::Items;
+use crate::message::Message;
+
+impl Document {
+    /// Changes the items of the layer at this position, and the values beside. What `change` makes of
+    /// the list stands there, and all else is kept.
+    pub fn change_items<W, R, F: FnOnce(&mut Message<LayerItem>, &mut [W]) -> R>(
+        &mut self,
+        layer: usize,
+        beside: &mut [W],
+        change: F,
+    ) -> R
+        requires { IsSomeAnd (held_items_at layer self.old) (λ list. TakesList F.FnOnce change list beside.old) }
+        ensures { MakesThere F.FnOnce change (held_items_at layer self.old) beside.old result beside.new (λ made. self.new ≡ change_held_items (λ _. made) layer self.old) }
+    {
+        let size = self.items.size_beside(layer);
+        let result = change_in_layer(self.items.item_mut(layer), beside, change);
+        self.items.remember(layer, size);
+        result
+    }
+
+    /// Changes the fields of the feature at this position of that layer, and the values beside. What
+    /// `change` makes of the list stands there, and all else is kept.
+    pub fn change_fields<W, R, F: FnOnce(&mut Items<Field>, &mut [W]) -> R>(
+        &mut self,
+        layer: usize,
+        item: usize,
+        beside: &mut [W],
+        change: F,
+    ) -> R
+        requires { IsSomeAnd (held_fields_at layer item self.old) (λ list. TakesList F.FnOnce change list beside.old) }
+        ensures { MakesThere F.FnOnce change (held_fields_at layer item self.old) beside.old result beside.new (λ made. self.new ≡ change_held_fields (λ _. made) layer item self.old) }
+    {
+        self.change_items(
+            layer,
+            beside,
+            |items, beside|
+                requires { IsSomeAnd (held_fields_in_at item items.old) (λ list. TakesList F.FnOnce change list beside.old) }
+                ensures { MakesThere F.FnOnce change (held_fields_in_at item items.old) beside.old result beside.new (λ made. items.new ≡ change_held_at (in_held_feature (λ _. made)) item items.old) }
+            { change_in_items(items, item, beside, change) },
+        )
+    }
+}
+
+/// Changes the fields of the feature at this position of a layer.
+fn change_in_items<W, R, F: FnOnce(&mut Items<Field>, &mut [W]) -> R>(
+    items: &mut Message<LayerItem>,
+    item: usize,
+    beside: &mut [W],
+    change: F,
+) -> R
+    requires { IsSomeAnd (held_fields_in_at item items.old) (λ list. TakesList F.FnOnce change list beside.old) }
+    ensures { MakesThere F.FnOnce change (held_fields_in_at item items.old) beside.old result beside.new (λ made. items.new ≡ change_held_at (in_held_feature (λ _. made)) item items.old) }
+{
+    let size = items.size_beside(item);
+    let result = change_in_feature(items.item_mut(item), beside, change);
+    items.remember(item, size);
+    result
+}
+
+/// Changes the fields of a feature.
+fn change_in_feature<W, R, F: FnOnce(&mut Items<Field>, &mut [W]) -> R>(
+    item: &mut LayerItem,
+    beside: &mut [W],
+    change: F,
+) -> R
+    requires { IsSomeAnd (held_fields_in item.old) (λ list. TakesList F.FnOnce change list beside.old) }
+    ensures { MakesThere F.FnOnce change (held_fields_in item.old) beside.old result beside.new (λ made. item.new ≡ in_held_feature (λ _. made) item.old) }
+{
+    match item {
+        LayerItem::Feature(feature) => change(&mut feature.fields, beside),
+        LayerItem::Plain(_) => unreachable!(),
+    }
+}
+
+/// Changes the items of a layer.
+fn change_in_layer<W, R, F: FnOnce(&mut Message<LayerItem>, &mut [W]) -> R>(
+    item: &mut TileItem,
+    beside: &mut [W],
+    change: F,
+) -> R
+    requires { IsSomeAnd (held_items_in item.old) (λ list. TakesList F.FnOnce change list beside.old) }
+    ensures { MakesThere F.FnOnce change (held_items_in item.old) beside.old result beside.new (λ made. item.new ≡ in_held_layer (λ _. made) item.old) }
+{
+    match item {
+        TileItem::Layer(layer) => change(&mut layer.items, beside),
+        TileItem::Plain(_) => unreachable!(),
+    }
+}
