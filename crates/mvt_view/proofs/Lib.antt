@@ -1,4 +1,4 @@
-pub mod TagPairs
+pub mod Pairing
 pub mod Yielded
 pub mod Placing
 pub mod Integers

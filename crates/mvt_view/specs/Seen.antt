@@ -1,12 +1,16 @@
 -- What a view is a view of.
-use Rattle.std.specs.Prelude.{ℕ}
+use Rattle.std.specs.Prelude.{ℕ, Result, Ok, Err}
 use Rattle.mvt_document.specs.Plain as plain
 use Rattle.mvt_document.specs.Stands.{layer_of, feature_of}
 use Rattle.mvt_view.specs.declared.views.LayerView.{LayerView}
 use Rattle.mvt_view.specs.declared.views.FeatureView.{FeatureView}
 use Rattle.mvt_view.specs.declared.found.FoundLayer.{FoundLayer}
 use Rattle.mvt_view.specs.declared.found.FoundFeature.{FoundFeature}
+use Rattle.mvt_numbers.specs.Seen.{placed_of}
+use Rattle.mvt_view.specs.Tags.{PlacedPair}
 use Rattle.mvt_view.specs.declared.attributes.Pair.{Pair}
+use Rattle.mvt_view.specs.declared.tag_pairs.TagPair.{TagPair}
+use Rattle.mvt_view.specs.declared.tag_pairs.BadPair.{BadPair}
 
 -- the plain layer that a view shows
 abbrev pub layer_seen : LayerView → plain.Layer
@@ -27,3 +31,8 @@ found_feature_seen found = (found.ordinal, (found.position, feature_of found.fea
 -- the ordinals of the key and the value of a pair
 abbrev pub pair_seen : Pair → ℕ × ℕ
 pair_seen pair = (pair.key, pair.value)
+
+-- the pair with its two numbers that an answer of the program stands for, or an error
+abbrev pub tag_pair_seen : Result TagPair BadPair → Result PlacedPair (Unit {0})
+tag_pair_seen (Ok tags) = Ok (pair_seen tags.pair, (placed_of tags.key, placed_of tags.value))
+tag_pair_seen (Err bad) = Err tt

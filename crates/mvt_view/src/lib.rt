@@ -10,9 +10,12 @@
 //!   whether none has it or several: `layer_named`, `feature_by_id`.
 //! - The tags of a feature are the numbers of its fields of number 2, those of its geometry of
 //!   number 4: `FeatureView::tags`, `FeatureView::geometry_numbers`.
-//! - The tags of a feature are read as pairs of the ordinals of a key and of a value of its layer
-//!   (`pairs`). They are refused only where they are no such pairs (`bad_tags`): a chunk is bad, a
-//!   key has no value, or an ordinal names no key, no value, or has more than 32 bits. Out of
+//! - The tags of a feature come pair by pair, each with the ordinals of a key and of a value and
+//!   with the two numbers that these are, or as an error that stands where they are no such pair: a
+//!   chunk is bad, a key has no value, or an ordinal names no key, no value, or has more than 32
+//!   bits. The keys and the values are counted once for a layer: `LayerView::pool_sizes`,
+//!   `FeatureView::tag_pairs`.
+//! - The same pairs in a list (`pairs`), refused only where one is an error (`bad_tags`). Out of
 //!   memory alone may come in place of either: `pairs`.
 //! - The geometry of a feature is read from its numbers, for its kind (`found`), and refused only
 //!   where there is none (`bad`): a chunk is bad, or the numbers are those of no geometry of the
@@ -30,6 +33,7 @@ mod geometries;
 pub mod laws;
 mod lists;
 mod select;
+mod tag_pairs;
 mod views;
 
 pub use attributes::{Pair, PairsError, pairs};
@@ -44,4 +48,5 @@ pub use mvt_value::{NewValue, Value, encode_value, value_of};
 pub use select::{
     FeatureError, LayerError, feature_by_id, layer, layer_count, layer_named, layers,
 };
+pub use tag_pairs::{BadPair, PoolSizes, TagPair, TagPairs};
 pub use views::{FeatureView, LayerView};

@@ -7,10 +7,12 @@ ghost use Rattle.mvt_numbers.specs.Numbers.{numbers};
 ghost use Rattle.mvt_view.specs.Views.{extent_of, features, id_of, keys, kind_of, name_of, values, version_of};
 ghost use Rattle.mvt_view.specs.Found.{found_features};
 ghost use Rattle.mvt_view.specs.Seen.{feature_seen, found_feature_seen, layer_seen};
+ghost use Rattle.mvt_view.specs.Tags.{tag_pairs};
 
 use crate::fields::{last_value, last_value_in_layer};
 use crate::found::FoundFeature;
 use crate::lists::{Contents, FeatureViews};
+use crate::tag_pairs::{PoolSizes, TagPairs};
 use mvt_document::tags::{EXTENT, GEOMETRY, ID, KEYS, KIND, NAME, TAGS, VALUES, VERSION};
 use mvt_document::{Feature, Layer};
 use mvt_numbers::Numbers;
@@ -98,6 +100,17 @@ impl<'a> LayerView<'a> {
         self.values().count()
     }
 
+    /// How many keys and how many values there are, each counted in a pass over the items.
+    pub fn pool_sizes(self) -> PoolSizes
+        ensures keys { result.keys ≡ length (keys (layer_seen self.entry)) }
+        ensures values { result.values ≡ length (values (layer_seen self.entry)) }
+    {
+        PoolSizes {
+            keys: self.key_count(),
+            values: self.value_count(),
+        }
+    }
+
     /// The feature of this ordinal.
     pub fn feature(self, ordinal: usize) -> Option<FoundFeature<'a>>
         ensures { option_map found_feature_seen result ≡ slice_get (found_features (layer_seen self.entry).items) ordinal }
@@ -153,6 +166,13 @@ impl<'a> FeatureView<'a> {
         ensures { result ≡ numbers 2 (feature_seen self.entry).fields }
     {
         Numbers::of(self.feature.fields.as_slice(), TAGS)
+    }
+
+    /// The tags in pairs, in order, where the layer has so many keys and values.
+    pub fn tag_pairs(self, sizes: PoolSizes) -> TagPairs<'a>
+        ensures { result ≡ tag_pairs sizes.keys sizes.values (numbers 2 (feature_seen self.entry).fields) }
+    {
+        TagPairs::of(self.tags(), sizes)
     }
 
     /// The numbers of the geometry, in order.

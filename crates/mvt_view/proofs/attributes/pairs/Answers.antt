@@ -1,19 +1,31 @@
-use Rattle.std.proofs.Common.{◌≡◌, ℕ, List, [], ◌∷◌, ◌++◌, map, option_map, sym, ap, ◌∙◌}
+use Rattle.std.proofs.Common.{◌≡◌, ℕ, List, [], ◌∷◌, ◌++◌, Ok, map, option_map, sym, ap, ◌∙◌}
 use Rattle.std.proofs.lemmas.List.{map_push}
-use Rattle.mvt_numbers.specs.Numbers.{and_more}
-use Rattle.mvt_view.specs.Attributes.{pairs_in}
-use Rattle.mvt_view.specs.Seen.{pair_seen}
-use Rattle.mvt_view.proofs.TagPairs.{done_more}
+use Rattle.mvt_numbers.specs.Numbers.{and_more, numbers}
+use Rattle.mvt_numbers.specs.Seen.{placed_of}
+use Rattle.mvt_view.specs.Seen.{feature_seen, layer_seen, pair_seen}
+use Rattle.mvt_view.specs.Tags.{plain_pairs, tag_pairs}
+use Rattle.mvt_view.proofs.Pairing.{done_more, done_none, plain_more, tags_are_pairs}
 use Rattle.mvt_view.proofs.attributes.pairs.Goals as goal
 
-pub loop-pairs-preserved : goal.loop-pairs-preserved
-loop-pairs-preserved c =
-    let read = pairs_in c.key_count-key_count.result c.value_count-value_count.result in
-    let pair = c.in-Some.pair in
-    let done : List (ℕ × ℕ) = map pair_seen c.loop-pairs.pairs.items in
-    let step : read c.loop-pairs.tags ≡ and_more (pair_seen pair) (read c.next_pair.new.tags) = rw c.in-Some.is at c.in_ok-pair.ensures.ok in
-    let pushed : map pair_seen c.push.new.self.items ≡ done ++ pair_seen pair ∷ [] = ap (map pair_seen) c.in_ok-push.ensures.items ∙ map_push pair_seen c.loop-pairs.pairs.items pair in
-    ap (λ (front : List (ℕ × ℕ)). option_map (λ rest. front ++ rest) (read c.next_pair.new.tags)) pushed
-    ∙ sym (done_more done (pair_seen pair) (read c.next_pair.new.tags))
+pub loop-tags-init : goal.loop-tags-init
+loop-tags-init c =
+    let sizes = c.pool_sizes.ensures in
+    let items = c.into_iter-tags-iterator.ensures.into_iter_gives ∙ rw (sizes.keys, sizes.values) at c.tag_pairs-tags-items.ensures in
+    ap (λ (list : List _). option_map (λ rest. map pair_seen list ++ rest) (plain_pairs c.into_iter-tags-iterator.result)) c.new-pairs.ensures.items
+    ∙ done_none (plain_pairs c.into_iter-tags-iterator.result)
+    ∙ ap plain_pairs items
+    ∙ tags_are_pairs (layer_seen c.args.layer.now) (feature_seen c.args.feature.now)
+
+pub loop-tags-preserved : goal.loop-tags-preserved
+loop-tags-preserved c =
+    let found = c.in_ok-tags.field-0 in
+    let rest = plain_pairs c.next.new.self in
+    let done : List (ℕ × ℕ) = map pair_seen c.loop-tags.pairs.items in
+    let front : c.loop-tags.tags-iterator ≡ Ok (pair_seen found.pair, (placed_of found.key, placed_of found.value)) ∷ c.next.new.self = rw c.in_ok-tags.was at c.in-Some.ensures.steps in
+    let step : plain_pairs c.loop-tags.tags-iterator ≡ and_more (pair_seen found.pair) rest =
+    ap plain_pairs front ∙ plain_more (pair_seen found.pair, (placed_of found.key, placed_of found.value)) c.next.new.self in
+    let pushed : map pair_seen c.push.new.self.items ≡ done ++ pair_seen found.pair ∷ [] = ap (map pair_seen) c.in_ok-push.ensures.items ∙ map_push pair_seen c.loop-tags.pairs.items found.pair in
+    ap (λ (front : List (ℕ × ℕ)). option_map (λ rest. front ++ rest) rest) pushed
+    ∙ sym (done_more done (pair_seen found.pair) rest)
     ∙ ap (option_map (λ rest. done ++ rest)) (sym step)
-    ∙ c.loop-pairs.invariant
+    ∙ c.loop-tags.invariant
