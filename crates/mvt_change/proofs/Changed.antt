@@ -5,7 +5,6 @@ use Rattle.std.specs.List.{flat_map}
 use Rattle.std.specs.Option.{IfSome, IsSomeAnd, option_and_then}
 use Rattle.mvt_document.specs.Kept.{bytes_beside}
 use Rattle.mvt_document.specs.Splicing.{part, splice, moved}
-use Rattle.mvt_document.specs.Lists.{change_at}
 
 pub map-part : {A B : Type 0} (g : A → B) (index count : ℕ) (items : List A) → map g (part index count items) ≡ part index count (map g items)
 map-part g index count items = sym (take-map g count (drop index items)) ∙ ap (take count) (sym (drop-map g index items))
@@ -36,34 +35,11 @@ get-map g at [] x is = absurd cc
 get-map g zero (y ∷ items) x is = let same : y ≡ x = cc in ap (λ z. Some (g z)) same
 get-map g (suc at) (y ∷ items) x is = get-map g at items x is
 
-pub set_changes : {A B : Type 0} (g : A → B) (change : B → B) (at : ℕ) (items : List A) (x y : A) → slice_get items at ≡ Some x → g y ≡ change (g x) → map g (slice_set items at y) ≡ change_at change at (map g items)
-set_changes g change at [] x y is made = absurd cc
-set_changes g change zero (z ∷ items) x y is made = let same : x ≡ z = cc in ap (λ b. b ∷ map g items) (made ∙ ap (λ a. change (g a)) same)
-set_changes g change (suc at) (z ∷ items) x y is made = ap (λ rest. g z ∷ rest) (set_changes g change at items x y is made)
-
-pub set_keeps : {A B : Type 0} (g : A → B) (at : ℕ) (items : List A) (x y : A) → slice_get items at ≡ Some x → g y ≡ g x → map g (slice_set items at y) ≡ map g items
-set_keeps g at [] x y is made = absurd cc
-set_keeps g zero (z ∷ items) x y is made = let same : x ≡ z = cc in ap (λ b. b ∷ map g items) (made ∙ ap g same)
-set_keeps g (suc at) (z ∷ items) x y is made = ap (λ rest. g z ∷ rest) (set_keeps g at items x y is made)
-
--- the item is changed, or stays as it is
-pub set_or_keeps : {A B : Type 0} (done : Bool) (g : A → B) (change : B → B) (at : ℕ) (items : List A) (x y : A) → slice_get items at ≡ Some x → g y ≡ cond done (change (g x)) (g x) → map g (slice_set items at y) ≡ cond done (change_at change at (map g items)) (map g items)
-set_or_keeps true g change at items x y is made = set_changes g change at items x y is made
-set_or_keeps false g change at items x y is made = set_keeps g at items x y is made
-
--- ---- a part exchanged, or nothing done
+-- ---- either way
 
 pub apply_cond : {A B : Type 0} (f : A → B) (done : Bool) (x y : A) → f (cond done x y) ≡ cond done (f x) (f y)
 apply_cond f true x y = refl
 apply_cond f false x y = refl
-
-pub spliced_or_kept : {A B : Type 0} (g : A → B) (done : Bool) (index taken : ℕ) (put old now : List A) → now ≡ cond done (splice index taken put old) old → map g now ≡ cond done (splice index taken (map g put) (map g old)) (map g old)
-spliced_or_kept g true index taken put old now is = ap (map g) is ∙ map-splice g index taken put old
-spliced_or_kept g false index taken put old now is = ap (map g) is
-
-pub part_or_kept : {A B : Type 0} (g : A → B) (done : Bool) (index taken : ℕ) (put old now : List A) → now ≡ cond done (part index taken old) put → map g now ≡ cond done (part index taken (map g old)) (map g put)
-part_or_kept g true index taken put old now is = ap (map g) is ∙ map-part g index taken old
-part_or_kept g false index taken put old now is = ap (map g) is
 
 -- ---- what is found in an item, and the bytes beside it
 

@@ -1,7 +1,7 @@
 -- Steps on the fields of one feature, one after the other.
-use Rattle.std.proofs.Common.{◌≡◌, ℕ, zero, suc, ◌+◌, ◌<◌, ◌≤◌, true, false, slice_get, List, [], ◌∷◌, length, map, Option, Some, None, option_map, refl, sym, ap, ◌∙◌, subst, arith}
+use Rattle.std.proofs.Common.{◌≡◌, ℕ, zero, suc, ◌+◌, ◌<◌, ◌≤◌, true, false, List, [], ◌∷◌, length, map, Option, Some, None, option_map, refl, sym, ap, ◌∙◌, subst, arith}
 use Rattle.std.specs.List.{AllByRecursion, AllZip}
-use Rattle.std.specs.Option.{IsSomeAnd, option_and_then}
+use Rattle.std.specs.Option.{IsSomeAnd}
 use Rattle.mvt_document.specs.Held.{Held}
 use Rattle.mvt_document.specs.Splicing.{splice}
 use Rattle.mvt_document.specs.Stands.{document_of}
@@ -19,7 +19,7 @@ use Rattle.mvt_change.specs.ChangeStands.{step_of}
 use Rattle.mvt_document.specs.Lists.{change_at}
 use Rattle.mvt_change.specs.Changes.{Fits}
 use Rattle.mvt_change.specs.Room.{capacity}
-use Rattle.mvt_document.specs.HeldPlaces.{held_items_in, held_fields_in_at, held_fields_at, in_held_layer, in_held_feature, change_held_at, change_held_fields}
+use Rattle.mvt_document.specs.HeldPlaces.{held_fields_at, in_held_layer, in_held_feature, change_held_at, change_held_fields}
 use Rattle.mvt_change.specs.HeldChanges.{exchanged, go_held_step, go_held, IsBack, AreTurned}
 use Rattle.mvt_change.specs.Runs.{feature_splice, turned_in_feature, held_part, IsRoomierStep}
 use Rattle.mvt_change.specs.LayerRuns.{AreMade, exchanged_all}
@@ -169,11 +169,6 @@ feature_there (InFeature place position index taken put ∷ steps) layer item do
     let here : IsSomeAnd (held_fields_at layer item document) P = subst (λ n. IsSomeAnd (held_fields_at layer n document) P) all.0.1 near in
     some_fit (InFeature place position index taken put ∷ steps) layer item document (held_fields_at layer item document) P refl here all fits
 feature_there (Move place from to ∷ steps) layer item document some all fits = absurd all.0
-
-pub feature_below : (layer item : ℕ) (items : List TileItem) (P : Held Field → Type 0) → IsSomeAnd (option_and_then (held_fields_in_at item) (option_and_then held_items_in (slice_get items layer))) P → layer < length items
-feature_below layer item [] P there = absurd there
-feature_below zero item (holder ∷ items) P there = omega arith
-feature_below (suc layer) item (holder ∷ items) P there = let below = feature_below layer item items P there in omega arith
 
 pub made_turned : (steps new : List Step) (layer item : ℕ) (document : Document) (o : Option (Held Field)) → held_fields_at layer item document ≡ o → AllByRecursion (IsInFeature layer item) steps → Fits (map step_of steps) (document_of document)
     → IsSomeAnd o (λ list. AreMade feature_splice turned_in_feature true steps new list.items) → AreTurned steps document new

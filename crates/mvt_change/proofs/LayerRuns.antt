@@ -1,8 +1,8 @@
 -- Steps on one layer's list, one after the other.
-use Rattle.std.proofs.Common.{◌≡◌, ℕ, zero, suc, ◌+◌, ◌<◌, ◌≤◌, slice_get, List, [], ◌∷◌, length, map, Option, Some, None, option_map, true, false, cond, is_ok, refl, sym, ap, ◌∙◌, subst, arith}
+use Rattle.std.proofs.Common.{◌≡◌, ℕ, zero, suc, ◌+◌, ◌<◌, ◌≤◌, List, [], ◌∷◌, length, map, Option, Some, None, option_map, true, false, cond, is_ok, refl, sym, ap, ◌∙◌, subst, arith}
 use Rattle.std.specs.Prelude.{Result, Ok, Err, OnOk}
 use Rattle.std.specs.List.{AllByRecursion, AllZip}
-use Rattle.std.specs.Option.{IsSomeAnd, option_and_then}
+use Rattle.std.specs.Option.{IsSomeAnd}
 use Rattle.mvt_document.specs.Held.{Held}
 use Rattle.mvt_document.specs.Splicing.{splice}
 use Rattle.mvt_document.specs.Stands.{document_of}
@@ -18,7 +18,7 @@ use Rattle.mvt_change.specs.ChangeStands.{step_of}
 use Rattle.mvt_document.specs.Lists.{change_at}
 use Rattle.mvt_change.specs.Changes.{Fits}
 use Rattle.mvt_change.specs.Room.{capacity, KeepsList}
-use Rattle.mvt_document.specs.HeldPlaces.{held_items_in, held_items_at, in_held_layer, change_held_items}
+use Rattle.mvt_document.specs.HeldPlaces.{held_items_at, in_held_layer, change_held_items}
 use Rattle.mvt_change.specs.HeldChanges.{exchanged, go_held_step, go_held, IsBack, AreTurned}
 use Rattle.mvt_change.specs.Runs.{layer_splice, turned_in_layer, held_part, IsRoomierStep}
 use Rattle.mvt_change.specs.LayerRuns.{IsInLayer, exchanged_all, AreMade}
@@ -148,11 +148,6 @@ layer_there (InLayer place index taken put ∷ steps) layer document some all fi
     some_fit (InLayer place index taken put ∷ steps) layer document (held_items_at layer document) P refl here all fits
 layer_there (InFeature place item index taken put ∷ steps) layer document some all fits = absurd all.0
 layer_there (Move place from to ∷ steps) layer document some all fits = absurd all.0
-
-pub layer_below : (layer : ℕ) (items : List TileItem) (P : Held LayerItem → Type 0) → IsSomeAnd (option_and_then held_items_in (slice_get items layer)) P → layer < length items
-layer_below layer [] P there = absurd there
-layer_below zero (item ∷ items) P there = omega arith
-layer_below (suc layer) (item ∷ items) P there = let below = layer_below layer items P there in omega arith
 
 pub made_turned : (steps new : List Step) (layer : ℕ) (document : Document) (o : Option (Held LayerItem)) → held_items_at layer document ≡ o → AllByRecursion (IsInLayer layer) steps → Fits (map step_of steps) (document_of document)
     → IsSomeAnd o (λ list. AreMade layer_splice turned_in_layer true steps new list.items) → AreTurned steps document new

@@ -134,10 +134,6 @@ one_turned [] d next document one is = absurd (omega arith)
 one_turned (step ∷ []) d next document one is = all_stand (step ∷ []) document (next ∷ []) (is, tt)
 one_turned (step ∷ other ∷ steps) d next document one is = absurd (omega arith)
 
-pub one_same : (steps : List Step) (d next : Step) → length steps ≡ 1 → step_of next ≡ step_of (slice_index_or steps 0 d) → map step_of (slice_set steps 0 next) ≡ map step_of steps
-one_same [] d next one is = refl
-one_same (step ∷ steps) d next one is = ap (λ s. s ∷ map step_of steps) is
-
 pub one_leads_back : (steps : List Step) (d next : Step) (document after : Document) → length steps ≡ 1 → Fits (map step_of steps) (document_of document) → IsTurned (slice_index_or steps 0 d) document next → KeepsDocument (go_held_step (slice_index_or steps 0 d) document) after → LeadsBack (reverse (slice_set steps 0 next)) document after
 one_leads_back [] d next document after one fits is keeps = absurd (omega arith)
 one_leads_back (step ∷ []) d next document after one fits is keeps = all_lead_back (step ∷ []) document (next ∷ []) after fits (is, tt) keeps

@@ -16,11 +16,9 @@
 #![tactic(auto)]
 
 mod change;
-mod feature_run;
 mod flip_change;
 mod joining;
 pub mod laws;
-mod layer_run;
 mod lists;
 mod run;
 mod sizes;

@@ -1,15 +1,24 @@
-//! The list at a place of a document: an item of it moves, or some change places with those of a
-//! step.
+//! The list at a place of a document: an item of it moves, some change places with those of a step,
+//! or steps are carried out in one pass.
 
-ghost use Rattle.std.specs.Prelude.{◌<◌, length, is_ok, if◌then◌else◌};
+ghost use Rattle.std.specs.Prelude.{◌≡◌, ◌<◌, length, map, reverse, is_ok, if◌then◌else◌, OnOk, OnErr};
+ghost use Rattle.std.specs.List.{AllByRecursion};
 ghost use Rattle.std.specs.Option.{IsSomeAnd};
+ghost use Rattle.mvt_document.specs.Stands.{document_of};
+ghost use Rattle.mvt_splices.specs.Splices.{FitAll};
+ghost use Rattle.mvt_change.specs.ChangeStands.{step_of};
+ghost use Rattle.mvt_change.specs.Changes.{Fits, go, turn};
 ghost use Rattle.mvt_document.specs.HeldPlaces.{change_held_fields, change_held_items, held_fields_at, held_items_at};
 ghost use Rattle.mvt_change.specs.Room.{KeepsDocument, KeepsField, KeepsLayerItem, KeepsList};
 ghost use Rattle.mvt_change.specs.HeldChanges.{CanMoveAt, CanMoveHeld, ExchangesFirst, HasHeldPart, TakesOut, exchanged, held_moved, move_held_at};
+ghost use Rattle.mvt_change.specs.LayerRuns.{IsInLayer, PassesOver};
+ghost use Rattle.mvt_change.specs.FeatureRuns.{IsInFeature};
+ghost use Rattle.mvt_change.specs.Runs.{LeadsBack, feature_splice, layer_splice, turned_in_feature, turned_in_layer};
 
-use crate::change::Place;
+use crate::change::{Place, Step};
 use mvt_document::{Document, Field, Items, LayerItem};
-use std::alloc::AllocError;
+use mvt_splices::{splice_items, splice_message};
+use std::alloc::{AllocError, Global};
 use std::slice;
 
 /// Moves an item of the list at this place.
@@ -104,5 +113,65 @@ pub(crate) fn exchange_in_feature(
             requires { HasHeldPart index taken list.old × (0 < length put.old) }
             ensures { ExchangesFirst KeepsField index taken (is_ok result) list.old list.new put.old put.new }
         { list.exchange(index, taken, &mut put[0]) },
+    )
+}
+
+/// Carries steps on the list of the layer at this position out in one pass over it, and makes each
+/// the step that leads back. Memory is asked for before the first item moves.
+pub(crate) fn run_in_layer(
+    alloc: Global,
+    document: &mut Document,
+    layer: usize,
+    steps: &mut [Step],
+) -> Result<(), AllocError>
+    requires some { 0 < length steps.old }
+    requires layer { AllByRecursion (IsInLayer layer) steps.old }
+    requires fits { Fits (map step_of steps.old) (document_of document.old) }
+    ensures document { document_of document.new ≡ (if is_ok result
+        then go (map step_of steps.old) (document_of document.old)
+        else document_of document.old) }
+    ensures turned { OnOk result (map step_of (reverse steps.new) ≡ turn (map step_of steps.old) (document_of document.old)) }
+    ensures back { OnOk result (LeadsBack (reverse steps.new) document.old document.new) }
+    ensures same { OnErr result (map step_of steps.new ≡ map step_of steps.old) }
+    ensures kept { OnErr result (KeepsDocument document.old document.new) }
+{
+    document.change_items(
+        layer,
+        steps,
+        |list, steps|
+            requires { FitAll layer_splice steps.old (length list.old.items) }
+            ensures { PassesOver KeepsLayerItem layer_splice turned_in_layer (is_ok result) list.old list.new steps.old steps.new }
+        { splice_message(alloc, list, steps) },
+    )
+}
+
+/// Carries steps on the fields of the feature at this position of a layer out in one pass over
+/// them, and makes each the step that leads back. Memory is asked for before the first field moves.
+pub(crate) fn run_in_feature(
+    alloc: Global,
+    document: &mut Document,
+    layer: usize,
+    item: usize,
+    steps: &mut [Step],
+) -> Result<(), AllocError>
+    requires some { 0 < length steps.old }
+    requires feature { AllByRecursion (IsInFeature layer item) steps.old }
+    requires fits { Fits (map step_of steps.old) (document_of document.old) }
+    ensures document { document_of document.new ≡ (if is_ok result
+        then go (map step_of steps.old) (document_of document.old)
+        else document_of document.old) }
+    ensures turned { OnOk result (map step_of (reverse steps.new) ≡ turn (map step_of steps.old) (document_of document.old)) }
+    ensures back { OnOk result (LeadsBack (reverse steps.new) document.old document.new) }
+    ensures same { OnErr result (map step_of steps.new ≡ map step_of steps.old) }
+    ensures kept { OnErr result (KeepsDocument document.old document.new) }
+{
+    document.change_fields(
+        layer,
+        item,
+        steps,
+        |list, steps|
+            requires { FitAll feature_splice steps.old (length list.old.items) }
+            ensures { PassesOver KeepsField feature_splice turned_in_feature (is_ok result) list.old list.new steps.old steps.new }
+        { splice_items(alloc, list, steps) },
     )
 }

@@ -10,8 +10,7 @@ ghost use Rattle.mvt_change.specs.Room.{KeepsDocument};
 ghost use Rattle.mvt_change.specs.Runs.{IsInTile, IsRun, LeadsBack, SharesList};
 
 use crate::change::Step;
-use crate::feature_run::run_in_feature;
-use crate::layer_run::run_in_layer;
+use crate::lists::{run_in_feature, run_in_layer};
 use crate::steps::flip_step;
 use mvt_document::{Document, Field, LayerItem, TileItem};
 use mvt_splices::{Gap, Splices, splice_message};

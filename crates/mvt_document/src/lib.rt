@@ -24,10 +24,9 @@
 //!   with at most 100 groups open at one place (`IsGroup`); the type of a field keeps that
 //!   (`is_group`).
 //! - Conditions: there is a list at the place, and the change takes it (`change_items`,
-//!   `change_fields`); an index, a part and both positions are within the list (`item_mut`,
-//!   `exchange`, `move_item`, `size_beside_part`); a size that is given is that of the items, or of those
-//!   beside one (`Message::of_size`, `know_size`, `remember`); a width is at least 1, and the room
-//!   has as many bytes (`put_number`).
+//!   `change_fields`); a part and both positions are within the list (`exchange`, `move_item`,
+//!   `size_beside_part`); a size that is given is that of the items (`Message::of_size`,
+//!   `know_size`); a width is at least 1, and the room has as many bytes (`put_number`).
 #![tactic(auto)]
 
 mod body;

@@ -83,7 +83,7 @@ impl<T: Measured> Message<T> {
     }
 
     /// How many bytes the items beside this one take, where that is known.
-    pub fn size_beside(&self, index: usize) -> Option<usize>
+    pub(crate) fn size_beside(&self, index: usize) -> Option<usize>
         ensures { IfSome result (λ n. n ≡ bytes_beside T.bytes index self.now.items) }
     {
         let item = self.inner.get(index)?;
@@ -117,7 +117,7 @@ impl<T: Measured> Message<T> {
     }
 
     /// Knows the size again, where the items beside this one take so many bytes.
-    pub fn remember(&mut self, index: usize, beside: Option<usize>)
+    pub(crate) fn remember(&mut self, index: usize, beside: Option<usize>)
         requires { IfSome beside (λ n. n ≡ bytes_beside T.bytes index self.old.items) }
         ensures { self.new ≡ self.old }
     {
@@ -125,7 +125,7 @@ impl<T: Measured> Message<T> {
     }
 
     /// The item at this index. The size is no longer known: see `remember`.
-    pub fn item_mut(&mut self, index: usize) -> &mut T
+    pub(crate) fn item_mut(&mut self, index: usize) -> &mut T
         requires { index < length self.old.items }
         ensures* writes_back { sem 𝓛 (LendsKept T.row T.Measured self.entry index result) }
         ensures value { slice_get self.old.items index ≡ Some result.now }
