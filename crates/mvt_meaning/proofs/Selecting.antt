@@ -1,12 +1,11 @@
 -- The layer that is selected stands in the tile, and the feature in its layer.
-use Rattle.std.proofs.Common.{◌≡◌, ℕ, ◌<◌, Some, None, Ok, List, [], ◌∷◌, length, slice_get, ap, arith}
+use Rattle.std.proofs.Common.{◌≡◌, ℕ, ◌<◌, Some, Ok, List, [], ◌∷◌, length, slice_get, ap, arith}
 use Rattle.std.proofs.lemmas.Bool.Decides.{nat_tests}
 use Rattle.mvt_document.specs.Plain.{Layer, Document}
 use Rattle.mvt_command.specs.Command.{LayerChoice, AtOrdinal, Named, FeatureChoice, FeatureAtOrdinal, WithId}
-use Rattle.mvt_view.specs.Views.{feature_in, features, has_id, is_named, layer_in, layers, ordinals_of, the_one}
-use Rattle.mvt_meaning.specs.Selection.{feature_positions, is_layer, layer_positions, selected, selected_feature}
+use Rattle.mvt_view.specs.Views.{features, has_id, is_named, layers, ordinals_of, the_one}
+use Rattle.mvt_meaning.specs.Selection.{is_layer, layer_positions, selected, selected_feature}
 use Rattle.mvt_meaning.specs.declared.refusal.Refusal.TheVariants.{AmbiguousFeature, AmbiguousLayer, NoFeature, NoLayer}
-use Rattle.mvt_meaning.proofs.Found.{no_position_past}
 use Rattle.mvt_meaning.proofs.Positions.{positions_within}
 
 the_one_first : {E : Type 0} (none several : E) (ordinals : List ℕ) (ordinal : ℕ) → the_one none several ordinals ≡ Ok ordinal → slice_get ordinals 0 ≡ Some ordinal
@@ -26,20 +25,6 @@ selected_feature_within (FeatureAtOrdinal n) layer ordinal e = grind (arith, nat
 selected_feature_within (WithId id) layer ordinal e =
     let first = the_one_first NoFeature AmbiguousFeature (ordinals_of (has_id id) (features layer)) ordinal e in
     let bounds = positions_within (has_id id) 0 (features layer) 0 ordinal first in
-    omega arith
-
--- a layer that is selected has a position
-pub selected_found : (choice : LayerChoice) (document : Document) (ordinal : ℕ) → selected choice document ≡ Ok ordinal → slice_get (layer_positions document) ordinal ≡ None → ⊥
-selected_found choice document ordinal e none =
-    let within = selected_within choice document ordinal e in
-    let past = no_position_past layer_in 0 document ordinal none in
-    omega arith
-
--- so has a feature
-pub selected_feature_found : (choice : FeatureChoice) (layer : Layer) (ordinal : ℕ) → selected_feature choice layer ≡ Ok ordinal → slice_get (feature_positions layer.items) ordinal ≡ None → ⊥
-selected_feature_found choice layer ordinal e none =
-    let within = selected_feature_within choice layer ordinal e in
-    let past = no_position_past feature_in 0 layer.items ordinal none in
     omega arith
 
 pub position_within : (document : Document) (ordinal position : ℕ) → slice_get (layer_positions document) ordinal ≡ Some position → position < length document

@@ -78,19 +78,3 @@ no_geometry feature geometry none h =
     let short = all_short h.integers (integers_are_short _ h.integers geometry h.has) in
     let found : integers_in (numbers 4 feature.fields) ≡ Some h.integers = rw (h.read, short) refl in
     cc
-
-all_if : (b : Bool) (list found : List ℕ) → (if b then Some list else None) ≡ Some found → list ≡ found
-all_if true list found e = cc
-all_if false list found e = absurd (cc)
-
-of_values : (values : Option (List ℕ)) (found : List ℕ) → option_and_then if_short values ≡ Some found → values ≡ Some found
-of_values None found e = absurd (cc)
-of_values (Some list) found e = ap Some (all_if (list_all is_short list) list found e)
-
--- integers of a geometry of the feature's kind are those of its own
-pub geometry_found : (feature : Feature) (kind : ℕ) (list held : List ℕ) (geometry : Geometry) → integers_in (numbers 4 feature.fields) ≡ Some list → held ≡ list → kind ≡ kind_of feature → HasGeometry kind held geometry → HasFeatureGeometry feature geometry
-geometry_found feature kind list held geometry read same of_kind has = record {
-  integers = held;
-  read = of_values (values_in (numbers 4 feature.fields)) list read ∙ ap Some (sym same);
-  has = subst (λ (k : ℕ). HasGeometry k held geometry) of_kind has;
-}

@@ -1,5 +1,6 @@
 pub mod Views
 pub mod Found
+pub mod Pools
 pub mod Seen
 pub mod Attributes
 pub mod Tags

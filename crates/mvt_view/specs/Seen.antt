@@ -1,11 +1,12 @@
 -- What a view is a view of.
-use Rattle.std.specs.Prelude.{ℕ, Result, Ok, Err}
+use Rattle.std.specs.Prelude.{ℕ, List, Result, Ok, Err}
 use Rattle.mvt_document.specs.Plain as plain
 use Rattle.mvt_document.specs.Stands.{layer_of, feature_of}
 use Rattle.mvt_view.specs.declared.views.LayerView.{LayerView}
 use Rattle.mvt_view.specs.declared.views.FeatureView.{FeatureView}
 use Rattle.mvt_view.specs.declared.found.FoundLayer.{FoundLayer}
 use Rattle.mvt_view.specs.declared.found.FoundFeature.{FoundFeature}
+use Rattle.mvt_view.specs.declared.found.FoundEntry.{FoundEntry}
 use Rattle.mvt_numbers.specs.Seen.{placed_of}
 use Rattle.mvt_view.specs.Tags.{PlacedPair}
 use Rattle.mvt_view.specs.declared.attributes.Pair.{Pair}
@@ -27,6 +28,10 @@ found_layer_seen found = (found.ordinal, (found.position, layer_of found.layer.n
 -- the plain feature that was found, with its ordinal and its position
 abbrev pub found_feature_seen : FoundFeature → ℕ × (ℕ × plain.Feature)
 found_feature_seen found = (found.ordinal, (found.position, feature_of found.feature.now))
+
+-- the bytes of the entry that was found, with its ordinal and its position
+abbrev pub found_entry_seen : FoundEntry → ℕ × (ℕ × List ℕ)
+found_entry_seen found = (found.ordinal, (found.position, found.bytes.now))
 
 -- the ordinals of the key and the value of a pair
 abbrev pub pair_seen : Pair → ℕ × ℕ

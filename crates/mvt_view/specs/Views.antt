@@ -71,13 +71,21 @@ version_of layer = unwrap_or (last_value 15 (plain_fields layer.items)) 1
 abbrev pub extent_of : Layer → ℕ
 extent_of layer = unwrap_or (last_value 5 (plain_fields layer.items)) 4096
 
--- the keys of a layer: the contents of its LEN fields of number 3, in order (tiles 4.1, 4.4)
-abbrev pub keys : Layer → List (List ℕ)
-keys layer = contents 3 (plain_fields layer.items)
+-- the number of the fields of a layer that are its keys (tiles 4.1)
+abbrev pub key_field : ℕ
+key_field = 3
 
--- the values of a layer, as bytes: the contents of its LEN fields of number 4, in order (tiles 4.1, 4.4)
+-- the number of the fields of a layer that are its values (tiles 4.1)
+abbrev pub value_field : ℕ
+value_field = 4
+
+-- the keys of a layer: the contents of its LEN fields of that number, in order (tiles 4.1, 4.4)
+abbrev pub keys : Layer → List (List ℕ)
+keys layer = contents key_field (plain_fields layer.items)
+
+-- the values of a layer, as bytes: the contents of its LEN fields of that number, in order (tiles 4.1, 4.4)
 abbrev pub values : Layer → List (List ℕ)
-values layer = contents 4 (plain_fields layer.items)
+values layer = contents value_field (plain_fields layer.items)
 
 -- ---- the features of a layer: section 4.2
 

@@ -4,6 +4,7 @@ ghost use Rattle.std.specs.Prelude.{◌≡◌, ◌+◌, ◌<◌, ◌≤◌, ◌�
 ghost use Rattle.std.specs.Option.{option_copied};
 ghost use Rattle.mvt_document.specs.Stands.{feature_of, field_of, layer_item_of, layer_of, tile_item_of};
 ghost use Rattle.mvt_view.specs.Found.{placed_from};
+ghost use Rattle.mvt_view.specs.Pools.{entry_in};
 ghost use Rattle.mvt_view.specs.Views.{content_in, contents, feature_in, last_value, layer_in, plain_fields, value_in};
 
 use mvt_document::{Body, Feature, Field, Layer, LayerItem, TileItem};
@@ -75,6 +76,30 @@ pub(crate) fn first_feature(items: &[LayerItem], start: usize) -> Option<(usize,
     for position in start..items.len() {
         if let LayerItem::Feature(feature) = &items[position] {
             return Some((position, feature));
+        }
+    }
+    None
+}
+
+/// The content of an item that is a LEN field of this number.
+fn entry_in(item: &LayerItem, number: u64) -> Option<&[u8]>
+    ensures { option_copied result ≡ entry_in number (layer_item_of item.now) }
+{
+    match item {
+        LayerItem::Plain(field) => content_in(field, number),
+        LayerItem::Feature(_) => None,
+    }
+}
+
+/// The content of the first LEN field of this number from this position on, and its position.
+pub(crate) fn first_entry(items: &[LayerItem], number: u64, start: usize) -> Option<(usize, &[u8])>
+    requires { start ≤ length items.now }
+    ensures found { MatchOption result (placed_from (entry_in number) start (map layer_item_of items.now) ≡ []) (λ found. placed_from (entry_in number) start (map layer_item_of items.now) ≡ (found.0, found.1.now) ∷ placed_from (entry_in number) (found.0 + 1) (map layer_item_of items.now)) }
+    ensures within { IfSome result (λ found. (start ≤ found.0) × (found.0 < length items.now)) }
+{
+    for position in start..items.len() {
+        if let Some(content) = entry_in(&items[position], number) {
+            return Some((position, content));
         }
     }
     None

@@ -1,4 +1,4 @@
-//! A layer of a tile and a feature of a layer, each with where it stands.
+//! A layer of a tile, and a feature, a key or a value of a layer, each with where it stands.
 
 use crate::views::{FeatureView, LayerView};
 use mvt_document::{Feature, Layer};
@@ -47,4 +47,14 @@ impl<'a> FoundFeature<'a> {
     {
         FeatureView::of(self.feature)
     }
+}
+
+/// A key or a value of a layer.
+#[derive(Clone, Copy, Debug, PartialEq, Eq)]
+pub struct FoundEntry<'a> {
+    /// The ordinal among the keys, or among the values.
+    pub ordinal: usize,
+    /// The position among all items of the layer.
+    pub position: usize,
+    pub bytes: &'a [u8],
 }

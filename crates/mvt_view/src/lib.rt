@@ -3,6 +3,8 @@
 //! - The layers of a document, the features of a layer, its keys and its values are those of the
 //!   definitions, in order, by ordinal (none past the last), and counted: `layers`, `layer`,
 //!   `layer_count`, and the calls of `LayerView`.
+//! - The keys and the values of a layer with their ordinals and positions, and the first that is
+//!   these bytes: `LayerView::key_entries`, `value_entries`, `first_key`, `first_value`.
 //! - The name, version and extent of a layer, and the id and kind of a feature, are those of the
 //!   last field of the number and wire type, or the default: the calls of `LayerView` and
 //!   `FeatureView`.
@@ -27,6 +29,7 @@
 #![tactic(auto)]
 
 mod attributes;
+mod entries;
 mod fields;
 mod found;
 mod geometries;
@@ -37,7 +40,8 @@ mod tag_pairs;
 mod views;
 
 pub use attributes::{Pair, PairsError, pairs};
-pub use found::{FoundFeature, FoundLayer};
+pub use entries::Entries;
+pub use found::{FoundEntry, FoundFeature, FoundLayer};
 pub use geometries::geometry;
 pub use lists::{Contents, FeatureViews, LayerViews};
 pub use mvt_geometry::{

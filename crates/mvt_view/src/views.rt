@@ -6,11 +6,13 @@ ghost use Rattle.mvt_document.specs.Stands.{feature_of, layer_of};
 ghost use Rattle.mvt_numbers.specs.Numbers.{numbers};
 ghost use Rattle.mvt_view.specs.Views.{extent_of, features, id_of, keys, kind_of, name_of, values, version_of};
 ghost use Rattle.mvt_view.specs.Found.{found_features};
-ghost use Rattle.mvt_view.specs.Seen.{feature_seen, found_feature_seen, layer_seen};
+ghost use Rattle.mvt_view.specs.Pools.{first_equal, found_keys, found_values};
+ghost use Rattle.mvt_view.specs.Seen.{feature_seen, found_entry_seen, found_feature_seen, layer_seen};
 ghost use Rattle.mvt_view.specs.Tags.{tag_pairs};
 
+use crate::entries::{Entries, first_equal};
 use crate::fields::{last_value, last_value_in_layer};
-use crate::found::FoundFeature;
+use crate::found::{FoundEntry, FoundFeature};
 use crate::lists::{Contents, FeatureViews};
 use crate::tag_pairs::{PoolSizes, TagPairs};
 use mvt_document::tags::{EXTENT, GEOMETRY, ID, KEYS, KIND, NAME, TAGS, VALUES, VERSION};
@@ -80,6 +82,36 @@ impl<'a> LayerView<'a> {
         ensures bound { length result < 2 ^ 64 }
     {
         Contents::of(self.layer.items.as_slice(), VALUES)
+    }
+
+    /// The keys, in order, each with its ordinal and its position.
+    pub fn key_entries(self) -> Entries<'a>
+        ensures items { result ≡ found_keys (layer_seen self.entry) }
+        ensures bound { length result < 2 ^ 64 }
+    {
+        Entries::of(self.layer.items.as_slice(), KEYS)
+    }
+
+    /// The values, in order, each with its ordinal and its position.
+    pub fn value_entries(self) -> Entries<'a>
+        ensures items { result ≡ found_values (layer_seen self.entry) }
+        ensures bound { length result < 2 ^ 64 }
+    {
+        Entries::of(self.layer.items.as_slice(), VALUES)
+    }
+
+    /// The first key that is these bytes.
+    pub fn first_key(self, key: &[u8]) -> Option<FoundEntry<'a>>
+        ensures { option_map found_entry_seen result ≡ first_equal key.now (found_keys (layer_seen self.entry)) }
+    {
+        first_equal(self.key_entries(), key)
+    }
+
+    /// The first value that is these bytes.
+    pub fn first_value(self, value: &[u8]) -> Option<FoundEntry<'a>>
+        ensures { option_map found_entry_seen result ≡ first_equal value.now (found_values (layer_seen self.entry)) }
+    {
+        first_equal(self.value_entries(), value)
     }
 
     pub fn feature_count(self) -> usize
