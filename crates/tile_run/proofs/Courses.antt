@@ -10,7 +10,7 @@ use Rattle.mvt_document.specs.Settle.{settle}
 use Rattle.tile_device.specs.Seen.{Seen, Intake, Output, nothing_read, written}
 use Rattle.tile_device.proofs.Sending.{receives_nothing}
 use Rattle.tile_device.proofs.Supplying.{supplies_nothing}
-use Rattle.tile_run.specs.Course.{Course, Ends, IsWritten, OpensAgain, StopsAtTile, start_of}
+use Rattle.tile_run.specs.Course.{Course, Ends, IsWritten, OpensAgain, RepliesToAll, StopsAtTile, start_of}
 use Rattle.tile_run.specs.Headline.{Devices, Runs}
 use Rattle.mvt_history.specs.History.{History, standing_document}
 use Rattle.tile_run.specs.Outcomes.{opening_outcome, script_outcome, writing_outcome}
@@ -158,21 +158,21 @@ module _ (options : Options) (t0 t1 s0 s1 r0 r1 o0 o1 : Seen) (before mid after 
     script_within = carried.within;
   }
 
+  abbrev all_replied : (out : Output) → RepliesToAll options (course_with out)
+  all_replied out = record { document = document_of read; opened = opening.2; progress = carried.ends.0; carried = carried.ends.1 }
+
   file_is : bytes_of (document_of edited) ≡ bytes_of (standing_document carried.ends.0.history)
   file_is = ap bytes_of (present carried.ends.0.history carried.ends.2.stands)
 
   out_ends : (stop : Unwritten) (out : Output) → WritesTile {A = Unit {0}} (bytes_of (document_of edited)) out (Err stop) → Ends options (writing_outcome stop) (course_with out)
   out_ends unwritten.Device out writes = record {
-    document = document_of read;
-    opened = opening.2;
-    progress = carried.ends.0;
-    carried = carried.ends.1;
+    through = all_replied out;
     front = (writes.0.0, sym file_is ∙ writes.0.1);
     trouble = writes.1;
   }
   out_ends unwritten.NoMemory out writes = record {
     untroubled = opening.2.untroubled;
-    replied = inr (record { document = document_of read; opened = opening.2; progress = carried.ends.0; carried = carried.ends.1 });
+    replied = inr (all_replied out);
     out = writes;
   }
 
@@ -189,10 +189,7 @@ module _ (options : Options) (t0 t1 s0 s1 r0 r1 o0 o1 : Seen) (before mid after 
 
   pub runs_through : Writing edited o0 o1 after last (Ok tt) → OpensAs (bytes_of (document_of edited)) (settle (document_of edited)) → editor.any_refused ≡ false → Runs options (seen t0 s0 r0 o0) (seen t1 s1 r1 o1) outcomes.Done
   runs_through writing opens none = with_out outcomes.Done writing.0 writing.2 (record {
-    document = document_of read;
-    opened = opening.2;
-    progress = carried.ends.0;
-    carried = carried.ends.1;
+    through = all_replied writing.0;
     refused = sym carried.ends.2.refused ∙ none;
     out = is_written writing.0 writing.1;
     opens = opens_again opens;
@@ -200,10 +197,7 @@ module _ (options : Options) (t0 t1 s0 s1 r0 r1 o0 o1 : Seen) (before mid after 
 
   pub runs_with_refusals : Writing edited o0 o1 after last (Ok tt) → OpensAs (bytes_of (document_of edited)) (settle (document_of edited)) → editor.any_refused ≡ true → Runs options (seen t0 s0 r0 o0) (seen t1 s1 r1 o1) outcomes.SomeRefused
   runs_with_refusals writing opens some = with_out outcomes.SomeRefused writing.0 writing.2 (record {
-    document = document_of read;
-    opened = opening.2;
-    progress = carried.ends.0;
-    carried = carried.ends.1;
+    through = all_replied writing.0;
     refused = sym carried.ends.2.refused ∙ some;
     out = is_written writing.0 writing.1;
     opens = opens_again opens;

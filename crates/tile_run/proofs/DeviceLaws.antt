@@ -30,9 +30,9 @@ none_troubled outcome course none = record { tile = inl none.tile; script = inl 
 
 edited_untroubled : (options : Options) (any_refused : Bool) (course : Course) → IsEdited options any_refused course → IsUntroubled course
 edited_untroubled options any_refused course edited = record {
-  tile = edited.opened.untroubled;
-  script = edited.carried.untroubled;
-  replies = edited.carried.replies.untroubled;
+  tile = edited.through.opened.untroubled;
+  script = edited.through.carried.untroubled;
+  replies = edited.through.carried.replies.untroubled;
   out = edited.out.untroubled;
 }
 
@@ -79,9 +79,9 @@ names_the_troubled options (outcomes.Device devices.Replies) course ends = recor
   out = inl ends.out.untroubled;
 }
 names_the_troubled options (outcomes.Device devices.Out) course ends = record {
-  tile = inl ends.opened.untroubled;
-  script = inl ends.carried.untroubled;
-  replies = inl ends.carried.replies.untroubled;
+  tile = inl ends.through.opened.untroubled;
+  script = inl ends.through.carried.untroubled;
+  replies = inl ends.through.carried.replies.untroubled;
   out = inr refl;
 }
 names_the_troubled options outcomes.NoMemory course ends = none_troubled outcomes.NoMemory course (memory_untroubled options course ends)

@@ -238,13 +238,13 @@ is_edited : (options : Options) (before after : Devices) (any_refused : Bool) (o
     → ((progress : Progress) → is_over options.strict progress ≡ false → progress.any_refused ≡ any_refused → outcome ≡ outcome_of options.strict progress)
     → IsEdited options any_refused r.course → Comes options document script before after outcome
 is_edited options before after any_refused outcome r script document premises ends edited =
-    let made = carried_through options before after outcome r script document premises edited.document edited.opened edited.progress edited.carried in
+    let made = carried_through options before after outcome r script document premises edited.through.document edited.through.opened edited.through.progress edited.through.carried in
     record {
-      run = comes_to options before after outcome r script document edited.progress made
-          (ends edited.progress edited.carried.goes_on edited.refused)
-          (grown before.replies after.replies r.course.replies edited.progress.replies premises.serve.replies r.replies edited.carried.replies)
-          (subst (Appends before.out.bytes after.out.bytes) (tile_is_written options.strict edited.progress edited.carried.goes_on)
-          (grown before.out after.out r.course.out (tile_of edited.progress) premises.serve.out r.out edited.out));
+      run = comes_to options before after outcome r script document edited.through.progress made
+          (ends edited.through.progress edited.through.carried.goes_on edited.refused)
+          (grown before.replies after.replies r.course.replies edited.through.progress.replies premises.serve.replies r.replies edited.through.carried.replies)
+          (subst (Appends before.out.bytes after.out.bytes) (tile_is_written options.strict edited.through.progress edited.through.carried.goes_on)
+          (grown before.out after.out r.course.out (tile_of edited.through.progress) premises.serve.out r.out edited.out));
       opens = λ on. subst OpensAgain made edited.opens;
     }
 
@@ -314,9 +314,9 @@ faulty_file faults.FileTooLarge old new intake file file_is serve given faulty =
 
 pub refuses_tile : (options : Options) (before after : Devices) (outcome : Outcome) → Runs options before after outcome → RefusesTile before after outcome
 refuses_tile options before after outcomes.Done r file file_is nothing serve not_memory =
-    not_opened _ before.tile after.tile r.course.tile r.ends.document file file_is serve.tile r.tile nothing r.ends.opened
+    not_opened _ before.tile after.tile r.course.tile r.ends.through.document file file_is serve.tile r.tile nothing r.ends.through.opened
 refuses_tile options before after outcomes.SomeRefused r file file_is nothing serve not_memory =
-    not_opened _ before.tile after.tile r.course.tile r.ends.document file file_is serve.tile r.tile nothing r.ends.opened
+    not_opened _ before.tile after.tile r.course.tile r.ends.through.document file file_is serve.tile r.tile nothing r.ends.through.opened
 refuses_tile options before after outcomes.StrictStop r file file_is nothing serve not_memory =
     not_opened _ before.tile after.tile r.course.tile r.ends.document file file_is serve.tile r.tile nothing r.ends.opened
 refuses_tile options before after (outcomes.TileRefused fault) r file file_is nothing serve not_memory =
@@ -328,5 +328,5 @@ refuses_tile options before after (outcomes.Device devices.Script) r file file_i
 refuses_tile options before after (outcomes.Device devices.Replies) r file file_is nothing serve not_memory =
     not_opened _ before.tile after.tile r.course.tile r.ends.document file file_is serve.tile r.tile nothing r.ends.opened
 refuses_tile options before after (outcomes.Device devices.Out) r file file_is nothing serve not_memory =
-    not_opened _ before.tile after.tile r.course.tile r.ends.document file file_is serve.tile r.tile nothing r.ends.opened
+    not_opened _ before.tile after.tile r.course.tile r.ends.through.document file file_is serve.tile r.tile nothing r.ends.through.opened
 refuses_tile options before after outcomes.NoMemory r file file_is nothing serve not_memory = absurd (not_memory refl)

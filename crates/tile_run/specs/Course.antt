@@ -133,16 +133,26 @@ start_of options document = at_first document options.depth
 abbrev pub OpensAgain : Progress → Type 0
 OpensAgain progress = OpensAs (tile_of progress) (settle (standing_document progress.history))
 
--- the tile opened, the script was carried through, a line was refused or none as `any_refused` says, and the tile was
--- written and opens again
-pub record IsEdited (options : Options) (any_refused : Bool) (course : Course) : Type 0 where
+-- the tile opened, and the script was carried through
+pub record RepliesToAll (options : Options) (course : Course) : Type 0 where
   pub document : Document
   pub opened : IsOpened course.tile document
   pub progress : Progress
   pub carried : CarriesThrough options.strict (start_of options document) course.script course.replies progress
-  pub refused : progress.any_refused ≡ any_refused
-  pub out : IsWritten course.out (tile_of progress)
-  pub opens : OpensAgain progress
+
+-- the script was carried through, a line was refused or none as `any_refused` says, and the tile was written and opens
+-- again
+pub record IsEdited (options : Options) (any_refused : Bool) (course : Course) : Type 0 where
+  pub through : RepliesToAll options course
+  pub refused : through.progress.any_refused ≡ any_refused
+  pub out : IsWritten course.out (tile_of through.progress)
+  pub opens : OpensAgain through.progress
+
+-- the script was carried through, and `out` met trouble: a prefix of the tile was written
+pub record StopsAtOut (options : Options) (course : Course) : Type 0 where
+  pub through : RepliesToAll options course
+  pub front : IsFront course.out.bytes (tile_of through.progress)
+  pub trouble : IsSome course.out.trouble
 
 -- nothing but the tile was read, and nothing written
 pub record StopsAtTile (course : Course) : Type 0 where
@@ -156,22 +166,6 @@ pub record StopsBetween (options : Options) (stops : Bool → Progress → Intak
   pub opened : IsOpened course.tile document
   pub between : stops options.strict (start_of options document) course.script course.replies
   pub out : IsWritten course.out []
-
--- the tile opened, the script was carried through, and `out` met trouble: a prefix of the tile was written
-pub record StopsAtOut (options : Options) (course : Course) : Type 0 where
-  pub document : Document
-  pub opened : IsOpened course.tile document
-  pub progress : Progress
-  pub carried : CarriesThrough options.strict (start_of options document) course.script course.replies progress
-  pub front : IsFront course.out.bytes (tile_of progress)
-  pub trouble : IsSome course.out.trouble
-
--- the tile opened, and the script was carried through
-pub record RepliesToAll (options : Options) (course : Course) : Type 0 where
-  pub document : Document
-  pub opened : IsOpened course.tile document
-  pub progress : Progress
-  pub carried : CarriesThrough options.strict (start_of options document) course.script course.replies progress
 
 -- the tile met no trouble; either the script was not read and nothing replied, or it was carried through; memory ran
 -- out then, and nothing was written to `out`

@@ -151,8 +151,8 @@ module _ (options : Options) (tile script : List ℕ) (replies out : Vec ℕ Glo
 
   cut_off : (outcome : Outcome) → RunsInMemory options tile script replies.items out.items outcome
       → (handed_out outcome replies out).outcome ≢ outcomes.NoMemory → NoneIsOutOfMemory (handed_out outcome replies out).replies.items → IsCutOff options document script (handed_out outcome replies out)
-  cut_off outcomes.Done r memory none_out_of_memory = not_through _ (start_of options r.runs.ends.document) r.runs.ends.progress outcomes.Done r r.runs.ends.carried
-  cut_off outcomes.SomeRefused r memory none_out_of_memory = not_through _ (start_of options r.runs.ends.document) r.runs.ends.progress outcomes.SomeRefused r r.runs.ends.carried
+  cut_off outcomes.Done r memory none_out_of_memory = not_through _ (start_of options r.runs.ends.through.document) r.runs.ends.through.progress outcomes.Done r r.runs.ends.through.carried
+  cut_off outcomes.SomeRefused r memory none_out_of_memory = not_through _ (start_of options r.runs.ends.through.document) r.runs.ends.through.progress outcomes.SomeRefused r r.runs.ends.through.carried
   cut_off outcomes.StrictStop r memory none_out_of_memory = stops_strictly r none_out_of_memory
   cut_off (outcomes.TileRefused fault) r memory none_out_of_memory = not_faulty _ fault r.tile_left r.runs.course.tile r.runs.tile r.runs.ends.1
   cut_off (outcomes.Device devices.Tile) r memory none_out_of_memory =
