@@ -18,3 +18,4 @@ pub mod PutLast
 pub mod OneStep
 pub mod Putting
 pub mod NamesAndIds
+pub mod Apart

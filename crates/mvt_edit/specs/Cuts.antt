@@ -2,8 +2,6 @@
 use Rattle.std.specs.Prelude.{◌≡◌, ℕ, ◌+◌, ◌==◌, Bool, List, [], ◌∷◌, ◌++◌, length, filter, if◌then◌else◌}
 use Rattle.mvt_change.specs.Changes as plain
 use Rattle.mvt_change.specs.Changes.{Place, OfTheTile, OfTheLayer, OfTheFeature, Step, TileStep, LayerStep, FeatureStep}
-use Rattle.mvt_change.specs.ChangeStands.{change_of}
-use Rattle.mvt_edit.specs.declared.cut.Cut.{Cut}
 use Rattle.mvt_edit.specs.declared.cut.Run.{Run}
 
 -- ---- runs
@@ -36,10 +34,10 @@ abbrev pub steps_out : Place → List Run → plain.Change
 steps_out place [] = []
 steps_out place (run ∷ runs) = steps_out place runs ++ step_out place run ∷ []
 
--- the steps of the cut take out the items that go, and it counts them
-pub record IsCut {A : Type 0} (place : Place) (goes : A → Bool) (items : List A) (cut : Cut) : Type 0 where
-  pub steps : change_of cut.change ≡ steps_out place (runs_of goes items)
-  pub counted : cut.gone ≡ length (filter goes items)
+-- behind the steps that were given come those that take out the items that go, and so many go
+pub record IsCut {A : Type 0} (place : Place) (goes : A → Bool) (items : List A) (given steps : plain.Change) (gone : ℕ) : Type 0 where
+  pub behind : steps ≡ given ++ steps_out place (runs_of goes items)
+  pub counted : gone ≡ length (filter goes items)
 
 -- the answer of the code is that of the test, for each item
 abbrev pub Tells : {A : Type 0} → (A → Bool → Type 0) → (A → Bool) → Type 0

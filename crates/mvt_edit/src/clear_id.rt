@@ -10,7 +10,7 @@ ghost use Rattle.mvt_edit.specs.Prepared.{Prepares};
 use crate::cut::cut_out;
 use mvt_change::{Change, Place};
 use mvt_document::tags::ID;
-use mvt_document::{Body, Document, Field};
+use mvt_document::{Body, Document, Field, Items};
 use mvt_select::{FeatureChoice, LayerChoice, Refusal, find_feature, find_layer};
 use std::alloc::Global;
 
@@ -29,8 +29,17 @@ pub(crate) fn clear_id(
         layer: holder.position,
         item: found.position,
     };
-    let cut = cut_out(alloc, place, found.feature.fields.as_slice(), is_id)?;
-    Ok(cut.change)
+    let mut steps = Vec::new(alloc);
+    cut_out(
+        alloc,
+        place,
+        found.feature.fields.as_slice(),
+        is_id,
+        &mut steps,
+    )?;
+    Ok(Change {
+        steps: Items::from_vec(steps),
+    })
 }
 
 fn is_id(field: &Field) -> bool

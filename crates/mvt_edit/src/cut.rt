@@ -20,41 +20,30 @@ pub(crate) struct Run {
     pub count: usize,
 }
 
-/// A change that takes items out, and how many.
-#[derive(Debug, Drop)]
-pub(crate) struct Cut {
-    pub change: Change,
-    pub gone: usize,
-}
-
-/// Takes the items out that go, from the last to the first. Neighbours go in one step.
+/// Takes the items out that go, from the last to the first, in steps behind those that are given.
+/// Neighbours go in one step. How many go.
 pub(crate) fn cut_out<T, F: Fn(&T) -> bool>(
     alloc: Global,
     place: Place,
     items: &[T],
     goes: F,
-) -> Result<Cut, AllocFailed<Step>>
+    steps: &mut Vec<Step>,
+) -> Result<usize, AllocFailed<Step>>
     requires { F.IsAlwaysCallable goes }
-    ensures { (test : T → Bool) → Tells (FnReturnsAt F.Fn goes) test → IfOk result (IsCut (place_of place) test items.now) }
+    ensures { (test : T → Bool) → Tells (FnReturnsAt F.Fn goes) test → IfOk result (IsCut (place_of place) test items.now (map step_of steps.old.items) (map step_of steps.new.items)) }
 {
-    let mut steps = Vec::new(alloc);
     let mut first = None;
     let mut gone = 0;
     for index in (0..items.len()).rev() {
         if goes(&items[index]) {
             let (whole, run) = joined(first, index);
-            take_run(alloc, place, whole, &mut steps)?;
+            take_run(alloc, place, whole, steps)?;
             first = Some(run);
             gone += 1;
         }
     }
-    take_run(alloc, place, first, &mut steps)?;
-    Ok(Cut {
-        change: Change {
-            steps: Items::from_vec(steps),
-        },
-        gone,
-    })
+    take_run(alloc, place, first, steps)?;
+    Ok(gone)
 }
 
 /// Takes the item at this position of the list out.

@@ -30,12 +30,21 @@ pub(crate) fn keep_layers(
     let ordered = in_order(alloc, names)?;
     let ordered = ordered.as_slice();
     let items = document.items.as_slice();
-    let cut = cut_out(alloc, Place::Tile, items, |item| !is_kept(item, ordered))?;
+    let mut steps = Vec::new(alloc);
+    let gone = cut_out(
+        alloc,
+        Place::Tile,
+        items,
+        |item| !is_kept(item, ordered),
+        &mut steps,
+    )?;
     // Layers alone go, so none stays where as many go as there are.
-    if cut.gone == layer_count(document) {
+    if gone == layer_count(document) {
         return Err(Refusal::NoLayer);
     }
-    Ok(cut.change)
+    Ok(Change {
+        steps: Items::from_vec(steps),
+    })
 }
 
 /// The names, by their bytes.

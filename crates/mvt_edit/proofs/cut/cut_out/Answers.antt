@@ -33,8 +33,5 @@ pub returns : goal.returns
 returns g c = λ test tells.
     let kept = c.loop-index.invariant.so_far test tells in
     let none : c.loop-index.index ≡ 0 = let test = c.loop-index-test.false in omega arith in
-    let all = subst (λ n. SoFar (place_of c.args.place) test n (drop n c.args.items.now) c.loop-index.first (map step_of c.loop-index.steps.items) c.loop-index.gone) none kept in
-    record {
-      steps = all_steps all (rw c.from_vec.ensures c.in_ok-take_run-2.ensures);
-      counted = all.counted;
-    }
+    let all = subst (λ n. SoFar (place_of c.args.place) test n (drop n c.args.items.now) c.loop-index.first (map step_of c.args.steps.now.items) (map step_of c.loop-index.steps.items) c.loop-index.gone) none kept in
+    record { behind = all_steps all c.in_ok-take_run-2.ensures; counted = all.counted }
