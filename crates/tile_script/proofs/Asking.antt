@@ -10,9 +10,9 @@ use Rattle.tile_request.specs.Request.{Request, Edit, Undo, Redo, SetMark, TakeM
 use Rattle.tile_words.specs.Words.{Word, Bare, Quoted, words_of}
 use Rattle.tile_words.specs.Spelling.{SpellsWords}
 use Rattle.tile_words.proofs.Again.{words_only, behind_blanks, no_gap}
-use Rattle.tile_script.specs.Commands.{command_word_of, rename_layer_of}
-use Rattle.tile_script.specs.Line.{TakesMemory, plain_word_of, keyword_of, edit_of, plain_of, name_of, list_of, asked_by, is_remark_behind, is_remark, request_in, answer_to, IsReadable}
-use Rattle.tile_script.specs.Shapes.{AsksAlone, AsksByName, requests_alone, requests_by_name}
+use Rattle.tile_script.specs.Commands.{command_by, rename_layer_of}
+use Rattle.tile_script.specs.Line.{TakesMemory, requests_alone, requests_by_name, alone_of, name_of, list_of, request_by, asked_by, is_remark_behind, is_remark, request_in, answer_to, IsReadable}
+use Rattle.tile_script.specs.Shapes.{AsksAlone, AsksByName}
 use Rattle.tile_script.proofs.Silent.{answer_to-words}
 
 -- a line is no remark, where its first word is bare and begins with another byte
@@ -38,7 +38,7 @@ alone : (b : ℕ) (name : List ℕ) (request : Request) → eqb b 35 ≡ false �
 alone b name request other asked = λ line readable s. asks_by line b name [] request readable other s asked
 
 pub asks_alone : AllByRecursion AsksAlone requests_alone
-unfolding asked_by plain_word_of keyword_of plain_of
+unfolding asked_by request_by alone_of
 asks_alone = (
   alone _ _ Undo refl refl,
   (
@@ -66,7 +66,7 @@ by_name : (b : ℕ) (word : List ℕ) (request : List ℕ → Request) → eqb b
 by_name b word request other asked = λ line name readable s. asks_by line b word (Quoted name ∷ []) (request name) readable other s (asked name)
 
 pub asks_by_name : AllByRecursion AsksByName requests_by_name
-unfolding asked_by keyword_of name_of
+unfolding asked_by request_by name_of
 asks_by_name = (
   by_name _ _ SetMark refl (λ name. rw (text_quoted name) refl),
   (
@@ -78,7 +78,7 @@ asks_by_name = (
 -- ---- lines whose first word is `rename-layer`
 
 asks_rename : (line : List ℕ) (arguments : List Word) (command : Command) → IsReadable line → SpellsWords line (Bare (codes "rename-layer") ∷ arguments) → rename_layer_of arguments ≡ Ok command → answer_to line ≡ Ok (Some (Edit command))
-unfolding asked_by plain_word_of keyword_of command_word_of edit_of
+unfolding asked_by request_by command_by
 asks_rename line arguments command readable s e =
     asks_by line 114 (101 ∷ 110 ∷ 97 ∷ 109 ∷ 101 ∷ 45 ∷ 108 ∷ 97 ∷ 121 ∷ 101 ∷ 114 ∷ []) arguments (Edit command) readable refl s asked
   where
@@ -103,7 +103,7 @@ asks_rename_ordinal line digits new readable number s =
 -- ---- lines whose first word is `list`
 
 asks_list : (line : List ℕ) (arguments : List Word) (request : Request) → IsReadable line → SpellsWords line (Bare (codes "list") ∷ arguments) → list_of arguments ≡ Ok request → answer_to line ≡ Ok (Some request)
-unfolding asked_by keyword_of
+unfolding asked_by request_by
 asks_list line arguments request readable s asked = asks_by line 108 (105 ∷ 115 ∷ 116 ∷ []) arguments request readable refl s asked
 
 pub asks_list_whole : (line : List ℕ) → IsReadable line → SpellsWords line (Bare (codes "list") ∷ []) → answer_to line ≡ Ok (Some (Lists Whole))

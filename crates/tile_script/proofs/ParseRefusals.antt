@@ -1,18 +1,17 @@
 -- No line is refused as out of memory by its definition.
-use Rattle.std.proofs.Common.{ℕ, not, List, [], ◌∷◌, length, Option, Some, None}
-use Rattle.std.specs.Prelude.{nat_lt, ok_or}
-use Rattle.std.specs.Str.{is_utf8}
+use Rattle.std.proofs.Common.{ℕ, Bool, true, false, not, List, [], ◌∷◌, ◌++◌, length, map, Option, Some, None, Result, Err}
+use Rattle.std.specs.Prelude.{codes, nat_lt, ok_or, if◌then◌else◌}
+use Rattle.std.specs.List.{AllByRecursion}
+use Rattle.std.specs.Map.{lookup}
+use Rattle.std.specs.Option.{option_map_or}
+use Rattle.std.specs.Str.{bytes_eq, is_utf8}
 use Rattle.tile_words.specs.Words.{Word, Bare, Quoted, words_of}
 use Rattle.tile_arguments.specs.Arguments.{text_of, texts_of, number_in, layer_of, feature_of, geometry_of}
 use Rattle.tile_arguments.proofs.Refusals.{then_other, text_other, texts_other, number_in_other, layer_other, feature_other, geometry_other}
 use Rattle.tile_request.specs.Request.{Request}
-use Rattle.tile_script.specs.Line.{is_remark, edit_of, plain_of, name_of, mark_of, list_of, keyword_of, with_arguments, asked_by, request_in, answer_to}
-use Rattle.tile_script.specs.Commands.{chosen_of, rename_layer_of, move_layer_of, drop_layer_of, keep_layers_of, insert_feature_of, move_feature_of, drop_feature_of, set_id_of, clear_id_of, command_by}
-use Rattle.tile_script.specs.declared.keyword.CommandWord.{CommandWord}
-use Rattle.tile_script.specs.declared.keyword.CommandWord.TheVariants as words
-use Rattle.tile_script.specs.declared.keyword.PlainWord.{PlainWord}
-use Rattle.tile_script.specs.declared.keyword.Keyword.{Keyword}
-use Rattle.tile_script.specs.declared.keyword.Keyword.TheVariants as keywords
+use Rattle.tile_script.specs.Line.{is_remark, requests_alone, requests_by_name, alone_of, name_of, mark_of, list_of, requests, request_by, asked_by, request_in, answer_to}
+use Rattle.tile_script.specs.Commands.{chosen_of, rename_layer_of, move_layer_of, drop_layer_of, keep_layers_of, insert_feature_of, move_feature_of, drop_feature_of, set_id_of, clear_id_of, commands, read_by, command_by}
+use Rattle.tile_words.specs.declared.parse_error.ParseError.{ParseError}
 use Rattle.tile_words.specs.declared.parse_error.ParseError.TheVariants as parse
 use Rattle.mvt_command.proofs.Others.{Other, either}
 
@@ -82,25 +81,42 @@ clear_id_other (layer ∷ []) = λ e. cc
 clear_id_other (layer ∷ feature ∷ []) = then_other (chosen_of layer feature) _ (chosen_other layer feature) (λ chosen. tt)
 clear_id_other (layer ∷ feature ∷ more ∷ others) = λ e. cc
 
-command_other : (word : CommandWord) (arguments : List Word) → Other parse.NoMemory (command_by word arguments)
-command_other words.RenameLayer arguments = rename_layer_other arguments
-command_other words.MoveLayer arguments = move_layer_other arguments
-command_other words.DropLayer arguments = drop_layer_other arguments
-command_other words.KeepLayers arguments = keep_layers_other arguments
-command_other words.InsertFeature arguments = insert_feature_other arguments
-command_other words.MoveFeature arguments = move_feature_other arguments
-command_other words.DropFeature arguments = drop_feature_other arguments
-command_other words.SetId arguments = set_id_other arguments
-command_other words.ClearId arguments = clear_id_other arguments
+first_other : {A : Type 0} (is : Bool) (read : List Word → Result A ParseError) (found : Option (List Word → Result A ParseError)) (arguments : List Word) (unknown : Result A ParseError) → Other parse.NoMemory (read arguments) → Other parse.NoMemory (option_map_or (λ read. read arguments) found unknown) → Other parse.NoMemory (option_map_or (λ read. read arguments) (if is then Some read else found) unknown)
+first_other true read found arguments unknown first others = first
+first_other false read found arguments unknown first others = others
 
-edit_other : (word : CommandWord) (arguments : List Word) → Other parse.NoMemory (edit_of word arguments)
-unfolding edit_of
-edit_other word arguments = then_other (command_by word arguments) _ (command_other word arguments) (λ command. tt)
+-- some readers, of which none refuses arguments as out of memory
+read_other : {A : Type 0} (readers : List (List ℕ × (List Word → Result A ParseError))) (unknown : Result A ParseError) (name : List ℕ) (arguments : List Word) → AllByRecursion (λ reader. Other parse.NoMemory (reader.1 arguments)) readers → Other parse.NoMemory unknown → Other parse.NoMemory (read_by readers unknown name arguments)
+read_other [] unknown name arguments each other = other
+read_other (reader ∷ readers) unknown name arguments (first, each) other =
+    first_other (bytes_eq name reader.0) reader.1 (lookup (bytes_eq name) readers) arguments unknown first (read_other readers unknown name arguments each other)
 
-plain_other : (word : PlainWord) (arguments : List Word) → Other parse.NoMemory (plain_of word arguments)
-unfolding plain_of
-plain_other word [] = tt
-plain_other word (more ∷ others) = λ e. cc
+command_other : (name : List ℕ) (arguments : List Word) → Other parse.NoMemory (command_by name arguments)
+unfolding command_by
+command_other name arguments = read_other commands (Err parse.UnknownCommand) name arguments (
+  rename_layer_other arguments,
+  (
+    move_layer_other arguments,
+    (
+      drop_layer_other arguments,
+      (
+        keep_layers_other arguments,
+        (
+          insert_feature_other arguments,
+          (
+            move_feature_other arguments,
+            (drop_feature_other arguments, (set_id_other arguments, (clear_id_other arguments, tt))),
+          ),
+        ),
+      ),
+    ),
+  ),
+) (λ e. cc)
+
+alone_other : (request : Request) (arguments : List Word) → Other parse.NoMemory (alone_of request arguments)
+unfolding alone_of
+alone_other request [] = tt
+alone_other request (more ∷ others) = λ e. cc
 
 name_other : (arguments : List Word) → Other parse.NoMemory (name_of arguments)
 unfolding name_of
@@ -118,20 +134,29 @@ list_other (layer ∷ []) = then_other (layer_of layer) _ (layer_other layer) (�
 list_other (layer ∷ feature ∷ []) = then_other (layer_of layer) _ (layer_other layer) (λ choice. then_other (feature_of feature) _ (feature_other feature) (λ chosen. tt))
 list_other (layer ∷ feature ∷ more ∷ others) = λ e. cc
 
-arguments_other : (keyword : Option Keyword) (arguments : List Word) → Other parse.NoMemory (with_arguments keyword arguments)
-arguments_other None arguments = λ e. cc
-arguments_other (Some (keywords.Edit word)) arguments = edit_other word arguments
-arguments_other (Some (keywords.Plain word)) arguments = plain_other word arguments
-arguments_other (Some keywords.Mark) arguments = mark_other _ arguments
-arguments_other (Some keywords.Unmark) arguments = mark_other _ arguments
-arguments_other (Some keywords.Back) arguments = mark_other _ arguments
-arguments_other (Some keywords.List) arguments = list_other arguments
+all_by_name : (arguments : List Word) (words : List (List ℕ × (List ℕ → Request))) (more : List (List ℕ × (List Word → Result Request ParseError))) → AllByRecursion (λ reader. Other parse.NoMemory (reader.1 arguments)) more → AllByRecursion (λ reader. Other parse.NoMemory (reader.1 arguments)) (map (λ word. (word.0, mark_of word.1)) words ++ more)
+all_by_name arguments [] more others = others
+all_by_name arguments (word ∷ words) more others = (mark_other word.1 arguments, all_by_name arguments words more others)
+
+all_alone : (arguments : List Word) (words : List (List ℕ × Request)) (more : List (List ℕ × (List Word → Result Request ParseError))) → AllByRecursion (λ reader. Other parse.NoMemory (reader.1 arguments)) more → AllByRecursion (λ reader. Other parse.NoMemory (reader.1 arguments)) (map (λ word. (word.0, alone_of word.1)) words ++ more)
+all_alone arguments [] more others = others
+all_alone arguments (word ∷ words) more others = (alone_other word.1 arguments, all_alone arguments words more others)
+
+-- the readers behind those of a mark's name
+abbrev behind_names : List (List ℕ × (List Word → Result Request ParseError))
+behind_names = map (λ word. (word.0, alone_of word.1)) requests_alone ++ (codes "list", list_of) ∷ []
+
+named_other : (name : List ℕ) (arguments : List Word) → Other parse.NoMemory (request_by name arguments)
+unfolding request_by
+named_other name arguments =
+    read_other requests _ name arguments (all_by_name arguments requests_by_name behind_names (all_alone arguments requests_alone ((codes "list", list_of) ∷ []) (list_other arguments, tt)))
+    (then_other (command_by name arguments) _ (command_other name arguments) (λ command. tt))
 
 asked_other : (words : List Word) → Other parse.NoMemory (asked_by words)
 unfolding asked_by
 asked_other [] = λ e. cc
 asked_other (Quoted text ∷ arguments) = λ e. cc
-asked_other (Bare name ∷ arguments) = arguments_other (keyword_of name) arguments
+asked_other (Bare name ∷ arguments) = named_other name arguments
 
 words_other : (words : Option (List Word)) → Other parse.NoMemory (ok_or words parse.BadWord)
 words_other None = λ e. cc

@@ -1,29 +1,14 @@
 -- The commands that the words of a line ask for.
-use Rattle.std.specs.Prelude.{ℕ, List, [], ◌∷◌, Option, Some, None, Result, Ok, Err, if◌then◌else◌, codes}
+use Rattle.std.specs.Prelude.{ℕ, List, [], ◌∷◌, Result, Ok, Err, codes}
+use Rattle.std.specs.Map.{lookup}
+use Rattle.std.specs.Option.{option_map_or}
 use Rattle.std.specs.Str.{bytes_eq}
 use Rattle.mvt_command.specs.Command.{LayerChoice, FeatureChoice, Command, RenameLayer, MoveLayer, DropLayer, KeepLayers, InsertFeature, MoveFeature, DropFeature, SetId, ClearId}
 use Rattle.tile_arguments.specs.Arguments.{text_of, texts_of, number_in, layer_of, feature_of, geometry_of}
 use Rattle.tile_words.specs.Words.{Word}
 use Rattle.tile_words.specs.Answers.{◌>>=◌}
 use Rattle.tile_words.specs.declared.parse_error.ParseError.{ParseError}
-use Rattle.tile_words.specs.declared.parse_error.ParseError.TheVariants.{BadArguments}
-use Rattle.tile_script.specs.declared.keyword.CommandWord.{CommandWord}
-use Rattle.tile_script.specs.declared.keyword.CommandWord.TheVariants as words
-
--- the command that begins with a word, or none: `rename-layer`, `move-layer`, `drop-layer`, `keep`, `insert`,
--- `move-feature`, `drop-feature`, `set-id`, `clear-id`
-unfoldable pub command_word_of : List ℕ → Option CommandWord
-command_word_of name =
-    if bytes_eq name (codes "rename-layer") then Some words.RenameLayer
-    else (if bytes_eq name (codes "move-layer") then Some words.MoveLayer
-    else (if bytes_eq name (codes "drop-layer") then Some words.DropLayer
-    else (if bytes_eq name (codes "keep") then Some words.KeepLayers
-    else (if bytes_eq name (codes "insert") then Some words.InsertFeature
-    else (if bytes_eq name (codes "move-feature") then Some words.MoveFeature
-    else (if bytes_eq name (codes "drop-feature") then Some words.DropFeature
-    else (if bytes_eq name (codes "set-id") then Some words.SetId
-    else (if bytes_eq name (codes "clear-id") then Some words.ClearId
-    else None))))))))
+use Rattle.tile_words.specs.declared.parse_error.ParseError.TheVariants.{UnknownCommand, BadArguments}
 
 -- the layer and the feature that two words select, or the first refusal
 unfoldable pub chosen_of : Word → Word → Result (LayerChoice × FeatureChoice) ParseError
@@ -119,14 +104,25 @@ clear_id_of (layer ∷ feature ∷ []) = do
   Ok (ClearId chosen.0 chosen.1)
 clear_id_of (layer ∷ feature ∷ more ∷ others) = Err BadArguments
 
--- the command that these arguments make, by its word, or the first refusal
-abbrev pub command_by : CommandWord → List Word → Result Command ParseError
-command_by words.RenameLayer arguments = rename_layer_of arguments
-command_by words.MoveLayer arguments = move_layer_of arguments
-command_by words.DropLayer arguments = drop_layer_of arguments
-command_by words.KeepLayers arguments = keep_layers_of arguments
-command_by words.InsertFeature arguments = insert_feature_of arguments
-command_by words.MoveFeature arguments = move_feature_of arguments
-command_by words.DropFeature arguments = drop_feature_of arguments
-command_by words.SetId arguments = set_id_of arguments
-command_by words.ClearId arguments = clear_id_of arguments
+-- the commands, each with its word and how its arguments are read
+abbrev pub commands : List (List ℕ × (List Word → Result Command ParseError))
+commands =
+    (codes "rename-layer", rename_layer_of)
+    ∷ (codes "move-layer", move_layer_of)
+    ∷ (codes "drop-layer", drop_layer_of)
+    ∷ (codes "keep", keep_layers_of)
+    ∷ (codes "insert", insert_feature_of)
+    ∷ (codes "move-feature", move_feature_of)
+    ∷ (codes "drop-feature", drop_feature_of)
+    ∷ (codes "set-id", set_id_of)
+    ∷ (codes "clear-id", clear_id_of)
+    ∷ []
+
+-- what the reader of this word among some makes of the arguments, or `unknown` where none has the word
+abbrev pub read_by : {A : Type 0} → List (List ℕ × (List Word → Result A ParseError)) → Result A ParseError → List ℕ → List Word → Result A ParseError
+read_by readers unknown name arguments = option_map_or (λ read. read arguments) (lookup (bytes_eq name) readers) unknown
+
+-- the command that begins with this word, with its arguments; or the first refusal, which is UnknownCommand where no
+-- command has the word
+unfoldable pub command_by : List ℕ → List Word → Result Command ParseError
+command_by name arguments = read_by commands (Err UnknownCommand) name arguments

@@ -1,66 +1,27 @@
 -- What a line of a script asks for.
-use Rattle.std.specs.Prelude.{◌≡◌, ℕ, ◌≤◌, Bool, true, false, not, List, [], ◌∷◌, length, Option, Some, None, Result, Ok, Err, ◌==◌, nat_lt, if◌then◌else◌, codes, ok_or, option_map}
-use Rattle.std.specs.Option.{option_or}
-use Rattle.std.specs.Str.{bytes_eq, is_utf8, IsUtf8}
+use Rattle.std.specs.Prelude.{◌≡◌, ℕ, ◌≤◌, Bool, true, false, not, List, [], ◌∷◌, ◌++◌, length, map, Option, Some, None, Result, Ok, Err, ◌==◌, nat_lt, if◌then◌else◌, codes, ok_or}
+use Rattle.std.specs.Str.{is_utf8, IsUtf8}
 use Rattle.tile_arguments.specs.Arguments.{text_of, layer_of, feature_of}
 use Rattle.tile_request.specs.Request.{Request, Edit, Undo, Redo, SetMark, TakeMark, GoBack, Begin, End, Cancel, ListMarks, TellHistory, Size, Lists, Whole, OneLayer, OneFeature}
 use Rattle.tile_words.specs.Words.{Word, Bare, Quoted, after_blanks, words_of}
 use Rattle.tile_words.specs.Answers.{◌>>=◌}
 use Rattle.tile_lines.specs.declared.TheConstants.{LINE_LIMIT}
-use Rattle.tile_script.specs.Commands.{command_word_of, command_by}
-use Rattle.tile_script.specs.declared.keyword.CommandWord.{CommandWord}
-use Rattle.tile_script.specs.declared.keyword.PlainWord.{PlainWord}
-use Rattle.tile_script.specs.declared.keyword.PlainWord.TheVariants as plain
-use Rattle.tile_script.specs.declared.keyword.Keyword.{Keyword}
-use Rattle.tile_script.specs.declared.keyword.Keyword.TheVariants as keywords
+use Rattle.tile_script.specs.Commands.{read_by, command_by}
 use Rattle.tile_words.specs.declared.parse_error.ParseError.{ParseError}
 use Rattle.tile_words.specs.declared.parse_error.ParseError.TheVariants.{LineTooLong, BadUtf8, BadWord, UnknownCommand, BadArguments}
 
--- the request without arguments that has this word, or none: `undo`, `redo`, `marks`, `history`, `begin`, `end`,
--- `cancel`, `size`
-unfoldable pub plain_word_of : List ℕ → Option PlainWord
-plain_word_of name =
-    if bytes_eq name (codes "undo") then Some plain.Undo
-    else (if bytes_eq name (codes "redo") then Some plain.Redo
-    else (if bytes_eq name (codes "marks") then Some plain.Marks
-    else (if bytes_eq name (codes "history") then Some plain.History
-    else (if bytes_eq name (codes "begin") then Some plain.Begin
-    else (if bytes_eq name (codes "end") then Some plain.End
-    else (if bytes_eq name (codes "cancel") then Some plain.Cancel
-    else (if bytes_eq name (codes "size") then Some plain.Size
-    else None)))))))
+-- the words that are a request by themselves, each with the request
+abbrev pub requests_alone : List (List ℕ × Request)
+requests_alone = (codes "undo", Undo) ∷ (codes "redo", Redo) ∷ (codes "marks", ListMarks) ∷ (codes "history", TellHistory) ∷ (codes "begin", Begin) ∷ (codes "end", End) ∷ (codes "cancel", Cancel) ∷ (codes "size", Size) ∷ []
 
--- the request that begins with this word, or none: `mark`, `unmark`, `back`, `list`, one without arguments, or a
--- command
-unfoldable pub keyword_of : List ℕ → Option Keyword
-keyword_of name =
-    if bytes_eq name (codes "mark") then Some keywords.Mark
-    else (if bytes_eq name (codes "unmark") then Some keywords.Unmark
-    else (if bytes_eq name (codes "back") then Some keywords.Back
-    else (if bytes_eq name (codes "list") then Some keywords.List
-    else option_or (option_map keywords.Plain (plain_word_of name)) (option_map keywords.Edit (command_word_of name)))))
+-- the words that make a request with the name of a mark, each with the request of a name
+abbrev pub requests_by_name : List (List ℕ × (List ℕ → Request))
+requests_by_name = (codes "mark", SetMark) ∷ (codes "unmark", TakeMark) ∷ (codes "back", GoBack) ∷ []
 
--- the command that these arguments make, as a request, or the first refusal
-unfoldable pub edit_of : CommandWord → List Word → Result Request ParseError
-edit_of word arguments = do
-  command ← command_by word arguments
-  Ok (Edit command)
-
--- the request of a word that takes no argument
-abbrev pub plain_request : PlainWord → Request
-plain_request plain.Undo = Undo
-plain_request plain.Redo = Redo
-plain_request plain.Marks = ListMarks
-plain_request plain.History = TellHistory
-plain_request plain.Begin = Begin
-plain_request plain.End = End
-plain_request plain.Cancel = Cancel
-plain_request plain.Size = Size
-
--- the request of a word that takes no argument, where there is none; else BadArguments
-unfoldable pub plain_of : PlainWord → List Word → Result Request ParseError
-plain_of word [] = Ok (plain_request word)
-plain_of word (more ∷ others) = Err BadArguments
+-- the request, where it has no arguments; else BadArguments
+unfoldable pub alone_of : Request → List Word → Result Request ParseError
+alone_of request [] = Ok request
+alone_of request (more ∷ others) = Err BadArguments
 
 -- the name that a single argument says; else BadArguments
 unfoldable pub name_of : List Word → Result (List ℕ) ParseError
@@ -84,22 +45,22 @@ list_of (layer ∷ feature ∷ []) = do
   Ok (Lists (OneFeature choice chosen))
 list_of (layer ∷ feature ∷ more ∷ others) = Err BadArguments
 
--- the request that these arguments make, by its word, or the first refusal; UnknownCommand where no request has the
--- word
-abbrev pub with_arguments : Option Keyword → List Word → Result Request ParseError
-with_arguments None arguments = Err UnknownCommand
-with_arguments (Some (keywords.Edit word)) arguments = edit_of word arguments
-with_arguments (Some (keywords.Plain word)) arguments = plain_of word arguments
-with_arguments (Some keywords.Mark) arguments = mark_of SetMark arguments
-with_arguments (Some keywords.Unmark) arguments = mark_of TakeMark arguments
-with_arguments (Some keywords.Back) arguments = mark_of GoBack arguments
-with_arguments (Some keywords.List) arguments = list_of arguments
+-- the requests that are no commands, each with its word and how its arguments are read
+abbrev pub requests : List (List ℕ × (List Word → Result Request ParseError))
+requests =
+    map (λ word. (word.0, mark_of word.1)) requests_by_name
+    ++ map (λ word. (word.0, alone_of word.1)) requests_alone
+    ++ (codes "list", list_of) ∷ []
+
+-- the request that begins with this word, with its arguments; or the first refusal
+unfoldable pub request_by : List ℕ → List Word → Result Request ParseError
+request_by name arguments = read_by requests (command_by name arguments >>= λ command. Ok (Edit command)) name arguments
 
 -- what the words of a line ask for, or the first refusal: the first word is bare and says which request it is
 unfoldable pub asked_by : List Word → Result Request ParseError
 asked_by [] = Err UnknownCommand
 asked_by (Quoted text ∷ arguments) = Err UnknownCommand
-asked_by (Bare name ∷ arguments) = with_arguments (keyword_of name) arguments
+asked_by (Bare name ∷ arguments) = request_by name arguments
 
 -- the bytes are empty or begin with a `#`
 abbrev pub is_remark_behind : List ℕ → Bool

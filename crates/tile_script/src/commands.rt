@@ -6,7 +6,6 @@ ghost use Rattle.tile_script.specs.Commands.{chosen_of, rename_layer_of, move_la
 ghost use Rattle.tile_words.specs.Answers.{Gives};
 ghost use Rattle.tile_words.specs.WordStands.{word_of};
 
-use crate::keyword::CommandWord;
 use mvt_command::{Command, FeatureChoice, LayerChoice};
 use std::alloc::Global;
 use tile_arguments::{
@@ -15,23 +14,34 @@ use tile_arguments::{
 use tile_words::{ParseError, Word};
 
 /// The command that begins with this word, with its arguments.
+#[tactic(auto, unfolding(crate::specs::Commands::command_by))]
 pub(crate) fn command(
     alloc: Global,
-    word: CommandWord,
+    name: &[u8],
     arguments: &[Word<'_>],
 ) -> Result<Command, ParseError>
-    ensures { Gives command_of result (command_by word (map word_of arguments.now)) }
+    ensures { Gives command_of result (command_by name.now (map word_of arguments.now)) }
 {
-    match word {
-        CommandWord::RenameLayer => rename_layer(alloc, arguments),
-        CommandWord::MoveLayer => move_layer(alloc, arguments),
-        CommandWord::DropLayer => drop_layer(alloc, arguments),
-        CommandWord::KeepLayers => keep_layers(alloc, arguments),
-        CommandWord::InsertFeature => insert_feature(alloc, arguments),
-        CommandWord::MoveFeature => move_feature(alloc, arguments),
-        CommandWord::DropFeature => drop_feature(alloc, arguments),
-        CommandWord::SetId => set_id(alloc, arguments),
-        CommandWord::ClearId => clear_id(alloc, arguments),
+    if name == b"rename-layer".as_slice() {
+        rename_layer(alloc, arguments)
+    } else if name == b"move-layer".as_slice() {
+        move_layer(alloc, arguments)
+    } else if name == b"drop-layer".as_slice() {
+        drop_layer(alloc, arguments)
+    } else if name == b"keep".as_slice() {
+        keep_layers(alloc, arguments)
+    } else if name == b"insert".as_slice() {
+        insert_feature(alloc, arguments)
+    } else if name == b"move-feature".as_slice() {
+        move_feature(alloc, arguments)
+    } else if name == b"drop-feature".as_slice() {
+        drop_feature(alloc, arguments)
+    } else if name == b"set-id".as_slice() {
+        set_id(alloc, arguments)
+    } else if name == b"clear-id".as_slice() {
+        clear_id(alloc, arguments)
+    } else {
+        Err(ParseError::UnknownCommand)
     }
 }
 

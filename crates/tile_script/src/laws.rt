@@ -6,8 +6,8 @@ ghost use Rattle.std.specs.Str.Parse.{digits_value};
 ghost use Rattle.mvt_command.specs.Command.{AtOrdinal, Named, RenameLayer, FeatureAtOrdinal, WithId};
 ghost use Rattle.tile_arguments.specs.Arguments.{is_number};
 ghost use Rattle.tile_request.specs.Request.{Edit, Lists, Whole, OneLayer, OneFeature};
-ghost use Rattle.tile_script.specs.Line.{IsReadable, answer_to};
-ghost use Rattle.tile_script.specs.Shapes.{AsksAlone, AsksByName, requests_alone, requests_by_name};
+ghost use Rattle.tile_script.specs.Line.{requests_alone, requests_by_name, IsReadable, answer_to};
+ghost use Rattle.tile_script.specs.Shapes.{AsksAlone, AsksByName};
 ghost use Rattle.tile_words.specs.Spelling.{SpellsWords};
 ghost use Rattle.tile_words.specs.Words.{Bare, Quoted};
 

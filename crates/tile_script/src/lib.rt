@@ -7,7 +7,6 @@
 #![tactic(auto)]
 
 mod commands;
-mod keyword;
 pub mod laws;
 mod parse;
 mod requests;

@@ -1,13 +1,12 @@
 //! The requests that words ask for, each with its arguments.
 
-ghost use Rattle.std.specs.Prelude.{◌≡◌, map};
+ghost use Rattle.std.specs.Prelude.{map};
 ghost use Rattle.tile_request.specs.RequestStands.{request_of};
-ghost use Rattle.tile_script.specs.Line.{edit_of, plain_request, plain_of, name_of, list_of, asked_by};
+ghost use Rattle.tile_script.specs.Line.{alone_of, name_of, list_of, request_by, asked_by};
 ghost use Rattle.tile_words.specs.Answers.{Gives};
 ghost use Rattle.tile_words.specs.WordStands.{word_of};
 
 use crate::commands::command;
-use crate::keyword::{CommandWord, Keyword, PlainWord, keyword_of};
 use mvt_document::Items;
 use std::alloc::Global;
 use tile_arguments::{feature_choice, layer_choice, text_argument};
@@ -22,46 +21,51 @@ pub(crate) fn request(alloc: Global, words: &[Word<'_>]) -> Result<Request, Pars
     let [Word::Bare(name), arguments @ ..] = words else {
         return Err(ParseError::UnknownCommand);
     };
-    match keyword_of(name) {
-        Some(Keyword::Edit(word)) => edit(alloc, word, arguments),
-        Some(Keyword::Plain(word)) => plain(word, arguments),
-        Some(Keyword::Mark) => Ok(Request::Mark(mark_name(alloc, arguments)?)),
-        Some(Keyword::Unmark) => Ok(Request::Unmark(mark_name(alloc, arguments)?)),
-        Some(Keyword::Back) => Ok(Request::Back(mark_name(alloc, arguments)?)),
-        Some(Keyword::List) => list(alloc, arguments),
-        None => Err(ParseError::UnknownCommand),
+    named(alloc, name, arguments)
+}
+
+/// The request that begins with this word, with its arguments.
+#[tactic(auto, unfolding(crate::specs::Line::request_by))]
+fn named(alloc: Global, name: &[u8], arguments: &[Word<'_>]) -> Result<Request, ParseError>
+    ensures { Gives request_of result (request_by name.now (map word_of arguments.now)) }
+{
+    if name == b"mark".as_slice() {
+        Ok(Request::Mark(mark_name(alloc, arguments)?))
+    } else if name == b"unmark".as_slice() {
+        Ok(Request::Unmark(mark_name(alloc, arguments)?))
+    } else if name == b"back".as_slice() {
+        Ok(Request::Back(mark_name(alloc, arguments)?))
+    } else if name == b"undo".as_slice() {
+        alone(Request::Undo, arguments)
+    } else if name == b"redo".as_slice() {
+        alone(Request::Redo, arguments)
+    } else if name == b"marks".as_slice() {
+        alone(Request::Marks, arguments)
+    } else if name == b"history".as_slice() {
+        alone(Request::History, arguments)
+    } else if name == b"begin".as_slice() {
+        alone(Request::Begin, arguments)
+    } else if name == b"end".as_slice() {
+        alone(Request::End, arguments)
+    } else if name == b"cancel".as_slice() {
+        alone(Request::Cancel, arguments)
+    } else if name == b"size".as_slice() {
+        alone(Request::Size, arguments)
+    } else if name == b"list".as_slice() {
+        list(alloc, arguments)
+    } else {
+        Ok(Request::Edit(command(alloc, name, arguments)?))
     }
 }
 
-#[tactic(auto, unfolding(crate::specs::Line::edit_of))]
-fn edit(alloc: Global, word: CommandWord, arguments: &[Word<'_>]) -> Result<Request, ParseError>
-    ensures { Gives request_of result (edit_of word (map word_of arguments.now)) }
-{
-    Ok(Request::Edit(command(alloc, word, arguments)?))
-}
-
-#[tactic(auto, unfolding(crate::specs::Line::plain_of))]
-fn plain(word: PlainWord, arguments: &[Word<'_>]) -> Result<Request, ParseError>
-    ensures { Gives request_of result (plain_of word (map word_of arguments.now)) }
+/// The request, where it has no arguments.
+#[tactic(auto, unfolding(crate::specs::Line::alone_of))]
+fn alone(request: Request, arguments: &[Word<'_>]) -> Result<Request, ParseError>
+    ensures { Gives request_of result (alone_of (request_of request) (map word_of arguments.now)) }
 {
     match arguments {
-        [] => Ok(plain_request(word)),
+        [] => Ok(request),
         _ => Err(ParseError::BadArguments),
-    }
-}
-
-fn plain_request(word: PlainWord) -> Request
-    ensures { request_of result ≡ plain_request word }
-{
-    match word {
-        PlainWord::Undo => Request::Undo,
-        PlainWord::Redo => Request::Redo,
-        PlainWord::Marks => Request::Marks,
-        PlainWord::History => Request::History,
-        PlainWord::Begin => Request::Begin,
-        PlainWord::End => Request::End,
-        PlainWord::Cancel => Request::Cancel,
-        PlainWord::Size => Request::Size,
     }
 }
 
