@@ -1,6 +1,7 @@
 #!/usr/bin/env python3
 """Runs tileshell on hostile tiles: whether each is answered as it should be, in linear time and bounded memory."""
 import argparse
+import itertools
 import math
 import sys
 from dataclasses import dataclass
@@ -15,6 +16,10 @@ from targets import OURS
 from tiles import MEBIBYTE, SIZES, Tile
 
 SCRIPT = 'rename-layer "a" "b"\nrename-layer #0 "b"\nundo\n'
+
+# A name to keep for so many bytes of a tile: a line holds as many as there are for the largest.
+BYTES_OF_A_NAME = 6400
+LETTERS = "abcdefghijklmnopqrstuvwxy"
 
 # A tile is run so often, and of the times the least counts.
 TRIES = 5
@@ -41,6 +46,9 @@ LAYER_PAST_END, FEATURE_PAST_END = LAYER_TAG + PAST_END, FEATURE_TAG + PAST_END
 # Longer than what is left of a layer that is as long.
 PAST_LAYER = LAYER_TAG + varint(127)
 
+# Of no name that `many_names` keeps.
+NAMED_LAYER = bytes_field(3, bytes_field(1, b"zzz"))
+
 # The smallest fields: of those that keep no bytes, and of those that do.
 NUMBER, BYTE = number_field(1, 0), bytes_field(1, b"\0")
 
@@ -64,6 +72,12 @@ def groups(deep):
 TOO_DEEP = groups(MOST_OPEN + 1)
 
 
+def many_names(size):
+    """A line that keeps the layers of many names, of which there are more in a larger tile."""
+    names = map("".join, itertools.product(LETTERS, repeat=3))
+    return "keep " + " ".join(f'"{name}"' for name in itertools.islice(names, size // BYTES_OF_A_NAME)) + "\n"
+
+
 def nested_bytes(levels):
     """A layer, in it a feature, and in that LEN fields in one another."""
     heads, size = [], 0
@@ -82,6 +96,8 @@ class Hostile:
     place: int
     # Whether it is of fields that keep bytes each, be it one.
     keeps_bytes: bool = False
+    # What is run on a tile of so many bytes. No line of it is accepted.
+    script: Callable[[int], str] = lambda size: SCRIPT
 
 
 HOSTILE = [
@@ -104,6 +120,7 @@ HOSTILE = [
             lambda size: bytes_field(3, behind(FEATURE, size - HEAD, FEATURE_PAST_END)), 0),
     Hostile("a layer that wants one byte", lambda size: bytes_field(3, bytes(size - HEAD))[:-1], 0),
     Hostile("LEN fields in LEN fields", lambda size: repeated(nested_bytes(LEVELS), size), None),
+    Hostile("layers, and many names to keep", lambda size: repeated(NAMED_LAYER, size), None, script=many_names),
 ]
 
 
@@ -127,12 +144,12 @@ def highest(runs):
     return max(run.peak for run in runs)
 
 
-def runs_on(program, content):
-    """Some runs on a tile of these bytes."""
+def runs_on(program, content, lines=SCRIPT):
+    """Some runs of a script on a tile of these bytes."""
     tile = Tile("hostile", peers.BUILD / "hostile.pbf", layer=None)
     tile.path.write_bytes(content)
     script = peers.BUILD / "script"
-    script.write_text(SCRIPT)
+    script.write_text(lines)
     return [run_once(program, tile, script, SECONDS) for _ in range(TRIES)]
 
 
@@ -146,7 +163,8 @@ def multiples(program, size):
 def measured(program, hostile, size, multiple):
     print(f"bench: {hostile.name}, {size:,} bytes", flush=True)
     content = hostile.make(size)
-    return Measured(len(content), runs_on(program, content), multiple[hostile.keeps_bytes] * len(content) + NOISE)
+    runs = runs_on(program, content, hostile.script(size))
+    return Measured(len(content), runs, multiple[hostile.keeps_bytes] * len(content) + NOISE)
 
 
 def is_answered(hostile, size, run):

@@ -5,8 +5,8 @@ use Rattle.std.specs.Option.{IsSomeAnd, option_and_then}
 use Rattle.mvt_document.specs.Plain.{Field, LayerItem, TileItem, OfLayer, PlainInTile, Document}
 use Rattle.mvt_document.specs.Splicing.{splice}
 use Rattle.mvt_document.specs.Opens.{IsField}
-use Rattle.mvt_change.specs.Lists.{CanSplice, change_at}
-use Rattle.mvt_change.specs.Places.{items_in, fields_in, fields_in_at, fields_at, in_layer, in_feature, change_items, change_fields}
+use Rattle.mvt_document.specs.Lists.{CanSplice, change_at}
+use Rattle.mvt_document.specs.Places.{items_in, fields_in, fields_in_at, fields_at, in_layer, in_feature, change_items, change_fields}
 use Rattle.mvt_change.specs.Changes.{FeatureStep, FitsStep, go_step, taken_out, turn_step}
 
 -- one feature is not the other: their layers differ, or in one layer their positions
