@@ -3,7 +3,7 @@
 //!
 //! - A number is read in the width in which it is spelled, and nothing is found only where there is
 //!   none: `read_varint`. It is written in the width that is asked for, at the end of a room that
-//!   has as many bytes: `put_number`. The shortest spelling of a number is the least width in which
+//!   has as many bytes, or behind the bytes of a vector: `put_number`, `Varint::put`. The shortest spelling of a number is the least width in which
 //!   it fits: `Varint::minimal`. A signed number has one ZigZag, and each ZigZag is that of one:
 //!   `to_zigzag`, `from_zigzag`.
 //! - How many bytes a value takes, where a file may have as many, or where they are within any

@@ -1,9 +1,14 @@
 //! Numbers in base 128, each with the width of its spelling: read and written.
 
-ghost use Rattle.std.specs.Prelude.{◌≡◌, ℕ, ◌*◌, ◌^◌, ◌<◌, ◌≤◌, ◌++◌, List, length, take, IfSome, IfNone, nat_lt, position};
+ghost use Rattle.std.specs.Prelude.{◌≡◌, ℕ, ◌*◌, ◌^◌, ◌<◌, ◌≤◌, ◌++◌, List, length, take, IfSome, IfNone, OnOk, nat_lt, position};
 ghost use Rattle.mvt_document.specs.Shape.{IsSpelling};
 ghost use Rattle.mvt_document.specs.Wire.{spell, minimal_width};
 ghost use Rattle.mvt_document.specs.Fills.{Fills};
+
+use std::alloc::AllocError;
+
+// How many bytes a number takes at most.
+const WIDEST: usize = 10;
 
 // Nine bytes hold 63 of a number's 64 bits.
 const TENTH_BYTE_MAX: u8 = 1;
@@ -28,6 +33,15 @@ impl Varint {
             value,
             width: least_width(value),
         }
+    }
+
+    /// Adds the number at the end, in as many bytes as its width.
+    pub fn put(self, bytes: &mut Vec<u8>) -> Result<(), AllocError>
+        ensures { OnOk result (bytes.new.items ≡ bytes.old.items ++ spell self.value self.width) }
+    {
+        let mut room = [0; WIDEST];
+        let start = put_number(self.value, self.width, &mut room);
+        bytes.extend_from_slice(&room[start..])
     }
 }
 

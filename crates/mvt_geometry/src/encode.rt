@@ -11,11 +11,8 @@ use crate::geometry::Geometry;
 use crate::path::{LINE_TO, MOVE_TO_ONE};
 use crate::read::{CLOSE_PATH, MOVE_TO};
 use crate::shapes::{Kind, ORIGIN, Point};
-use mvt_document::{Items, least_width, put_number, to_zigzag};
+use mvt_document::{Items, Varint, to_zigzag};
 use std::alloc::{AllocError, Global};
-
-/// How many bytes a number takes at most.
-const WIDEST: usize = 10;
 
 /// How often a command may be carried out.
 const MAX_COUNT: usize = 0x1fff_ffff;
@@ -148,7 +145,5 @@ fn put_command(bytes: &mut Vec<u8>, id: u32, count: usize) -> Result<(), EncodeE
 fn put_integer(bytes: &mut Vec<u8>, integer: u64) -> Result<(), AllocError>
     ensures { OnOk result (bytes.new.items ≡ bytes.old.items ++ shortest integer) }
 {
-    let mut room = [0; WIDEST];
-    let start = put_number(integer, least_width(integer), &mut room);
-    bytes.extend_from_slice(&room[start..])
+    Varint::minimal(integer).put(bytes)
 }

@@ -6,11 +6,8 @@ ghost use Rattle.mvt_value.specs.Stands.{new_value_of};
 
 use crate::tags::{BOOL_TAG, DOUBLE_TAG, FLOAT_TAG, INT_TAG, SINT_TAG, STRING_TAG, UINT_TAG};
 use crate::value::NewValue;
-use mvt_document::{Items, least_width, put_number, to_zigzag};
+use mvt_document::{Items, Varint, to_zigzag};
 use std::alloc::{AllocError, Global};
-
-/// How many bytes a number takes at most.
-const WIDEST: usize = 10;
 
 /// The bytes of the value, each number in its shortest spelling.
 #[tactic(auto, using(crate::proofs::Encoded::written))]
@@ -20,8 +17,8 @@ pub fn encode_value(alloc: Global, value: &NewValue) -> Result<Items<u8>, AllocE
 {
     match value {
         NewValue::Text(text) => numbered(alloc, STRING_TAG, text.len() as u64, text.as_slice()),
-        NewValue::Float4(bytes) => joined(alloc, FLOAT_TAG, &[], bytes),
-        NewValue::Double8(bytes) => joined(alloc, DOUBLE_TAG, &[], bytes),
+        NewValue::Float4(bytes) => tagged(alloc, FLOAT_TAG, bytes),
+        NewValue::Double8(bytes) => tagged(alloc, DOUBLE_TAG, bytes),
         NewValue::Int(number) => numbered(alloc, INT_TAG, number.cast_unsigned(), &[]),
         NewValue::Uint(number) => numbered(alloc, UINT_TAG, *number, &[]),
         NewValue::Sint(number) => numbered(alloc, SINT_TAG, to_zigzag(*number), &[]),
@@ -33,18 +30,20 @@ pub fn encode_value(alloc: Global, value: &NewValue) -> Result<Items<u8>, AllocE
 fn numbered(alloc: Global, tag: u8, number: u64, bytes: &[u8]) -> Result<Items<u8>, AllocError>
     ensures { IfOk result (λ message. message.items ≡ tag ∷ (shortest number ++ bytes.now)) }
 {
-    let mut room = [0; WIDEST];
-    let start = put_number(number, least_width(number), &mut room);
-    joined(alloc, tag, &room[start..], bytes)
+    let number = Varint::minimal(number);
+    let mut message = Vec::with_capacity(alloc, 1 + usize::from(number.width) + bytes.len())?;
+    message.push(tag)?;
+    number.put(&mut message)?;
+    message.extend_from_slice(bytes)?;
+    Ok(Items::from_vec(message))
 }
 
-/// The tag, and the bytes of both lists behind it.
-fn joined(alloc: Global, tag: u8, first: &[u8], second: &[u8]) -> Result<Items<u8>, AllocError>
-    ensures { IfOk result (λ message. message.items ≡ tag ∷ (first.now ++ second.now)) }
+/// The tag, and the bytes behind it.
+fn tagged(alloc: Global, tag: u8, bytes: &[u8]) -> Result<Items<u8>, AllocError>
+    ensures { IfOk result (λ message. message.items ≡ tag ∷ bytes.now) }
 {
-    let mut message = Vec::with_capacity(alloc, 1 + first.len() + second.len())?;
+    let mut message = Vec::with_capacity(alloc, 1 + bytes.len())?;
     message.push(tag)?;
-    message.extend_from_slice(first)?;
-    message.extend_from_slice(second)?;
+    message.extend_from_slice(bytes)?;
     Ok(Items::from_vec(message))
 }
