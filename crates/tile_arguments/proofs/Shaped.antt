@@ -13,7 +13,8 @@ use Rattle.tile_words.specs.Answers.{◌>>=◌}
 use Rattle.tile_words.specs.Words.{Word}
 use Rattle.tile_words.specs.declared.parse_error.ParseError.{ParseError}
 use Rattle.tile_words.specs.declared.parse_error.ParseError.TheVariants.{BadGeometryText}
-use Rattle.tile_arguments.specs.Arguments.{behind, are_digits, number_up_to, signed_by, signed_of, way_of, each, point_at, point_in, bare_in, point_of, part_of, is_bar, parts_of, is_part_count, are_parts, shaped}
+use Rattle.mvt_geometry.specs.Checks.{is_part_count}
+use Rattle.tile_arguments.specs.Arguments.{behind, are_digits, number_up_to, signed_by, signed_of, way_of, each, point_at, point_in, bare_in, point_of, part_of, is_bar, parts_of, are_parts, shaped}
 use Rattle.tile_arguments.proofs.Digits.{both_true}
 
 -- ---- coordinates

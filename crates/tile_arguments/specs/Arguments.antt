@@ -8,6 +8,7 @@ use Rattle.std.specs.Str.Parse.{digits_value}
 use Rattle.hex.specs.Hex.{decode_of, decode_sized}
 use Rattle.mvt_command.specs.Command.{LayerChoice, AtOrdinal, Named, FeatureChoice, FeatureAtOrdinal, WithId}
 use Rattle.mvt_geometry.specs.Shapes.{Geometry, least_points}
+use Rattle.mvt_geometry.specs.Checks.{is_part_count}
 use Rattle.mvt_geometry.specs.declared.shapes.Point.{Point}
 use Rattle.mvt_geometry.specs.declared.shapes.Kind.{Kind}
 use Rattle.mvt_geometry.specs.declared.shapes.Kind.TheVariants.{Dots, Lines, Areas}
@@ -190,12 +191,6 @@ kind_of name =
     else (if bytes_eq name (codes "line") then Ok Lines
     else (if bytes_eq name (codes "polygon") then Ok Areas
     else Err BadGeometryText))
-
--- dots are one part; there is at least one line or ring
-abbrev pub is_part_count : Kind → ℕ → Bool
-is_part_count Dots count = count == 1
-is_part_count Lines count = nat_le 1 count
-is_part_count Areas count = nat_le 1 count
 
 -- a geometry of this kind may have this many parts, and each part has enough points
 abbrev pub are_parts : Kind → List (List Point) → Bool

@@ -19,7 +19,8 @@ use Rattle.tile_words.specs.Answers.{◌>>=◌}
 use Rattle.tile_words.specs.Spelling.{SpellsWord, SpellsWords}
 use Rattle.tile_words.specs.declared.parse_error.ParseError.{ParseError}
 use Rattle.tile_words.specs.declared.parse_error.ParseError.TheVariants.{BadGeometryText}
-use Rattle.tile_arguments.specs.Arguments.{way_of, each, point_at, point_in, point_of, part_of, is_bar, parts_of, kind_of, is_part_count, shaped, geometry_of}
+use Rattle.mvt_geometry.specs.Checks.{is_part_count}
+use Rattle.tile_arguments.specs.Arguments.{way_of, each, point_at, point_in, point_of, part_of, is_bar, parts_of, kind_of, shaped, geometry_of}
 use Rattle.tile_text.specs.Texts.{point_form, kind_word, part_words, geometry_words}
 use Rattle.tile_text.specs.TextStands.{spaced}
 use Rattle.tile_text.specs.ReadBack.{IsNear, IsReadAsGeometry}
