@@ -27,7 +27,7 @@ pub fn answer(alloc: Global, call: &str, given: Given<'_>) -> Answer {
             let named = layer_named(&document, given.bytes);
             told(alloc, named.map(|found| found.ordinal))
         }
-        "selected_layer" => {
+        "find_layer" => {
             let choice = layer_choice(alloc, given.word(alloc)?).map_err(|_| Broken::BadGiven)?;
             told(
                 alloc,
@@ -56,7 +56,7 @@ fn within_layer(alloc: Global, call: &str, found: FoundLayer<'_>, rest: &str) ->
             let found = feature_by_id(&seen, number_in(rest)?);
             told(alloc, found.map(|found| found.ordinal))
         }
-        "selected_feature" => feature_selected(alloc, found, rest),
+        "find_feature" => feature_selected(alloc, found, rest),
         _ => Err(Broken::NoCall),
     }
 }

@@ -18,8 +18,8 @@ use mvt_select::Refusal;
 use mvt_view::{LayerView, layer_count};
 use std::alloc::{AllocError, Global};
 
-/// The layers stay that have one of the names. Each layer's name is searched for among names in
-/// order, so that many names take no longer with many layers.
+/// The layers stay that have one of the names. The names are put in order once, and each layer's
+/// name is found among them by halving.
 pub(crate) fn keep_layers(
     alloc: Global,
     document: &Document,
