@@ -11,7 +11,7 @@ use mvt_document::{Measured, Varint, least_width, put_number};
 /// A value that is written as bytes.
 pub(crate) trait Encode: Measured {
     /// Writes it at the end of the room, and gives how much of the room is left before it.
-    fn put(&self, room: &mut [u8]) -> usize
+    fn fill(&self, room: &mut [u8]) -> usize
         requires { length (Self.bytes self.now) ≤ length room.old }
         ensures { Fills room.old room.new (Self.bytes self.now) result };
 }
@@ -23,7 +23,7 @@ pub(crate) fn put_all<T: Encode>(items: &[T], room: &mut [u8]) -> usize
 {
     let mut left = room.len();
     for index in (0..items.len()).rev() {
-        left = items[index].put(&mut room[..left]);
+        left = items[index].fill(&mut room[..left]);
     }
     left
 }
@@ -55,11 +55,11 @@ pub(crate) fn put_message<T: Encode>(tag: Varint, width: u8, items: &[T], room: 
     let left = put_all(items, room);
     let length = room.len() - left;
     let left = put_length(width, length, &mut room[..left]);
-    tag.put(&mut room[..left])
+    tag.fill(&mut room[..left])
 }
 
 impl Encode for Varint {
-    fn put(&self, room: &mut [u8]) -> usize {
+    fn fill(&self, room: &mut [u8]) -> usize {
         put_number(self.value, self.width, room)
     }
 }

@@ -4,9 +4,9 @@ use crate::encode::{Encode, put_bytes, put_length, put_message};
 use mvt_document::{Body, Feature, Field, Layer, LayerItem, TileItem};
 
 impl Encode for Body {
-    fn put(&self, room: &mut [u8]) -> usize {
+    fn fill(&self, room: &mut [u8]) -> usize {
         match self {
-            Body::Number(number) => number.put(room),
+            Body::Number(number) => number.fill(room),
             Body::Eight(bytes) => put_bytes(bytes, room),
             Body::Four(bytes) => put_bytes(bytes, room),
             Body::Bytes { width, bytes } => {
@@ -19,38 +19,38 @@ impl Encode for Body {
 }
 
 impl Encode for Field {
-    fn put(&self, room: &mut [u8]) -> usize {
-        let left = self.body.put(room);
-        self.tag.put(&mut room[..left])
+    fn fill(&self, room: &mut [u8]) -> usize {
+        let left = self.body.fill(room);
+        self.tag.fill(&mut room[..left])
     }
 }
 
 impl Encode for Feature {
-    fn put(&self, room: &mut [u8]) -> usize {
+    fn fill(&self, room: &mut [u8]) -> usize {
         put_message(self.tag, self.width, self.fields.as_slice(), room)
     }
 }
 
 impl Encode for LayerItem {
-    fn put(&self, room: &mut [u8]) -> usize {
+    fn fill(&self, room: &mut [u8]) -> usize {
         match self {
-            LayerItem::Feature(feature) => feature.put(room),
-            LayerItem::Plain(field) => field.put(room),
+            LayerItem::Feature(feature) => feature.fill(room),
+            LayerItem::Plain(field) => field.fill(room),
         }
     }
 }
 
 impl Encode for Layer {
-    fn put(&self, room: &mut [u8]) -> usize {
+    fn fill(&self, room: &mut [u8]) -> usize {
         put_message(self.tag, self.width, self.items.as_slice(), room)
     }
 }
 
 impl Encode for TileItem {
-    fn put(&self, room: &mut [u8]) -> usize {
+    fn fill(&self, room: &mut [u8]) -> usize {
         match self {
-            TileItem::Layer(layer) => layer.put(room),
-            TileItem::Plain(field) => field.put(room),
+            TileItem::Layer(layer) => layer.fill(room),
+            TileItem::Plain(field) => field.fill(room),
         }
     }
 }

@@ -1,6 +1,6 @@
 use Rattle.std.proofs.Common.{length-take, arith}
 use Rattle.mvt_document.proofs.Sizes.{length-delimited}
-use Rattle.mvt_write.proofs.messages.BodyEncode.put.Goals as goal
+use Rattle.mvt_write.proofs.messages.BodyEncode.fill.Goals as goal
 
 pub put_length-requires : goal.put_length-requires
 put_length-requires c =

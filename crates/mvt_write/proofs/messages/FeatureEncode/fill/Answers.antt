@@ -1,5 +1,5 @@
 use Rattle.std.proofs.lemmas.List.Folds.{flat_map-map}
-use Rattle.mvt_write.proofs.messages.FeatureEncode.put.Goals as goal
+use Rattle.mvt_write.proofs.messages.FeatureEncode.fill.Goals as goal
 
 pub put_message-requires : goal.put_message-requires
 put_message-requires c = rw c.as_slice.ensures (rw flat_map-map at c.requires)
