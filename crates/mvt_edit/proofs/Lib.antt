@@ -9,7 +9,6 @@ pub mod Gone
 pub mod Nth
 pub mod Moving
 pub mod Inserting
-pub mod NewFeature
 pub mod MovesPrepared
 pub mod InRange
 pub mod InsertionPrepared
