@@ -1,10 +1,11 @@
-pub mod Cutting
-pub mod CutFromBack
+pub mod CarriedOut
+pub mod Following
 pub mod ListPlaces
-pub mod Taking
+pub mod Going
+pub mod Carrying
 pub mod Searched
 pub mod Kept
-pub mod PlainRuns
+pub mod Heavy
 pub mod Gone
 pub mod Nth
 pub mod Moving
