@@ -21,7 +21,8 @@ use Rattle.history_laws.specs.Laws.{StaysSound, BackToTheMark}
 use Rattle.mvt_history.specs.declared.TheConstants.{MAX_MARKS}
 use Rattle.mvt_history_error.specs.declared.HistoryError.{HistoryError}
 use Rattle.mvt_history_error.specs.declared.HistoryError.TheVariants.{NothingToUndo, NothingToRedo, NoMark, TooManyMarks, NoGroup}
-use Rattle.mvt_history.proofs.MarkOrder.{all_filtered, all_passed, all_bound}
+use Rattle.mvt_meaning.proofs.Elements.{all_filtered}
+use Rattle.mvt_history.proofs.MarkOrder.{all_passed, all_bound}
 use Rattle.history_laws.proofs.UndosRedos.{none_open}
 
 -- ---- what marks of a name say of a document

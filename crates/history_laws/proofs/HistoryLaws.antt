@@ -1,17 +1,13 @@
--- What the laws of undo and of a tile's length rest on.
+-- What the laws of undo rest on.
 use Rattle.std.proofs.Common.{◌≡◌, ◌+◌, ◌-◌, ◌<◌, ◌≤◌, ◌==◌, false, Some, None, Result, Ok, Err, List, [], ◌∷◌, length, length-take-le, take, refl, sym, ap, ◌∙◌, arith}
 use Rattle.std.proofs.lemmas.Bool.Decides.{nat_tests}
 use Rattle.std.proofs.lemmas.List.{take_at}
-use Rattle.std.specs.Result.{result_unwrap_or}
-use Rattle.mvt_document.specs.declared.TheConstants.{MAX_FILE}
 use Rattle.mvt_document.specs.Plain.{Document}
-use Rattle.mvt_document.specs.Wire.{bytes_of}
 use Rattle.mvt_command.specs.Command.{Command}
 use Rattle.mvt_meaning.specs.Meaning.{after, applied}
 use Rattle.mvt_meaning.specs.declared.refusal.Refusal.{Refusal}
-use Rattle.mvt_meaning.proofs.Lengths.{command_fits}
-use Rattle.mvt_history.specs.History.{History, IsSound, after_all, after_steps, document_at, present_document, standing_document, commands_in, at_point, with_group, with_step, with_command, edited_to, undone, ended, closed}
-use Rattle.history_laws.specs.Laws.{StaysSound, HistoryFits, UndoAtOnce, UndoAfterEnd, StepUndoesWhole}
+use Rattle.mvt_history.specs.History.{History, IsSound, after_steps, document_at, present_document, standing_document, at_point, with_group, with_step, with_command, edited_to, undone, ended, closed}
+use Rattle.history_laws.specs.Laws.{StaysSound, UndoAtOnce, UndoAfterEnd, StepUndoesWhole}
 use Rattle.mvt_history.proofs.Closed.{standing_alone}
 use Rattle.mvt_history.proofs.Sound.{begins_sound, sound_asked}
 use Rattle.history_laws.proofs.OpenStep.{within_step}
@@ -62,27 +58,6 @@ step_undoes_whole requests history opening sound open_so leave some =
     let not_none : ¬ (step.1.0 ≡ []) = λ none. some (ap (λ h. h.group) held ∙ ap Some none) in
     let undo = ended_undoes step.1.0 history sound not_none in
     (undo.0, undo.1, ap closed held ∙ undo.2, undo.3, undo.4 ∙ sym (standing_alone history step.0))
-
--- ---- the limit
-
-after_fits : (document : Document) (made : Result Document Refusal) → length (bytes_of document) ≤ MAX_FILE → ((after : Document) → made ≡ Ok after → length (bytes_of after) ≤ MAX_FILE) → length (bytes_of (result_unwrap_or made document)) ≤ MAX_FILE
-after_fits document (Ok after) fits made_fits = made_fits after refl
-after_fits document (Err refusal) fits made_fits = fits
-
-all_fit : (commands : List Command) (document : Document) → length (bytes_of document) ≤ MAX_FILE → length (bytes_of (after_all commands document)) ≤ MAX_FILE
-all_fit [] document fits = fits
-all_fit (command ∷ commands) document fits = all_fit commands (after command document) (after_fits document (applied command document) fits (λ new e. command_fits command document new fits e))
-
-steps_fit : (steps : List (List Command)) (document : Document) → length (bytes_of document) ≤ MAX_FILE → length (bytes_of (after_steps steps document)) ≤ MAX_FILE
-steps_fit [] document fits = fits
-steps_fit (step ∷ steps) document fits = steps_fit steps (after_all step document) (all_fit step document fits)
-
-pub history_fits : HistoryFits
-history_fits history fits = (
-  λ point. steps_fit (take point history.steps) history.start fits,
-  λ count. all_fit (take count (commands_in history.group)) (present_document history) (steps_fit (take history.present history.steps) history.start fits),
-  all_fit (commands_in history.group) (present_document history) (steps_fit (take history.present history.steps) history.start fits),
-)
 
 -- ---- numbers and marks in order
 

@@ -1,4 +1,5 @@
 pub mod HistoryLaws
+pub mod Throughout
 pub mod Reaching
 pub mod UndosRedos
 pub mod OpenStep

@@ -3,12 +3,13 @@ use Rattle.std.specs.Prelude.{◌≡◌, ℕ, zero, suc, ◌+◌, ◌-◌, ◌�
 use Rattle.std.specs.List.{AllByRecursion, sum_by}
 use Rattle.mvt_document.specs.declared.TheConstants.{MAX_FILE}
 use Rattle.mvt_document.specs.Plain.{Document}
+use Rattle.mvt_document.specs.Opens.{IsDocument}
 use Rattle.mvt_document.specs.Wire.{bytes_of}
 use Rattle.mvt_change.specs.Changes.{weight}
 use Rattle.mvt_change.specs.Joining.{go_along}
-use Rattle.mvt_command.specs.Command.{Command}
+use Rattle.mvt_command.specs.Command.{Command, IsCommand}
 use Rattle.mvt_history.specs.History.{History, IsSound, begun, after_all, document_at, present_document, standing_document, commands_in, edited, undone, redone, marked, gone_back, opened, closed, cancelled}
-use Rattle.mvt_history.specs.Requests.{Request, SetsOther, LeavesOpen, asked, asked_all, then_times}
+use Rattle.mvt_history.specs.Requests.{Request, Edit, SetsOther, LeavesOpen, asked, asked_all, then_times}
 use Rattle.mvt_history.specs.Reached.{all_taken_by, all_put_by, step_allowance}
 use Rattle.mvt_history.specs.Standing.{Standing, changes_in, closed_document}
 use Rattle.mvt_history.specs.Session.{StandsFor, StopsAt, StopsWithin}
@@ -19,15 +20,41 @@ StaysSound =
     ((document : Document) (depth : ℕ) → 1 ≤ depth → IsSound (begun document depth))
     × ((request : Request) (history : History) → IsSound history → IsSound (asked request history))
 
--- where a file can hold the tile at the start, it can hold the tile at each point of the history, each tile within the
--- open step, and the one that stands
+-- ---- documents
+
+-- a valid request: the command that it asks for, where it asks for one, is valid
+abbrev pub IsRequest : Request → Type 0
+IsRequest (Edit command) = IsCommand command
+IsRequest request = Unit {0}
+
+-- the commands of the history are valid: those of all its steps, and those of the open one
+pub record HasCommands (history : History) : Type 0 where
+  pub steps : AllByRecursion (AllByRecursion IsCommand) history.steps
+  pub group : AllByRecursion IsCommand (commands_in history.group)
+
+-- a history has valid commands when it begins, and has them after each valid request
+abbrev pub StaysValid : Type 0
+StaysValid =
+    ((document : Document) (depth : ℕ) → HasCommands (begun document depth))
+    × ((request : Request) (history : History) → IsRequest request → HasCommands history → HasCommands (asked request history))
+
+-- something holds of the document at each point of the history, of each document within the open step, and of the one
+-- that stands
+pub record HoldsThroughout (holds : Document → Type 0) (history : History) : Type 0 where
+  pub points : (point : ℕ) → holds (document_at point history)
+  pub within : (count : ℕ) → holds (after_all (take count (commands_in history.group)) (present_document history))
+  pub standing : holds (standing_document history)
+
+-- where the document at the start is valid, and so are the commands, all documents of the history are
+abbrev pub HistoryOfDocuments : Type 0
+HistoryOfDocuments = (history : History) → IsDocument history.start → HasCommands history → HoldsThroughout IsDocument history
+
+-- where the document at the start is valid and a file can hold it, and the commands are valid, a file can hold all
+-- documents of the history
 abbrev pub HistoryFits : Type 0
-HistoryFits =
-    (history : History) → length (bytes_of history.start) ≤ MAX_FILE →
-    let commands = commands_in history.group in
-    ((point : ℕ) → length (bytes_of (document_at point history)) ≤ MAX_FILE)
-    × ((count : ℕ) → length (bytes_of (after_all (take count commands) (present_document history))) ≤ MAX_FILE)
-    × (length (bytes_of (standing_document history)) ≤ MAX_FILE)
+HistoryFits = (history : History) → IsDocument history.start → HasCommands history → length (bytes_of history.start) ≤ MAX_FILE → HoldsThroughout (λ document. length (bytes_of document) ≤ MAX_FILE) history
+
+-- ---- undo, steps and marks
 
 -- where no step is open, an undo right after an accepted command is accepted, and the document is the one before the
 -- command

@@ -1,7 +1,7 @@
 //! Laws of histories and sessions. Each function does nothing: its contract is the law.
 #![tactic(auto)]
 
-ghost use Rattle.history_laws.specs.Laws.{BackToTheMark, CancelLeavesNoTrace, ChangesLead, EmptyStepLeavesNoTrace, FewSteps, HistoryFits, KeptWithin, RedosUndoUndos, StaysSound, StepUndoesWhole, StoppedGoesOn, UndoAfterEnd, UndoAtOnce, UndosUndoRedos};
+ghost use Rattle.history_laws.specs.Laws.{BackToTheMark, CancelLeavesNoTrace, ChangesLead, EmptyStepLeavesNoTrace, FewSteps, HistoryFits, HistoryOfDocuments, KeptWithin, RedosUndoUndos, StaysSound, StaysValid, StepUndoesWhole, StoppedGoesOn, UndoAfterEnd, UndoAtOnce, UndosUndoRedos};
 
 /// The numbers and marks of a history (how many steps stand, how far undo goes back, which points
 /// are marked) begin in order at a depth of at least 1, and stay so under each request.
@@ -9,8 +9,20 @@ pub fn stays_sound()
     ensures { StaysSound }
 {}
 
-/// Where a file can hold the tile at the start, it can hold each tile of the history, each within
-/// the open step, and the one that stands.
+/// The commands of a history are valid when it begins, and stay so under each valid request, as each
+/// of the program is.
+pub fn stays_valid()
+    ensures { StaysValid }
+{}
+
+/// Where the tile at the start is a document and the commands are valid, each tile of the history
+/// is a document, each within the open step, and the one that stands.
+pub fn history_of_documents()
+    ensures { HistoryOfDocuments }
+{}
+
+/// Where the tile at the start is a document that a file can hold and the commands are valid, a file
+/// can hold each tile of the history, each within the open step, and the one that stands.
 pub fn history_fits()
     ensures { HistoryFits }
 {}

@@ -1,5 +1,5 @@
 -- The commands that change a tile, as plain values.
-use Rattle.std.specs.Prelude.{ℕ, List}
+use Rattle.std.specs.Prelude.{ℕ, ◌^◌, ◌<◌, List}
 use Rattle.mvt_geometry.specs.Shapes.{Geometry}
 
 -- how a layer is selected: by its ordinal among the layers, or by its name
@@ -23,3 +23,8 @@ pub data Command : Type 0 where
   DropFeature : (layer : LayerChoice) (feature : FeatureChoice) → Command
   SetId : (layer : LayerChoice) (feature : FeatureChoice) (id : ℕ) → Command
   ClearId : (layer : LayerChoice) (feature : FeatureChoice) → Command
+
+-- a valid command: the id that it sets, where it sets one, can be spelled, as it is below 2 ^ 64 (tiles 4.2)
+abbrev pub IsCommand : Command → Type 0
+IsCommand (SetId layer feature id) = id < 2 ^ 64
+IsCommand command = Unit {0}

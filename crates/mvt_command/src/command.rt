@@ -1,5 +1,8 @@
 //! The commands with their arguments, and how a layer or a feature is selected.
 
+ghost use Rattle.mvt_command.specs.Command.{IsCommand};
+ghost use Rattle.mvt_command.specs.CommandStands.{command_of};
+
 use mvt_document::Items;
 use mvt_geometry::Geometry;
 
@@ -62,4 +65,15 @@ pub enum Command {
         layer: LayerChoice,
         feature: FeatureChoice,
     },
+}
+
+impl Command {
+    /// Does nothing: a command of the program is a valid one, since its numbers have 64 bits.
+    pub fn known(&self)
+        ensures { IsCommand (command_of self.now) }
+    {
+        if let Command::SetId { id, .. } = self {
+            let _below = *id;
+        }
+    }
 }

@@ -21,13 +21,13 @@ use Rattle.mvt_meaning.specs.Meaning.{applied, feature_count, geometry_refusal, 
 use Rattle.mvt_meaning.specs.Ordinals.{insert_nth}
 use Rattle.mvt_meaning.specs.Selection.{is_feature, layer_positions, selected}
 use Rattle.mvt_meaning.specs.declared.refusal.Refusal.TheVariants.{BadPlace, NoMemory, OutOfRange, TooLarge}
+use Rattle.mvt_meaning.proofs.Documents.{new_feature_valid}
 use Rattle.mvt_meaning.proofs.Found.{change_layer_found, items_at_found}
 use Rattle.mvt_edit.specs.Placing.{IsPlaceFor}
 use Rattle.mvt_edit.specs.Prepared.{IsPrepared}
 use Rattle.mvt_edit.proofs.InRange.{in_range_Decides}
 use Rattle.mvt_edit.proofs.MovesPrepared.{count_features, feature_count_found}
 use Rattle.mvt_edit.proofs.NamesAndIds.{limit_kept, limit_passed}
-use Rattle.mvt_edit.proofs.NewFeature.{new_feature_valid}
 use Rattle.mvt_edit.proofs.OneStep.{Carries, carries_in_layer, prepared_by_one}
 
 module _ (choice : LayerChoice) (index ordinal position : ℕ) (geometry : Geometry) (document : Document) (layer : Layer) (chosen : selected choice document ≡ Ok ordinal) (placed : slice_get (layer_positions document) ordinal ≡ Some position) (there : slice_get document position ≡ Some (OfLayer layer)) where

@@ -1,21 +1,22 @@
 -- The layers that stay.
-use Rattle.std.proofs.Common.{◌≡◌, ◌≢◌, ℕ, suc, ◌*◌, ◌<◌, ◌≤◌, Bool, true, false, not, List, [], ◌∷◌, length, filter, Ok, Err, refl, sym, ap, ◌∙◌, inl, inr, arith}
+use Rattle.std.proofs.Common.{◌≡◌, ◌≢◌, ℕ, suc, ◌*◌, ◌<◌, ◌≤◌, Bool, true, false, not, List, [], ◌∷◌, length, map, filter, Ok, Err, refl, sym, ap, ◌∙◌, subst, inl, inr, arith}
 use Rattle.std.proofs.lemmas.Bool.{cases_Bool, or_parts, false_from_ne_true, true_from_ne_false}
+use Rattle.std.proofs.lemmas.List.{length-map}
 use Rattle.std.proofs.lemmas.List.Elements.{filter_agree}
 use Rattle.std.proofs.lemmas.List.Sorted.{list_any-IsPermutation}
-use Rattle.std.specs.List.{flat_map, list_any}
+use Rattle.std.specs.List.{AllByRecursion, flat_map, list_any}
 use Rattle.std.specs.List.Sorted.{IsPermutation}
 use Rattle.mvt_document.specs.Plain.{TileItem, OfLayer, PlainInTile, Document}
+use Rattle.mvt_document.specs.Opens.{IsTileItem}
 use Rattle.mvt_document.specs.Wire.{tile_item_bytes}
 use Rattle.mvt_view.specs.Views.{is_named, layers}
-use Rattle.mvt_change.specs.Changes.{Change, OfTheTile}
+use Rattle.mvt_change.specs.Changes.{Change}
 use Rattle.mvt_command.specs.Command.{KeepLayers}
 use Rattle.mvt_meaning.specs.Meaning.{applied, is_kept}
 use Rattle.mvt_meaning.specs.declared.refusal.Refusal.TheVariants.{NoLayer}
-use Rattle.mvt_edit.specs.Cuts.{runs_of, steps_out}
 use Rattle.mvt_edit.specs.Prepared.{IsPrepared}
-use Rattle.mvt_edit.proofs.Cutting.{cuts_of}
-use Rattle.mvt_edit.proofs.Taking.{in_the_tile, takes_out, length-steps}
+use Rattle.mvt_edit.proofs.Carrying.{carried, in_the_tile, in_tile}
+use Rattle.mvt_edit.proofs.Going.{out, takes_out}
 
 -- an item that goes
 abbrev pub goes : List (List ℕ) → TileItem → Bool
@@ -66,19 +67,19 @@ not_not false = refl
 stays : (names : List (List ℕ)) (document : Document) → filter (λ item. not (goes names item)) document ≡ filter (is_kept names) document
 stays names document = filter_agree (λ item. not (goes names item)) (is_kept names) (λ item. not_not (is_kept names item)) document
 
-pub keeps : (names : List (List ℕ)) (document : Document) (change : Change) → change ≡ steps_out OfTheTile (runs_of (goes names) document) → length (filter (goes names) document) ≢ length (layers document) → 2 * length (filter (goes names) document) ≤ length (flat_map tile_item_bytes (filter (goes names) document)) → IsPrepared (KeepLayers names) document change
+pub keeps : (names : List (List ℕ)) (document : Document) (change : Change) → change ≡ map in_tile (out (goes names) document) → length (filter (goes names) document) ≢ length (layers document) → 2 * length (filter (goes names) document) ≤ length (flat_map tile_item_bytes (filter (goes names) document)) → IsPrepared (KeepLayers names) document change
 keeps names document change steps fewer heavy =
-    let runs = runs_of (goes names) document in
-    let cut = cuts_of (goes names) document in
-    let out = takes_out in_the_tile document document refl runs cut.there in
+    let splices = out (goes names) document in
+    let cut = takes_out (goes names) document in
+    let done = carried in_the_tile document document refl splices cut.there (subst (AllByRecursion IsTileItem) (sym cut.puts) tt) in
     let some : some_stay names document ≡ true = true_from_ne_false (some_stay names document) (λ none. fewer (all_go names document none)) in
     let few = cut.few in
-    let puts = out.puts in
-    let takes = out.takes ∙ ap (λ gone. length (flat_map tile_item_bytes gone)) cut.takes in
+    let puts = done.puts ∙ ap (λ new. length (flat_map tile_item_bytes new)) cut.puts in
+    let takes = done.takes ∙ ap (λ gone. length (flat_map tile_item_bytes gone)) cut.takes in
     rw steps (record {
-      fits = out.fits;
-      means = rw some (ap Ok (sym (out.makes ∙ cut.leaves ∙ stays names document)));
+      fits = done.fits;
+      means = rw some (ap Ok (sym (done.makes ∙ cut.leaves ∙ stays names document)));
       puts = omega arith;
       takes = omega arith;
-      steps = omega (arith, length-steps OfTheTile runs);
+      steps = omega (arith, length-map splices in_tile);
     })

@@ -1,5 +1,5 @@
 pub mod Prepared
-pub mod Cuts
+pub mod Fates
 pub mod Placing
 pub mod PutsLast
 pub mod Names

@@ -7,8 +7,8 @@ ghost use Rattle.mvt_command.specs.CommandStands.{feature_choice_of, layer_choic
 ghost use Rattle.mvt_meaning.specs.Meaning.{is_id};
 ghost use Rattle.mvt_edit.specs.Prepared.{Prepares};
 
-use crate::cut::cut_out;
-use mvt_change::{Change, Place};
+use crate::fates::{Fate, carry_out};
+use mvt_change::{Change, Step};
 use mvt_document::tags::ID;
 use mvt_document::{Body, Document, Field, Items};
 use mvt_select::{FeatureChoice, LayerChoice, Refusal, find_feature, find_layer};
@@ -25,16 +25,19 @@ pub(crate) fn clear_id(
 {
     let holder = find_layer(document, choice)?;
     let found = find_feature(holder.layer, feature)?;
-    let place = Place::Feature {
-        layer: holder.position,
-        item: found.position,
-    };
+    let (layer, item) = (holder.position, found.position);
     let mut steps = Vec::new(alloc);
-    cut_out(
+    carry_out(
         alloc,
-        place,
         found.feature.fields.as_slice(),
-        is_id,
+        |field| Ok(Fate::goes_if(is_id(field))),
+        |run| Step::InFeature {
+            layer,
+            item,
+            index: run.index,
+            take: run.take,
+            put: Items::from_vec(run.put),
+        },
         &mut steps,
     )?;
     Ok(Change {

@@ -5,7 +5,7 @@ ghost use Rattle.mvt_command.specs.Command.{DropLayer};
 ghost use Rattle.mvt_command.specs.CommandStands.{layer_choice_of};
 ghost use Rattle.mvt_edit.specs.Prepared.{Prepares};
 
-use crate::cut::item_out;
+use crate::steps::item_out;
 use mvt_change::{Change, Place};
 use mvt_document::Document;
 use mvt_select::{LayerChoice, Refusal, find_layer};

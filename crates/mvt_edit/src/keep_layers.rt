@@ -11,8 +11,8 @@ ghost use Rattle.mvt_meaning.specs.Meaning.{is_kept};
 ghost use Rattle.mvt_edit.specs.Names.{AreInOrder};
 ghost use Rattle.mvt_edit.specs.Prepared.{Prepares};
 
-use crate::cut::cut_out;
-use mvt_change::{Change, Place};
+use crate::fates::{Fate, carry_out};
+use mvt_change::{Change, Step};
 use mvt_document::{Document, Items, TileItem};
 use mvt_select::Refusal;
 use mvt_view::{LayerView, layer_count};
@@ -31,11 +31,15 @@ pub(crate) fn keep_layers(
     let ordered = ordered.as_slice();
     let items = document.items.as_slice();
     let mut steps = Vec::new(alloc);
-    let gone = cut_out(
+    let gone = carry_out(
         alloc,
-        Place::Tile,
         items,
-        |item| !is_kept(item, ordered),
+        |item| Ok(Fate::goes_if(!is_kept(item, ordered))),
+        |run| Step::InTile {
+            index: run.index,
+            take: run.take,
+            put: Items::from_vec(run.put),
+        },
         &mut steps,
     )?;
     // Layers alone go, so none stays where as many go as there are.

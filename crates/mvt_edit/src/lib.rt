@@ -10,9 +10,9 @@
 
 mod clear_id;
 mod commands;
-mod cut;
 mod drop_feature;
 mod drop_layer;
+mod fates;
 mod insert_feature;
 mod keep_layers;
 mod move_feature;

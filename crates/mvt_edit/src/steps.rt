@@ -1,14 +1,16 @@
-//! The change of one step, and the same where a file can hold what it makes; a list of one item.
+//! The change of one step, the same where a file can hold what it makes, and the change that takes
+//! one item out; a list of one item.
 
 ghost use Rattle.std.specs.Prelude.{◌≡◌, ◌⊎◌, ◌<◌, ◌≤◌, [], ◌∷◌, IfErr, IfOk, length};
 ghost use Rattle.mvt_document.specs.declared.TheConstants.{MAX_FILE};
 ghost use Rattle.mvt_document.specs.Stands.{document_of};
 ghost use Rattle.mvt_document.specs.Wire.{bytes_of};
 ghost use Rattle.mvt_change.specs.Changes.{FitsStep, go_step};
-ghost use Rattle.mvt_change.specs.ChangeStands.{change_of, step_of};
+ghost use Rattle.mvt_change.specs.ChangeStands.{change_of, place_of, step_of};
+ghost use Rattle.mvt_edit.specs.Fates.{item_out};
 ghost use Rattle.mvt_meaning.specs.declared.refusal.Refusal.TheVariants.{NoMemory, TooLarge};
 
-use mvt_change::{Change, Step, fits_after};
+use mvt_change::{Change, Place, Step, fits_after};
 use mvt_document::{Document, Items};
 use mvt_meaning::Refusal;
 use std::alloc::{AllocError, Global};
@@ -38,6 +40,35 @@ pub(crate) fn one_step_within_limit(
         return Err(Refusal::TooLarge);
     }
     Ok(one_step(alloc, step)?)
+}
+
+/// The change that takes the item at this position of a list out.
+pub(crate) fn item_out(alloc: Global, place: Place, index: usize) -> Result<Change, AllocError>
+    ensures { IfOk result (λ change. change_of change ≡ item_out (place_of place) index ∷ []) }
+{
+    one_step(
+        alloc,
+        match place {
+            Place::Tile => Step::InTile {
+                index,
+                take: 1,
+                put: Items::from_vec(Vec::new(alloc)),
+            },
+            Place::Layer { layer } => Step::InLayer {
+                layer,
+                index,
+                take: 1,
+                put: Items::from_vec(Vec::new(alloc)),
+            },
+            Place::Feature { layer, item } => Step::InFeature {
+                layer,
+                item,
+                index,
+                take: 1,
+                put: Items::from_vec(Vec::new(alloc)),
+            },
+        },
+    )
 }
 
 /// The list of this item alone.

@@ -9,15 +9,11 @@ use Rattle.std.proofs.lemmas.Bool.{cases_Bool}
 use Rattle.std.proofs.lemmas.Bool.Decides.{nat_tests}
 use Rattle.std.proofs.lemmas.Cmp.{nat_list_cmp_total}
 use Rattle.mvt_change.proofs.Splicing.{all_append}
+use Rattle.mvt_meaning.proofs.Elements.{all_filtered}
 use Rattle.mvt_history.specs.Marks.{Mark, compared, has_name, is_before, is_behind, InOrder, point_of, bound, unbound}
 use Rattle.mvt_history.specs.declared.TheConstants.{MAX_MARKS}
 
 -- ---- what holds of each
-
-pub all_filtered : {A : Type 0} (P : A → Type 0) (test : A → Bool) (xs : List A) → AllByRecursion P xs → AllByRecursion P (filter test xs)
-all_filtered P test [] all = tt
-all_filtered P test (x ∷ xs) all =
-    elim (cases_Bool (test x)) [ inl kept ↦ rw kept (all.0, all_filtered P test xs all.1) | inr gone ↦ rw gone (all_filtered P test xs all.1) ]
 
 -- what holds of each that passes
 pub all_passed : {A : Type 0} (P : A → Type 0) (test : A → Bool) → ((x : A) → test x ≡ true → P x) → (xs : List A) → AllByRecursion P (filter test xs)

@@ -16,7 +16,8 @@ use Rattle.mvt_history.specs.declared.steps.Direction.TheVariants.{Undo, Redo}
 use Rattle.mvt_history_error.specs.declared.HistoryError.{HistoryError}
 use Rattle.mvt_history_error.specs.declared.HistoryError.TheVariants.{NoMark, TooManyMarks, Stopped}
 use Rattle.mvt_history.proofs.Counting.{counted_length, counted_point_of, counted_bound, counted_unbound}
-use Rattle.mvt_history.proofs.MarkOrder.{all_bound, all_filtered, order_bound, order_unbound, few_bound, length_filtered, point_holds}
+use Rattle.mvt_meaning.proofs.Elements.{all_filtered}
+use Rattle.mvt_history.proofs.MarkOrder.{all_bound, order_bound, order_unbound, few_bound, length_filtered, point_holds}
 use Rattle.mvt_history.proofs.Sound.{sound_bound, sound_unbound}
 use Rattle.mvt_history.proofs.Closed.{is_closed}
 use Rattle.mvt_history.proofs.Moving.{walked_stands}

@@ -13,7 +13,8 @@ use Rattle.mvt_history.specs.Requests.{Request, Edit, Undo, Redo, SetMark, TakeM
 use Rattle.mvt_history.specs.declared.TheConstants.{MAX_MARKS}
 use Rattle.mvt_history_error.specs.declared.HistoryError.{HistoryError}
 use Rattle.mvt_history_error.specs.declared.HistoryError.TheVariants.{NothingToUndo, NothingToRedo, NoMark, TooManyMarks}
-use Rattle.mvt_history.proofs.MarkOrder.{all_filtered, all_passed, all_bound, order_filtered, order_bound, order_unbound, length_filtered, few_bound, point_holds}
+use Rattle.mvt_meaning.proofs.Elements.{all_filtered}
+use Rattle.mvt_history.proofs.MarkOrder.{all_passed, all_bound, order_filtered, order_bound, order_unbound, length_filtered, few_bound, point_holds}
 
 pub begins_sound : (start : Document) (depth : ℕ) → 1 ≤ depth → IsSound (begun start depth)
 unfolding Rattle.std.specs.List.Sorted.IsStrictlySortedBy

@@ -1,5 +1,5 @@
 -- What the steps of an accepted command gave.
-use Rattle.std.proofs.Common.{◌≡◌, ℕ, ◌<◌, Bool, true, false, Result, Ok, Err, Some, List, [], ◌∷◌, length, slice_get, nat_lt, refl, ap, inl, inr, arith}
+use Rattle.std.proofs.Common.{◌≡◌, ℕ, ◌<◌, Bool, true, false, Result, Ok, Err, IfOk, Some, List, [], ◌∷◌, length, slice_get, nat_lt, refl, ap, subst, inl, inr, arith}
 use Rattle.std.proofs.lemmas.Bool.{cases_Bool}
 use Rattle.std.proofs.lemmas.Bool.Decides.{nat_tests}
 use Rattle.mvt_document.specs.declared.TheConstants.{MAX_FILE}
@@ -16,6 +16,14 @@ use Rattle.mvt_meaning.proofs.Positions.{positions_within}
 pub accepted : {A B : Type 0} (first : Result A Refusal) (next : A → Result B Refusal) (made : B) → (first >>= next) ≡ Ok made → (x : A) × (first ≡ Ok x) × (next x ≡ Ok made)
 accepted (Err refusal) next made e = absurd cc
 accepted (Ok x) next made e = (x, refl, e)
+
+-- what holds of each result of the second step holds of that of both
+pub then_so : {A B : Type 0} (P : B → Type 0) (r : Result A Refusal) (f : A → Result B Refusal) → ((x : A) → IfOk (f x) P) → IfOk (r >>= f) P
+then_so P (Ok x) f all = all x
+then_so P (Err e) f all = tt
+
+pub ok_so : {A : Type 0} (P : A → Type 0) (r : Result A Refusal) (x : A) → IfOk r P → r ≡ Ok x → P x
+ok_so P r x all is = subst (λ s. IfOk s P) is all
 
 pub not_refused : (applies : Bool) (refusal : Refusal) (nothing : Unit {0}) → refuse_if applies refusal ≡ Ok nothing → applies ≡ false
 not_refused true refusal nothing e = absurd cc

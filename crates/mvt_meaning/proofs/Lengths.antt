@@ -1,5 +1,5 @@
 -- Which commands make no tile longer, and that an accepted one leaves a tile that a file can hold.
-use Rattle.std.proofs.Common.{◌≡◌, ℕ, zero, suc, ◌+◌, ◌-◌, ◌≤◌, Bool, true, false, ◌&&◌, not, cond, ltb, ◌==◌, Option, Some, None, Result, Ok, Err, IfOk, List, [], ◌∷◌, ◌++◌, length, length-append, take, drop, slice_get, refl, ap, subst, inl, inr, arith}
+use Rattle.std.proofs.Common.{◌≡◌, ℕ, zero, suc, ◌+◌, ◌-◌, ◌≤◌, Bool, true, false, ◌&&◌, not, cond, ltb, ◌==◌, Option, Some, None, Ok, Err, IfOk, List, [], ◌∷◌, ◌++◌, length, length-append, take, drop, slice_get, refl, ap, inl, inr, arith}
 use Rattle.std.specs.Prelude.{filter}
 use Rattle.std.specs.List.{flat_map, list_any}
 use Rattle.std.specs.Option.{option_map_or}
@@ -13,11 +13,11 @@ use Rattle.mvt_command.specs.Command.{Command, RenameLayer, MoveLayer, DropLayer
 use Rattle.mvt_meaning.specs.Ordinals.{from_nth, change_first, change_nth, without, before, behind, move_nth, insert_nth}
 use Rattle.mvt_meaning.specs.Selection.{is_feature, is_layer, selected, selected_in}
 use Rattle.mvt_view.specs.Views.{layers}
-use Rattle.mvt_meaning.specs.Meaning.{◌>>=◌, applied, refuse_if, layer_count, feature_count, is_in_range, within_limit, change_layer, change_feature, is_id, is_kept, is_taken, without_id, identified, named_items, new_feature}
+use Rattle.mvt_meaning.specs.Meaning.{applied, refuse_if, layer_count, feature_count, is_in_range, within_limit, change_layer, change_feature, is_id, is_kept, is_taken, without_id, identified, named_items, new_feature}
 use Rattle.mvt_meaning.specs.Weights.{weigh}
 use Rattle.mvt_meaning.specs.SizeLaws.{CommandFits, NeverLonger, may_lengthen}
-use Rattle.mvt_meaning.specs.declared.refusal.Refusal.{Refusal}
 use Rattle.mvt_meaning.specs.declared.refusal.Refusal.TheVariants.{BadPlace, NameTaken, NoLayer, OutOfRange, TooLarge}
+use Rattle.mvt_meaning.proofs.Accepted.{ok_so, then_so}
 
 -- ---- lists
 
@@ -123,14 +123,6 @@ feature_no_longer change less ordinal feature document =
 
 -- ---- accepted commands
 
--- what holds of each result of the second step holds of that of both
-then_so : {A B : Type 0} (P : B → Type 0) (r : Result A Refusal) (f : A → Result B Refusal) → ((x : A) → IfOk (f x) P) → IfOk (r >>= f) P
-then_so P (Ok x) f all = all x
-then_so P (Err e) f all = tt
-
-ok_so : {A : Type 0} (P : A → Type 0) (r : Result A Refusal) (x : A) → IfOk r P → r ≡ Ok x → P x
-ok_so P r x all is = subst (λ s. IfOk s P) is all
-
 -- no longer than it was
 abbrev IsNoLonger : Document → Document → Type 0
 IsNoLonger old new = length (bytes_of new) ≤ length (bytes_of old)
@@ -158,7 +150,7 @@ kept_no_longer (ClearId choice feature) document kind =
     then_so (IsNoLonger document) (selected_in feature ordinal document) _ (λ meant. feature_no_longer without_id (λ fields. filter_no_longer field_bytes (λ field. not (is_id field)) fields) ordinal meant document))
 
 pub never_longer : NeverLonger
-never_longer command document after kind is = ok_so (IsNoLonger document) (applied command document) after (kept_no_longer command document kind) is
+never_longer command document after valid kind is = ok_so (IsNoLonger document) (applied command document) after (kept_no_longer command document kind) is
 
 -- ---- the limit
 
@@ -188,8 +180,8 @@ lengthens_within (SetId choice feature id) document kind =
 lengthens_within (ClearId choice feature) document kind = absurd cc
 
 pub command_fits : CommandFits
-command_fits command document after within is =
+command_fits command document after valid within is =
     elim (cases_Bool (may_lengthen command)) [
       | inl kind ↦ ok_so IsWithin (applied command document) after (lengthens_within command document kind) is
-      | inr kind ↦ omega (arith, never_longer command document after kind is)
+      | inr kind ↦ omega (arith, never_longer command document after valid kind is)
     ]

@@ -10,5 +10,7 @@ pub mod Positions
 pub mod Selecting
 pub mod SelectionLemmas
 pub mod Lengths
+pub mod Elements
+pub mod Documents
 pub mod Found
 pub mod NeverOutOfMemory

@@ -7,4 +7,5 @@ pub mod FeatureLaws
 pub mod Weights
 pub mod Laws
 pub mod SizeLaws
+pub mod DocumentLaws
 pub mod MemoryLaws

@@ -2,6 +2,7 @@
 use Rattle.std.specs.Prelude.{◌≡◌, ◌≤◌, Bool, true, false, length, Ok}
 use Rattle.mvt_document.specs.declared.TheConstants.{MAX_FILE}
 use Rattle.mvt_document.specs.Plain.{Document}
+use Rattle.mvt_document.specs.Opens.{IsDocument}
 use Rattle.mvt_document.specs.Wire.{bytes_of}
 use Rattle.mvt_command.specs.Command.{Command, RenameLayer, MoveLayer, DropLayer, KeepLayers, InsertFeature, MoveFeature, DropFeature, SetId, ClearId}
 use Rattle.mvt_meaning.specs.Meaning.{applied}
@@ -18,10 +19,10 @@ may_lengthen (DropFeature choice feature) = false
 may_lengthen (SetId choice feature id) = true
 may_lengthen (ClearId choice feature) = false
 
--- an accepted command of another kind leaves a tile with no more bytes than it had
+-- an accepted command of another kind leaves a valid document with no more bytes than it had
 abbrev pub NeverLonger : Type 0
-NeverLonger = (command : Command) (document after : Document) → may_lengthen command ≡ false → applied command document ≡ Ok after → length (bytes_of after) ≤ length (bytes_of document)
+NeverLonger = (command : Command) (document after : Document) → IsDocument document → may_lengthen command ≡ false → applied command document ≡ Ok after → length (bytes_of after) ≤ length (bytes_of document)
 
--- an accepted command on a tile of at most 67,108,864 bytes leaves one of at most 67,108,864 bytes
+-- an accepted command on a valid document of at most 67,108,864 bytes leaves one of at most 67,108,864 bytes
 abbrev pub CommandFits : Type 0
-CommandFits = (command : Command) (document after : Document) → length (bytes_of document) ≤ MAX_FILE → applied command document ≡ Ok after → length (bytes_of after) ≤ MAX_FILE
+CommandFits = (command : Command) (document after : Document) → IsDocument document → length (bytes_of document) ≤ MAX_FILE → applied command document ≡ Ok after → length (bytes_of after) ≤ MAX_FILE

@@ -1,5 +1,6 @@
 //! Laws of selection and of commands. Each function does nothing: its contract is the law.
 
+ghost use Rattle.mvt_meaning.specs.DocumentLaws.{CommandMakesDocument};
 ghost use Rattle.mvt_meaning.specs.FeatureLaws.{ClearIdClears, DropFeatureDrops, InsertFeatureInserts, MoveFeatureMoves, SetIdSets};
 ghost use Rattle.mvt_meaning.specs.LayerLaws.{DropLayerDrops, KeepLayersKeeps, MoveLayerMoves, RenameNames};
 ghost use Rattle.mvt_meaning.specs.Laws.{NameMeansTheOne, NameMeansNone};
@@ -71,12 +72,18 @@ pub fn name_means_none()
     ensures { NameMeansNone }
 {}
 
-/// An accepted command on a tile that a file can hold makes such a tile.
+/// An accepted command makes a document of a document. A file has numbers below 2^64 alone, so a new
+/// id has to be such a number, as each of the program is.
+pub fn command_makes_document()
+    ensures { CommandMakesDocument }
+{}
+
+/// An accepted command on a document that a file can hold makes such a document.
 pub fn command_fits()
     ensures { CommandFits }
 {}
 
-/// An accepted command other than a rename, an insertion and a new id makes no tile longer.
+/// An accepted command other than a rename, an insertion and a new id makes no document longer.
 pub fn never_longer()
     ensures { NeverLonger }
 {}

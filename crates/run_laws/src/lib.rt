@@ -8,8 +8,8 @@ ghost use Rattle.run_laws.specs.RunLaws.{RepliesStand, RefusedLinesChangeNothing
 
 pub use history_laws::{
     back_to_the_mark, cancel_leaves_no_trace, changes_lead, empty_step_leaves_no_trace, few_steps,
-    history_fits, kept_within, redos_undo_undos, stays_sound, step_undoes_whole, stopped_goes_on,
-    undo_after_end, undo_at_once, undos_undo_redos,
+    history_fits, history_of_documents, kept_within, redos_undo_undos, stays_sound, stays_valid,
+    step_undoes_whole, stopped_goes_on, undo_after_end, undo_at_once, undos_undo_redos,
 };
 pub use tile_answer::laws::{
     looks_leave_history, no_request_is_out_of_memory, requests_tell_lines,

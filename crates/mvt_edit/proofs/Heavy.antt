@@ -1,5 +1,5 @@
--- The runs of a list of the program are those of its plain values, and what goes has bytes.
-use Rattle.std.proofs.Common.{◌≡◌, ℕ, suc, ◌+◌, ◌*◌, ◌/◌, ◌≤◌, ◌==◌, Bool, true, false, cond, max, Option, None, is_some, List, [], ◌∷◌, ◌++◌, length, length-append, map, filter, refl, ap, inl, inr, arith}
+-- What goes has bytes.
+use Rattle.std.proofs.Common.{◌≡◌, ℕ, ◌*◌, ◌/◌, ◌≤◌, ◌==◌, Bool, true, false, cond, max, Option, None, is_some, List, [], ◌∷◌, ◌++◌, length, length-append, map, filter, inl, inr, arith}
 use Rattle.std.proofs.lemmas.Bool.{cases_Bool}
 use Rattle.std.specs.List.{flat_map}
 use Rattle.mvt_document.specs.Wire.{spell, minimal_width, delimited, body_bytes, field_bytes, layer_item_bytes, tile_item_bytes}
@@ -14,20 +14,7 @@ use Rattle.mvt_document.specs.declared.Field.{Field}
 use Rattle.mvt_document.specs.declared.TileItem.{TileItem}
 use Rattle.mvt_document.specs.declared.TileItem.TheVariants as in_tile
 use Rattle.mvt_meaning.specs.Meaning.{is_id}
-use Rattle.mvt_edit.specs.Cuts.{and_item, runs_from}
 use Rattle.mvt_edit.proofs.Kept.{goes}
-
-pub runs_seen : {A B : Type 0} (v : A → B) (test : B → Bool) (n : ℕ) (xs : List A) → runs_from (λ x. test (v x)) n xs ≡ runs_from test n (map v xs)
-runs_seen v test n [] = refl
-runs_seen v test n (x ∷ xs) =
-    let more = runs_seen v test (n + 1) xs in
-    elim (cases_Bool (test (v x))) [ inl out ↦ rw out (ap (and_item n) more) | inr stays ↦ rw stays more ]
-
-pub count_seen : {A B : Type 0} (v : A → B) (test : B → Bool) (xs : List A) → length (filter (λ x. test (v x)) xs) ≡ length (filter test (map v xs))
-count_seen v test [] = refl
-count_seen v test (x ∷ xs) =
-    let more = count_seen v test xs in
-    elim (cases_Bool (test (v x))) [ inl out ↦ rw out (ap suc more) | inr stays ↦ rw stays more ]
 
 -- where each item that goes has two bytes
 pub heavy : {A B : Type 0} (bytes : B → List ℕ) (v : A → B) (test : B → Bool) → ((x : A) → test (v x) ≡ true → 2 ≤ length (bytes (v x))) → (xs : List A) → 2 * length (filter test (map v xs)) ≤ length (flat_map bytes (filter test (map v xs)))

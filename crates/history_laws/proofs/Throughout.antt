@@ -1,0 +1,132 @@
+-- What holds of the document at the start, and of what each valid command makes, holds throughout a history.
+use Rattle.std.proofs.Common.{◌≡◌, ℕ, ◌+◌, ◌-◌, ◌≤◌, ◌==◌, ◌||◌, is_some, nat_lt, Option, Some, None, Result, Ok, Err, IfOk, List, [], ◌∷◌, ◌++◌, length, take, refl}
+use Rattle.std.proofs.lemmas.Bool.{cond_both}
+use Rattle.std.specs.List.{AllByRecursion}
+use Rattle.std.specs.Result.{result_unwrap_or}
+use Rattle.mvt_document.specs.declared.TheConstants.{MAX_FILE}
+use Rattle.mvt_document.specs.Opens.{IsDocument}
+use Rattle.mvt_document.specs.Plain.{Document}
+use Rattle.mvt_document.specs.Wire.{bytes_of}
+use Rattle.mvt_command.specs.Command.{Command, IsCommand}
+use Rattle.mvt_meaning.specs.Meaning.{after, applied}
+use Rattle.mvt_meaning.specs.declared.refusal.Refusal.{Refusal}
+use Rattle.mvt_meaning.proofs.Documents.{command_makes_document}
+use Rattle.mvt_meaning.proofs.Lengths.{command_fits}
+use Rattle.mvt_change.proofs.Splicing.{all_append, all_take}
+use Rattle.mvt_history.specs.Marks.{bound, point_of, unbound}
+use Rattle.mvt_history.specs.History.{History, after_all, after_steps, present_document, standing_document, commands_in, at_point, with_marks, with_group, with_step, with_command, edited_to, edited, unless_open, undone, redone, marked, unmarked, gone_to, gone_back, opened, ended, closed, cancelled}
+use Rattle.mvt_history.specs.Requests.{Request, Edit, Undo, Redo, SetMark, TakeMark, GoBack, Begin, End, Cancel, or_before, asked}
+use Rattle.mvt_history.specs.declared.TheConstants.{MAX_MARKS}
+use Rattle.mvt_history_error.specs.declared.HistoryError.{HistoryError}
+use Rattle.mvt_history_error.specs.declared.HistoryError.TheVariants.{NothingToUndo, NothingToRedo, NoMark, TooManyMarks, NoGroup}
+use Rattle.history_laws.specs.Laws.{HasCommands, HistoryFits, HistoryOfDocuments, HoldsThroughout, IsRequest, StaysValid}
+
+-- ---- documents
+
+module _ (P : Document → Type 0) (keeps : (command : Command) (document : Document) → IsCommand command → P document → P (after command document)) where
+  after_commands : (commands : List Command) (document : Document) → AllByRecursion IsCommand commands → P document → P (after_all commands document)
+  after_commands [] document valid holds = holds
+  after_commands (command ∷ commands) document valid holds = after_commands commands (after command document) valid.1 (keeps command document valid.0 holds)
+
+  through_steps : (steps : List (List Command)) (document : Document) → AllByRecursion (AllByRecursion IsCommand) steps → P document → P (after_steps steps document)
+  through_steps [] document valid holds = holds
+  through_steps (step ∷ steps) document valid holds = through_steps steps (after_all step document) valid.1 (after_commands step document valid.0 holds)
+
+  throughout : (history : History) → HasCommands history → P history.start → HoldsThroughout P history
+  throughout history valid holds =
+      let at : (point : ℕ) → P (after_steps (take point history.steps) history.start) = λ point. through_steps (take point history.steps) history.start (all_take (AllByRecursion IsCommand) point history.steps valid.steps) holds in
+      let commands = commands_in history.group in
+      record {
+        points = at;
+        within = λ count. after_commands (take count commands) (present_document history) (all_take IsCommand count commands valid.group) (at history.present);
+        standing = after_commands commands (present_document history) valid.group (at history.present);
+      }
+
+-- what holds of the document, and of what an accepted command makes, holds after the command
+after_holds : (P : Document → Type 0) (document : Document) (made : Result Document Refusal) → P document → ((new : Document) → made ≡ Ok new → P new) → P (result_unwrap_or made document)
+after_holds P document (Ok new) holds made_holds = made_holds new refl
+after_holds P document (Err refusal) holds made_holds = holds
+
+document_after : (command : Command) (document : Document) → IsCommand command → IsDocument document → IsDocument (after command document)
+document_after command document fits valid = after_holds IsDocument document (applied command document) valid (λ new made. command_makes_document command document new fits valid made)
+
+pub history_of_documents : HistoryOfDocuments
+history_of_documents history valid commands = throughout IsDocument document_after history commands valid
+
+-- ---- the limit
+
+-- a document that a file can hold
+record Held (document : Document) : Type 0 where
+  valid : IsDocument document
+  within : length (bytes_of document) ≤ MAX_FILE
+
+held_after : (command : Command) (document : Document) → IsCommand command → Held document → Held (after command document)
+held_after command document fits held =
+    after_holds Held document (applied command document) held
+    (λ new made. record { valid = command_makes_document command document new fits held.valid made; within = command_fits command document new held.valid held.within made })
+
+pub history_fits : HistoryFits
+history_fits history valid commands within =
+    let all = throughout Held held_after history commands (record { valid = valid; within = within }) in
+    record { points = λ point. (all.points point).within; within = λ count. (all.within count).within; standing = all.standing.within }
+
+-- ---- requests
+
+with_step_valid : (step : List Command) (history : History) → AllByRecursion IsCommand step → HasCommands history → HasCommands (with_step step history)
+with_step_valid step history new valid =
+    record { steps = all_append (AllByRecursion IsCommand) (take history.present history.steps) (step ∷ []) (all_take (AllByRecursion IsCommand) history.present history.steps valid.steps) (new, tt); group = tt }
+
+with_group_valid : (group : Option (List Command)) (history : History) → AllByRecursion IsCommand (commands_in group) → HasCommands history → HasCommands (with_group group history)
+with_group_valid group history new valid = record { steps = valid.steps; group = new }
+
+at_point_valid : (point : ℕ) (history : History) → HasCommands history → HasCommands (at_point point history)
+at_point_valid point history valid = record { steps = valid.steps; group = valid.group }
+
+with_command_valid : (command : Command) (group : Option (List Command)) (history : History) → IsCommand command → AllByRecursion IsCommand (commands_in group) → HasCommands history → HasCommands (with_command command group history)
+with_command_valid command None history new pending valid = with_step_valid (command ∷ []) history (new, tt) valid
+with_command_valid command (Some commands) history new pending valid = with_group_valid (Some (commands ++ command ∷ [])) history (all_append IsCommand commands (command ∷ []) pending (new, tt)) valid
+
+edited_valid : (command : Command) (history : History) (made : Result Document Refusal) → IsCommand command → HasCommands history → IfOk (edited_to command history made) HasCommands
+edited_valid command history (Ok document) new valid = with_command_valid command history.group history new valid.group valid
+edited_valid command history (Err refusal) new valid = tt
+
+unless_open_valid : (group : Option (List Command)) (answer : Result History HistoryError) → IfOk answer HasCommands → IfOk (unless_open group answer) HasCommands
+unless_open_valid None answer valid = valid
+unless_open_valid (Some commands) answer valid = tt
+
+gone_valid : (found : Option ℕ) (history : History) → HasCommands history → IfOk (gone_to found history) HasCommands
+gone_valid None history valid = tt
+gone_valid (Some point) history valid = at_point_valid point history valid
+
+ended_valid : (group : Option (List Command)) (history : History) → AllByRecursion IsCommand (commands_in group) → HasCommands history → IfOk (ended group history) HasCommands
+ended_valid None history pending valid = tt
+ended_valid (Some []) history pending valid = with_group_valid None history tt valid
+ended_valid (Some (command ∷ commands)) history pending valid = with_step_valid (command ∷ commands) history pending valid
+
+or_before_valid : {E : Type 0} (before : History) (answer : Result History E) → HasCommands before → IfOk answer HasCommands → HasCommands (or_before before answer)
+or_before_valid before (Ok after) valid answered = answered
+or_before_valid before (Err error) valid answered = valid
+
+asked_valid : (request : Request) (history : History) → IsRequest request → HasCommands history → HasCommands (asked request history)
+asked_valid (Edit command) history new valid = or_before_valid history (edited command history) valid (edited_valid command history (applied command (standing_document history)) new valid)
+asked_valid Undo history new valid =
+    or_before_valid history (undone history) valid (unless_open_valid history.group _
+    (cond_both (history.present == history.floor) (Err NothingToUndo) (Ok (at_point (history.present - 1) history)) (λ answer. IfOk answer HasCommands) (λ _. tt) (λ _. at_point_valid (history.present - 1) history valid)))
+asked_valid Redo history new valid =
+    or_before_valid history (redone history) valid (unless_open_valid history.group _
+    (cond_both (history.present == length history.steps) (Err NothingToRedo) (Ok (at_point (history.present + 1) history)) (λ answer. IfOk answer HasCommands) (λ _. tt) (λ _. at_point_valid (history.present + 1) history valid)))
+asked_valid (SetMark name) history new valid =
+    or_before_valid history (marked name history) valid (unless_open_valid history.group _
+    (cond_both (is_some (point_of name history.marks) || nat_lt (length history.marks) MAX_MARKS) (Ok (with_marks (bound name history.present history.marks) history)) (Err TooManyMarks) (λ answer. IfOk answer HasCommands) (λ _. record { steps = valid.steps; group = valid.group }) (λ _. tt)))
+asked_valid (TakeMark name) history new valid =
+    or_before_valid history (unmarked name history) valid (unless_open_valid history.group _
+    (cond_both (is_some (point_of name history.marks)) (Ok (with_marks (unbound name history.marks) history)) (Err NoMark) (λ answer. IfOk answer HasCommands) (λ _. record { steps = valid.steps; group = valid.group }) (λ _. tt)))
+asked_valid (GoBack name) history new valid = or_before_valid history (gone_back name history) valid (unless_open_valid history.group (gone_to (point_of name history.marks) history) (gone_valid (point_of name history.marks) history valid))
+asked_valid Begin history new valid = or_before_valid history (opened history) valid (unless_open_valid history.group (Ok (with_group (Some []) history)) (with_group_valid (Some []) history tt valid))
+asked_valid End history new valid = or_before_valid history (closed history) valid (ended_valid history.group history valid.group valid)
+asked_valid Cancel history new valid =
+    or_before_valid history (cancelled history) valid
+    (cond_both (is_some history.group) (Ok (with_group None history)) (Err NoGroup) (λ answer. IfOk answer HasCommands) (λ _. with_group_valid None history tt valid) (λ _. tt))
+
+pub stays_valid : StaysValid
+stays_valid = (λ document depth. record { steps = tt; group = tt }, asked_valid)

@@ -1,0 +1,153 @@
+-- An accepted command makes a document of a document.
+use Rattle.std.proofs.Common.{ℕ, ◌^◌, ◌<◌, not, ltb, ◌==◌, IfOk, Err, Ok, List, length, refl, arith}
+use Rattle.std.specs.List.{AllByRecursion, list_any}
+use Rattle.std.proofs.lemmas.Bool.{cond_both}
+use Rattle.mvt_document.specs.declared.TheConstants.{MAX_FILE}
+use Rattle.mvt_document.specs.Plain.{Number, Body, Spelled, Eight, Four, Delimited, Group, Field, LayerItem, OfFeature, PlainInLayer, TileItem, OfLayer, PlainInTile, Document}
+use Rattle.mvt_document.specs.Opens.{IsField, IsLayerItem, IsTileItem, IsDocument}
+use Rattle.mvt_document.specs.Groups.{IsNumber}
+use Rattle.mvt_document.specs.Shape.{IsTag}
+use Rattle.mvt_document.specs.Places.{in_feature, in_layer}
+use Rattle.mvt_document.specs.Wire.{bytes_of}
+use Rattle.mvt_document.proofs.Spelling.{minimal_spelling}
+use Rattle.mvt_geometry.specs.Shapes.{Geometry, number_of}
+use Rattle.mvt_geometry.specs.declared.Kind.{Kind}
+use Rattle.mvt_geometry.specs.declared.Kind.TheVariants.{Dots, Lines, Areas}
+use Rattle.mvt_geometry.specs.Integers.{encoded}
+use Rattle.mvt_command.specs.Command.{Command, IsCommand, RenameLayer, MoveLayer, DropLayer, KeepLayers, InsertFeature, MoveFeature, DropFeature, SetId, ClearId}
+use Rattle.mvt_view.specs.Views.{layers}
+use Rattle.mvt_meaning.specs.Ordinals.{change_nth, without, move_nth, insert_nth}
+use Rattle.mvt_meaning.specs.Selection.{is_feature, is_layer, selected, selected_in}
+use Rattle.mvt_meaning.specs.Meaning.{applied, refuse_if, layer_count, feature_count, is_id, is_in_range, is_kept, is_name, is_taken, within_limit, change_layer, change_feature, identified, minimal, named_items, new_content, new_feature, new_number, with_content, with_id, with_number, with_text, with_value, without_id}
+use Rattle.mvt_meaning.specs.declared.refusal.Refusal.TheVariants.{BadPlace, NameTaken, NoLayer, OutOfRange, TooLarge}
+use Rattle.mvt_meaning.specs.DocumentLaws.{CommandMakesDocument}
+use Rattle.mvt_meaning.proofs.Accepted.{ok_so, then_so}
+use Rattle.mvt_meaning.proofs.Elements.{all_changed, all_filtered, all_inserted, all_moved, all_put, all_without}
+
+-- ---- a new name
+
+text_valid : (name : List ℕ) (tag : Number) (body : Body) → IsField (record { tag = tag; body = body }) → IsField (record { tag = tag; body = with_content name body })
+text_valid name tag (Spelled number) valid = valid
+text_valid name tag (Eight bytes) valid = valid
+text_valid name tag (Four bytes) valid = valid
+text_valid name tag (Group bytes) valid = valid
+text_valid name tag (Delimited width bytes) valid = record { number = valid.number; tag = valid.tag; body = valid.body }
+
+named_valid : (name : List ℕ) (item : LayerItem) → IsLayerItem item → IsLayerItem (with_text name item)
+named_valid name (OfFeature feature) valid = valid
+named_valid name (PlainInLayer field) valid = (text_valid name field.tag field.body valid.0, valid.1)
+
+content_field : (tag : ℕ) (bytes : List ℕ) → tag < 2 ^ 64 → IsTag tag 2 → IsField (new_content tag bytes)
+content_field tag bytes short is = record {
+  number = minimal_spelling tag short;
+  tag = is;
+  body = record { some = omega arith; short = omega arith };
+}
+
+number_field : (tag value : ℕ) → tag < 2 ^ 64 → IsTag tag 0 → value < 2 ^ 64 → IsField (new_number tag value)
+number_field tag value short is fits = record {
+  number = minimal_spelling tag short;
+  tag = is;
+  body = minimal_spelling value fits;
+}
+
+new_name : (name : List ℕ) → IsLayerItem (PlainInLayer (new_content 10 name))
+new_name name = (content_field 10 name (omega arith) (record { numbered = omega arith; short = omega arith; typed = refl }), λ same. omega (arith, same))
+
+-- ---- a new id
+
+numbered_valid : (value : ℕ) → value < 2 ^ 64 → (old : Number) → IsNumber old → IsNumber (with_number value old)
+numbered_valid value fits old valid =
+    cond_both (old.value == value) old (minimal value) IsNumber (λ _. valid) (λ _. minimal_spelling value fits)
+
+value_valid : (value : ℕ) → value < 2 ^ 64 → (tag : Number) (body : Body) → IsField (record { tag = tag; body = body }) → IsField (record { tag = tag; body = with_value value body })
+value_valid value fits tag (Spelled number) valid = record { number = valid.number; tag = valid.tag; body = numbered_valid value fits number valid.body }
+value_valid value fits tag (Eight bytes) valid = valid
+value_valid value fits tag (Four bytes) valid = valid
+value_valid value fits tag (Delimited width bytes) valid = valid
+value_valid value fits tag (Group bytes) valid = valid
+
+identified_valid : (id : ℕ) → id < 2 ^ 64 → (field : Field) → IsField field → IsField (with_id id field)
+identified_valid id fits field valid = value_valid id fits field.tag field.body valid
+
+new_id : (id : ℕ) → id < 2 ^ 64 → IsField (new_number 8 id)
+new_id id fits = number_field 8 id (omega arith) (record { numbered = omega arith; short = omega arith; typed = refl }) fits
+
+-- ---- a new feature
+
+kind_short : (kind : Kind) → number_of kind < 2 ^ 64
+kind_short Dots = omega arith
+kind_short Lines = omega arith
+kind_short Areas = omega arith
+
+pub new_feature_valid : (geometry : Geometry) → IsLayerItem (new_feature geometry)
+new_feature_valid geometry = record {
+  number = minimal_spelling 18 (omega arith);
+  tag = refl;
+  width = record { some = omega arith; short = omega arith };
+  fields = (
+    number_field 24 (number_of geometry.kind) (omega arith) (record { numbered = omega arith; short = omega arith; typed = refl }) (kind_short geometry.kind),
+    (content_field 34 (encoded geometry) (omega arith) (record { numbered = omega arith; short = omega arith; typed = refl }), tt),
+  );
+}
+
+-- ---- layers and features whose lists stay valid
+
+in_layer_valid : (change : List LayerItem → List LayerItem) → ((items : List LayerItem) → AllByRecursion IsLayerItem items → AllByRecursion IsLayerItem (change items)) → (item : TileItem) → IsTileItem item → IsTileItem (in_layer change item)
+in_layer_valid change keeps (OfLayer layer) valid = record { number = valid.number; tag = valid.tag; width = valid.width; items = keeps layer.items valid.items }
+in_layer_valid change keeps (PlainInTile field) valid = valid
+
+in_feature_valid : (change : List Field → List Field) → ((fields : List Field) → AllByRecursion IsField fields → AllByRecursion IsField (change fields)) → (item : LayerItem) → IsLayerItem item → IsLayerItem (in_feature change item)
+in_feature_valid change keeps (OfFeature feature) valid = record { number = valid.number; tag = valid.tag; width = valid.width; fields = keeps feature.fields valid.fields }
+in_feature_valid change keeps (PlainInLayer field) valid = valid
+
+layer_valid : (change : List LayerItem → List LayerItem) → ((items : List LayerItem) → AllByRecursion IsLayerItem items → AllByRecursion IsLayerItem (change items)) → (ordinal : ℕ) (document : Document) → IsDocument document → IsDocument (change_layer change ordinal document)
+layer_valid change keeps ordinal document valid = all_changed IsTileItem is_layer (in_layer change) (in_layer_valid change keeps) ordinal document valid
+
+feature_valid : (change : List Field → List Field) → ((fields : List Field) → AllByRecursion IsField fields → AllByRecursion IsField (change fields)) → (ordinal feature : ℕ) (document : Document) → IsDocument document → IsDocument (change_feature change ordinal feature document)
+feature_valid change keeps ordinal feature document valid =
+    layer_valid (change_nth is_feature (in_feature change) feature) (all_changed IsLayerItem is_feature (in_feature change) (in_feature_valid change keeps) feature) ordinal document valid
+
+-- ---- accepted commands
+
+limited_valid : (document : Document) → IsDocument document → IfOk (within_limit document) IsDocument
+limited_valid document valid = cond_both (ltb MAX_FILE (length (bytes_of document))) (Err TooLarge) (Ok document) (λ r. IfOk r IsDocument) (λ _. tt) (λ _. valid)
+
+made_valid : (command : Command) (document : Document) → IsCommand command → IsDocument document → IfOk (applied command document) IsDocument
+made_valid (RenameLayer choice name) document fits valid =
+    then_so IsDocument (selected choice document) _ (λ ordinal.
+    then_so IsDocument (refuse_if (is_taken name ordinal document) NameTaken) _ (λ free.
+    limited_valid (change_layer (named_items name) ordinal document)
+    (layer_valid (named_items name) (all_put IsLayerItem is_name (with_text name) (PlainInLayer (new_content 10 name)) (named_valid name) (new_name name)) ordinal document valid)))
+made_valid (MoveLayer choice index) document fits valid =
+    then_so IsDocument (selected choice document) _ (λ ordinal.
+    then_so IsDocument (refuse_if (not (ltb index (layer_count document))) BadPlace) _ (λ there. all_moved IsTileItem is_layer ordinal index document valid))
+made_valid (DropLayer choice) document fits valid =
+    then_so IsDocument (selected choice document) _ (λ ordinal. all_without IsTileItem is_layer ordinal document valid)
+made_valid (KeepLayers names) document fits valid =
+    then_so IsDocument (refuse_if (not (list_any (λ layer. is_kept names (OfLayer layer)) (layers document))) NoLayer) _ (λ some. all_filtered IsTileItem (is_kept names) document valid)
+made_valid (InsertFeature choice index geometry) document fits valid =
+    then_so IsDocument (selected choice document) _ (λ ordinal.
+    then_so IsDocument (refuse_if (ltb (feature_count ordinal document) index) BadPlace) _ (λ there.
+    then_so IsDocument (refuse_if (not (is_in_range geometry)) OutOfRange) _ (λ short.
+    limited_valid (change_layer (insert_nth is_feature index (new_feature geometry)) ordinal document)
+    (layer_valid (insert_nth is_feature index (new_feature geometry)) (λ items all. all_inserted IsLayerItem is_feature index (new_feature geometry) items (new_feature_valid geometry) all) ordinal document valid))))
+made_valid (MoveFeature choice feature index) document fits valid =
+    then_so IsDocument (selected choice document) _ (λ ordinal.
+    then_so IsDocument (selected_in feature ordinal document) _ (λ moving.
+    then_so IsDocument (refuse_if (not (ltb index (feature_count ordinal document))) BadPlace) _ (λ there.
+    layer_valid (move_nth is_feature moving index) (all_moved IsLayerItem is_feature moving index) ordinal document valid)))
+made_valid (DropFeature choice feature) document fits valid =
+    then_so IsDocument (selected choice document) _ (λ ordinal.
+    then_so IsDocument (selected_in feature ordinal document) _ (λ going. layer_valid (without is_feature going) (all_without IsLayerItem is_feature going) ordinal document valid))
+made_valid (SetId choice feature id) document fits valid =
+    then_so IsDocument (selected choice document) _ (λ ordinal.
+    then_so IsDocument (selected_in feature ordinal document) _ (λ meant.
+    limited_valid (change_feature (identified id) ordinal meant document)
+    (feature_valid (identified id) (all_put IsField is_id (with_id id) (new_number 8 id) (identified_valid id fits) (new_id id fits)) ordinal meant document valid)))
+made_valid (ClearId choice feature) document fits valid =
+    then_so IsDocument (selected choice document) _ (λ ordinal.
+    then_so IsDocument (selected_in feature ordinal document) _ (λ meant. feature_valid without_id (all_filtered IsField (λ field. not (is_id field))) ordinal meant document valid))
+
+pub command_makes_document : CommandMakesDocument
+command_makes_document command document after fits valid is = ok_so IsDocument (applied command document) after (made_valid command document fits valid) is

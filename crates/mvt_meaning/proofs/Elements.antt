@@ -1,0 +1,87 @@
+-- What holds of each item of a list holds of each after a change of it.
+use Rattle.std.proofs.Common.{◌≡◌, ℕ, zero, suc, ◌-◌, Bool, ◌&&◌, not, cond, ltb, ◌==◌, Option, Some, None, List, [], ◌∷◌, ◌++◌, take, drop, filter, slice_get, refl, subst, inl, inr}
+use Rattle.std.specs.List.{AllByRecursion, list_any}
+use Rattle.std.specs.Option.{option_map_or}
+use Rattle.std.proofs.lemmas.Bool.{cases_Bool, cond_both}
+use Rattle.mvt_meaning.specs.Ordinals.{from_nth, change_first, change_nth, change_last, put_last, count, without, before, behind, move_nth, insert_nth}
+
+module _ {A : Type 0} (P : A → Type 0) where
+  all_pushed : (new : A) → P new → (xs : List A) → AllByRecursion P xs → AllByRecursion P (xs ++ new ∷ [])
+  all_pushed new valid [] all = (valid, tt)
+  all_pushed new valid (x ∷ xs) all = (all.0, all_pushed new valid xs all.1)
+
+  pub all_filtered : (passes : A → Bool) (xs : List A) → AllByRecursion P xs → AllByRecursion P (filter passes xs)
+  all_filtered passes [] all = tt
+  all_filtered passes (x ∷ xs) all =
+      elim (cases_Bool (passes x)) [ inl kept ↦ rw kept (all.0, all_filtered passes xs all.1) | inr gone ↦ rw gone (all_filtered passes xs all.1) ]
+
+  got_holds : (xs : List A) (index : ℕ) (x : A) → slice_get xs index ≡ Some x → AllByRecursion P xs → P x
+  got_holds [] index x is all = absurd cc
+  got_holds (x ∷ xs) zero y is all = let same : x ≡ y = cc in subst P same all.0
+  got_holds (x ∷ xs) (suc index) y is all = got_holds xs index y is all.1
+
+  all_from_nth : (passes : A → Bool) (change : List A → List A) → ((xs : List A) → AllByRecursion P xs → AllByRecursion P (change xs)) → (ordinal : ℕ) (xs : List A) → AllByRecursion P xs → AllByRecursion P (from_nth passes change ordinal xs)
+  all_from_nth passes change keeps ordinal [] all = tt
+  all_from_nth passes change keeps ordinal (x ∷ xs) all =
+      let next = cond (passes x) (ordinal - 1) ordinal in
+      cond_both (passes x && (ordinal == 0)) (change (x ∷ xs)) (x ∷ from_nth passes change next xs) (AllByRecursion P)
+      (λ _. keeps (x ∷ xs) all)
+      (λ _. (all.0, all_from_nth passes change keeps next xs all.1))
+
+  all_first : (change : A → A) → ((x : A) → P x → P (change x)) → (xs : List A) → AllByRecursion P xs → AllByRecursion P (change_first change xs)
+  all_first change keeps [] all = tt
+  all_first change keeps (x ∷ xs) all = (keeps x all.0, all.1)
+
+  all_rest : (xs : List A) → AllByRecursion P xs → AllByRecursion P (drop 1 xs)
+  all_rest [] all = tt
+  all_rest (x ∷ xs) all = all.1
+
+  all_second : (new : A) → P new → (xs : List A) → AllByRecursion P xs → AllByRecursion P (take 1 xs ++ new ∷ drop 1 xs)
+  all_second new valid [] all = (valid, tt)
+  all_second new valid (x ∷ xs) all = (all.0, (valid, all.1))
+
+  pub all_changed : (passes : A → Bool) (change : A → A) → ((x : A) → P x → P (change x)) → (ordinal : ℕ) (xs : List A) → AllByRecursion P xs → AllByRecursion P (change_nth passes change ordinal xs)
+  all_changed passes change keeps ordinal xs all = all_from_nth passes (change_first change) (all_first change keeps) ordinal xs all
+
+  pub all_without : (passes : A → Bool) (ordinal : ℕ) (xs : List A) → AllByRecursion P xs → AllByRecursion P (without passes ordinal xs)
+  all_without passes ordinal xs all = all_from_nth passes (λ rest. drop 1 rest) all_rest ordinal xs all
+
+  all_before : (passes : A → Bool) (ordinal : ℕ) (new : A) (xs : List A) → P new → AllByRecursion P xs → AllByRecursion P (before passes ordinal new xs)
+  all_before passes ordinal new xs valid all = all_from_nth passes (λ rest. new ∷ rest) (λ rest holds. (valid, holds)) ordinal xs all
+
+  all_behind : (passes : A → Bool) (ordinal : ℕ) (new : A) (xs : List A) → P new → AllByRecursion P xs → AllByRecursion P (behind passes ordinal new xs)
+  all_behind passes ordinal new xs valid all = all_from_nth passes (λ rest. take 1 rest ++ new ∷ drop 1 rest) (all_second new valid) ordinal xs all
+
+  moved_by : (passes : A → Bool) (from to : ℕ) (xs : List A) (found : Option A) → slice_get (filter passes xs) from ≡ found → AllByRecursion P xs
+      → AllByRecursion P (option_map_or (λ item. cond (ltb from to) (behind passes (to - 1) item (without passes from xs)) (cond (ltb to from) (before passes to item (without passes from xs)) xs)) found xs)
+  moved_by passes from to xs None is all = all
+  moved_by passes from to xs (Some item) is all =
+      let out = without passes from xs in
+      let rest = all_without passes from xs all in
+      let valid = got_holds (filter passes xs) from item is (all_filtered passes xs all) in
+      cond_both (ltb from to) (behind passes (to - 1) item out) (cond (ltb to from) (before passes to item out) xs) (AllByRecursion P)
+      (λ _. all_behind passes (to - 1) item out valid rest)
+      (λ _. cond_both (ltb to from) (before passes to item out) xs (AllByRecursion P) (λ _. all_before passes to item out valid rest) (λ _. all))
+
+  pub all_moved : (passes : A → Bool) (from to : ℕ) (xs : List A) → AllByRecursion P xs → AllByRecursion P (move_nth passes from to xs)
+  all_moved passes from to xs all = moved_by passes from to xs (slice_get (filter passes xs) from) refl all
+
+  pub all_inserted : (passes : A → Bool) (ordinal : ℕ) (new : A) (xs : List A) → P new → AllByRecursion P xs → AllByRecursion P (insert_nth passes ordinal new xs)
+  all_inserted passes ordinal new xs valid all =
+      let last = behind passes (count passes xs - 1) new xs in
+      cond_both (ltb ordinal (count passes xs)) (before passes ordinal new xs) (cond (list_any passes xs) last (xs ++ new ∷ [])) (AllByRecursion P)
+      (λ _. all_before passes ordinal new xs valid all)
+      (λ _. cond_both (list_any passes xs) last (xs ++ new ∷ []) (AllByRecursion P) (λ _. all_behind passes (count passes xs - 1) new xs valid all) (λ _. all_pushed new valid xs all))
+
+  all_last : (passes : A → Bool) (change : A → A) → ((x : A) → P x → P (change x)) → (xs : List A) → AllByRecursion P xs → AllByRecursion P (change_last passes change xs)
+  all_last passes change keeps [] all = tt
+  all_last passes change keeps (x ∷ xs) all =
+      cond_both (passes x && not (list_any passes xs)) (change x ∷ xs) (x ∷ change_last passes change xs) (AllByRecursion P)
+      (λ _. (keeps x all.0, all.1))
+      (λ _. (all.0, all_last passes change keeps xs all.1))
+
+  pub all_put : (passes : A → Bool) (change : A → A) (new : A) → ((x : A) → P x → P (change x)) → P new → (xs : List A) → AllByRecursion P xs → AllByRecursion P (put_last passes change new xs)
+  all_put passes change new keeps valid xs all =
+      cond_both (list_any passes xs) (change_last passes change xs) (xs ++ new ∷ []) (AllByRecursion P)
+      (λ _. all_last passes change keeps xs all)
+      (λ _. all_pushed new valid xs all)
