@@ -2,7 +2,7 @@
 use Rattle.std.specs.Prelude.{◌≡◌, ℕ, ◌+◌, ◌<◌, ◌≤◌, Bool, true, false, List, [], ◌∷◌, ◌++◌, length, take, Some, None, IsSome, if◌then◌else◌, ◌⊎◌}
 use Rattle.mvt_document.specs.declared.TheConstants.{MAX_FILE}
 use Rattle.mvt_document.specs.Plain.{Document}
-use Rattle.mvt_document.specs.Opens.{OpensAs, IsPlace}
+use Rattle.mvt_document.specs.Opens.{OpensAs, OpensAsNothing, IsPlace}
 use Rattle.mvt_document.specs.Settle.{settle}
 use Rattle.tile_device.specs.Seen.{Intake, Output, nothing_read, IsFront}
 use Rattle.tile_device.specs.declared.device.Trouble.TheVariants.{Interrupted}
@@ -46,10 +46,6 @@ pub record IsOpened (tile : Intake) (document : Document) : Type 0 where
   pub whole : tile.is_whole ≡ true
   pub untroubled : tile.trouble ≡ None
   pub opens : OpensAs tile.bytes document
-
--- the file opens as no document
-abbrev pub OpensAsNothing : List ℕ → Type 0
-OpensAsNothing file = (document : Document) → OpensAs file document → ⊥
 
 -- what is wrong with a file: it is too large, or it opens as no document, and the longest prefix that does ends at the
 -- place
