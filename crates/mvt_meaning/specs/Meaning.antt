@@ -39,18 +39,12 @@ with_number value old = if old.value == value then old else minimal value
 -- a VARINT body with this number; another body as it is
 abbrev pub with_value : ℕ → Body → Body
 with_value value (Spelled number) = Spelled (with_number value number)
-with_value value (Eight eight) = Eight eight
-with_value value (Four four) = Four four
-with_value value (Delimited width bytes) = Delimited width bytes
-with_value value (Group group) = Group group
+with_value value body = body
 
 -- a LEN body with this content, and its stored width; another body as it is
 abbrev pub with_content : List ℕ → Body → Body
-with_content bytes (Spelled number) = Spelled number
-with_content bytes (Eight eight) = Eight eight
-with_content bytes (Four four) = Four four
 with_content bytes (Delimited width old) = Delimited width bytes
-with_content bytes (Group group) = Group group
+with_content bytes body = body
 
 -- a VARINT field with this tag, in its shortest spelling (guide, Message Structure)
 abbrev pub new_number : ℕ → ℕ → Field
@@ -74,7 +68,7 @@ is_name item = is_some (name_in item)
 -- an item of a layer with this content, where it is a LEN field
 abbrev pub with_text : List ℕ → LayerItem → LayerItem
 with_text bytes (OfFeature feature) = OfFeature feature
-with_text bytes (PlainInLayer field) = PlainInLayer (record { tag = field.tag; body = with_content bytes field.body })
+with_text bytes (PlainInLayer field) = PlainInLayer (record field { body = with_content bytes field.body })
 
 -- the items of a layer with this name in the last name field, or in a new one at the end where there is none
 -- (tiles 4.1)
@@ -98,7 +92,7 @@ is_id field = is_some (value_in 1 field)
 
 -- the field with this number, where it is a VARINT field
 abbrev pub with_id : ℕ → Field → Field
-with_id id field = record { tag = field.tag; body = with_value id field.body }
+with_id id field = record field { body = with_value id field.body }
 
 -- the fields of a feature with this id in the last id field, or in a new one at the end where there is none (tiles 4.2)
 abbrev pub identified : ℕ → List Field → List Field
