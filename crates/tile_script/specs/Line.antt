@@ -25,9 +25,8 @@ alone_of request (more ∷ others) = Err BadArguments
 
 -- the name that a single argument says; else BadArguments
 unfoldable pub name_of : List Word → Result (List ℕ) ParseError
-name_of [] = Err BadArguments
 name_of (name ∷ []) = text_of name
-name_of (name ∷ more ∷ others) = Err BadArguments
+name_of words = Err BadArguments
 
 -- the request on the mark whose name the single argument says; else BadArguments
 abbrev pub mark_of : (List ℕ → Request) → List Word → Result Request ParseError

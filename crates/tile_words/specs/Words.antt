@@ -46,9 +46,8 @@ hex_byte high low = if nat_lt (digit_value high) 8 && nat_lt (digit_value low) 1
 
 -- the byte of two hexadecimal digits at the beginning, and what follows them
 abbrev pub hex_at : List ℕ → Option (ℕ × List ℕ)
-hex_at [] = None
-hex_at (high ∷ []) = None
 hex_at (high ∷ low ∷ more) = option_map (λ b. (b, more)) (hex_byte high low)
+hex_at bytes = None
 
 -- the byte behind a backslash: `x` and two digits, a quote or a backslash; and what follows
 abbrev pub escape_at : List ℕ → Option (ℕ × List ℕ)
