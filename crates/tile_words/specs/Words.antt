@@ -1,5 +1,5 @@
 -- The words of a line. Blanks stand between them: spaces, tabs and carriage returns.
-use Rattle.std.specs.Prelude.{ℕ, zero, suc, ◌+◌, ◌*◌, Bool, true, ◌&&◌, ◌||◌, not, List, [], ◌∷◌, length, drop, Option, Some, None, option_map, ◌==◌, nat_lt, if◌then◌else◌}
+use Rattle.std.specs.Prelude.{◌≡◌, ℕ, zero, suc, ◌+◌, ◌*◌, Bool, true, ◌&&◌, ◌||◌, not, List, [], ◌∷◌, length, drop, Option, Some, None, option_map, ◌==◌, nat_lt, if◌then◌else◌}
 use Rattle.std.specs.Option.{option_map_or}
 use Rattle.std.specs.List.{position_or_len, before_first}
 use Rattle.std.specs.Char.{digit_value}
@@ -96,3 +96,7 @@ all_found found = if length (after_blanks found.1) == 0 then Some found.0 else N
 -- the words of a line, or none where something in it is no word
 unfoldable pub words_of : List ℕ → Option (List Word)
 words_of line = all_found (taken word_at line)
+
+-- the line is one word alone
+abbrev pub IsLoneWord : List ℕ → Type 0
+IsLoneWord line = (word : Word) × (words_of line ≡ Some (word ∷ []))
