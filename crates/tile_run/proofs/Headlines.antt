@@ -288,7 +288,7 @@ comes options before after (outcomes.Device devices.Script) r document script pr
     let short = file_within before.script after.script r.course.script script premises.script_is premises.serve.script r.script in
     not_cut _ r.course.script.trouble (length r.course.script.bytes) (untroubled options before after (outcomes.Device devices.Script) r premises.serve).script (omega (arith, short, premises.within)) r.ends.between.cause
 comes options before after (outcomes.Device devices.Replies) r document script premises =
-    not_some _ r.course.replies.trouble (untroubled options before after (outcomes.Device devices.Replies) r premises.serve).replies r.ends.between.trouble
+    not_some _ r.course.replies.trouble (untroubled options before after (outcomes.Device devices.Replies) r premises.serve).replies r.ends.between.cut_short.trouble
 comes options before after (outcomes.Device devices.Out) r document script premises = not_some _ r.course.out.trouble (untroubled options before after (outcomes.Device devices.Out) r premises.serve).out r.ends.trouble
 comes options before after outcomes.NoMemory r document script premises = absurd (premises.has_memory refl)
 

@@ -99,13 +99,12 @@ pub record StopsAtScript (strict : Bool) (start : Progress) (script : Intake) (o
   pub goes_on : is_over strict progress ≡ false
   pub replies : IsWritten output progress.replies
 
--- the reply to a line met trouble: the lines before were replied to, and of this reply a prefix was written
-pub record StopsAtReplies (strict : Bool) (start : Progress) (script : Intake) (output : Output) : Type 0 where
-  pub untroubled : script.trouble ≡ None
+-- the reply to one of the lines met trouble: the lines before it were replied to, and of this reply a prefix was written
+pub record IsCutShort (strict : Bool) (start : Progress) (lines : List (List ℕ)) (output : Output) : Type 0 where
   pub first : List (List ℕ)
   pub line : List ℕ
   pub more : List (List ℕ)
-  pub split : lines_in script ≡ first ++ line ∷ more
+  pub split : lines ≡ first ++ line ∷ more
   pub progress : Progress
   pub walk : Walk strict start first progress
   pub goes_on : is_over strict progress ≡ false
@@ -117,6 +116,11 @@ pub record StopsAtReplies (strict : Bool) (start : Progress) (script : Intake) (
   pub is_front : IsFront front reply
   pub written : output.bytes ≡ progress.replies ++ front
   pub trouble : IsSome output.trouble
+
+-- the script met no trouble, and the reply to one of its lines did
+pub record StopsAtReplies (strict : Bool) (start : Progress) (script : Intake) (output : Output) : Type 0 where
+  pub untroubled : script.trouble ≡ None
+  pub cut_short : IsCutShort strict start (lines_in script) output
 
 -- ---- how a run ends
 
