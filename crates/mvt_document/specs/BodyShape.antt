@@ -14,16 +14,10 @@ wire_type_of (Four bytes) = 5
 
 -- the width that is stored with the length of a body of the program; 1 where it has no length
 abbrev pub stored_width_of : Body → ℕ
-stored_width_of (Number number) = 1
-stored_width_of (Eight bytes) = 1
 stored_width_of (Bytes width bytes) = width
-stored_width_of (Group bytes) = 1
-stored_width_of (Four bytes) = 1
+stored_width_of body = 1
 
 -- where the body is a group, its bytes are those of a group of this number (guide, Groups)
 abbrev pub EndsGroup : ℕ → Body → Type 0
-EndsGroup number (Number value) = Unit {0}
-EndsGroup number (Eight bytes) = Unit {0}
-EndsGroup number (Bytes width bytes) = Unit {0}
 EndsGroup number (Group bytes) = IsGroup number bytes.items
-EndsGroup number (Four bytes) = Unit {0}
+EndsGroup number body = Unit {0}

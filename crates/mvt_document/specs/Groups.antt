@@ -22,11 +22,8 @@ wire_type (Four bytes) = 5
 
 -- the length of a body, where it has one, can be spelled in the stored width
 abbrev pub StoresBody : Body → Type 0
-StoresBody (Spelled number) = Unit {0}
-StoresBody (Eight bytes) = Unit {0}
-StoresBody (Four bytes) = Unit {0}
 StoresBody (Delimited width bytes) = IsSpelling (length bytes) width
-StoresBody (Group bytes) = Unit {0}
+StoresBody body = Unit {0}
 
 -- the length of a field, where it has one, can be spelled in the stored width
 abbrev pub StoresField : Field → Type 0

@@ -1,6 +1,7 @@
 pub mod Held
 pub mod Plain
 pub mod Wire
+pub mod Begins
 pub mod Fills
 pub mod Shape
 pub mod Groups

@@ -77,6 +77,10 @@ pub record OpensAs (file : List ℕ) (document : Document) : Type 0 where
   pub settled : IsSettled document
   pub spelled : bytes_of document ≡ file
 
+-- the file opens as no document
+abbrev pub OpensAsNothing : List ℕ → Type 0
+OpensAsNothing file = (document : Document) → OpensAs file document → ⊥
+
 -- `place` is the length of the longest prefix of the file that opens as a document
 pub record IsPlace (file : List ℕ) (place : ℕ) : Type 0 where
   pub within : place ≤ length file

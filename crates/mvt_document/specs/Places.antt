@@ -34,12 +34,12 @@ fields_at layer item document = option_and_then (fields_in_at item) (items_at la
 
 -- the layer with its items changed; a field of the tile as it is
 abbrev pub in_layer : (List LayerItem → List LayerItem) → TileItem → TileItem
-in_layer change (OfLayer layer) = OfLayer (record { tag = layer.tag; width = layer.width; items = change layer.items })
+in_layer change (OfLayer layer) = OfLayer (record layer { items = change layer.items })
 in_layer change (PlainInTile field) = PlainInTile field
 
 -- the feature with its fields changed; another field of the layer as it is
 abbrev pub in_feature : (List Field → List Field) → LayerItem → LayerItem
-in_feature change (OfFeature feature) = OfFeature (record { tag = feature.tag; width = feature.width; fields = change feature.fields })
+in_feature change (OfFeature feature) = OfFeature (record feature { fields = change feature.fields })
 in_feature change (PlainInLayer field) = PlainInLayer field
 
 -- the document with the items of the layer at this position changed; as it is where there is no layer

@@ -1,7 +1,7 @@
 -- A document with each stored width raised to the width that its length is written in.
 use Rattle.std.specs.Prelude.{ℕ, ◌^◌, ◌<◌, max, List, length, map}
 use Rattle.std.specs.List.{flat_map, AllByRecursion}
-use Rattle.mvt_document.specs.Plain.{Body, Spelled, Eight, Four, Delimited, Group, Field, Feature, LayerItem, OfFeature, PlainInLayer, Layer, TileItem, OfLayer, PlainInTile, Document}
+use Rattle.mvt_document.specs.Plain.{Body, Delimited, Field, Feature, LayerItem, OfFeature, PlainInLayer, Layer, TileItem, OfLayer, PlainInTile, Document}
 use Rattle.mvt_document.specs.Wire.{minimal_width, field_bytes, layer_item_bytes}
 
 -- the width in which the length of these bytes is written: the stored width, or the least width of the length where
@@ -11,19 +11,16 @@ written_width width bytes = max width (minimal_width (length bytes))
 
 -- a body with its stored width, where it has one, raised to the written one
 abbrev pub settle_body : Body → Body
-settle_body (Spelled number) = Spelled number
-settle_body (Eight bytes) = Eight bytes
-settle_body (Four bytes) = Four bytes
 settle_body (Delimited width bytes) = Delimited (written_width width bytes) bytes
-settle_body (Group bytes) = Group bytes
+settle_body body = body
 
 -- a field with the stored width of its body raised to the written one
 abbrev pub settle_field : Field → Field
-settle_field f = record { tag = f.tag; body = settle_body f.body }
+settle_field f = record f { body = settle_body f.body }
 
 -- a feature with its stored width and those of its fields raised to the written ones
 abbrev pub settle_feature : Feature → Feature
-settle_feature f = record { tag = f.tag; width = written_width f.width (flat_map field_bytes f.fields); fields = map settle_field f.fields }
+settle_feature f = record f { width = written_width f.width (flat_map field_bytes f.fields); fields = map settle_field f.fields }
 
 -- an item of a layer with its stored widths raised to the written ones
 abbrev pub settle_layer_item : LayerItem → LayerItem
@@ -32,7 +29,7 @@ settle_layer_item (PlainInLayer field) = PlainInLayer (settle_field field)
 
 -- a layer with its stored width and those in its items raised to the written ones
 abbrev pub settle_layer : Layer → Layer
-settle_layer l = record { tag = l.tag; width = written_width l.width (flat_map layer_item_bytes l.items); items = map settle_layer_item l.items }
+settle_layer l = record l { width = written_width l.width (flat_map layer_item_bytes l.items); items = map settle_layer_item l.items }
 
 -- an item of a tile with its stored widths raised to the written ones
 abbrev pub settle_tile_item : TileItem → TileItem
@@ -51,11 +48,8 @@ IsShort bytes = length bytes < 2 ^ 64
 
 -- the length of a body, where it has one, is below 2 ^ 64
 abbrev pub IsShortBody : Body → Type 0
-IsShortBody (Spelled number) = Unit {0}
-IsShortBody (Eight bytes) = Unit {0}
-IsShortBody (Four bytes) = Unit {0}
 IsShortBody (Delimited width bytes) = IsShort bytes
-IsShortBody (Group bytes) = Unit {0}
+IsShortBody body = Unit {0}
 
 -- the length of a field, where it has one, is below 2 ^ 64
 abbrev pub IsShortField : Field → Type 0

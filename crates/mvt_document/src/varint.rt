@@ -1,8 +1,10 @@
 //! Numbers in base 128, each with the width of its spelling: read and written.
 
-ghost use Rattle.std.specs.Prelude.{◌≡◌, ℕ, ◌*◌, ◌^◌, ◌<◌, ◌≤◌, ◌++◌, List, length, take, IfSome, IfNone, OnOk, nat_lt, position};
+ghost use Rattle.std.specs.Prelude.{◌≡◌, ℕ, ◌*◌, ◌^◌, ◌<◌, ◌≤◌, ◌++◌, length, take, IfSome, IfNone, OnOk, nat_lt, position};
 ghost use Rattle.mvt_document.specs.Shape.{IsSpelling};
-ghost use Rattle.mvt_document.specs.Wire.{spell, minimal_width};
+ghost use Rattle.mvt_document.specs.Wire.{spell, spelling, minimal_width};
+ghost use Rattle.mvt_document.specs.Groups.{IsNumber};
+ghost use Rattle.mvt_document.specs.Begins.{Begins};
 ghost use Rattle.mvt_document.specs.Fills.{Fills};
 
 use std::alloc::AllocError;
@@ -66,7 +68,7 @@ pub fn least_width(value: u64) -> u8
 pub fn read_varint(bytes: &[u8]) -> Option<Varint>
     ensures within { IfSome result (λ n. n.width ≤ length bytes.now) }
     ensures found { IfSome result (λ n. take n.width bytes.now ≡ spell n.value n.width) }
-    ensures none { IfNone result ((value width : ℕ) (rest : List ℕ) → IsSpelling value width → bytes.now ≡ spell value width ++ rest → ⊥) }
+    ensures none { IfNone result (¬ Begins IsNumber spelling bytes.now) }
 {
     let (value, width) = match bytes.first() {
         Some(&byte) if byte < 128 => (u64::from(byte), 1),
@@ -82,7 +84,7 @@ fn number_at_front(bytes: &[u8]) -> Option<(u64, u8)>
     ensures within { IfSome result (λ found. found.1 ≤ length bytes.now) }
     ensures found { IfSome result (λ found. take found.1 bytes.now ≡ spell found.0 found.1) }
     ensures valid { IfSome result (λ found. IsSpelling found.0 found.1) }
-    ensures none { IfNone result ((value width : ℕ) (rest : List ℕ) → IsSpelling value width → bytes.now ≡ spell value width ++ rest → ⊥) }
+    ensures none { IfNone result (¬ Begins IsNumber spelling bytes.now) }
 {
     let last = last_byte(bytes)?;
     if last == 9 && bytes[9] > TENTH_BYTE_MAX {

@@ -11,7 +11,6 @@ pub mod Nth
 pub mod Moving
 pub mod Inserting
 pub mod MovesPrepared
-pub mod InRange
 pub mod InsertionPrepared
 pub mod Refusing
 pub mod PutLast

@@ -11,8 +11,7 @@ use Rattle.mvt_geometry.specs.Integers.{origin, ways, joined, integers, repeats}
 -- dots are one part; there is at least one line or ring
 abbrev pub is_part_count : Kind → ℕ → Bool
 is_part_count Dots count = count == 1
-is_part_count Lines count = nat_le 1 count
-is_part_count Areas count = nat_le 1 count
+is_part_count kind count = nat_le 1 count
 
 -- `IsPlaced` as a truth value
 abbrev pub is_placed : Point → Bool

@@ -5,7 +5,7 @@ use Rattle.mvt_geometry.specs.declared.shapes.Point.{Point}
 use Rattle.mvt_geometry.specs.declared.shapes.Kind.{Kind}
 use Rattle.mvt_geometry.specs.declared.shapes.Kind.TheVariants.{Dots, Lines, Areas}
 use Rattle.mvt_geometry.specs.Shapes.{Geometry}
-use Rattle.mvt_geometry.specs.Integers.{origin, last_from}
+use Rattle.mvt_geometry.specs.Integers.{origin, last_from, closing_of}
 use Rattle.mvt_document.specs.Signed.{unzigzag}
 use Rattle.mvt_geometry.specs.Checks.{has_geometry}
 
@@ -17,9 +17,8 @@ moved from x y = record { x = from.x +ℤ unzigzag x; y = from.y +ℤ unzigzag y
 
 -- the points to which parameters lead, two for each point; one that is left over leads nowhere (tiles 4.3.2)
 abbrev pub points_in : Point → List ℕ → List Point
-points_in from [] = []
-points_in from (x ∷ []) = []
 points_in from (x ∷ y ∷ more) = moved from x y ∷ points_in (moved from x y) more
+points_in from numbers = []
 
 -- the parts that numbers would have, if each part were MoveTo, x, y, LineTo, its parameters and then `closing` more
 -- numbers; each part goes on from where the one before it ended (tiles 4.3.1)
@@ -33,8 +32,7 @@ parts_in closing most from numbers = []
 -- the parts of this kind that numbers would have, if their commands were as they should be (tiles 4.3.1)
 abbrev pub parts_of : Kind → List ℕ → List (List Point)
 parts_of Dots numbers = points_in origin (drop 1 numbers) ∷ []
-parts_of Lines numbers = parts_in 0 (length numbers) origin numbers
-parts_of Areas numbers = parts_in 1 (length numbers) origin numbers
+parts_of kind numbers = parts_in (length (closing_of kind)) (length numbers) origin numbers
 
 -- the kind with this number; any number but 1 and 2 gives areas
 abbrev pub kind_of : ℕ → Kind

@@ -45,9 +45,8 @@ paths closing from (part ∷ parts) = path closing from part ++ paths closing (l
 
 -- what closes the path of a part: a ClosePath behind a ring, else nothing (tiles 4.3.4)
 abbrev pub closing_of : Kind → List ℕ
-closing_of Dots = []
-closing_of Lines = []
 closing_of Areas = command 7 1 ∷ []
+closing_of kind = []
 
 -- the points of all parts, one after the other
 abbrev pub joined : List (List Point) → List Point
@@ -56,8 +55,7 @@ joined parts = flat_map (λ part. part) parts
 -- the integers of parts of a kind: one MoveTo for all dots, or a path for each line or ring (tiles 4.3.4)
 abbrev pub integers_of : Kind → List (List Point) → List ℕ
 integers_of Dots parts = command 1 (length (joined parts)) ∷ parameters origin (joined parts)
-integers_of Lines parts = paths (closing_of Lines) origin parts
-integers_of Areas parts = paths (closing_of Areas) origin parts
+integers_of kind parts = paths (closing_of kind) origin parts
 
 -- the integers of a geometry (tiles 4.3.4)
 abbrev pub integers : Geometry → List ℕ
@@ -73,8 +71,7 @@ IsWay way = unsigned_abs way < 2 ^ 31
 -- line or ring (tiles 4.3.1)
 abbrev pub repeats : Kind → List Point → ℕ
 repeats Dots points = length points
-repeats Lines points = length points - 1
-repeats Areas points = length points - 1
+repeats kind points = length points - 1
 
 -- the longest command of a part is carried out fewer than 2^29 times (tiles 4.3.1)
 abbrev pub IsRepeated : Kind → List Point → Type 0

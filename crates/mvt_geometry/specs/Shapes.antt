@@ -21,8 +21,7 @@ pub record Geometry : Type 0 where
 -- there is one part of dots, and at least one line or ring (tiles 4.3.4)
 abbrev pub IsPartCount : Kind → ℕ → Type 0
 IsPartCount Dots count = count ≡ 1
-IsPartCount Lines count = 1 ≤ count
-IsPartCount Areas count = 1 ≤ count
+IsPartCount kind count = 1 ≤ count
 
 -- the least number of points in a part: 1 for dots, 2 for a line, 3 for a ring (tiles 4.3.4)
 abbrev pub least_points : Kind → ℕ

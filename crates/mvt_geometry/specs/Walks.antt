@@ -52,16 +52,14 @@ pub record Goes (least : ℕ) (closing : List ℕ) (from : Point) (numbers : Lis
 -- the kind is drawn by paths: lines and areas
 abbrev pub IsDrawn : Kind → Type 0
 IsDrawn Dots = ⊥
-IsDrawn Lines = Unit {0}
-IsDrawn Areas = Unit {0}
+IsDrawn kind = Unit {0}
 
 -- ---- part after part, of any kind
 
 -- the integers of one part, from this point
 abbrev pub integers_of_part : Kind → Point → List Point → List ℕ
 integers_of_part Dots from points = command 1 (length points) ∷ parameters from points
-integers_of_part Lines from points = path (closing_of Lines) from points
-integers_of_part Areas from points = path (closing_of Areas) from points
+integers_of_part kind from points = path (closing_of kind) from points
 
 -- the integers of parts, each from where the one before it ended
 abbrev pub integers_from : Kind → Point → List (List Point) → List ℕ

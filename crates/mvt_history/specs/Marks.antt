@@ -54,7 +54,7 @@ between low high marks = filter (λ mark. nat_le low mark.point && nat_le mark.p
 
 -- a mark whose point was counted from `floor`, counted from 0
 abbrev pub counted_from : ℕ → Mark → Mark
-counted_from floor mark = record { name = mark.name; point = floor + mark.point }
+counted_from floor mark = record mark { point = floor + mark.point }
 
 -- ---- where a name is looked up
 

@@ -12,7 +12,7 @@ use Rattle.mvt_meaning.specs.Kept.{field_in, tile_fields, without_layer}
 
 -- a layer without its name fields (tiles 4.1)
 abbrev pub without_names : Layer → Layer
-without_names layer = record { tag = layer.tag; width = layer.width; items = filter (λ item. not (is_name item)) layer.items }
+without_names layer = record layer { items = filter (λ item. not (is_name item)) layer.items }
 
 -- the layer of this ordinal has the name, and no other layer has it; that layer without its names, the other layers,
 -- the other fields of the tile, and the positions of the layers are as they were (tiles 4.1)

@@ -9,6 +9,7 @@ use Rattle.mvt_document.specs.declared.TheConstants.{MAX_FILE}
 use Rattle.mvt_document.specs.Plain.{Number, Body, Spelled, Eight, Four, Delimited, Group, Field, LayerItem, OfFeature, PlainInLayer, TileItem, OfLayer, PlainInTile, Document}
 use Rattle.mvt_document.specs.Wire.{bytes_of, minimal_width}
 use Rattle.mvt_geometry.specs.Shapes.{Geometry, number_of}
+use Rattle.mvt_geometry.specs.Checks.{is_in_range}
 use Rattle.mvt_geometry.specs.Integers.{encoded, joined, origin, repeats, ways}
 use Rattle.mvt_geometry.specs.declared.faults.EncodeError.{EncodeError}
 use Rattle.mvt_geometry.specs.declared.faults.EncodeError.TheVariants as encode_errors
@@ -39,18 +40,12 @@ with_number value old = if old.value == value then old else minimal value
 -- a VARINT body with this number; another body as it is
 abbrev pub with_value : ℕ → Body → Body
 with_value value (Spelled number) = Spelled (with_number value number)
-with_value value (Eight eight) = Eight eight
-with_value value (Four four) = Four four
-with_value value (Delimited width bytes) = Delimited width bytes
-with_value value (Group group) = Group group
+with_value value body = body
 
 -- a LEN body with this content, and its stored width; another body as it is
 abbrev pub with_content : List ℕ → Body → Body
-with_content bytes (Spelled number) = Spelled number
-with_content bytes (Eight eight) = Eight eight
-with_content bytes (Four four) = Four four
 with_content bytes (Delimited width old) = Delimited width bytes
-with_content bytes (Group group) = Group group
+with_content bytes body = body
 
 -- a VARINT field with this tag, in its shortest spelling (guide, Message Structure)
 abbrev pub new_number : ℕ → ℕ → Field
@@ -74,7 +69,7 @@ is_name item = is_some (name_in item)
 -- an item of a layer with this content, where it is a LEN field
 abbrev pub with_text : List ℕ → LayerItem → LayerItem
 with_text bytes (OfFeature feature) = OfFeature feature
-with_text bytes (PlainInLayer field) = PlainInLayer (record { tag = field.tag; body = with_content bytes field.body })
+with_text bytes (PlainInLayer field) = PlainInLayer (record field { body = with_content bytes field.body })
 
 -- the items of a layer with this name in the last name field, or in a new one at the end where there is none
 -- (tiles 4.1)
@@ -98,7 +93,7 @@ is_id field = is_some (value_in 1 field)
 
 -- the field with this number, where it is a VARINT field
 abbrev pub with_id : ℕ → Field → Field
-with_id id field = record { tag = field.tag; body = with_value id field.body }
+with_id id field = record field { body = with_value id field.body }
 
 -- the fields of a feature with this id in the last id field, or in a new one at the end where there is none (tiles 4.2)
 abbrev pub identified : ℕ → List Field → List Field
@@ -118,13 +113,6 @@ new_feature geometry = OfFeature (record {
   width = 1;
   fields = new_number 24 (number_of geometry.kind) ∷ new_content 34 (encoded geometry) ∷ [];
 })
-
--- each way of the geometry is from -(2^31 - 1) to 2^31 - 1, and each command is carried out fewer than 2^29 times
--- (tiles 4.3)
-abbrev pub is_in_range : Geometry → Bool
-is_in_range geometry =
-    not (list_any (λ way. nat_lt (2 ^ 31 - 1) (unsigned_abs way)) (ways origin (joined geometry.parts)))
-    && not (list_any (λ points. nat_lt (2 ^ 29 - 1) (repeats geometry.kind points)) geometry.parts)
 
 -- ---- places in a document
 

@@ -10,14 +10,9 @@ use Rattle.mvt_meaning.specs.Meaning.{applied}
 -- the kinds of command that may make a tile longer: a rename, an insertion, and a new id
 abbrev pub may_lengthen : Command → Bool
 may_lengthen (RenameLayer choice name) = true
-may_lengthen (MoveLayer choice index) = false
-may_lengthen (DropLayer choice) = false
-may_lengthen (KeepLayers names) = false
 may_lengthen (InsertFeature choice index geometry) = true
-may_lengthen (MoveFeature choice feature index) = false
-may_lengthen (DropFeature choice feature) = false
 may_lengthen (SetId choice feature id) = true
-may_lengthen (ClearId choice feature) = false
+may_lengthen command = false
 
 -- an accepted command of another kind leaves a valid document with no more bytes than it had
 abbrev pub NeverLonger : Type 0

@@ -48,23 +48,16 @@ id_weight choice feature document seen = of_meant (selected choice document) (λ
 -- the bytes of the items that a command takes out or replaces, as they stand before it
 abbrev pub taken_by : Command → Document → ℕ
 taken_by (RenameLayer choice name) document = name_weight choice document document
-taken_by (MoveLayer choice index) document = 0
 taken_by (DropLayer choice) document = of_meant (selected choice document) (λ ordinal. weigh_nth tile_item_bytes is_layer ordinal document)
 taken_by (KeepLayers names) document = weigh tile_item_bytes (filter (λ item. not (is_kept names item)) document)
-taken_by (InsertFeature choice index geometry) document = 0
-taken_by (MoveFeature choice feature index) document = 0
 taken_by (DropFeature choice feature) document = of_meant (selected choice document) (λ ordinal. of_meant (selected_in feature ordinal document) (λ going. weigh_nth layer_item_bytes is_feature going (items_of ordinal document)))
 taken_by (SetId choice feature id) document = id_weight choice feature document document
 taken_by (ClearId choice feature) document = of_meant (selected choice document) (λ ordinal. of_meant (selected_in feature ordinal document) (λ meant. weigh field_bytes (filter is_id (fields_of ordinal meant document))))
+taken_by command document = 0
 
 -- the bytes of the items that a command puts in, new ones or those that replace others, as they stand after it
 abbrev pub put_by : Command → Document → ℕ
 put_by (RenameLayer choice name) document = name_weight choice document (after (RenameLayer choice name) document)
-put_by (MoveLayer choice index) document = 0
-put_by (DropLayer choice) document = 0
-put_by (KeepLayers names) document = 0
 put_by (InsertFeature choice index geometry) document = length (layer_item_bytes (new_feature geometry))
-put_by (MoveFeature choice feature index) document = 0
-put_by (DropFeature choice feature) document = 0
 put_by (SetId choice feature id) document = id_weight choice feature document (after (SetId choice feature id) document)
-put_by (ClearId choice feature) document = 0
+put_by command document = 0

@@ -57,10 +57,8 @@ packed field place (piece ∷ more) = chunk_at field place (number_in piece) ∷
 -- another (guide, Repeated Elements)
 abbrev pub numbers_of : ℕ → Body → List (Result Placed ℕ)
 numbers_of position (Spelled number) = Ok (record { number = number; field = position; place = 0 }) ∷ []
-numbers_of position (Eight bytes) = []
-numbers_of position (Four bytes) = []
 numbers_of position (Delimited width bytes) = packed position 0 (pieces bytes)
-numbers_of position (Group bytes) = []
+numbers_of position body = []
 
 -- the numbers in a field, given with its position, where it has this number; else none (guide, Repeated Elements)
 abbrev pub numbers_in : ℕ → ℕ × Field → List (Result Placed ℕ)

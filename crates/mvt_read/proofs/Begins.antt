@@ -4,12 +4,13 @@ use Rattle.std.proofs.lemmas.List.{length-append, length-take-le, take-append-dr
 use Rattle.std.proofs.Math.Seq.{take-add}
 use Rattle.mvt_document.specs.Plain.{Body, Spelled, Eight, Four, Delimited, Group, Field}
 use Rattle.mvt_document.specs.Shape.{IsSpelling}
-use Rattle.mvt_document.specs.Wire.{spell, body_bytes, field_bytes}
-use Rattle.mvt_document.specs.Groups.{StoresField, IsFlatBody, IsGroup}
+use Rattle.mvt_document.specs.Wire.{spell, spelling, body_bytes, field_bytes}
+use Rattle.mvt_document.specs.Begins.{Begins}
+use Rattle.mvt_document.specs.Groups.{IsNumber, StoresField, IsFlatBody, IsGroup}
 use Rattle.mvt_document.specs.Opens.{IsField}
 use Rattle.mvt_document.specs.Parts.{IsWholeBody}
 use Rattle.mvt_document.proofs.Spelling.{one_spelling, spelling_some}
-use Rattle.mvt_document.proofs.Prefixes.{delimited-bytes, field-bytes, stored_width, whole_body}
+use Rattle.mvt_document.proofs.Prefixes.{number_with, delimited-bytes, field-bytes, stored_width, whole_body}
 
 -- the bytes from a place on, as the program cuts them
 abbrev pub from : ℕ → List ℕ → List ℕ
@@ -55,15 +56,30 @@ content_whole n w bytes s enough =
       stored = subst (λ (k : ℕ). IsSpelling k w) (sym l) s.valid;
     }
 
--- no body of bytes stands at the front where its length is more than what is left
-pub content_cut : (n w : ℕ) (bytes : List ℕ) → IsNumberAt n w bytes → length (from w bytes) < n → (body : Body) (rest : List ℕ) → IsFlatBody 2 body → bytes ≡ body_bytes body ++ rest → ⊥
-content_cut n w bytes s short (Delimited v content) rest p e =
-    let r = one_front n w (length content) v bytes (content ++ rest) s p.stored (e ∙ delimited-bytes v content rest p.stored) in
-    omega (arith, r.0, ap length r.1, length-append content rest)
-content_cut n w bytes s short (Spelled number) rest p e = omega (arith, p.typed)
-content_cut n w bytes s short (Eight eight) rest p e = omega (arith, p.typed)
-content_cut n w bytes s short (Four four) rest p e = omega (arith, p.typed)
-content_cut n w bytes s short (Group group) rest p e = omega (arith, p.typed)
+-- a length and that many bytes, at the front
+record IsContentAt (width : ℕ) (content rest bytes : List ℕ) : Type 0 where
+  pub stored : IsSpelling (length content) width
+  pub spelled : bytes ≡ spell (length content) width ++ (content ++ rest)
+
+content_at : (body : Body) (rest bytes : List ℕ) → IsFlatBody 2 body → bytes ≡ body_bytes body ++ rest → (width : ℕ) × (content : List ℕ) × IsContentAt width content rest bytes
+content_at (Delimited width content) rest bytes p e = (width, content, record { stored = p.stored; spelled = e ∙ delimited-bytes width content rest p.stored })
+content_at (Spelled number) rest bytes p e = absurd (omega (arith, p.typed))
+content_at (Eight eight) rest bytes p e = absurd (omega (arith, p.typed))
+content_at (Four four) rest bytes p e = absurd (omega (arith, p.typed))
+content_at (Group group) rest bytes p e = absurd (omega (arith, p.typed))
+
+-- no body of bytes stands at the front where no number does
+pub length_missing : (bytes : List ℕ) → ¬ Begins IsNumber spelling bytes → ¬ Begins (IsFlatBody 2) body_bytes bytes
+length_missing bytes none = λ b.
+    let at = content_at b.thing b.rest bytes b.holds b.spelled in
+    none (record { thing = number_with (length at.1) at.0; holds = at.2.stored; rest = at.1 ++ b.rest; spelled = at.2.spelled })
+
+-- nor where its length is more than what is left
+pub content_cut : (n w : ℕ) (bytes : List ℕ) → IsNumberAt n w bytes → length (from w bytes) < n → ¬ Begins (IsFlatBody 2) body_bytes bytes
+content_cut n w bytes s short = λ b.
+    let at = content_at b.thing b.rest bytes b.holds b.spelled in
+    let r = one_front n w (length at.1) at.0 bytes (at.1 ++ b.rest) s at.2.stored at.2.spelled in
+    omega (arith, r.0, ap length r.1, length-append at.1 b.rest)
 
 -- ---- a field
 

@@ -3,13 +3,14 @@ use Rattle.std.proofs.Common.{◌≡◌, ◌≢◌, ℕ, ◌+◌, ◌-◌, ◌/�
 use Rattle.std.proofs.lemmas.List.{length-take, length-drop, take-append-drop, take_rest}
 use Rattle.std.proofs.Math.Seq.{take-add}
 use Rattle.mvt_document.specs.declared.TheConstants.{MAX_GROUPS}
-use Rattle.mvt_document.specs.Plain.{Number, Body}
-use Rattle.mvt_document.specs.Wire.{spell, spelling, body_bytes}
-use Rattle.mvt_document.specs.Groups.{IsNumber, IsEnd, IsFlatBody, IsGroup}
+use Rattle.mvt_document.specs.Plain.{Body}
+use Rattle.mvt_document.specs.Wire.{spell, body_bytes}
+use Rattle.mvt_document.specs.Begins.{Begins}
+use Rattle.mvt_document.specs.Groups.{IsEnd, IsFlatBody, IsGroup}
 use Rattle.mvt_read.specs.Open.{LeadsTo}
 use Rattle.mvt_read.proofs.Begins.{from, IsNumberAt, number_then, field_taken}
 use Rattle.mvt_document.proofs.Prefixes.{number_with, field_with}
-use Rattle.mvt_read.proofs.OpenBytes.{NothingLeft, IsTagAt, field_of_parts, flat_is_whole, field_leads, start_leads, end_leads, no_tag, no_body, too_deep, other_end, leads_on, group_ends, no_group}
+use Rattle.mvt_read.proofs.OpenBytes.{NothingLeft, NoTag, IsTagAt, field_of_parts, flat_is_whole, field_leads, start_leads, end_leads, no_tag, no_body, too_deep, other_end, leads_on, group_ends, no_group}
 
 -- a tag at the front, as the program reads it
 pub record IsTagFound (value width : ℕ) (bytes : List ℕ) : Type 0 where
@@ -43,12 +44,12 @@ flat_taken v w size body bytes (number ∷ numbers) t some p e =
 
 -- ---- what does not
 
-pub tag_missing : (bytes groups : List ℕ) → groups ≢ [] → ((tag : Number) (after : List ℕ) → IsNumber tag → 8 ≤ tag.value → tag.value < 2 ^ 32 → bytes ≡ spelling tag ++ after → ⊥) → NothingLeft groups bytes
+pub tag_missing : (bytes groups : List ℕ) → groups ≢ [] → NoTag bytes → NothingLeft groups bytes
 tag_missing bytes [] some none = absurd (some refl)
 tag_missing bytes (number ∷ numbers) some none = no_tag number numbers bytes none
 
 pub body_missing : (v w : ℕ) (bytes groups : List ℕ) → IsTagFound v w bytes → groups ≢ [] → (v % 8 ≡ 3 → ⊥) → (v % 8 ≡ 4 → ⊥)
-    → ((body : Body) (rest : List ℕ) → IsFlatBody (v % 8) body → from w bytes ≡ body_bytes body ++ rest → ⊥) → NothingLeft groups bytes
+    → ¬ Begins (IsFlatBody (v % 8)) body_bytes (from w bytes) → NothingLeft groups bytes
 body_missing v w bytes [] t some not_start not_end none = absurd (some refl)
 body_missing v w bytes (number ∷ numbers) t some not_start not_end none =
     no_body (number_with v w) number numbers bytes (from w bytes) (tag_at v w bytes t) not_start not_end none
@@ -83,7 +84,7 @@ in_group-more number bytes groups new place size p enough q =
 pub in_group-end : (number : ℕ) (bytes groups : List ℕ) (place : ℕ) → IsInGroup number bytes groups place → groups ≡ [] → IsGroup number (take place bytes)
 in_group-end number bytes groups place p e = group_ends number (take place bytes) (subst (LeadsTo (take place bytes) (number ∷ [])) e p.leads)
 
-pub in_group-broken : (number : ℕ) (bytes groups : List ℕ) (place : ℕ) → IsInGroup number bytes groups place → NothingLeft groups (from place bytes) → (group rest : List ℕ) → IsGroup number group → bytes ≡ group ++ rest → ⊥
-in_group-broken number bytes groups place p none group rest q e =
+pub in_group-broken : (number : ℕ) (bytes groups : List ℕ) (place : ℕ) → IsInGroup number bytes groups place → NothingLeft groups (from place bytes) → ¬ Begins (IsGroup number) (λ group. group) bytes
+in_group-broken number bytes groups place p none =
     let parts : take place bytes ++ from place bytes ≡ bytes = ap (λ (b : List ℕ). take place bytes ++ b) (take_rest bytes place) ∙ take-append-drop place bytes in
-    no_group number groups (take place bytes) (from place bytes) p.leads none group rest q (parts ∙ e)
+    subst (λ (b : List ℕ). ¬ Begins (IsGroup number) (λ group. group) b) parts (no_group number groups (take place bytes) (from place bytes) p.leads none)

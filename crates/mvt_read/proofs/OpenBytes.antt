@@ -6,6 +6,7 @@ use Rattle.mvt_document.specs.declared.TheConstants.{MAX_GROUPS}
 use Rattle.mvt_document.specs.Plain.{Number, Body, Spelled, Eight, Four, Delimited, Group, Field}
 use Rattle.mvt_document.specs.Shape.{IsTag}
 use Rattle.mvt_document.specs.Wire.{spelling, body_bytes, field_bytes}
+use Rattle.mvt_document.specs.Begins.{Begins}
 use Rattle.mvt_document.specs.Groups.{IsNumber, IsWholeBodyWith, IsWholeFieldWith, IsEnd, IsGroupWithin, IsGroup, IsFlatBody}
 use Rattle.mvt_read.specs.Open.{Closes, LeadsTo}
 use Rattle.mvt_document.proofs.Prefixes.{field_with, one_number, one_field_with, field-bytes, field_no_end, separates_within, whole_body}
@@ -201,7 +202,11 @@ end_leads last number numbers ends some =
 
 -- no front of the bytes is what is left of the open groups
 abbrev pub NothingLeft : List ℕ → List ℕ → Type 0
-NothingLeft numbers bytes = (left rest : List ℕ) → Closes numbers left → bytes ≡ left ++ rest → ⊥
+NothingLeft numbers bytes = ¬ Begins (Closes numbers) (λ left. left) bytes
+
+-- no tag stands at the front
+abbrev pub NoTag : List ℕ → Type 0
+NoTag bytes = ¬ Begins (λ tag. IsNumber tag × (8 ≤ tag.value) × (tag.value < 2 ^ 32)) spelling bytes
 
 -- a tag that is read at the front
 pub record IsTagAt (tag : Number) (bytes after : List ℕ) : Type 0 where
@@ -227,26 +232,31 @@ begins_tag number numbers left c =
       )
     ]
 
-pub no_tag : (number : ℕ) (numbers bytes : List ℕ) → ((tag : Number) (after : List ℕ) → IsNumber tag → 8 ≤ tag.value → tag.value < 2 ^ 32 → bytes ≡ spelling tag ++ after → ⊥) → NothingLeft (number ∷ numbers) bytes
-no_tag number numbers bytes none = λ left rest c e.
-    let t = begins_tag number numbers left c in
-    none t.0 (t.1 ++ rest) t.2.number t.2.low t.2.high (e ∙ ap (λ (b : List ℕ). b ++ rest) t.2.spelled ∙ append_assoc (spelling t.0) t.1 rest)
+pub no_tag : (number : ℕ) (numbers bytes : List ℕ) → NoTag bytes → NothingLeft (number ∷ numbers) bytes
+no_tag number numbers bytes none = λ b.
+    let t = begins_tag number numbers b.thing b.holds in
+    none (record {
+      thing = t.0;
+      holds = (t.2.number, t.2.low, t.2.high);
+      rest = t.1 ++ b.rest;
+      spelled = b.spelled ∙ ap (λ (front : List ℕ). front ++ b.rest) t.2.spelled ∙ append_assoc (spelling t.0) t.1 b.rest;
+    })
 
 pub no_body : (tag : Number) (number : ℕ) (numbers bytes after : List ℕ) → IsTagAt tag bytes after → (tag.value % 8 ≡ 3 → ⊥) → (tag.value % 8 ≡ 4 → ⊥)
-    → ((body : Body) (rest : List ℕ) → IsFlatBody (tag.value % 8) body → after ≡ body_bytes body ++ rest → ⊥) → NothingLeft (number ∷ numbers) bytes
-no_body tag number numbers bytes after t not_start not_end none = λ left rest c e.
-    elim (begins number numbers left c) [
+    → ¬ Begins (IsFlatBody (tag.value % 8)) body_bytes after → NothingLeft (number ∷ numbers) bytes
+no_body tag number numbers bytes after t not_start not_end none = λ b.
+    elim (begins number numbers b.thing b.holds) [
       | inl h ↦
-          let one = one_number tag h.last after (h.more ++ rest) t.number h.ends.spelled (behind (spelling tag) after left (spelling h.last) h.more rest (sym t.spelled ∙ e) h.spelled) in
+          let one = one_number tag h.last after (h.more ++ b.rest) t.number h.ends.spelled (behind (spelling tag) after b.thing (spelling h.last) h.more b.rest (sym t.spelled ∙ b.spelled) h.spelled) in
           let kinds : tag.value % 8 ≡ h.last.value % 8 = ap (λ (n : Number). n.value % 8) one.0 in
           not_end (kinds ∙ h.ends.tag.typed)
       | inr h ↦
-          let cut = behind (spelling tag) after left (field_bytes h.field) h.more rest (sym t.spelled ∙ e) h.spelled ∙ field-bytes h.field (h.more ++ rest) in
-          let one = one_number tag h.field.tag after (body_bytes h.field.body ++ (h.more ++ rest)) t.number h.whole.valid.number cut in
+          let cut = behind (spelling tag) after b.thing (field_bytes h.field) h.more b.rest (sym t.spelled ∙ b.spelled) h.spelled ∙ field-bytes h.field (h.more ++ b.rest) in
+          let one = one_number tag h.field.tag after (body_bytes h.field.body ++ (h.more ++ b.rest)) t.number h.whole.valid.number cut in
           let kinds : h.field.tag.value % 8 ≡ tag.value % 8 = ap (λ (n : Number). n.value % 8) (sym one.0) in
           let whole = whole_body (inside numbers) h.field h.whole in
           let kept = subst (λ (k : ℕ). IsWholeBodyWith (inside numbers) k (h.field.tag.value / 8) h.field.body) kinds whole in
-          none h.field.body (h.more ++ rest) (whole_is_flat (inside numbers) (tag.value % 8) (h.field.tag.value / 8) h.field.body not_start kept) one.1
+          none (record { thing = h.field.body; holds = whole_is_flat (inside numbers) (tag.value % 8) (h.field.tag.value / 8) h.field.body not_start kept; rest = h.more ++ b.rest; spelled = one.1 })
     ]
 
 no_level : (levels number : ℕ) (left : List ℕ) → levels ≡ 0 → IsGroupWithin levels number left → ⊥
@@ -255,20 +265,20 @@ no_level zero number left e p = p
 no_level (suc levels) number left e p = omega (arith, e)
 
 pub too_deep : (tag : Number) (number : ℕ) (numbers bytes after : List ℕ) → IsTagAt tag bytes after → tag.value % 8 ≡ 3 → MAX_GROUPS ≤ length (number ∷ numbers) → NothingLeft (number ∷ numbers) bytes
-too_deep tag number numbers bytes after t kind full = λ left rest c e.
-    let s = starts tag number numbers left after rest t.number (record { numbered = t.low; short = t.high; typed = kind }) c (sym t.spelled ∙ e) in
+too_deep tag number numbers bytes after t kind full = λ b.
+    let s = starts tag number numbers b.thing after b.rest t.number (record { numbered = t.low; short = t.high; typed = kind }) b.holds (sym t.spelled ∙ b.spelled) in
     no_level (MAX_GROUPS - suc (length numbers)) (tag.value / 8) s.left (omega (arith, full)) s.group
 
 pub other_end : (tag : Number) (number : ℕ) (numbers bytes after : List ℕ) → IsTagAt tag bytes after → tag.value % 8 ≡ 4 → (tag.value / 8 ≡ number → ⊥) → NothingLeft (number ∷ numbers) bytes
-other_end tag number numbers bytes after t kind other = λ left rest c e.
-    elim (begins number numbers left c) [
+other_end tag number numbers bytes after t kind other = λ b.
+    elim (begins number numbers b.thing b.holds) [
       | inl h ↦
-          let one = one_number tag h.last after (h.more ++ rest) t.number h.ends.spelled (behind (spelling tag) after left (spelling h.last) h.more rest (sym t.spelled ∙ e) h.spelled) in
+          let one = one_number tag h.last after (h.more ++ b.rest) t.number h.ends.spelled (behind (spelling tag) after b.thing (spelling h.last) h.more b.rest (sym t.spelled ∙ b.spelled) h.spelled) in
           let same : tag.value / 8 ≡ h.last.value / 8 = ap (λ (n : Number). n.value / 8) one.0 in
           other (same ∙ h.ends.same)
       | inr h ↦
           let ends : IsEnd (tag.value / 8) tag = record { spelled = t.number; tag = record { numbered = t.low; short = t.high; typed = kind }; same = refl } in
-          field_no_end (inside numbers) (tag.value / 8) tag h.field after (h.more ++ rest) ends h.whole (behind (spelling tag) after left (field_bytes h.field) h.more rest (sym t.spelled ∙ e) h.spelled)
+          field_no_end (inside numbers) (tag.value / 8) tag h.field after (h.more ++ b.rest) ends h.whole (behind (spelling tag) after b.thing (field_bytes h.field) h.more b.rest (sym t.spelled ∙ b.spelled) h.spelled)
     ]
 
 -- ---- piece by piece
@@ -290,7 +300,7 @@ group_ends number bytes p =
     let same : bytes ≡ c.0 = sym (append-nil bytes) ∙ c.4 ∙ ap (λ (b : List ℕ). c.0 ++ b) c.3 ∙ append-nil c.0 in
     subst (IsGroup number) (sym same) c.2
 
-pub no_group : (number : ℕ) (numbers piece after : List ℕ) → LeadsTo piece (number ∷ []) numbers → NothingLeft numbers after → (group rest : List ℕ) → IsGroup number group → piece ++ after ≡ group ++ rest → ⊥
-no_group number numbers piece after p none group rest q e =
-    let one = p.goes_on group after rest (group, [], q, refl, sym (append-nil group)) e in
-    none one.0 rest one.1 one.2
+pub no_group : (number : ℕ) (numbers piece after : List ℕ) → LeadsTo piece (number ∷ []) numbers → NothingLeft numbers after → ¬ Begins (IsGroup number) (λ group. group) (piece ++ after)
+no_group number numbers piece after p none = λ b.
+    let one = p.goes_on b.thing after b.rest (b.thing, [], b.holds, refl, sym (append-nil b.thing)) b.spelled in
+    none (record { thing = one.0; holds = one.1; rest = b.rest; spelled = one.2 })

@@ -1,11 +1,11 @@
 //! The field at the beginning of some bytes, with its body where it lies.
 
-ghost use Rattle.std.specs.Prelude.{◌≡◌, ℕ, ◌^◌, ◌<◌, ◌≤◌, ◌++◌, List, length, take, IfSome, IfNone, OnOk, IfOk};
-ghost use Rattle.mvt_document.specs.Plain.{Number as PlainNumber, Field as PlainField, Body as PlainBody};
+ghost use Rattle.std.specs.Prelude.{◌≡◌, ℕ, ◌^◌, ◌<◌, ◌≤◌, length, take, IfSome, IfNone, OnOk, IfOk};
 ghost use Rattle.mvt_document.specs.Wire.{spell, spelling, body_bytes, field_bytes};
+ghost use Rattle.mvt_document.specs.Begins.{Begins};
 ghost use Rattle.mvt_document.specs.Groups.{IsNumber, IsFlatBody, StoresField};
 ghost use Rattle.mvt_document.specs.Opens.{IsField};
-ghost use Rattle.mvt_document.specs.Parts.{IsWholeBody};
+ghost use Rattle.mvt_document.specs.Parts.{IsWholeBody, IsWholeField};
 ghost use Rattle.mvt_document.specs.Stands.{field_of};
 ghost use Rattle.mvt_read.specs.Fronts.{front_of, body_front_of};
 
@@ -43,7 +43,7 @@ pub fn field_at_front(bytes: &[u8]) -> Option<(FieldRef<'_>, usize)>
     ensures spelled { IfSome result (λ found. take found.1 bytes.now ≡ field_bytes (front_of found.0)) }
     ensures valid { IfSome result (λ found. IsField (front_of found.0)) }
     ensures stored { IfSome result (λ found. StoresField (front_of found.0)) }
-    ensures none { IfNone result ((field : PlainField) (rest : List ℕ) → IsField field → StoresField field → bytes.now ≡ field_bytes field ++ rest → ⊥) }
+    ensures none { IfNone result (¬ Begins IsWholeField field_bytes bytes.now) }
 {
     let tag = read_tag(bytes)?;
     let start = usize::from(tag.width);
@@ -58,7 +58,7 @@ pub(crate) fn read_tag(bytes: &[u8]) -> Option<Varint>
     ensures found { IfSome result (λ tag. take tag.width bytes.now ≡ spell tag.value tag.width) }
     ensures low { IfSome result (λ tag. 8 ≤ tag.value) }
     ensures high { IfSome result (λ tag. tag.value < 2 ^ 32) }
-    ensures none { IfNone result ((tag : PlainNumber) (rest : List ℕ) → IsNumber tag → 8 ≤ tag.value → tag.value < 2 ^ 32 → bytes.now ≡ spelling tag ++ rest → ⊥) }
+    ensures none { IfNone result (¬ Begins (λ tag. IsNumber tag × (8 ≤ tag.value) × (tag.value < 2 ^ 32)) spelling bytes.now) }
 {
     let tag = read_varint(bytes)?;
     if tag.value < 8 || tag.value > 0xffff_ffff {
@@ -74,7 +74,7 @@ fn body_at_front(tag: u64, bytes: &[u8]) -> Option<(BodyRef<'_>, usize)>
     ensures within { IfSome result (λ found. found.1 ≤ length bytes.now) }
     ensures spelled { IfSome result (λ found. take found.1 bytes.now ≡ body_bytes (body_front_of found.0)) }
     ensures whole { IfSome result (λ found. IsWholeBody tag (body_front_of found.0)) }
-    ensures none { IfNone result ((body : PlainBody) (rest : List ℕ) → IsWholeBody tag body → bytes.now ≡ body_bytes body ++ rest → ⊥) }
+    ensures none { IfNone result (¬ Begins (IsWholeBody tag) body_bytes bytes.now) }
 {
     match tag % 8 {
         SGROUP => {
@@ -91,7 +91,7 @@ pub(crate) fn flat_body_at_front(wire_type: u64, bytes: &[u8]) -> Option<(BodyRe
     ensures within { IfSome result (λ found. found.1 ≤ length bytes.now) }
     ensures spelled { IfSome result (λ found. take found.1 bytes.now ≡ body_bytes (body_front_of found.0)) }
     ensures whole { IfSome result (λ found. IsFlatBody wire_type (body_front_of found.0)) }
-    ensures none { IfNone result ((body : PlainBody) (rest : List ℕ) → IsFlatBody wire_type body → bytes.now ≡ body_bytes body ++ rest → ⊥) }
+    ensures none { IfNone result (¬ Begins (IsFlatBody wire_type) body_bytes bytes.now) }
 {
     match wire_type {
         VARINT => {
@@ -117,7 +117,7 @@ fn delimited_at_front(bytes: &[u8]) -> Option<(BodyRef<'_>, usize)>
     ensures within { IfSome result (λ found. found.1 ≤ length bytes.now) }
     ensures spelled { IfSome result (λ found. take found.1 bytes.now ≡ body_bytes (body_front_of found.0)) }
     ensures whole { IfSome result (λ found. IsFlatBody 2 (body_front_of found.0)) }
-    ensures none { IfNone result ((body : PlainBody) (rest : List ℕ) → IsFlatBody 2 body → bytes.now ≡ body_bytes body ++ rest → ⊥) }
+    ensures none { IfNone result (¬ Begins (IsFlatBody 2) body_bytes bytes.now) }
 {
     let length = read_varint(bytes)?;
     let start = usize::from(length.width);

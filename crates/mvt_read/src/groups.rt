@@ -1,7 +1,8 @@
 //! How far a group goes: the numbers of the open groups, and the way through their fields and tags.
 
-ghost use Rattle.std.specs.Prelude.{◌≡◌, ◌≢◌, ℕ, ◌<◌, ◌≤◌, ◌++◌, [], ◌∷◌, List, length, take, IfSome, IfNone};
+ghost use Rattle.std.specs.Prelude.{◌≡◌, ◌≢◌, ℕ, ◌<◌, ◌≤◌, [], ◌∷◌, List, length, take, IfSome, IfNone};
 ghost use Rattle.mvt_document.specs.declared.TheConstants.{MAX_GROUPS};
+ghost use Rattle.mvt_document.specs.Begins.{Begins};
 ghost use Rattle.mvt_document.specs.Groups.{IsGroup};
 ghost use Rattle.mvt_read.specs.Open.{Closes, LeadsTo};
 
@@ -79,7 +80,7 @@ impl OpenGroups {
 pub(crate) fn group_at_front(number: u32, bytes: &[u8]) -> Option<usize>
     ensures within { IfSome result (λ length_taken. length_taken ≤ length bytes.now) }
     ensures group { IfSome result (λ length_taken. IsGroup number (take length_taken bytes.now)) }
-    ensures none { IfNone result ((group rest : List ℕ) → IsGroup number group → bytes.now ≡ group ++ rest → ⊥) }
+    ensures none { IfNone result (¬ Begins (IsGroup number) (λ group. group) bytes.now) }
 {
     let mut groups = OpenGroups::new(number);
     let mut place = 0;
@@ -96,7 +97,7 @@ fn next_in_group(groups: &mut OpenGroups, bytes: &[u8]) -> Option<usize>
     ensures within { IfSome result (λ length_taken. length_taken ≤ length bytes.now) }
     ensures some { IfSome result (λ length_taken. 1 ≤ length_taken) }
     ensures leads { IfSome result (λ length_taken. LeadsTo (take length_taken bytes.now) groups.old groups.new) }
-    ensures none { IfNone result ((left rest : List ℕ) → Closes groups.old left → bytes.now ≡ left ++ rest → ⊥) }
+    ensures none { IfNone result (¬ Begins (Closes groups.old) (λ left. left) bytes.now) }
 {
     let tag = read_tag(bytes)?;
     let start = usize::from(tag.width);

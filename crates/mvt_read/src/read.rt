@@ -3,7 +3,7 @@
 ghost use Rattle.std.specs.Prelude.{◌≡◌, ℕ, ◌≤◌, ◌<◌, ◌↔◌, List, length, IfOk, IsErrOf, MatchResult};
 ghost use Rattle.mvt_document.specs.declared.TheConstants.{MAX_FILE};
 ghost use Rattle.mvt_document.specs.Plain.{Document as PlainDocument};
-ghost use Rattle.mvt_document.specs.Opens.{OpensAs, IsPlace};
+ghost use Rattle.mvt_document.specs.Opens.{OpensAs, OpensAsNothing, IsPlace};
 ghost use Rattle.mvt_document.specs.Stands.{document_of};
 
 use crate::decode::decode_all;
@@ -17,7 +17,7 @@ pub fn read_document(alloc: Global, file: &[u8]) -> Result<Document, ReadError>
     ensures opens { IfOk result (λ document. OpensAs file.now (document_of document)) }
     ensures only { (document : PlainDocument) → OpensAs file.now document → MatchResult result (λ read. document_of read ≡ document) (λ e. e ≡ ReadError.NoMemory) }
     ensures too_large { IsErrOf result ReadError.FileTooLarge ↔ (MAX_FILE < length file.now) }
-    ensures bad_wire { (place : ℕ) → IsErrOf result (ReadError.BadWire place) → (document : PlainDocument) → OpensAs file.now document → ⊥ }
+    ensures bad_wire { (place : ℕ) → IsErrOf result (ReadError.BadWire place) → OpensAsNothing file.now }
     ensures place { (place : ℕ) → IsErrOf result (ReadError.BadWire place) → IsPlace file.now place }
 {
     if file.len() > MAX_FILE {

@@ -16,8 +16,7 @@ PlacedPair = (ℕ × ℕ) × (Placed × Placed)
 abbrev pub pair_in : ℕ → ℕ → Result Placed ℕ → Result Placed ℕ → Result PlacedPair (Unit {0})
 pair_in key_count value_count (Ok key) (Ok value) =
     if is_pair key_count value_count (key.number.value, value.number.value) then Ok ((key.number.value, value.number.value), (key, value)) else Err tt
-pair_in key_count value_count (Ok key) (Err bad) = Err tt
-pair_in key_count value_count (Err bad) value = Err tt
+pair_in key_count value_count key value = Err tt
 
 -- the pairs that numbers are, two and two, in order: an error for two that are none, and for a last one that is left
 -- alone (tiles 4.4)

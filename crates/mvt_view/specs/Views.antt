@@ -10,18 +10,12 @@ use Rattle.mvt_document.specs.Plain.{Body, Spelled, Eight, Four, Delimited, Grou
 -- the value of a VARINT body; none of another body (guide, Message Structure)
 abbrev pub value_of : Body → Option ℕ
 value_of (Spelled number) = Some number.value
-value_of (Eight bytes) = None
-value_of (Four bytes) = None
-value_of (Delimited width bytes) = None
-value_of (Group bytes) = None
+value_of body = None
 
 -- the content of a LEN body; none of another body (guide, Message Structure)
 abbrev pub content_of : Body → Option (List ℕ)
-content_of (Spelled number) = None
-content_of (Eight bytes) = None
-content_of (Four bytes) = None
 content_of (Delimited width bytes) = Some bytes
-content_of (Group bytes) = None
+content_of body = None
 
 -- the value of a VARINT field of this number; none of another field (guide, Message Structure)
 abbrev pub value_in : ℕ → Field → Option ℕ

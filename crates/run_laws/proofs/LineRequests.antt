@@ -6,42 +6,39 @@ use Rattle.mvt_meaning.specs.declared.refusal.Refusal.{Refusal}
 use Rattle.mvt_history.specs.History.{History, IsSound, standing_document, edited, undone, redone, marked, unmarked, gone_back, opened, closed, cancelled}
 use Rattle.mvt_history.specs.Requests as asks
 use Rattle.mvt_history.specs.Requests.{or_before, asked, asked_all}
-use Rattle.mvt_history_error.specs.declared.HistoryError.{HistoryError}
 use Rattle.history_laws.proofs.HistoryLaws.{stays_sound}
 use Rattle.tile_request.specs.Request.{Request, Edit, Undo, Redo, SetMark, TakeMark, GoBack, Begin, End, Cancel, ListMarks, TellHistory, Size, Lists}
 use Rattle.tile_words.specs.declared.parse_error.ParseError.{ParseError}
 use Rattle.tile_script.specs.Line.{answer_to}
 use Rattle.tile_lines.specs.Lines.{lines_of}
 use Rattle.tile_listing.specs.Listing.{listed}
-use Rattle.tile_answer.specs.Answering.{told_by_edit, told_by_move, told_by_look, mark_lines, history_lines, size_line, carried_out}
+use Rattle.tile_reply.specs.declared.refused.Refused.{Refused}
+use Rattle.tile_reply.specs.declared.refused.Refused.TheVariants as refused
+use Rattle.tile_answer.specs.Answering.{told_by, told_by_look, mark_lines, history_lines, size_line, carried_out}
 use Rattle.tile_run.specs.Run.{Progress, at_first, ran, settled_by, answered_by, after_line, is_over, after_lines}
 use Rattle.run_laws.specs.RunLaws.{asked_of, asked_in, requests_of, LinesAreRequests}
 use Rattle.tile_run.specs.declared.outcome.Options.{Options}
 
 -- ---- requests
 
-edit_settles : (p : Progress) (made : Result History Refusal) → (settled_by p (told_by_edit made)).history ≡ or_before p.history made
-edit_settles p (Ok history) = refl
-edit_settles p (Err refusal) = refl
-
-move_settles : (p : Progress) (made : Result History HistoryError) → (settled_by p (told_by_move made)).history ≡ or_before p.history made
-move_settles p (Ok history) = refl
-move_settles p (Err error) = refl
+change_settles : {E : Type 0} (refusal : E → Refused) (p : Progress) (made : Result History E) → (settled_by p (told_by refusal made)).history ≡ or_before p.history made
+change_settles refusal p (Ok history) = refl
+change_settles refusal p (Err error) = refl
 
 look_settles : (p : Progress) (lines : Result (List ℕ) Refusal) → (settled_by p (told_by_look p.history lines)).history ≡ p.history
 look_settles p (Ok lines) = refl
 look_settles p (Err refusal) = refl
 
 request_settles : (p : Progress) (request : Request) → (settled_by p (carried_out request p.history)).history ≡ asked_all (asked_of request) p.history
-request_settles p (Edit command) = edit_settles p (edited command p.history)
-request_settles p Undo = move_settles p (undone p.history)
-request_settles p Redo = move_settles p (redone p.history)
-request_settles p (SetMark name) = move_settles p (marked name p.history)
-request_settles p (TakeMark name) = move_settles p (unmarked name p.history)
-request_settles p (GoBack name) = move_settles p (gone_back name p.history)
-request_settles p Begin = move_settles p (opened p.history)
-request_settles p End = move_settles p (closed p.history)
-request_settles p Cancel = move_settles p (cancelled p.history)
+request_settles p (Edit command) = change_settles refused.Edit p (edited command p.history)
+request_settles p Undo = change_settles refused.History p (undone p.history)
+request_settles p Redo = change_settles refused.History p (redone p.history)
+request_settles p (SetMark name) = change_settles refused.History p (marked name p.history)
+request_settles p (TakeMark name) = change_settles refused.History p (unmarked name p.history)
+request_settles p (GoBack name) = change_settles refused.History p (gone_back name p.history)
+request_settles p Begin = change_settles refused.History p (opened p.history)
+request_settles p End = change_settles refused.History p (closed p.history)
+request_settles p Cancel = change_settles refused.History p (cancelled p.history)
 request_settles p ListMarks = look_settles p (Ok (mark_lines p.history))
 request_settles p TellHistory = look_settles p (Ok (history_lines p.history))
 request_settles p Size = look_settles p (Ok (size_line (standing_document p.history)))

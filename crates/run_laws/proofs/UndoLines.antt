@@ -6,7 +6,8 @@ use Rattle.tile_request.specs.Request.{Request, Edit, Undo}
 use Rattle.tile_script.specs.Line.{answer_to}
 use Rattle.tile_lines.specs.Lines.{lines_of, HasNoLineFeed, with_feed, EndsWithALine}
 use Rattle.mvt_history.specs.History.{History, with_command, edited_to, edited}
-use Rattle.tile_answer.specs.Answering.{Told, told_by_edit, told_by_move, carried_out}
+use Rattle.tile_reply.specs.declared.refused.Refused.TheVariants as refused
+use Rattle.tile_answer.specs.Answering.{Told, told_by, carried_out}
 use Rattle.tile_run.specs.Run.{Progress, accepted, answered_by, settled_by, after_line, is_over, after_lines, ran, tile_of}
 use Rattle.run_laws.specs.RunLaws.{UndoInARun, UndoInAScript}
 use Rattle.tile_run.specs.declared.outcome.Options.{Options}
@@ -34,8 +35,8 @@ undo_in_a_run strict p line undo command edited_document sound alone on asks mad
     let back = undo_at_once command p.history after sound alone done in
     let one = telling_nothing after in
     let two = telling_nothing back.0 in
-    let first = accepts p line (Edit command) one asks (ap told_by_edit done) in
-    let second = accepts (accepted one p) undo Undo two asks_undo (ap told_by_move back.1) in
+    let first = accepts p line (Edit command) one asks (ap (told_by refused.Edit) done) in
+    let second = accepts (accepted one p) undo Undo two asks_undo (ap (told_by refused.History) back.1) in
     let both = two_accepted strict p line undo one two on first second in (
       ap (λ (q : Progress). q.replies) both,
       ap tile_of both ∙ ap bytes_of back.2,

@@ -94,10 +94,7 @@ asked_of (GoBack name) = asks.GoBack name ∷ []
 asked_of Begin = asks.Begin ∷ []
 asked_of End = asks.End ∷ []
 asked_of Cancel = asks.Cancel ∷ []
-asked_of ListMarks = []
-asked_of TellHistory = []
-asked_of Size = []
-asked_of (Lists what) = []
+asked_of request = []
 
 -- what a line asks of a history; a line that asks for nothing, or is refused as it is read, asks nothing of it
 abbrev pub asked_in : Result (Option Request) ParseError → List asks.Request

@@ -1,5 +1,5 @@
 -- What the laws of requests rest on.
-use Rattle.std.proofs.Common.{◌≡◌, ◌≢◌, ◌-◌, inl, inr, ℕ, suc, Bool, true, false, ℤ, pos, negsuc, List, [], ◌∷◌, ◌++◌, length, Option, Some, None, Result, Ok, Err, codes, decimal, get_or, refl, sym, ap, subst, ◌∙◌, arith}
+use Rattle.std.proofs.Common.{◌≡◌, ◌≢◌, ◌-◌, inl, inr, ℕ, suc, option_map, Bool, true, false, ℤ, pos, negsuc, List, [], ◌∷◌, ◌++◌, length, Option, Some, None, Result, Ok, Err, codes, decimal, get_or, refl, sym, ap, subst, ◌∙◌, arith}
 use Rattle.std.specs.Prelude.{◌-ℤ◌, if◌then◌else◌}
 use Rattle.std.specs.Fmt.{signed_decimal}
 use Rattle.std.proofs.lemmas.Grind.{flat_map-append}
@@ -28,18 +28,14 @@ use Rattle.mvt_history_error.specs.declared.HistoryError.TheVariants as history_
 use Rattle.tile_reply.specs.Replies.{IsOutOfMemory}
 use Rattle.tile_reply.specs.declared.refused.Refused.{Refused}
 use Rattle.tile_reply.specs.declared.refused.Refused.TheVariants as refused
-use Rattle.tile_answer.specs.Answering.{Told, told_by_edit, told_by_move, told_by_look, mark_line, mark_lines, reach_line, open_line, open_count, history_lines, size_line}
+use Rattle.tile_answer.specs.Answering.{Told, told_by, told_by_look, mark_line, mark_lines, reach_line, open_line, history_lines, size_line}
 use Rattle.tile_answer.specs.Laws.{RequestsTellLines, NoRequestIsOutOfMemory, LooksLeaveHistory}
 
 -- ---- lines
 
-edit_tells : (made : Result History Refusal) (told : Told) → told_by_edit made ≡ Ok told → AreLinesToTell told.lines
-edit_tells (Ok history) told e = let none : [] ≡ told.lines = cc in subst AreLinesToTell none none_to_tell
-edit_tells (Err refusal) told e = absurd cc
-
-move_tells : (made : Result History HistoryError) (told : Told) → told_by_move made ≡ Ok told → AreLinesToTell told.lines
-move_tells (Ok history) told e = let none : [] ≡ told.lines = cc in subst AreLinesToTell none none_to_tell
-move_tells (Err error) told e = absurd cc
+change_tells : {E : Type 0} (refusal : E → Refused) (made : Result History E) (told : Told) → told_by refusal made ≡ Ok told → AreLinesToTell told.lines
+change_tells refusal (Ok history) told e = let none : [] ≡ told.lines = cc in subst AreLinesToTell none none_to_tell
+change_tells refusal (Err error) told e = absurd cc
 
 both_to_tell : (first second : List ℕ) → AreLinesToTell first → AreLinesToTell second → AreLinesToTell (first ++ second)
 both_to_tell first second before behind = record {
@@ -95,8 +91,8 @@ step_to_tell (Some commands) =
 
 history_to_tell : (history : History) → AreLinesToTell (history_lines history)
 history_to_tell history =
-    both_to_tell (reach_line (history.present - history.floor) (length history.steps - history.present) history.depth) (open_line (open_count history.group))
-    (reach_to_tell (history.present - history.floor) (length history.steps - history.present) history.depth) (step_to_tell (open_count history.group))
+    both_to_tell (reach_line (history.present - history.floor) (length history.steps - history.present) history.depth) (open_line (option_map length history.group))
+    (reach_to_tell (history.present - history.floor) (length history.steps - history.present) history.depth) (step_to_tell (option_map length history.group))
 
 look_tells : (history : History) (shown : Result (List ℕ) Refusal) (told : Told) → ((lines : List ℕ) → shown ≡ Ok lines → AreLinesToTell lines) → told_by_look history shown ≡ Ok told → AreLinesToTell told.lines
 look_tells history (Ok lines) told each e = let same : lines ≡ told.lines = cc in subst AreLinesToTell same (each lines refl)
@@ -107,15 +103,15 @@ tells_these : (history : History) (lines : List ℕ) (told : Told) → AreLinesT
 tells_these history lines told may e = look_tells history (Ok lines) told (λ others is. let same : lines ≡ others = cc in subst AreLinesToTell same may) e
 
 pub requests_tell_lines : RequestsTellLines
-requests_tell_lines (Edit command) history told e = edit_tells (edited command history) told e
-requests_tell_lines Undo history told e = move_tells (undone history) told e
-requests_tell_lines Redo history told e = move_tells (redone history) told e
-requests_tell_lines (SetMark name) history told e = move_tells (marked name history) told e
-requests_tell_lines (TakeMark name) history told e = move_tells (unmarked name history) told e
-requests_tell_lines (GoBack name) history told e = move_tells (gone_back name history) told e
-requests_tell_lines Begin history told e = move_tells (opened history) told e
-requests_tell_lines End history told e = move_tells (closed history) told e
-requests_tell_lines Cancel history told e = move_tells (cancelled history) told e
+requests_tell_lines (Edit command) history told e = change_tells refused.Edit (edited command history) told e
+requests_tell_lines Undo history told e = change_tells refused.History (undone history) told e
+requests_tell_lines Redo history told e = change_tells refused.History (redone history) told e
+requests_tell_lines (SetMark name) history told e = change_tells refused.History (marked name history) told e
+requests_tell_lines (TakeMark name) history told e = change_tells refused.History (unmarked name history) told e
+requests_tell_lines (GoBack name) history told e = change_tells refused.History (gone_back name history) told e
+requests_tell_lines Begin history told e = change_tells refused.History (opened history) told e
+requests_tell_lines End history told e = change_tells refused.History (closed history) told e
+requests_tell_lines Cancel history told e = change_tells refused.History (cancelled history) told e
 requests_tell_lines ListMarks history told e = tells_these history (mark_lines history) told (marks_to_tell history.present history.marks) e
 requests_tell_lines TellHistory history told e = tells_these history (history_lines history) told (history_to_tell history) e
 requests_tell_lines Size history told e = tells_these history (size_line (standing_document history)) told (size_to_tell (standing_document history)) e
@@ -139,7 +135,7 @@ edit_is_other edit.NoMemory other out_of_memory = other refl
 abbrev IsOther : HistoryError → Type 0
 IsOther error = ¬ (IsOutOfMemory (refused.History error))
 
-edit_is_not_out_of_memory : (command : Command) (history : History) (made : Result Document Refusal) (reason : Refused) → Other edit.NoMemory made → told_by_edit (edited_to command history made) ≡ Err reason → ¬ (IsOutOfMemory reason)
+edit_is_not_out_of_memory : (command : Command) (history : History) (made : Result Document Refusal) (reason : Refused) → Other edit.NoMemory made → told_by refused.Edit (edited_to command history made) ≡ Err reason → ¬ (IsOutOfMemory reason)
 edit_is_not_out_of_memory command history (Ok document) reason other e = absurd cc
 edit_is_not_out_of_memory command history (Err refusal) reason other e =
     let same : refused.Edit refusal ≡ reason = cc in subst (λ (r : Refused). ¬ (IsOutOfMemory r)) same (edit_is_other refusal other)
@@ -149,7 +145,7 @@ abbrev RefusesOther : Result History HistoryError → Type 0
 RefusesOther (Ok history) = Unit {0}
 RefusesOther (Err error) = IsOther error
 
-move_is_not_out_of_memory : (made : Result History HistoryError) (reason : Refused) → RefusesOther made → told_by_move made ≡ Err reason → ¬ (IsOutOfMemory reason)
+move_is_not_out_of_memory : (made : Result History HistoryError) (reason : Refused) → RefusesOther made → told_by refused.History made ≡ Err reason → ¬ (IsOutOfMemory reason)
 move_is_not_out_of_memory (Ok history) reason other e = absurd cc
 move_is_not_out_of_memory (Err error) reason other e =
     let same : refused.History error ≡ reason = cc in subst (λ (r : Refused). ¬ (IsOutOfMemory r)) same other

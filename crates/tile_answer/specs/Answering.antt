@@ -1,17 +1,15 @@
 -- What a request prints, and what it makes of a history.
-use Rattle.std.specs.Prelude.{ℕ, ◌-◌, ℤ, pos, ◌-ℤ◌, List, [], ◌++◌, length, Option, Some, None, Result, Ok, Err, codes, decimal}
+use Rattle.std.specs.Prelude.{ℕ, ◌-◌, ℤ, pos, ◌-ℤ◌, List, [], ◌++◌, length, Option, Some, None, Result, Ok, Err, codes, decimal, option_map}
 use Rattle.std.specs.List.{flat_map}
 use Rattle.std.specs.Fmt.{signed_decimal}
 use Rattle.mvt_document.specs.Plain.{Document}
 use Rattle.mvt_document.specs.Wire.{bytes_of}
-use Rattle.mvt_command.specs.Command.{Command}
 use Rattle.mvt_meaning.specs.declared.refusal.Refusal.{Refusal}
 use Rattle.tile_text.specs.Texts.{text_form}
 use Rattle.tile_request.specs.Request.{Request, Edit, Undo, Redo, SetMark, TakeMark, GoBack, Begin, End, Cancel, ListMarks, TellHistory, Size, Lists}
 use Rattle.tile_listing.specs.Listing.{listed}
 use Rattle.mvt_history.specs.Marks.{Mark}
 use Rattle.mvt_history.specs.History.{History, standing_document, edited, undone, redone, marked, unmarked, gone_back, opened, closed, cancelled}
-use Rattle.mvt_history_error.specs.declared.HistoryError.{HistoryError}
 use Rattle.tile_reply.specs.declared.refused.Refused.{Refused}
 use Rattle.tile_reply.specs.declared.refused.Refused.TheVariants as refused
 
@@ -20,16 +18,11 @@ pub record Told : Type 0 where
   pub lines : List ℕ
   pub history : History
 
--- what a command gives: no lines, and the history after it; or its refusal
-abbrev pub told_by_edit : Result History Refusal → Result Told Refused
-told_by_edit (Ok history) = Ok (record { lines = []; history = history })
-told_by_edit (Err refusal) = Err (refused.Edit refusal)
-
--- what a request that moves along the history, changes its marks or its open step gives: no lines, and the history
--- after it; or its refusal
-abbrev pub told_by_move : Result History HistoryError → Result Told Refused
-told_by_move (Ok history) = Ok (record { lines = []; history = history })
-told_by_move (Err error) = Err (refused.History error)
+-- what a request that changes the history gives: no lines, and the history after it; or its refusal, which is a
+-- refusal of a line as `refusal` says
+abbrev pub told_by : {E : Type 0} → (E → Refused) → Result History E → Result Told Refused
+told_by refusal (Ok history) = Ok (record { lines = []; history = history })
+told_by refusal (Err error) = Err (refusal error)
 
 -- what a look gives: its lines, and the history as it was; or its refusal
 abbrev pub told_by_look : History → Result (List ℕ) Refusal → Result Told Refused
@@ -57,14 +50,9 @@ abbrev pub open_line : Option ℕ → List ℕ
 open_line None = []
 open_line (Some commands) = codes "open " ++ decimal commands ++ codes "\n"
 
--- how many commands the open step has, or none
-abbrev pub open_count : Option (List Command) → Option ℕ
-open_count None = None
-open_count (Some commands) = Some (length commands)
-
 -- the lines of a history: how far undo and redo go, and the open step where there is one
 abbrev pub history_lines : History → List ℕ
-history_lines history = reach_line (history.present - history.floor) (length history.steps - history.present) history.depth ++ open_line (open_count history.group)
+history_lines history = reach_line (history.present - history.floor) (length history.steps - history.present) history.depth ++ open_line (option_map length history.group)
 
 -- the line that says how many bytes the document has
 abbrev pub size_line : Document → List ℕ
@@ -72,15 +60,15 @@ size_line document = codes "size " ++ decimal (length (bytes_of document)) ++ co
 
 -- what a request prints and makes of a history, or its refusal
 abbrev pub carried_out : Request → History → Result Told Refused
-carried_out (Edit command) history = told_by_edit (edited command history)
-carried_out Undo history = told_by_move (undone history)
-carried_out Redo history = told_by_move (redone history)
-carried_out (SetMark name) history = told_by_move (marked name history)
-carried_out (TakeMark name) history = told_by_move (unmarked name history)
-carried_out (GoBack name) history = told_by_move (gone_back name history)
-carried_out Begin history = told_by_move (opened history)
-carried_out End history = told_by_move (closed history)
-carried_out Cancel history = told_by_move (cancelled history)
+carried_out (Edit command) history = told_by refused.Edit (edited command history)
+carried_out Undo history = told_by refused.History (undone history)
+carried_out Redo history = told_by refused.History (redone history)
+carried_out (SetMark name) history = told_by refused.History (marked name history)
+carried_out (TakeMark name) history = told_by refused.History (unmarked name history)
+carried_out (GoBack name) history = told_by refused.History (gone_back name history)
+carried_out Begin history = told_by refused.History (opened history)
+carried_out End history = told_by refused.History (closed history)
+carried_out Cancel history = told_by refused.History (cancelled history)
 carried_out ListMarks history = told_by_look history (Ok (mark_lines history))
 carried_out TellHistory history = told_by_look history (Ok (history_lines history))
 carried_out Size history = told_by_look history (Ok (size_line (standing_document history)))

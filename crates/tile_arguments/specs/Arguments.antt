@@ -202,9 +202,8 @@ shaped kind parts = if are_parts kind parts then Ok (record { kind = kind; parts
 
 -- the geometry that words say: the name of its kind, and its parts; or the first refusal
 unfoldable pub geometry_of : List Word → Result Geometry ParseError
-geometry_of [] = Err BadGeometryText
-geometry_of (Quoted text ∷ words) = Err BadGeometryText
 geometry_of (Bare name ∷ words) = do
   kind ← kind_of name
   parts ← parts_of words
   shaped kind parts
+geometry_of words = Err BadGeometryText

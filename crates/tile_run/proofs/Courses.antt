@@ -15,7 +15,7 @@ use Rattle.tile_run.specs.Headline.{Devices, Runs}
 use Rattle.mvt_history.specs.History.{History, standing_document}
 use Rattle.tile_run.specs.Outcomes.{opening_outcome, script_outcome, writing_outcome}
 use Rattle.mvt_history.specs.Session.{StandsFor}
-use Rattle.tile_run.specs.Steps.{Reads, Writes, OpensTile, CarriesOutScript, WritesTile}
+use Rattle.tile_run.specs.Steps.{Moment, Reads, Writes, OpensTile, CarriesOutScript, WritesTile}
 use Rattle.tile_run.specs.declared.editor.Editor.{Editor}
 use Rattle.tile_run.specs.declared.outcome.Options.{Options}
 use Rattle.tile_run.specs.declared.outcome.Outcome.{Outcome}
@@ -87,28 +87,28 @@ runs_to_start options t0 t1 s r o before after document all opening =
 -- ---- with the script or its replies
 
 -- what carrying out the script of a tile that opened takes
-abbrev pub CarryingOut : Options → program.Document → Seen → Seen → Seen → Seen → ℕ → ℕ → Editor → Result (Unit {0}) ScriptStop → Type 0
-CarryingOut options document s0 s1 r0 r1 before after editor result = CarriesOutScript options.strict (start_of options (document_of document)) s0 s1 r0 r1 before after editor result
+abbrev pub CarryingOut : Options → program.Document → Moment → Moment → Editor → Result (Unit {0}) ScriptStop → Type 0
+CarryingOut options document before after editor result = CarriesOutScript options.strict (start_of options (document_of document)) before after editor result
 
-script_ends : (options : Options) (stop : ScriptStop) (t0 t1 s0 s1 r0 r1 : Seen) (before mid after : ℕ) (document : program.Document) (editor : Editor)
-    → (opening : Opening t0 t1 before mid (Ok document))
-    → (c : CarryingOut options document s0 s1 r0 r1 mid after editor (Err stop))
+script_ends : (options : Options) (stop : ScriptStop) (t0 t1 : Seen) (before : ℕ) (start end : Moment) (document : program.Document) (editor : Editor)
+    → (opening : Opening t0 t1 before start.retries (Ok document))
+    → (c : CarryingOut options document start end editor (Err stop))
     → Ends options (script_outcome stop) (record { tile = opening.0; script = c.script; replies = c.replies; out = written 0 [] })
-script_ends options script_stops.Script t0 t1 s0 s1 r0 r1 before mid after document editor opening c = record { document = document_of document; opened = opening.2; between = c.ends; out = all_replies 0 [] }
-script_ends options script_stops.Replies t0 t1 s0 s1 r0 r1 before mid after document editor opening c = record { document = document_of document; opened = opening.2; between = c.ends; out = all_replies 0 [] }
-script_ends options script_stops.Strict t0 t1 s0 s1 r0 r1 before mid after document editor opening c = record { document = document_of document; opened = opening.2; between = c.ends; out = all_replies 0 [] }
-script_ends options script_stops.NoMemory t0 t1 s0 s1 r0 r1 before mid after document editor opening c = record { untroubled = opening.2.untroubled; replied = inl c.ends; out = all_replies 0 [] }
+script_ends options script_stops.Script t0 t1 before start end document editor opening c = record { document = document_of document; opened = opening.2; between = c.ends; out = all_replies 0 [] }
+script_ends options script_stops.Replies t0 t1 before start end document editor opening c = record { document = document_of document; opened = opening.2; between = c.ends; out = all_replies 0 [] }
+script_ends options script_stops.Strict t0 t1 before start end document editor opening c = record { document = document_of document; opened = opening.2; between = c.ends; out = all_replies 0 [] }
+script_ends options script_stops.NoMemory t0 t1 before start end document editor opening c = record { untroubled = opening.2.untroubled; replied = inl c.ends; out = all_replies 0 [] }
 
-pub runs_to_script : (options : Options) (t0 t1 s0 s1 r0 r1 o : Seen) (before mid after : ℕ) (document : program.Document) (editor : Editor) (stop : ScriptStop) (outcome : Outcome)
-    → before ≡ MAX_RETRIES → Opening t0 t1 before mid (Ok document) → CarryingOut options document s0 s1 r0 r1 mid after editor (Err stop)
-    → outcome ≡ script_outcome stop → Runs options (seen t0 s0 r0 o) (seen t1 s1 r1 o) outcome
-runs_to_script options t0 t1 s0 s1 r0 r1 o before mid after document editor stop outcome all opening c is =
+pub runs_to_script : (options : Options) (t0 t1 o : Seen) (before : ℕ) (start end : Moment) (document : program.Document) (editor : Editor) (stop : ScriptStop) (outcome : Outcome)
+    → before ≡ MAX_RETRIES → Opening t0 t1 before start.retries (Ok document) → CarryingOut options document start end editor (Err stop)
+    → outcome ≡ script_outcome stop → Runs options (seen t0 start.script start.replies o) (seen t1 end.script end.replies o) outcome
+runs_to_script options t0 t1 o before start end document editor stop outcome all opening c is =
     let tile = opening.0 in
     let reads = opening.3 in
     let course : Course = record { tile = tile; script = c.script; replies = c.replies; out = written 0 [] } in
     record {
       course = course;
-      ends = subst (λ (t : Outcome). Ends options t course) (sym is) (script_ends options stop t0 t1 s0 s1 r0 r1 before mid after document editor opening c);
+      ends = subst (λ (t : Outcome). Ends options t course) (sym is) (script_ends options stop t0 t1 before start end document editor opening c);
       patient = record {
         within = omega (arith, all, reads.spent, c.spent);
         tile = λ e. let no = sym opening.2.untroubled ∙ e in absurd cc;
@@ -134,12 +134,12 @@ Writing document o0 o1 before after result = (out : Output) × WritesTile (bytes
 abbrev pub IsPresent : Editor → program.Document → Type 0
 IsPresent editor document = (history : History) → StandsFor editor.session history → document_of document ≡ standing_document history
 
-module _ (options : Options) (t0 t1 s0 s1 r0 r1 o0 o1 : Seen) (before mid after last : ℕ) (read edited : program.Document) (editor : Editor) (all : before ≡ MAX_RETRIES)
-    (opening : Opening t0 t1 before mid (Ok read)) (carried : CarryingOut options read s0 s1 r0 r1 mid after editor (Ok tt)) (present : IsPresent editor edited) where
+module _ (options : Options) (t0 t1 o0 o1 : Seen) (before last : ℕ) (start end : Moment) (read edited : program.Document) (editor : Editor) (all : before ≡ MAX_RETRIES)
+    (opening : Opening t0 t1 before start.retries (Ok read)) (carried : CarryingOut options read start end editor (Ok tt)) (present : IsPresent editor edited) where
   abbrev course_with : Output → Course
   course_with out = record { tile = opening.0; script = carried.script; replies = carried.replies; out = out }
 
-  with_out : (outcome : Outcome) (out : Output) → Writes o0 o1 after last out → Ends options outcome (course_with out) → Runs options (seen t0 s0 r0 o0) (seen t1 s1 r1 o1) outcome
+  with_out : (outcome : Outcome) (out : Output) → Writes o0 o1 end.retries last out → Ends options outcome (course_with out) → Runs options (seen t0 start.script start.replies o0) (seen t1 end.script end.replies o1) outcome
   with_out outcome out writes ends = record {
     course = course_with out;
     ends = ends;
@@ -176,9 +176,9 @@ module _ (options : Options) (t0 t1 s0 s1 r0 r1 o0 o1 : Seen) (before mid after 
     out = writes;
   }
 
-  pub runs_to_out : (stop : Unwritten) (outcome : Outcome) → Writing edited o0 o1 after last (Err stop) → outcome ≡ writing_outcome stop → Runs options (seen t0 s0 r0 o0) (seen t1 s1 r1 o1) outcome
+  pub runs_to_out : (stop : Unwritten) (outcome : Outcome) → Writing edited o0 o1 end.retries last (Err stop) → outcome ≡ writing_outcome stop → Runs options (seen t0 start.script start.replies o0) (seen t1 end.script end.replies o1) outcome
   runs_to_out stop outcome writing is =
-      subst (λ (t : Outcome). Runs options (seen t0 s0 r0 o0) (seen t1 s1 r1 o1) t) (sym is) (with_out (writing_outcome stop) writing.0 writing.2 (out_ends stop writing.0 writing.1))
+      subst (λ (t : Outcome). Runs options (seen t0 start.script start.replies o0) (seen t1 end.script end.replies o1) t) (sym is) (with_out (writing_outcome stop) writing.0 writing.2 (out_ends stop writing.0 writing.1))
 
   is_written : (out : Output) → IsWritten out (bytes_of (document_of edited)) → IsWritten out (bytes_of (standing_document carried.ends.0.history))
   is_written out writes = subst (IsWritten out) file_is writes
@@ -187,7 +187,7 @@ module _ (options : Options) (t0 t1 s0 s1 r0 r1 o0 o1 : Seen) (before mid after 
   opens_again : OpensAs (bytes_of (document_of edited)) (settle (document_of edited)) → OpensAgain carried.ends.0
   opens_again opens = subst (λ d. OpensAs (bytes_of d) (settle d)) (present carried.ends.0.history carried.ends.2.stands) opens
 
-  pub runs_through : Writing edited o0 o1 after last (Ok tt) → OpensAs (bytes_of (document_of edited)) (settle (document_of edited)) → editor.any_refused ≡ false → Runs options (seen t0 s0 r0 o0) (seen t1 s1 r1 o1) outcomes.Done
+  pub runs_through : Writing edited o0 o1 end.retries last (Ok tt) → OpensAs (bytes_of (document_of edited)) (settle (document_of edited)) → editor.any_refused ≡ false → Runs options (seen t0 start.script start.replies o0) (seen t1 end.script end.replies o1) outcomes.Done
   runs_through writing opens none = with_out outcomes.Done writing.0 writing.2 (record {
     through = all_replied writing.0;
     refused = sym carried.ends.2.refused ∙ none;
@@ -195,7 +195,7 @@ module _ (options : Options) (t0 t1 s0 s1 r0 r1 o0 o1 : Seen) (before mid after 
     opens = opens_again opens;
   })
 
-  pub runs_with_refusals : Writing edited o0 o1 after last (Ok tt) → OpensAs (bytes_of (document_of edited)) (settle (document_of edited)) → editor.any_refused ≡ true → Runs options (seen t0 s0 r0 o0) (seen t1 s1 r1 o1) outcomes.SomeRefused
+  pub runs_with_refusals : Writing edited o0 o1 end.retries last (Ok tt) → OpensAs (bytes_of (document_of edited)) (settle (document_of edited)) → editor.any_refused ≡ true → Runs options (seen t0 start.script start.replies o0) (seen t1 end.script end.replies o1) outcomes.SomeRefused
   runs_with_refusals writing opens some = with_out outcomes.SomeRefused writing.0 writing.2 (record {
     through = all_replied writing.0;
     refused = sym carried.ends.2.refused ∙ some;

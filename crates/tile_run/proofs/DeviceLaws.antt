@@ -165,7 +165,7 @@ named_for_cause options before after devices.Script r low =
 named_for_cause options before after devices.Replies r low =
     let few : retries_in r.course ≤ MAX_RETRIES = r.patient.within in
     gives_up before after before.replies after.replies r.course.replies.retries r.course.replies.trouble low.replies (omega (arith, few)) r.replies.meets
-    (λ is. worn_out options before after (outcomes.Device devices.Replies) r low (r.patient.replies is) (omega (arith, ap interruptions_in is))) r.ends.between.trouble
+    (λ is. worn_out options before after (outcomes.Device devices.Replies) r low (r.patient.replies is) (omega (arith, ap interruptions_in is))) r.ends.between.cut_short.trouble
 named_for_cause options before after devices.Out r low =
     let few : retries_in r.course ≤ MAX_RETRIES = r.patient.within in
     gives_up before after before.out after.out r.course.out.retries r.course.out.trouble low.out (omega (arith, few)) r.out.meets

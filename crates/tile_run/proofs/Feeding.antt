@@ -2,12 +2,11 @@
 use Rattle.std.proofs.Common.{◌≡◌, ℕ, ◌+◌, ◌<◌, Bool, true, List, [], ◌∷◌, ◌++◌, length, take, drop, get_or, Some, None, sym, ap, subst, ◌∙◌, append_assoc, take-append-drop}
 use Rattle.std.specs.Prelude.{Result, Err}
 use Rattle.std.proofs.lemmas.List.{take_more}
-use Rattle.tile_device.specs.Seen.{Seen}
 use Rattle.tile_lines.specs.Cutting.{Cut, Holding, after_pushes, complete_line, cut_of, nothing_held, pushed}
 use Rattle.tile_lines.specs.Lines.{whole_lines}
 use Rattle.tile_lines.proofs.Cutting.{after_pushes-snoc, line_completed, none_completed, whole_lines-front}
 use Rattle.tile_run.specs.Run.{Progress}
-use Rattle.tile_run.specs.Steps.{AnswersLine, CarriesOutLines, ComesTo, WasGiven}
+use Rattle.tile_run.specs.Steps.{Moment, AnswersLine, CarriesOutLines, ComesTo, WasGiven}
 use Rattle.tile_run.specs.declared.editor.Editor.{Editor}
 use Rattle.tile_run.specs.declared.outcome.LineStop.{LineStop}
 use Rattle.tile_run.specs.declared.outcome.LineStop.TheVariants as line_stops
@@ -45,21 +44,21 @@ others_behind before bytes i =
     (found.0, ap (λ (t : List ℕ). whole_lines (before ++ t)) (sym (take-append-drop i bytes)) ∙ ap whole_lines (sym (append_assoc before (take i bytes) (drop i bytes))) ∙ found.1)
 
 -- the line that was completed ended the run
-pub stops_there : (strict : Bool) (start : Progress) (before bytes line : List ℕ) (i : ℕ) (a b c : Seen) (n m k : ℕ) (editor after : Editor) (stop : LineStop)
+pub stops_there : (strict : Bool) (start : Progress) (before bytes line : List ℕ) (i : ℕ) (a b c : Moment) (editor after : Editor) (stop : LineStop)
     → whole_lines (before ++ take (i + 1) bytes) ≡ whole_lines (before ++ take i bytes) ++ line ∷ []
-    → (to : ComesTo strict start (whole_lines (before ++ take i bytes)) a b n m editor)
-    → AnswersLine b c m k after strict line to.comes.progress (Err stop)
-    → CarriesOutLines strict start (whole_lines (before ++ bytes)) a c n k after (Err stop)
-stops_there strict start before bytes line i a b c n m k editor after line_stops.Strict whole to step =
+    → (to : ComesTo strict start (whole_lines (before ++ take i bytes)) a b editor)
+    → AnswersLine b c after strict line to.comes.progress (Err stop)
+    → CarriesOutLines strict start (whole_lines (before ++ bytes)) a c after (Err stop)
+stops_there strict start before bytes line i a b c editor after line_stops.Strict whole to step =
     let others = others_behind before bytes (i + 1) in
-    over_behind strict start (whole_lines (before ++ take (i + 1) bytes)) (whole_lines (before ++ bytes)) others.0 a c n k others.1
-    (comes_more strict true start (whole_lines (before ++ take i bytes)) (whole_lines (before ++ take (i + 1) bytes)) line a b c n m k editor after whole to step)
-stops_there strict start before bytes line i a b c n m k editor after line_stops.Replies whole to step =
+    over_behind strict start (whole_lines (before ++ take (i + 1) bytes)) (whole_lines (before ++ bytes)) others.0 a c others.1
+    (comes_more strict true start (whole_lines (before ++ take i bytes)) (whole_lines (before ++ take (i + 1) bytes)) line a b c editor after whole to step)
+stops_there strict start before bytes line i a b c editor after line_stops.Replies whole to step =
     let others = others_behind before bytes (i + 1) in
     let all : whole_lines (before ++ bytes) ≡ whole_lines (before ++ take i bytes) ++ line ∷ others.0 =
     others.1 ∙ ap (λ (ls : List (List ℕ)). ls ++ others.0) whole ∙ append_assoc (whole_lines (before ++ take i bytes)) (line ∷ []) others.0 in
-    cut_short strict start (whole_lines (before ++ take i bytes)) (whole_lines (before ++ bytes)) others.0 line a b c n m k editor all to step
+    cut_short strict start (whole_lines (before ++ take i bytes)) (whole_lines (before ++ bytes)) others.0 line a b c editor all to step
 
-pub stops_so : (strict : Bool) (start : Progress) (lines : List (List ℕ)) (a c : Seen) (n k : ℕ) (after : Editor) (stop : LineStop) (q : Result (Unit {0}) LineStop)
-    → q ≡ Err stop → CarriesOutLines strict start lines a c n k after (Err stop) → CarriesOutLines strict start lines a c n k after q
-stops_so strict start lines a c n k after stop q is stops = subst (λ (r : Result (Unit {0}) LineStop). CarriesOutLines strict start lines a c n k after r) (sym is) stops
+pub stops_so : (strict : Bool) (start : Progress) (lines : List (List ℕ)) (a c : Moment) (after : Editor) (stop : LineStop) (q : Result (Unit {0}) LineStop)
+    → q ≡ Err stop → CarriesOutLines strict start lines a c after (Err stop) → CarriesOutLines strict start lines a c after q
+stops_so strict start lines a c after stop q is stops = subst (λ (r : Result (Unit {0}) LineStop). CarriesOutLines strict start lines a c after r) (sym is) stops

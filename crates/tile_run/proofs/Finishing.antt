@@ -8,7 +8,7 @@ use Rattle.tile_lines.specs.Cutting.{Cut, Holding, cut_of, rest_of}
 use Rattle.tile_lines.specs.Lines.{lines_of, whole_lines}
 use Rattle.tile_lines.proofs.Cutting.{rest_is_last, no_rest}
 use Rattle.tile_run.specs.Run.{Progress}
-use Rattle.tile_run.specs.Steps.{AnswersLine, Advances, ComesTo, CarriesOutScript, ReadsWhole}
+use Rattle.tile_run.specs.Steps.{Moment, AnswersLine, Advances, ComesTo, CarriesOutScript, ReadsWhole}
 use Rattle.tile_run.specs.declared.editor.Editor.{Editor}
 use Rattle.tile_run.specs.declared.outcome.LineStop.{LineStop}
 use Rattle.tile_run.specs.declared.outcome.LineStop.TheVariants as line_stops
@@ -19,13 +19,13 @@ use Rattle.tile_run.proofs.Running.{comes_more, comes_to_more, cut_short}
 use Rattle.tile_run.proofs.Reading.{all_replies}
 
 -- memory was refused before the first read
-pub no_memory : (strict : Bool) (start : Progress) (s r : Seen) (left : ℕ) (editor : Editor) → CarriesOutScript strict start s s r r left left editor (Err script_stops.NoMemory)
-no_memory strict start s r left editor = record {
+pub no_memory : (strict : Bool) (start : Progress) (now : Moment) (editor : Editor) → CarriesOutScript strict start now now editor (Err script_stops.NoMemory)
+no_memory strict start now editor = record {
   script = nothing_read;
   within = omega arith;
-  supplies = supplies_nothing s;
+  supplies = supplies_nothing now.script;
   replies = written 0 [];
-  receives = receives_nothing r;
+  receives = receives_nothing now.replies;
   spent = omega arith;
   last_read = λ e. absurd cc;
   last_write = λ e. absurd cc;
@@ -33,9 +33,10 @@ no_memory strict start s r left editor = record {
 }
 
 -- all lines were carried out
-all_done : (strict : Bool) (start : Progress) (s0 s1 r0 r1 r2 : Seen) (before left less : ℕ) (editor after : Editor) (cutter : Holding) (whole : ReadsWhole strict start s0 s1 r0 r1 before left editor cutter)
-    → ComesTo strict start (lines_of whole.bytes) r0 r2 whole.allowed less after → CarriesOutScript strict start s0 s1 r0 r2 before less after (Ok tt)
-all_done strict start s0 s1 r0 r1 r2 before left less editor after cutter whole to =
+all_done : (strict : Bool) (start : Progress) (before now : Moment) (replies : Seen) (less : ℕ) (editor after : Editor) (cutter : Holding) (whole : ReadsWhole strict start before now editor cutter)
+    → ComesTo strict start (lines_of whole.bytes) (record before { retries = whole.allowed }) (record now { replies = replies; retries = less }) after
+    → CarriesOutScript strict start before (record now { replies = replies; retries = less }) after (Ok tt)
+all_done strict start before now replies less editor after cutter whole to =
     let c = to.comes in
     record {
       script = record { bytes = whole.bytes; is_whole = true; retries = whole.retries; trouble = None };
@@ -50,32 +51,34 @@ all_done strict start s0 s1 r0 r1 r2 before left less editor after cutter whole 
     }
 
 -- nothing is left behind the last line feed
-pub ends_with_feed : (strict : Bool) (start : Progress) (s0 s1 r0 r1 : Seen) (before left : ℕ) (editor : Editor) (cutter : Holding)
-    → ReadsWhole strict start s0 s1 r0 r1 before left editor cutter → None ≡ rest_of cutter → CarriesOutScript strict start s0 s1 r0 r1 before left editor (Ok tt)
-ends_with_feed strict start s0 s1 r0 r1 before left editor cutter whole none =
+pub ends_with_feed : (strict : Bool) (start : Progress) (before now : Moment) (editor : Editor) (cutter : Holding)
+    → ReadsWhole strict start before now editor cutter → None ≡ rest_of cutter → CarriesOutScript strict start before now editor (Ok tt)
+ends_with_feed strict start before now editor cutter whole none =
     let e = no_rest whole.bytes (ap rest_of (sym whole.given) ∙ sym none) in
-    all_done strict start s0 s1 r0 r1 r1 before left left editor editor cutter whole
-    (subst (λ (ls : List (List ℕ)). ComesTo strict start ls r0 r1 whole.allowed left editor) (sym e) whole.comes)
+    all_done strict start before now now.replies now.retries editor editor cutter whole
+    (subst (λ (ls : List (List ℕ)). ComesTo strict start ls (record before { retries = whole.allowed }) now editor) (sym e) whole.comes)
 
 -- what is left is a line
-pub last_line_in : (strict : Bool) (start : Progress) (s0 s1 r0 r1 : Seen) (before left : ℕ) (editor : Editor) (cutter : Holding) (cut : Cut)
-    → (whole : ReadsWhole strict start s0 s1 r0 r1 before left editor cutter) → Some cut ≡ rest_of cutter
+pub last_line_in : (strict : Bool) (start : Progress) (before now : Moment) (editor : Editor) (cutter : Holding) (cut : Cut)
+    → (whole : ReadsWhole strict start before now editor cutter) → Some cut ≡ rest_of cutter
     → (line : List ℕ) × (cut_of line ≡ cut) × (lines_of whole.bytes ≡ whole_lines whole.bytes ++ line ∷ [])
-last_line_in strict start s0 s1 r0 r1 before left editor cutter cut whole some = rest_is_last whole.bytes cut (ap rest_of (sym whole.given) ∙ sym some)
+last_line_in strict start before now editor cutter cut whole some = rest_is_last whole.bytes cut (ap rest_of (sym whole.given) ∙ sym some)
 
-pub ends_with_line : (strict : Bool) (start : Progress) (s0 s1 r0 r1 r2 : Seen) (before left less : ℕ) (editor after : Editor) (cutter : Holding) (line : List ℕ)
-    → (whole : ReadsWhole strict start s0 s1 r0 r1 before left editor cutter) → lines_of whole.bytes ≡ whole_lines whole.bytes ++ line ∷ []
-    → Advances r1 r2 left less after strict line whole.comes.comes.progress false → CarriesOutScript strict start s0 s1 r0 r2 before less after (Ok tt)
-ends_with_line strict start s0 s1 r0 r1 r2 before left less editor after cutter line whole last step =
-    all_done strict start s0 s1 r0 r1 r2 before left less editor after cutter whole
-    (comes_to_more strict start (whole_lines whole.bytes) (lines_of whole.bytes) line r0 r1 r2 whole.allowed left less editor after last whole.comes step)
+pub ends_with_line : (strict : Bool) (start : Progress) (before now : Moment) (replies : Seen) (less : ℕ) (editor after : Editor) (cutter : Holding) (line : List ℕ)
+    → (whole : ReadsWhole strict start before now editor cutter) → lines_of whole.bytes ≡ whole_lines whole.bytes ++ line ∷ []
+    → Advances now (record now { replies = replies; retries = less }) after strict line whole.comes.comes.progress false
+    → CarriesOutScript strict start before (record now { replies = replies; retries = less }) after (Ok tt)
+ends_with_line strict start before now replies less editor after cutter line whole last step =
+    all_done strict start before now replies less editor after cutter whole
+    (comes_to_more strict start (whole_lines whole.bytes) (lines_of whole.bytes) line (record before { retries = whole.allowed }) now (record now { replies = replies; retries = less }) editor after last whole.comes step)
 
 -- that line ended the run
-pub stops_at_last_line : (strict : Bool) (start : Progress) (s0 s1 r0 r1 r2 : Seen) (before left less : ℕ) (editor after : Editor) (cutter : Holding) (line : List ℕ) (stop : LineStop)
-    → (whole : ReadsWhole strict start s0 s1 r0 r1 before left editor cutter) → lines_of whole.bytes ≡ whole_lines whole.bytes ++ line ∷ []
-    → AnswersLine r1 r2 left less after strict line whole.comes.comes.progress (Err stop) → CarriesOutScript strict start s0 s1 r0 r2 before less after (Err (script_stop_of stop))
-stops_at_last_line strict start s0 s1 r0 r1 r2 before left less editor after cutter line line_stops.Strict whole last step =
-    let c = comes_more strict true start (whole_lines whole.bytes) (lines_of whole.bytes) line r0 r1 r2 whole.allowed left less editor after last whole.comes step in
+pub stops_at_last_line : (strict : Bool) (start : Progress) (before now : Moment) (replies : Seen) (less : ℕ) (editor after : Editor) (cutter : Holding) (line : List ℕ) (stop : LineStop)
+    → (whole : ReadsWhole strict start before now editor cutter) → lines_of whole.bytes ≡ whole_lines whole.bytes ++ line ∷ []
+    → AnswersLine now (record now { replies = replies; retries = less }) after strict line whole.comes.comes.progress (Err stop)
+    → CarriesOutScript strict start before (record now { replies = replies; retries = less }) after (Err (script_stop_of stop))
+stops_at_last_line strict start before now replies less editor after cutter line line_stops.Strict whole last step =
+    let c = comes_more strict true start (whole_lines whole.bytes) (lines_of whole.bytes) line (record before { retries = whole.allowed }) now (record now { replies = replies; retries = less }) editor after last whole.comes step in
     record {
       script = record { bytes = whole.bytes; is_whole = true; retries = whole.retries; trouble = None };
       within = omega (arith, whole.within);
@@ -87,37 +90,20 @@ stops_at_last_line strict start s0 s1 r0 r1 r2 before left less editor after cut
       last_write = λ e. absurd cc;
       ends = record { within = λ e. whole.within; untroubled = refl; progress = c.progress; walk = c.walk; over = c.over; replies = all_replies c.retries c.progress.replies };
     }
-stops_at_last_line strict start s0 s1 r0 r1 r2 before left less editor after cutter line line_stops.Replies whole last step =
-    let k = cut_short strict start (whole_lines whole.bytes) (lines_of whole.bytes) [] line r0 r1 r2 whole.allowed left less editor last whole.comes step in
+stops_at_last_line strict start before now replies less editor after cutter line line_stops.Replies whole last step =
+    let k = cut_short strict start (whole_lines whole.bytes) (lines_of whole.bytes) [] line (record before { retries = whole.allowed }) now (record now { replies = replies; retries = less }) editor last whole.comes step in
     record {
       script = record { bytes = whole.bytes; is_whole = true; retries = whole.retries; trouble = None };
       within = omega (arith, whole.within);
       supplies = whole.supplies;
-      replies = k.output;
-      receives = k.writes.receives;
-      spent = omega (arith, whole.share, k.writes.spent);
+      replies = k.0;
+      receives = k.2.receives;
+      spent = omega (arith, whole.share, k.2.spent);
       last_read = λ e. absurd cc;
-      last_write = k.writes.last;
-      ends = record {
-        untroubled = refl;
-        first = k.done;
-        line = k.line;
-        more = k.more;
-        split = k.split;
-        progress = k.progress;
-        walk = k.walk;
-        goes_on = k.goes_on;
-        next = k.next;
-        follows = k.follows;
-        reply = k.reply;
-        replied = k.replied;
-        front = k.front;
-        is_front = k.is_front;
-        written = k.bytes;
-        trouble = k.trouble;
-      };
+      last_write = k.2.last;
+      ends = record { untroubled = refl; cut_short = k.1 };
     }
 
-pub script_ends_as : (strict : Bool) (start : Progress) (s0 s1 r0 r1 : Seen) (before left : ℕ) (editor : Editor) (stop : ScriptStop) (q : Result (Unit {0}) ScriptStop) → q ≡ Err stop
-    → CarriesOutScript strict start s0 s1 r0 r1 before left editor (Err stop) → CarriesOutScript strict start s0 s1 r0 r1 before left editor q
-script_ends_as strict start s0 s1 r0 r1 before left editor stop q is carries = subst (CarriesOutScript strict start s0 s1 r0 r1 before left editor) (sym is) carries
+pub script_ends_as : (strict : Bool) (start : Progress) (before after : Moment) (editor : Editor) (stop : ScriptStop) (q : Result (Unit {0}) ScriptStop) → q ≡ Err stop
+    → CarriesOutScript strict start before after editor (Err stop) → CarriesOutScript strict start before after editor q
+script_ends_as strict start before after editor stop q is carries = subst (CarriesOutScript strict start before after editor) (sym is) carries

@@ -4,7 +4,7 @@ use Rattle.std.specs.Prelude.{IsSome, is_some, ◌⊎◌}
 use Rattle.std.specs.declared.option.Option.{Option}
 use Rattle.std.specs.Io.KnownBytes.{Appends, Consumes, IsAtEnd}
 use Rattle.std.proofs.lemmas.List.{drop_at, take_all}
-use Rattle.mvt_document.specs.Opens.{OpensAs}
+use Rattle.mvt_document.specs.Opens.{OpensAs, OpensAsNothing}
 use Rattle.mvt_document.specs.Plain.{Document}
 use Rattle.mvt_document.proofs.SameBytes.{one_document_by_bytes}
 use Rattle.tile_device.specs.Device.{interruptions_in, failures_in}
@@ -12,7 +12,7 @@ use Rattle.tile_device.specs.Seen.{Seen, Intake, Output, Meets, Supplies, Receiv
 use Rattle.tile_device.specs.declared.device.Trouble.{Trouble}
 use Rattle.tile_device.specs.declared.device.Trouble.TheVariants.{Interrupted, Failed}
 use Rattle.tile_lines.specs.Lines.{lines_of, whole_lines}
-use Rattle.tile_run.specs.Course.{Course, OpensAgain, retries_in, start_of, IsOpened, IsEdited, IsWritten, CarriesThrough, StopsBetween, StopsStrictly, OpensAsNothing, IsFaultOf, IsFaulty, lines_in}
+use Rattle.tile_run.specs.Course.{Course, OpensAgain, retries_in, start_of, IsOpened, IsEdited, IsWritten, CarriesThrough, StopsBetween, StopsStrictly, IsFaultOf, IsFaulty, lines_in}
 use Rattle.tile_run.specs.DeviceLaws.{HaveLowCounts}
 use Rattle.tile_run.specs.Headline.{Devices, HasLowCounts, Serves, AllServe, interruptions_between, all_interruptions, WritesNoneOutOfMemory, outcome_of, tile_written, IsRunOf, Premises, Headline, RefusesTile, Runs, WritesATile}
 use Rattle.tile_reply.specs.Replies.{NoneIsOutOfMemory}
@@ -288,7 +288,7 @@ comes options before after (outcomes.Device devices.Script) r document script pr
     let short = file_within before.script after.script r.course.script script premises.script_is premises.serve.script r.script in
     not_cut _ r.course.script.trouble (length r.course.script.bytes) (untroubled options before after (outcomes.Device devices.Script) r premises.serve).script (omega (arith, short, premises.within)) r.ends.between.cause
 comes options before after (outcomes.Device devices.Replies) r document script premises =
-    not_some _ r.course.replies.trouble (untroubled options before after (outcomes.Device devices.Replies) r premises.serve).replies r.ends.between.trouble
+    not_some _ r.course.replies.trouble (untroubled options before after (outcomes.Device devices.Replies) r premises.serve).replies r.ends.between.cut_short.trouble
 comes options before after (outcomes.Device devices.Out) r document script premises = not_some _ r.course.out.trouble (untroubled options before after (outcomes.Device devices.Out) r premises.serve).out r.ends.trouble
 comes options before after outcomes.NoMemory r document script premises = absurd (premises.has_memory refl)
 

@@ -2,7 +2,6 @@ pub mod Overs
 pub mod Fronts
 pub mod ReplyEnds
 pub mod Replying
-pub mod Taking
 pub mod Walks
 pub mod Budgets
 pub mod Running

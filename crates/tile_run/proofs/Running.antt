@@ -4,13 +4,14 @@ use Rattle.std.specs.Prelude.{Result, Ok, Err, is_err}
 use Rattle.std.proofs.Math.Bool.{or-true, or-false}
 use Rattle.mvt_document.specs.Held.{Held}
 use Rattle.tile_device.specs.Device.{trouble_of}
-use Rattle.tile_device.specs.Seen.{Seen, Sends, Spends, written}
+use Rattle.tile_device.specs.Seen.{Output, Sends, Spends, written}
 use Rattle.tile_device.specs.declared.device.Trouble.{Trouble}
 use Rattle.mvt_history.specs.History.{History}
 use Rattle.tile_reply.specs.Replies.{reply_to}
 use Rattle.tile_run.specs.Run.{Progress, is_over, MayFollow, Walk}
 use Rattle.mvt_history.specs.Session.{StandsFor}
-use Rattle.tile_run.specs.Steps.{Writes, answered, told_in, CarriesOut, IsAt, Advances, Falters, Comes, ComesTo, IsCutShort}
+use Rattle.tile_run.specs.Course.{IsCutShort}
+use Rattle.tile_run.specs.Steps.{Moment, Replies, answered, told_in, CarriesOut, IsAt, Advances, Falters, Comes, ComesTo}
 use Rattle.tile_run.specs.declared.editor.Editor.{Editor}
 use Rattle.tile_reply.specs.declared.refused.Refused.{Refused}
 use Rattle.mvt_history.specs.declared.session.Session.{Session}
@@ -35,10 +36,10 @@ over_is false p history (Ok done) on = refl
 over_is false p history (Err reason) on = refl
 
 -- a line without a reply
-pub advances_silently : (s : Seen) (left : ℕ) (strict : Bool) (p : Progress) (line : List ℕ) (session : Session) (editor : Editor) → is_over strict p ≡ false
+pub advances_silently : (m : Moment) (strict : Bool) (p : Progress) (line : List ℕ) (session : Session) (editor : Editor) → is_over strict p ≡ false
     → CarriesOut session line None p → editor.session ≡ session → editor.strict ≡ strict → editor.lines ≡ p.lines + 1 → editor.any_refused ≡ p.any_refused
-    → Advances s s left left editor strict line p false
-advances_silently s left strict p line session editor on carries same strictly lines refused = record {
+    → Advances m m editor strict line p false
+advances_silently m strict p line session editor on carries same strictly lines refused = record {
   next = answered p carries.history None;
   follows = carries.follows;
   at = record { strict = strictly; stands = subst (λ (t : Session). StandsFor t carries.history) (sym same) carries.stands; lines = lines; refused = refused };
@@ -46,23 +47,23 @@ advances_silently s left strict p line session editor on carries same strictly l
   reply = [];
   replied = sym (append-nil p.replies);
   retries = 0;
-  writes = writes_nothing s left;
+  writes = writes_nothing m.replies m.retries;
 }
 
 -- a line that was replied to
-advances : (a b : Seen) (n m : ℕ) (strict over : Bool) (p : Progress) (line : List ℕ) (number : ℕ) (answer : Result (Held ℕ) Refused) (seen : Result (List ℕ) Refused) (session : Session) (editor : Editor) (r : Result (Unit {0}) Trouble)
+advances : (a b : Moment) (strict over : Bool) (p : Progress) (line : List ℕ) (number : ℕ) (answer : Result (Held ℕ) Refused) (seen : Result (List ℕ) Refused) (session : Session) (editor : Editor) (r : Result (Unit {0}) Trouble)
     → is_over strict p ≡ false → CarriesOut session line (Some answer) p → editor.session ≡ session → editor.strict ≡ strict → editor.lines ≡ number → p.lines + 1 ≡ number
     → editor.any_refused ≡ (p.any_refused || is_err answer) → (strict && is_err answer) ≡ over
-    → is_err r ≡ false → seen ≡ told_in answer → Sends a b (reply_to number seen) (n - m) r → Spends n m (trouble_of r) → Advances a b n m editor strict line p over
-advances a b n m strict over p line number answer seen session editor r on carries same strictly lines counted refused ends went shown sends spends = record {
+    → is_err r ≡ false → seen ≡ told_in answer → Sends a.replies b.replies (reply_to number seen) (a.retries - b.retries) r → Spends a.retries b.retries (trouble_of r) → Advances a b editor strict line p over
+advances a b strict over p line number answer seen session editor r on carries same strictly lines counted refused ends went shown sends spends = record {
   next = answered p carries.history (Some answer);
   follows = carries.follows;
   at = is_at strict p carries.history answer editor (subst (λ (t : Session). StandsFor t carries.history) (sym same) carries.stands) strictly (lines ∙ sym counted) refused;
   over = over_is strict p carries.history answer on ∙ ends;
   reply = reply_to number (told_in answer);
   replied = replies_are p carries.history answer ∙ ap (λ (i : ℕ). p.replies ++ reply_to i (told_in answer)) counted;
-  retries = n - m;
-  writes = sent_all a b n m (reply_to number (told_in answer)) r went (subst (λ (told : Result (List ℕ) Refused). Sends a b (reply_to number told) (n - m) r) shown sends) spends;
+  retries = a.retries - b.retries;
+  writes = sent_all a.replies b.replies a.retries b.retries (reply_to number (told_in answer)) r went (subst (λ (told : Result (List ℕ) Refused). Sends a.replies b.replies (reply_to number told) (a.retries - b.retries) r) shown sends) spends;
 }
 
 and_false : (b : Bool) → (b && false) ≡ false
@@ -74,30 +75,30 @@ and_true true = refl
 and_true false = refl
 
 -- a line that was accepted
-pub advances_accepted : (a b : Seen) (n m : ℕ) (strict : Bool) (p : Progress) (line : List ℕ) (number : ℕ) (answer : Result (Held ℕ) Refused) (seen : Result (List ℕ) Refused) (session : Session) (editor : Editor) (r : Result (Unit {0}) Trouble)
+pub advances_accepted : (a b : Moment) (strict : Bool) (p : Progress) (line : List ℕ) (number : ℕ) (answer : Result (Held ℕ) Refused) (seen : Result (List ℕ) Refused) (session : Session) (editor : Editor) (r : Result (Unit {0}) Trouble)
     → is_over strict p ≡ false → CarriesOut session line (Some answer) p → editor.session ≡ session → editor.strict ≡ strict → editor.lines ≡ number → p.lines + 1 ≡ number
     → editor.any_refused ≡ p.any_refused → is_err answer ≡ false
-    → is_err r ≡ false → seen ≡ told_in answer → Sends a b (reply_to number seen) (n - m) r → Spends n m (trouble_of r) → Advances a b n m editor strict line p false
-advances_accepted a b n m strict p line number answer seen session editor r on carries same strictly lines counted refused good went shown sends spends =
-    advances a b n m strict false p line number answer seen session editor r on carries same strictly lines counted
+    → is_err r ≡ false → seen ≡ told_in answer → Sends a.replies b.replies (reply_to number seen) (a.retries - b.retries) r → Spends a.retries b.retries (trouble_of r) → Advances a b editor strict line p false
+advances_accepted a b strict p line number answer seen session editor r on carries same strictly lines counted refused good went shown sends spends =
+    advances a b strict false p line number answer seen session editor r on carries same strictly lines counted
     (refused ∙ sym (ap (λ (q : Bool). p.any_refused || q) good ∙ or-false p.any_refused)) (ap (λ (q : Bool). strict && q) good ∙ and_false strict) went shown sends spends
 
 -- a line that was refused
-pub advances_refused : (a b : Seen) (n m : ℕ) (strict over : Bool) (p : Progress) (line : List ℕ) (number : ℕ) (answer : Result (Held ℕ) Refused) (seen : Result (List ℕ) Refused) (session : Session) (editor : Editor) (r : Result (Unit {0}) Trouble)
+pub advances_refused : (a b : Moment) (strict over : Bool) (p : Progress) (line : List ℕ) (number : ℕ) (answer : Result (Held ℕ) Refused) (seen : Result (List ℕ) Refused) (session : Session) (editor : Editor) (r : Result (Unit {0}) Trouble)
     → is_over strict p ≡ false → CarriesOut session line (Some answer) p → editor.session ≡ session → editor.strict ≡ strict → editor.lines ≡ number → p.lines + 1 ≡ number
     → editor.any_refused ≡ true → is_err answer ≡ true → strict ≡ over
-    → is_err r ≡ false → seen ≡ told_in answer → Sends a b (reply_to number seen) (n - m) r → Spends n m (trouble_of r) → Advances a b n m editor strict line p over
-advances_refused a b n m strict over p line number answer seen session editor r on carries same strictly lines counted refused bad ends went shown sends spends =
-    advances a b n m strict over p line number answer seen session editor r on carries same strictly lines counted
+    → is_err r ≡ false → seen ≡ told_in answer → Sends a.replies b.replies (reply_to number seen) (a.retries - b.retries) r → Spends a.retries b.retries (trouble_of r) → Advances a b editor strict line p over
+advances_refused a b strict over p line number answer seen session editor r on carries same strictly lines counted refused bad ends went shown sends spends =
+    advances a b strict over p line number answer seen session editor r on carries same strictly lines counted
     (refused ∙ sym (ap (λ (q : Bool). p.any_refused || q) bad ∙ or-true p.any_refused)) (ap (λ (q : Bool). strict && q) bad ∙ and_true strict ∙ ends) went shown sends spends
 
 -- a line whose reply met trouble
-pub falters : (a b : Seen) (n m : ℕ) (p : Progress) (line : List ℕ) (number : ℕ) (answer : Result (Held ℕ) Refused) (seen : Result (List ℕ) Refused) (session : Session) (r : Result (Unit {0}) Trouble)
+pub falters : (a b : Moment) (p : Progress) (line : List ℕ) (number : ℕ) (answer : Result (Held ℕ) Refused) (seen : Result (List ℕ) Refused) (session : Session) (r : Result (Unit {0}) Trouble)
     → CarriesOut session line (Some answer) p → p.lines + 1 ≡ number
-    → is_err r ≡ true → seen ≡ told_in answer → Sends a b (reply_to number seen) (n - m) r → Spends n m (trouble_of r) → Falters a b n m line p
-falters a b n m p line number answer seen session r carries counted went shown sends spends =
-    let sends_told = subst (λ (told : Result (List ℕ) Refused). Sends a b (reply_to number told) (n - m) r) shown sends in
-    let sent = sent_front a b n m (reply_to number (told_in answer)) r went sends_told spends in
+    → is_err r ≡ true → seen ≡ told_in answer → Sends a.replies b.replies (reply_to number seen) (a.retries - b.retries) r → Spends a.retries b.retries (trouble_of r) → Falters a b line p
+falters a b p line number answer seen session r carries counted went shown sends spends =
+    let sends_told = subst (λ (told : Result (List ℕ) Refused). Sends a.replies b.replies (reply_to number told) (a.retries - b.retries) r) shown sends in
+    let sent = sent_front a.replies b.replies a.retries b.retries (reply_to number (told_in answer)) r went sends_told spends in
     record {
       next = answered p carries.history (Some answer);
       follows = carries.follows;
@@ -114,37 +115,37 @@ falters a b n m p line number answer seen session r carries counted went shown s
 one_more : (strict : Bool) (p next : Progress) (line : List ℕ) → is_over strict p ≡ false → MayFollow p line next → Walk strict p (line ∷ []) next
 one_more strict p next line on follows = rw on (next, follows, refl)
 
-pub comes_more : (strict over : Bool) (start : Progress) (lines all : List (List ℕ)) (line : List ℕ) (a b c : Seen) (n m k : ℕ) (editor after : Editor)
-    → all ≡ lines ++ line ∷ [] → (to : ComesTo strict start lines a b n m editor) → Advances b c m k after strict line to.comes.progress over
-    → Comes strict start all a c n k over
-comes_more strict over start lines all line a b c n m k editor after whole to step =
+pub comes_more : (strict over : Bool) (start : Progress) (lines all : List (List ℕ)) (line : List ℕ) (a b c : Moment) (editor after : Editor)
+    → all ≡ lines ++ line ∷ [] → (to : ComesTo strict start lines a b editor) → Advances b c after strict line to.comes.progress over
+    → Comes strict start all a c over
+comes_more strict over start lines all line a b c editor after whole to step =
     let p = to.comes.progress in
     record {
       progress = step.next;
       walk = subst (λ (ls : List (List ℕ)). Walk strict start ls step.next) (sym whole) (walk-append strict start p step.next lines (line ∷ []) to.comes.walk (one_more strict p step.next line to.comes.over step.follows));
       over = step.over;
       retries = to.comes.retries + step.retries;
-      writes = subst (λ (bytes : List ℕ). Writes a c n k (written (to.comes.retries + step.retries) bytes)) (sym step.replied) (writes_more a b c n m k to.comes.retries p.replies (written step.retries step.reply) to.comes.writes step.writes);
+      writes = subst (λ (bytes : List ℕ). Replies a c (written (to.comes.retries + step.retries) bytes)) (sym step.replied) (writes_more a.replies b.replies c.replies a.retries b.retries c.retries to.comes.retries p.replies (written step.retries step.reply) to.comes.writes step.writes);
     }
 
-pub comes_to_more : (strict : Bool) (start : Progress) (lines all : List (List ℕ)) (line : List ℕ) (a b c : Seen) (n m k : ℕ) (editor after : Editor)
-    → all ≡ lines ++ line ∷ [] → (to : ComesTo strict start lines a b n m editor) → Advances b c m k after strict line to.comes.progress false
-    → ComesTo strict start all a c n k after
+pub comes_to_more : (strict : Bool) (start : Progress) (lines all : List (List ℕ)) (line : List ℕ) (a b c : Moment) (editor after : Editor)
+    → all ≡ lines ++ line ∷ [] → (to : ComesTo strict start lines a b editor) → Advances b c after strict line to.comes.progress false
+    → ComesTo strict start all a c after
 unfolding comes_more
-comes_to_more strict start lines all line a b c n m k editor after whole to step = record {
-  comes = comes_more strict false start lines all line a b c n m k editor after whole to step;
+comes_to_more strict start lines all line a b c editor after whole to step = record {
+  comes = comes_more strict false start lines all line a b c editor after whole to step;
   at = step.at;
 }
 
 -- the same lines
-pub comes_to_same : (strict : Bool) (start : Progress) (lines all : List (List ℕ)) (a b : Seen) (n m : ℕ) (editor : Editor)
-    → all ≡ lines → ComesTo strict start lines a b n m editor → ComesTo strict start all a b n m editor
-comes_to_same strict start lines all a b n m editor whole to = subst (λ (ls : List (List ℕ)). ComesTo strict start ls a b n m editor) (sym whole) to
+pub comes_to_same : (strict : Bool) (start : Progress) (lines all : List (List ℕ)) (a b : Moment) (editor : Editor)
+    → all ≡ lines → ComesTo strict start lines a b editor → ComesTo strict start all a b editor
+comes_to_same strict start lines all a b editor whole to = subst (λ (ls : List (List ℕ)). ComesTo strict start ls a b editor) (sym whole) to
 
 -- a run that is over stays so
-pub over_behind : (strict : Bool) (start : Progress) (lines all others : List (List ℕ)) (a b : Seen) (n m : ℕ)
-    → all ≡ lines ++ others → Comes strict start lines a b n m true → Comes strict start all a b n m true
-over_behind strict start lines all others a b n m whole comes = record {
+pub over_behind : (strict : Bool) (start : Progress) (lines all others : List (List ℕ)) (a b : Moment)
+    → all ≡ lines ++ others → Comes strict start lines a b true → Comes strict start all a b true
+over_behind strict start lines all others a b whole comes = record {
   progress = comes.progress;
   walk = subst (λ (ls : List (List ℕ)). Walk strict start ls comes.progress) (sym whole) (walk-append strict start comes.progress comes.progress lines others comes.walk (walk_over_any strict comes.progress others comes.over));
   over = comes.over;
@@ -153,27 +154,28 @@ over_behind strict start lines all others a b n m whole comes = record {
 }
 
 -- the reply to the next line met trouble
-pub cut_short : (strict : Bool) (start : Progress) (lines all others : List (List ℕ)) (line : List ℕ) (a b c : Seen) (n m k : ℕ) (editor : Editor)
-    → all ≡ lines ++ line ∷ others → (to : ComesTo strict start lines a b n m editor) → Falters b c m k line to.comes.progress
-    → IsCutShort strict start all a c n k
-cut_short strict start lines all others line a b c n m k editor whole to step =
-    let p = to.comes.progress in
-    record {
-      done = lines;
-      line = line;
-      more = others;
-      split = whole;
-      progress = p;
-      walk = to.comes.walk;
-      goes_on = to.comes.over;
-      next = step.next;
-      follows = step.follows;
-      reply = step.reply;
-      replied = step.replied;
-      front = step.output.bytes;
-      is_front = step.is_front;
-      output = record { bytes = p.replies ++ step.output.bytes; retries = to.comes.retries + step.output.retries; trouble = step.output.trouble };
-      bytes = refl;
-      trouble = step.trouble;
-      writes = writes_more a b c n m k to.comes.retries p.replies step.output to.comes.writes step.writes;
-    }
+pub cut_short : (strict : Bool) (start : Progress) (lines all others : List (List ℕ)) (line : List ℕ) (a b c : Moment) (editor : Editor)
+    → all ≡ lines ++ line ∷ others → (to : ComesTo strict start lines a b editor) → Falters b c line to.comes.progress
+    → (output : Output) × IsCutShort strict start all output × Replies a c output
+cut_short strict start lines all others line a b c editor whole to step =
+    let p = to.comes.progress in (
+      record { bytes = p.replies ++ step.output.bytes; retries = to.comes.retries + step.output.retries; trouble = step.output.trouble },
+      record {
+        first = lines;
+        line = line;
+        more = others;
+        split = whole;
+        progress = p;
+        walk = to.comes.walk;
+        goes_on = to.comes.over;
+        next = step.next;
+        follows = step.follows;
+        reply = step.reply;
+        replied = step.replied;
+        front = step.output.bytes;
+        is_front = step.is_front;
+        written = refl;
+        trouble = step.trouble;
+      },
+      writes_more a.replies b.replies c.replies a.retries b.retries c.retries to.comes.retries p.replies step.output to.comes.writes step.writes,
+    )

@@ -16,7 +16,6 @@ use Rattle.tile_reply.specs.declared.refused.Refused.{Refused}
 use Rattle.tile_reply.specs.declared.refused.Refused.TheVariants as refused
 use Rattle.mvt_history.specs.declared.session.Session.{Session}
 use Rattle.tile_run.proofs.ReplyEnds.{out_of_memory_reply}
-use Rattle.tile_run.proofs.Taking.{requests_take_memory}
 
 -- a line that asks for nothing
 pub carries_nothing : (session : Session) (line : List ℕ) (p : Progress) → answer_to line ≡ Ok None → StandsFor session p.history → CarriesOut session line None p
@@ -42,7 +41,7 @@ carries_request session line request p (Ok told) asks answers = record {
 carries_request session line request p (Err reason) asks (inl (refused, stands)) = record {
   history = p.history;
   follows = elim refused [
-    | inl (may, out_of_memory) ↦ inr (inl (requests_take_memory line request asks, short_of_memory p reason out_of_memory))
+    | inl (may, out_of_memory) ↦ inr (inl (inr (request, asks, may), short_of_memory p reason out_of_memory))
     | inr e ↦ inl (ap (settled_by p) (sym e) ∙ ap (answered_by p) (sym asks))
   ];
   stands = stands;
@@ -66,7 +65,7 @@ pub carries_refusal : (session : Session) (line : List ℕ) (e : ParseError) (p 
 carries_refusal session line e p takes refuses stands = record {
   history = p.history;
   follows = elim refuses [
-    | inl is ↦ inr (inl (takes is, ap (λ (why : ParseError). refused_for (refused.Parse why) p) is))
+    | inl is ↦ inr (inl (inl (takes is), ap (λ (why : ParseError). refused_for (refused.Parse why) p) is))
     | inr is ↦ inl (ap (answered_by p) (sym is))
   ];
   stands = stands;

@@ -2,7 +2,7 @@
 use Rattle.std.specs.Prelude.{◌≡◌, ℕ, ◌+◌, ◌<◌, ◌≤◌, Bool, true, false, List, [], ◌∷◌, ◌++◌, length, take, Some, None, IsSome, if◌then◌else◌, ◌⊎◌}
 use Rattle.mvt_document.specs.declared.TheConstants.{MAX_FILE}
 use Rattle.mvt_document.specs.Plain.{Document}
-use Rattle.mvt_document.specs.Opens.{OpensAs, IsPlace}
+use Rattle.mvt_document.specs.Opens.{OpensAs, OpensAsNothing, IsPlace}
 use Rattle.mvt_document.specs.Settle.{settle}
 use Rattle.tile_device.specs.Seen.{Intake, Output, nothing_read, IsFront}
 use Rattle.tile_device.specs.declared.device.Trouble.TheVariants.{Interrupted}
@@ -46,10 +46,6 @@ pub record IsOpened (tile : Intake) (document : Document) : Type 0 where
   pub whole : tile.is_whole ≡ true
   pub untroubled : tile.trouble ≡ None
   pub opens : OpensAs tile.bytes document
-
--- the file opens as no document
-abbrev pub OpensAsNothing : List ℕ → Type 0
-OpensAsNothing file = (document : Document) → OpensAs file document → ⊥
 
 -- what is wrong with a file: it is too large, or it opens as no document, and the longest prefix that does ends at the
 -- place
@@ -103,13 +99,12 @@ pub record StopsAtScript (strict : Bool) (start : Progress) (script : Intake) (o
   pub goes_on : is_over strict progress ≡ false
   pub replies : IsWritten output progress.replies
 
--- the reply to a line met trouble: the lines before were replied to, and of this reply a prefix was written
-pub record StopsAtReplies (strict : Bool) (start : Progress) (script : Intake) (output : Output) : Type 0 where
-  pub untroubled : script.trouble ≡ None
+-- the reply to one of the lines met trouble: the lines before it were replied to, and of this reply a prefix was written
+pub record IsCutShort (strict : Bool) (start : Progress) (lines : List (List ℕ)) (output : Output) : Type 0 where
   pub first : List (List ℕ)
   pub line : List ℕ
   pub more : List (List ℕ)
-  pub split : lines_in script ≡ first ++ line ∷ more
+  pub split : lines ≡ first ++ line ∷ more
   pub progress : Progress
   pub walk : Walk strict start first progress
   pub goes_on : is_over strict progress ≡ false
@@ -121,6 +116,11 @@ pub record StopsAtReplies (strict : Bool) (start : Progress) (script : Intake) (
   pub is_front : IsFront front reply
   pub written : output.bytes ≡ progress.replies ++ front
   pub trouble : IsSome output.trouble
+
+-- the script met no trouble, and the reply to one of its lines did
+pub record StopsAtReplies (strict : Bool) (start : Progress) (script : Intake) (output : Output) : Type 0 where
+  pub untroubled : script.trouble ≡ None
+  pub cut_short : IsCutShort strict start (lines_in script) output
 
 -- ---- how a run ends
 

@@ -5,7 +5,7 @@ use Rattle.std.specs.Io.{appended_bytes}
 use Rattle.std.specs.Io.KnownBytes.{Appends}
 use Rattle.mvt_document.specs.declared.TheConstants.{MAX_FILE}
 use Rattle.mvt_document.specs.Plain.{Document}
-use Rattle.mvt_document.specs.Opens.{OpensAs}
+use Rattle.mvt_document.specs.Opens.{OpensAs, OpensAsNothing}
 use Rattle.tile_run.specs.declared.runs.TheConstants.{MAX_RETRIES, MAX_SCRIPT}
 use Rattle.tile_run.specs.declared.outcome.Options.{Options}
 use Rattle.tile_device.specs.declared.device.Source.{Ghosts as SourceMembers}
@@ -14,7 +14,7 @@ use Rattle.tile_run.specs.declared.outcome.Outcome.{Outcome}
 use Rattle.tile_run.specs.declared.outcome.Outcome.TheVariants as outcomes
 use Rattle.tile_run.specs.declared.outcome.DeviceName.TheVariants as devices
 use Rattle.tile_run.specs.declared.outcome.TileFault.{TileFault}
-use Rattle.tile_run.specs.Course.{Course, Ends, IsPatient, OpensAgain, OpensAsNothing, IsFaultOf}
+use Rattle.tile_run.specs.Course.{Course, Ends, IsPatient, OpensAgain, IsFaultOf}
 use Rattle.tile_reply.specs.Replies.{NoneIsOutOfMemory}
 use Rattle.tile_lines.specs.Lines.{lines_of}
 use Rattle.tile_run.specs.Run.{Progress, after_lines, is_over, ran, tile_of}

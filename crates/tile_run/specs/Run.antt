@@ -9,7 +9,7 @@ use Rattle.mvt_history.specs.History.{History, begun, standing_document}
 use Rattle.mvt_history_error.specs.declared.HistoryError.TheVariants.{Stopped}
 use Rattle.tile_reply.specs.Replies.{accepted_reply, refused_reply}
 use Rattle.tile_answer.specs.Answering.{Told, carried_out}
-use Rattle.tile_answer.specs.Answers.{MayStop}
+use Rattle.tile_answer.specs.Answers.{MayStop, NeedsMemory}
 use Rattle.tile_run.specs.declared.outcome.Options.{Options}
 use Rattle.tile_words.specs.declared.parse_error.ParseError.{ParseError}
 use Rattle.tile_words.specs.declared.parse_error.ParseError.TheVariants as parse
@@ -89,10 +89,14 @@ pub record IsStopped (p : Progress) (line : List ℕ) (q : Progress) : Type 0 wh
   pub stops : MayStop request p.history taken between
   pub stopped : q ≡ stopped_at taken between p
 
--- `q` may follow `p` after this line, where growths may be refused: the progress as it is defined; or, where the line
--- takes memory, refused as out of memory; or stopped
+-- memory may run out at this line: as it is read, or as its request is carried out on this history
+abbrev pub MayRunOut : List ℕ → History → Type 0
+MayRunOut line history = TakesMemory line ⊎ ((request : Request) × (answer_to line ≡ Ok (Some request)) × NeedsMemory request history)
+
+-- `q` may follow `p` after this line, where growths may be refused: the progress as it is defined; or, where memory may
+-- run out at the line, refused as out of memory; or stopped
 abbrev pub MayFollow : Progress → List ℕ → Progress → Type 0
-MayFollow p line q = (q ≡ after_line p line) ⊎ (TakesMemory line × (q ≡ without_memory p)) ⊎ IsStopped p line q
+MayFollow p line q = (q ≡ after_line p line) ⊎ (MayRunOut line p.history × (q ≡ without_memory p)) ⊎ IsStopped p line q
 
 -- `q` may follow `p` after the lines in order, up to the one at which the run is over, where growths may be refused
 abbrev pub Walk : Bool → Progress → List (List ℕ) → Progress → Type 0

@@ -3,7 +3,8 @@ use Rattle.std.specs.Prelude.{◌≡◌, ℕ, ◌+◌, ◌≤◌, Bool, true, fa
 use Rattle.mvt_document.specs.declared.Document.{Document}
 use Rattle.mvt_document.specs.Held.{Held}
 use Rattle.mvt_document.specs.Stands.{document_of}
-use Rattle.tile_device.specs.Seen.{Seen, Intake, Output, IsFront, Receives, Supplies, nothing_read, written}
+use Rattle.tile_device.specs.Seen.{Seen, Intake, Output, IsFront, Receives, Supplies, nothing_read, sink_at, written}
+use Rattle.tile_device.specs.declared.device.Sink.{Ghosts as SinkMembers}
 use Rattle.tile_device.specs.declared.device.Trouble.TheVariants.{Interrupted}
 use Rattle.tile_lines.specs.Cutting.{Holding, after_pushes, nothing_held}
 use Rattle.tile_lines.specs.Lines.{whole_lines}
@@ -19,7 +20,7 @@ use Rattle.tile_run.specs.declared.outcome.Unwritten.TheVariants as unwritten
 use Rattle.tile_reply.specs.declared.refused.Refused.{Refused}
 use Rattle.tile_run.specs.declared.runs.TheConstants.{MAX_SCRIPT}
 use Rattle.mvt_history.specs.declared.session.Session.{Session}
-use Rattle.tile_run.specs.Course.{IsOpened, IsFaulty, IsWritten, CarriesThrough, StopsStrictly, StopsAtScript, StopsAtReplies}
+use Rattle.tile_run.specs.Course.{IsOpened, IsFaulty, IsWritten, CarriesThrough, StopsStrictly, StopsAtScript, StopsAtReplies, IsCutShort}
 use Rattle.mvt_history.specs.History.{History}
 use Rattle.tile_run.specs.Run.{Progress, silent, accepted, refused_for, is_over, MayFollow, Walk}
 use Rattle.mvt_history.specs.Session.{StandsFor}
@@ -74,8 +75,26 @@ pub record IsAt (editor : Editor) (is_strict : Bool) (p : Progress) : Type 0 whe
   pub lines : editor.lines ≡ p.lines
   pub refused : editor.any_refused ≡ p.any_refused
 
+-- ---- moments
+
+-- the script and the replies at one moment, and the retries that are left
+pub record Moment : Type 0 where
+  pub script : Seen
+  pub replies : Seen
+  pub retries : ℕ
+
+-- the moment at which the sink of the replies stands so
+abbrev pub moment_at : {W : Type 0} → SinkMembers W → Seen → W → ℕ → Moment
+moment_at members script replies retries = record { script = script; replies = sink_at members replies; retries = retries }
+
+-- between two moments the replies took this output, and the retries paid for it
+abbrev pub Replies : Moment → Moment → Output → Type 0
+Replies before after output = Writes before.replies after.replies before.retries after.retries output
+
+-- ---- a line, carried out and replied to
+
 -- the line was carried out and replied to, and the run is over or not, as `is_last` says
-pub record Advances (old new : Seen) (before after : ℕ) (editor : Editor) (strict : Bool) (line : List ℕ) (p : Progress) (is_last : Bool) : Type 0 where
+pub record Advances (before after : Moment) (editor : Editor) (strict : Bool) (line : List ℕ) (p : Progress) (is_last : Bool) : Type 0 where
   pub next : Progress
   pub follows : MayFollow p line next
   pub at : IsAt editor strict next
@@ -83,10 +102,10 @@ pub record Advances (old new : Seen) (before after : ℕ) (editor : Editor) (str
   pub reply : List ℕ
   pub replied : next.replies ≡ p.replies ++ reply
   pub retries : ℕ
-  pub writes : Writes old new before after (written retries reply)
+  pub writes : Replies before after (written retries reply)
 
 -- the reply to the line met trouble: a prefix of it was written
-pub record Falters (old new : Seen) (before after : ℕ) (line : List ℕ) (p : Progress) : Type 0 where
+pub record Falters (before after : Moment) (line : List ℕ) (p : Progress) : Type 0 where
   pub next : Progress
   pub follows : MayFollow p line next
   pub reply : List ℕ
@@ -94,55 +113,34 @@ pub record Falters (old new : Seen) (before after : ℕ) (line : List ℕ) (p : 
   pub output : Output
   pub is_front : IsFront output.bytes reply
   pub trouble : IsSome output.trouble
-  pub writes : Writes old new before after output
+  pub writes : Replies before after output
 
 -- how carrying out a line ended: it was replied to, it ended a strict run, or its reply met trouble
-abbrev pub AnswersLine : Seen → Seen → ℕ → ℕ → Editor → Bool → List ℕ → Progress → Result (Unit {0}) LineStop → Type 0
-AnswersLine old new before after editor strict line p (Ok done) = Advances old new before after editor strict line p false
-AnswersLine old new before after editor strict line p (Err line_stops.Strict) = Advances old new before after editor strict line p true
-AnswersLine old new before after editor strict line p (Err line_stops.Replies) = Falters old new before after line p
+abbrev pub AnswersLine : Moment → Moment → Editor → Bool → List ℕ → Progress → Result (Unit {0}) LineStop → Type 0
+AnswersLine before after editor strict line p (Ok done) = Advances before after editor strict line p false
+AnswersLine before after editor strict line p (Err line_stops.Strict) = Advances before after editor strict line p true
+AnswersLine before after editor strict line p (Err line_stops.Replies) = Falters before after line p
 
 -- ---- lines
 
--- the lines were carried out and replied to, with the retries from `before` to `after`, and the run is over or not, as
--- `is_last` says
-pub record Comes (strict : Bool) (start : Progress) (lines : List (List ℕ)) (first now : Seen) (before after : ℕ) (is_last : Bool) : Type 0 where
+-- between two moments the lines were carried out and replied to, and the run is over or not, as `is_last` says
+pub record Comes (strict : Bool) (start : Progress) (lines : List (List ℕ)) (before after : Moment) (is_last : Bool) : Type 0 where
   pub progress : Progress
   pub walk : Walk strict start lines progress
   pub over : is_over strict progress ≡ is_last
   pub retries : ℕ
-  pub writes : Writes first now before after (written retries progress.replies)
+  pub writes : Replies before after (written retries progress.replies)
 
 -- the lines were carried out and replied to, the run goes on, and the editor has come there
-pub record ComesTo (strict : Bool) (start : Progress) (lines : List (List ℕ)) (first now : Seen) (before after : ℕ) (editor : Editor) : Type 0 where
-  pub comes : Comes strict start lines first now before after false
+pub record ComesTo (strict : Bool) (start : Progress) (lines : List (List ℕ)) (before after : Moment) (editor : Editor) : Type 0 where
+  pub comes : Comes strict start lines before after false
   pub at : IsAt editor strict comes.progress
 
--- the reply to one of the lines met trouble
-pub record IsCutShort (strict : Bool) (start : Progress) (lines : List (List ℕ)) (first now : Seen) (before after : ℕ) : Type 0 where
-  pub done : List (List ℕ)
-  pub line : List ℕ
-  pub more : List (List ℕ)
-  pub split : lines ≡ done ++ line ∷ more
-  pub progress : Progress
-  pub walk : Walk strict start done progress
-  pub goes_on : is_over strict progress ≡ false
-  pub next : Progress
-  pub follows : MayFollow progress line next
-  pub reply : List ℕ
-  pub replied : next.replies ≡ progress.replies ++ reply
-  pub front : List ℕ
-  pub is_front : IsFront front reply
-  pub output : Output
-  pub bytes : output.bytes ≡ progress.replies ++ front
-  pub trouble : IsSome output.trouble
-  pub writes : Writes first now before after output
-
 -- how carrying out lines ended: all were replied to, one ended a strict run, or a reply met trouble
-abbrev pub CarriesOutLines : Bool → Progress → List (List ℕ) → Seen → Seen → ℕ → ℕ → Editor → Result (Unit {0}) LineStop → Type 0
-CarriesOutLines strict start lines first now before after editor (Ok done) = ComesTo strict start lines first now before after editor
-CarriesOutLines strict start lines first now before after editor (Err line_stops.Strict) = Comes strict start lines first now before after true
-CarriesOutLines strict start lines first now before after editor (Err line_stops.Replies) = IsCutShort strict start lines first now before after
+abbrev pub CarriesOutLines : Bool → Progress → List (List ℕ) → Moment → Moment → Editor → Result (Unit {0}) LineStop → Type 0
+CarriesOutLines strict start lines before after editor (Ok done) = ComesTo strict start lines before after editor
+CarriesOutLines strict start lines before after editor (Err line_stops.Strict) = Comes strict start lines before after true
+CarriesOutLines strict start lines before after editor (Err line_stops.Replies) = (output : Output) × IsCutShort strict start lines output × Replies before after output
 
 -- the cutter was given these bytes
 abbrev pub WasGiven : Holding → List ℕ → Type 0
@@ -158,33 +156,34 @@ EndsScript strict start script replies editor (Err script_stops.Replies) = Stops
 EndsScript strict start script replies editor (Err script_stops.Strict) = StopsStrictly strict start script replies
 EndsScript strict start script replies editor (Err script_stops.NoMemory) = (script ≡ nothing_read) × IsWritten replies []
 
--- the script was read and its lines carried out, up to where that ended, with the retries from `before` to `after`
-pub record CarriesOutScript (strict : Bool) (start : Progress) (s0 s1 r0 r1 : Seen) (before after : ℕ) (editor : Editor) (result : Result (Unit {0}) ScriptStop) : Type 0 where
+-- the script was read and its lines carried out, up to where that ended
+pub record CarriesOutScript (strict : Bool) (start : Progress) (before after : Moment) (editor : Editor) (result : Result (Unit {0}) ScriptStop) : Type 0 where
   pub script : Intake
   pub within : length script.bytes ≤ MAX_SCRIPT + 1
-  pub supplies : Supplies s0 s1 script
+  pub supplies : Supplies before.script after.script script
   pub replies : Output
-  pub receives : Receives r0 r1 replies
-  pub spent : after + script.retries + replies.retries ≡ before
-  pub last_read : script.trouble ≡ Some Interrupted → after ≡ 0
-  pub last_write : replies.trouble ≡ Some Interrupted → after ≡ 0
+  pub receives : Receives before.replies after.replies replies
+  pub spent : after.retries + script.retries + replies.retries ≡ before.retries
+  pub last_read : script.trouble ≡ Some Interrupted → after.retries ≡ 0
+  pub last_write : replies.trouble ≡ Some Interrupted → after.retries ≡ 0
   pub ends : EndsScript strict start script replies editor result
 
--- the script was read to its end, and its whole lines were carried out; what the cutter holds is left
-pub record ReadsWhole (strict : Bool) (start : Progress) (s0 s1 r0 r1 : Seen) (before after : ℕ) (editor : Editor) (cutter : Holding) : Type 0 where
+-- the script was read to its end, and its whole lines were carried out with `allowed` retries; what the cutter holds is
+-- left
+pub record ReadsWhole (strict : Bool) (start : Progress) (before after : Moment) (editor : Editor) (cutter : Holding) : Type 0 where
   pub bytes : List ℕ
   pub within : length bytes ≤ MAX_SCRIPT
   pub given : WasGiven cutter bytes
   pub retries : ℕ
-  pub supplies : Supplies s0 s1 (record { bytes = bytes; is_whole = true; retries = retries; trouble = None })
+  pub supplies : Supplies before.script after.script (record { bytes = bytes; is_whole = true; retries = retries; trouble = None })
   pub allowed : ℕ
-  pub share : allowed + retries ≡ before
-  pub comes : ComesTo strict start (whole_lines bytes) r0 r1 allowed after editor
+  pub share : allowed + retries ≡ before.retries
+  pub comes : ComesTo strict start (whole_lines bytes) (record before { retries = allowed }) after editor
 
 -- how reading a script and carrying out its whole lines ended
-abbrev pub CarriesOutPieces : Bool → Progress → Seen → Seen → Seen → Seen → ℕ → ℕ → Editor → Holding → Result (Unit {0}) ScriptStop → Type 0
-CarriesOutPieces strict start s0 s1 r0 r1 before after editor cutter (Ok done) = ReadsWhole strict start s0 s1 r0 r1 before after editor cutter
-CarriesOutPieces strict start s0 s1 r0 r1 before after editor cutter (Err stop) = CarriesOutScript strict start s0 s1 r0 r1 before after editor (Err stop)
+abbrev pub CarriesOutPieces : Bool → Progress → Moment → Moment → Editor → Holding → Result (Unit {0}) ScriptStop → Type 0
+CarriesOutPieces strict start before after editor cutter (Ok done) = ReadsWhole strict start before after editor cutter
+CarriesOutPieces strict start before after editor cutter (Err stop) = CarriesOutScript strict start before after editor (Err stop)
 
 -- ---- the tile to write
 

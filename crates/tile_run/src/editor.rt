@@ -4,7 +4,7 @@ ghost use Rattle.std.specs.Prelude.{◌≡◌, ℕ, ◌+◌, ◌^◌, ◌<◌, �
 ghost use Rattle.mvt_document.specs.Plain.{Document as PlainDocument};
 ghost use Rattle.mvt_document.specs.Opens.{IsDocument};
 ghost use Rattle.mvt_document.specs.Stands.{document_of};
-ghost use Rattle.tile_device.specs.Seen.{Seen, Sends, Spends, source_at, sink_at};
+ghost use Rattle.tile_device.specs.Seen.{Seen, source_at};
 ghost use Rattle.tile_device.specs.Device.{trouble_of};
 ghost use Rattle.tile_lines.specs.CutStands.{cut_seen};
 ghost use Rattle.tile_lines.specs.Cutting.{cut_of, nothing_held};
@@ -14,7 +14,7 @@ ghost use Rattle.mvt_history.specs.History.{History, standing_document};
 ghost use Rattle.mvt_history.specs.Session.{StandsFor};
 ghost use Rattle.mvt_history.specs.declared.TheConstants.{MAX_DEPTH};
 ghost use Rattle.tile_run.specs.Run.{Progress, at_first, is_over};
-ghost use Rattle.tile_run.specs.Steps.{AnswersLine, CarriesOut, CarriesOutLines, CarriesOutPieces, CarriesOutScript, ComesTo, IsAt, WasGiven, told_in};
+ghost use Rattle.tile_run.specs.Steps.{AnswersLine, CarriesOut, CarriesOutLines, CarriesOutPieces, CarriesOutScript, ComesTo, IsAt, Moment, WasGiven, moment_at, told_in};
 
 use crate::outcome::{LineStop, Options, ScriptStop};
 use crate::runs::MAX_SCRIPT;
@@ -87,9 +87,9 @@ impl Editor {
         requires { self.old.lines ≡ 0 }
         ensures { (strict : Bool) (document : PlainDocument) (depth : ℕ) → IsAt self.old strict (at_first document depth)
             → CarriesOutScript strict (at_first document depth)
-            (source_at R.Source script.old) (source_at R.Source script.new)
-            (sink_at W.Sink replies.old) (sink_at W.Sink replies.new)
-            retries.old retries.new self.new result }
+            (moment_at W.Sink (source_at R.Source script.old) replies.old retries.old)
+            (moment_at W.Sink (source_at R.Source script.new) replies.new retries.new)
+            self.new result }
     {
         let mut cutter = LineCutter::new(alloc)?;
         self.carry_out_pieces(alloc, &mut cutter, script, replies, retries)?;
@@ -114,9 +114,9 @@ impl Editor {
         ensures lines { self.new.lines ≤ MAX_SCRIPT }
         ensures pieces { (strict : Bool) (document : PlainDocument) (depth : ℕ) → IsAt self.old strict (at_first document depth)
             → CarriesOutPieces strict (at_first document depth)
-            (source_at R.Source script.old) (source_at R.Source script.new)
-            (sink_at W.Sink replies.old) (sink_at W.Sink replies.new)
-            retries.old retries.new self.new cutter.new result }
+            (moment_at W.Sink (source_at R.Source script.old) replies.old retries.old)
+            (moment_at W.Sink (source_at R.Source script.new) replies.new retries.new)
+            self.new cutter.new result }
     {
         let mut piece = [0; PIECE];
         let mut room = MAX_SCRIPT;
@@ -149,10 +149,10 @@ impl Editor {
         ensures lines { self.new.lines ≤ self.old.lines + length bytes.now }
         ensures cutter { (before : List ℕ) → WasGiven cutter.old before
             → result ≡ Ok tt → WasGiven cutter.new (before ++ bytes.now) }
-        ensures comes { (strict : Bool) (start : Progress) (before : List ℕ) (first : Seen) (retries_first : ℕ)
+        ensures comes { (strict : Bool) (start : Progress) (before : List ℕ) (first : Moment) (script : Seen)
             → WasGiven cutter.old before
-            → ComesTo strict start (whole_lines before) first (sink_at W.Sink replies.old) retries_first retries.old self.old
-            → CarriesOutLines strict start (whole_lines (before ++ bytes.now)) first (sink_at W.Sink replies.new) retries_first retries.new self.new result }
+            → ComesTo strict start (whole_lines before) first (moment_at W.Sink script replies.old retries.old) self.old
+            → CarriesOutLines strict start (whole_lines (before ++ bytes.now)) first (moment_at W.Sink script replies.new retries.new) self.new result }
     {
         for byte in bytes {
             cutter.push(*byte);
@@ -174,9 +174,9 @@ impl Editor {
     ) -> Result<(), LineStop>
         requires { self.old.lines + 1 < 2 ^ 64 }
         ensures lines { self.new.lines ≡ self.old.lines + 1 }
-        ensures answers { (strict : Bool) (p : Progress) (line : List ℕ) → IsAt self.old strict p → is_over strict p ≡ false
+        ensures answers { (script : Seen) (strict : Bool) (p : Progress) (line : List ℕ) → IsAt self.old strict p → is_over strict p ≡ false
             → cut_of line ≡ cut_seen cut.entry
-            → AnswersLine (sink_at W.Sink replies.old) (sink_at W.Sink replies.new) retries.old retries.new self.new strict line p result }
+            → AnswersLine (moment_at W.Sink script replies.old retries.old) (moment_at W.Sink script replies.new retries.new) self.new strict line p result }
     {
         self.lines += 1;
         let Some(answer) = carry_out_line(alloc, &mut self.session, cut) else {

@@ -11,7 +11,7 @@ use Rattle.tile_words.specs.Words.{Word, Bare, Quoted, words_of}
 use Rattle.tile_words.specs.Spelling.{SpellsWords}
 use Rattle.tile_words.proofs.Again.{words_only, behind_blanks, no_gap}
 use Rattle.tile_script.specs.Commands.{command_by, rename_layer_of}
-use Rattle.tile_script.specs.Line.{TakesMemory, requests_alone, requests_by_name, alone_of, name_of, list_of, request_by, asked_by, is_remark_behind, is_remark, request_in, answer_to, IsReadable}
+use Rattle.tile_script.specs.Line.{IsAsking, requests_alone, requests_by_name, alone_of, name_of, list_of, request_by, asked_by, is_remark_behind, is_remark, request_in, answer_to, IsReadable}
 use Rattle.tile_script.specs.Shapes.{AsksAlone, AsksByName}
 use Rattle.tile_script.proofs.Silent.{answer_to-words}
 
@@ -21,7 +21,7 @@ no_remark line b name words s =
     ap is_remark s.3 ∙ ap is_remark_behind (behind_blanks s.0 (s.1 ++ s.2) s.4 (no_gap s.1 (Bare (b ∷ name)) s.2 s.5)) ∙ ap (λ (bytes : List ℕ). is_remark_behind (bytes ++ s.2)) s.5.0
 
 -- a readable line that is no remark asks for what its words ask for
-asks : (line : List ℕ) (words : List Word) (request : Request) → TakesMemory line → words_of line ≡ Some words → asked_by words ≡ Ok request → answer_to line ≡ Ok (Some request)
+asks : (line : List ℕ) (words : List Word) (request : Request) → IsAsking line → words_of line ≡ Some words → asked_by words ≡ Ok request → answer_to line ≡ Ok (Some request)
 unfolding request_in
 asks line words request takes read asked = answer_to-words line takes ∙ rw (read, asked) refl
 

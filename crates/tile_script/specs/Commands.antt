@@ -19,31 +19,26 @@ chosen_of layer feature = do
 
 -- the rename of these arguments: a layer, and its new name as a text; or the first refusal
 unfoldable pub rename_layer_of : List Word → Result Command ParseError
-rename_layer_of [] = Err BadArguments
-rename_layer_of (layer ∷ []) = Err BadArguments
 rename_layer_of (layer ∷ name ∷ []) = do
   choice ← layer_of layer
   text ← text_of name
   Ok (RenameLayer choice text)
-rename_layer_of (layer ∷ name ∷ more ∷ others) = Err BadArguments
+rename_layer_of words = Err BadArguments
 
 -- the move of these arguments: a layer, and the ordinal to which it goes; or the first refusal
 unfoldable pub move_layer_of : List Word → Result Command ParseError
-move_layer_of [] = Err BadArguments
-move_layer_of (layer ∷ []) = Err BadArguments
 move_layer_of (layer ∷ index ∷ []) = do
   choice ← layer_of layer
   at ← number_in index
   Ok (MoveLayer choice at)
-move_layer_of (layer ∷ index ∷ more ∷ others) = Err BadArguments
+move_layer_of words = Err BadArguments
 
 -- the drop of these arguments: a layer; or the first refusal
 unfoldable pub drop_layer_of : List Word → Result Command ParseError
-drop_layer_of [] = Err BadArguments
 drop_layer_of (layer ∷ []) = do
   choice ← layer_of layer
   Ok (DropLayer choice)
-drop_layer_of (layer ∷ more ∷ others) = Err BadArguments
+drop_layer_of words = Err BadArguments
 
 -- the `keep` of these arguments: one or more names as texts; or the first refusal
 unfoldable pub keep_layers_of : List Word → Result Command ParseError
@@ -55,54 +50,42 @@ keep_layers_of (name ∷ more) = do
 -- the insertion of these arguments: a layer, the ordinal of the new feature, and one or more words of its geometry; or
 -- the first refusal
 unfoldable pub insert_feature_of : List Word → Result Command ParseError
-insert_feature_of [] = Err BadArguments
-insert_feature_of (layer ∷ []) = Err BadArguments
-insert_feature_of (layer ∷ index ∷ []) = Err BadArguments
 insert_feature_of (layer ∷ index ∷ kind ∷ points) = do
   choice ← layer_of layer
   at ← number_in index
   geometry ← geometry_of (kind ∷ points)
   Ok (InsertFeature choice at geometry)
+insert_feature_of words = Err BadArguments
 
 -- the move of these arguments: a layer, a feature, and the ordinal to which it goes; or the first refusal
 unfoldable pub move_feature_of : List Word → Result Command ParseError
-move_feature_of [] = Err BadArguments
-move_feature_of (layer ∷ []) = Err BadArguments
-move_feature_of (layer ∷ feature ∷ []) = Err BadArguments
 move_feature_of (layer ∷ feature ∷ index ∷ []) = do
   chosen ← chosen_of layer feature
   at ← number_in index
   Ok (MoveFeature chosen.0 chosen.1 at)
-move_feature_of (layer ∷ feature ∷ index ∷ more ∷ others) = Err BadArguments
+move_feature_of words = Err BadArguments
 
 -- the drop of these arguments: a layer and a feature; or the first refusal
 unfoldable pub drop_feature_of : List Word → Result Command ParseError
-drop_feature_of [] = Err BadArguments
-drop_feature_of (layer ∷ []) = Err BadArguments
 drop_feature_of (layer ∷ feature ∷ []) = do
   chosen ← chosen_of layer feature
   Ok (DropFeature chosen.0 chosen.1)
-drop_feature_of (layer ∷ feature ∷ more ∷ others) = Err BadArguments
+drop_feature_of words = Err BadArguments
 
 -- the new id of these arguments: a layer, a feature, and the id; or the first refusal
 unfoldable pub set_id_of : List Word → Result Command ParseError
-set_id_of [] = Err BadArguments
-set_id_of (layer ∷ []) = Err BadArguments
-set_id_of (layer ∷ feature ∷ []) = Err BadArguments
 set_id_of (layer ∷ feature ∷ id ∷ []) = do
   chosen ← chosen_of layer feature
   number ← number_in id
   Ok (SetId chosen.0 chosen.1 number)
-set_id_of (layer ∷ feature ∷ id ∷ more ∷ others) = Err BadArguments
+set_id_of words = Err BadArguments
 
 -- the cleared id of these arguments: a layer and a feature; or the first refusal
 unfoldable pub clear_id_of : List Word → Result Command ParseError
-clear_id_of [] = Err BadArguments
-clear_id_of (layer ∷ []) = Err BadArguments
 clear_id_of (layer ∷ feature ∷ []) = do
   chosen ← chosen_of layer feature
   Ok (ClearId chosen.0 chosen.1)
-clear_id_of (layer ∷ feature ∷ more ∷ others) = Err BadArguments
+clear_id_of words = Err BadArguments
 
 -- the commands, each with its word and how its arguments are read
 abbrev pub commands : List (List ℕ × (List Word → Result Command ParseError))

@@ -3,7 +3,7 @@ use Rattle.std.specs.Prelude.{◌≡◌, ℕ, ◌≤◌, Bool, true, false, not,
 use Rattle.std.specs.Str.{is_utf8, IsUtf8}
 use Rattle.tile_arguments.specs.Arguments.{text_of, layer_of, feature_of}
 use Rattle.tile_request.specs.Request.{Request, Edit, Undo, Redo, SetMark, TakeMark, GoBack, Begin, End, Cancel, ListMarks, TellHistory, Size, Lists, Whole, OneLayer, OneFeature}
-use Rattle.tile_words.specs.Words.{Word, Bare, Quoted, after_blanks, words_of}
+use Rattle.tile_words.specs.Words.{Word, Bare, Quoted, IsLoneWord, after_blanks, words_of}
 use Rattle.tile_words.specs.Answers.{◌>>=◌}
 use Rattle.tile_lines.specs.declared.TheConstants.{LINE_LIMIT}
 use Rattle.tile_script.specs.Commands.{read_by, command_by}
@@ -25,9 +25,8 @@ alone_of request (more ∷ others) = Err BadArguments
 
 -- the name that a single argument says; else BadArguments
 unfoldable pub name_of : List Word → Result (List ℕ) ParseError
-name_of [] = Err BadArguments
 name_of (name ∷ []) = text_of name
-name_of (name ∷ more ∷ others) = Err BadArguments
+name_of words = Err BadArguments
 
 -- the request on the mark whose name the single argument says; else BadArguments
 abbrev pub mark_of : (List ℕ → Request) → List Word → Result Request ParseError
@@ -88,6 +87,11 @@ answer_to line =
 abbrev pub IsReadable : List ℕ → Type 0
 IsReadable line = (length line ≤ LINE_LIMIT) × IsUtf8 line
 
--- the line is readable, and neither blank nor a comment; no other line is refused as out of memory
+-- the line is readable, and neither blank nor a comment
+abbrev pub IsAsking : List ℕ → Type 0
+IsAsking line = IsReadable line × (is_remark line ≡ false)
+
+-- to read the line takes memory: it asks for something, and not by one word alone; no other line is refused as out of
+-- memory as it is read
 abbrev pub TakesMemory : List ℕ → Type 0
-TakesMemory line = IsReadable line × (is_remark line ≡ false)
+TakesMemory line = IsAsking line × ¬ IsLoneWord line

@@ -1,6 +1,7 @@
 //! The command that a word and its arguments make.
 
-ghost use Rattle.std.specs.Prelude.{map};
+ghost use Rattle.std.specs.Prelude.{◌≤◌, length, map};
+ghost use Rattle.std.specs.Result.{IsErrOf};
 ghost use Rattle.mvt_command.specs.CommandStands.{command_of, layer_choice_of, feature_choice_of};
 ghost use Rattle.tile_script.specs.Commands.{chosen_of, rename_layer_of, move_layer_of, drop_layer_of, keep_layers_of, insert_feature_of, move_feature_of, drop_feature_of, set_id_of, clear_id_of, command_by};
 ghost use Rattle.tile_words.specs.Answers.{Gives};
@@ -20,7 +21,8 @@ pub(crate) fn command(
     name: &[u8],
     arguments: &[Word<'_>],
 ) -> Result<Command, ParseError>
-    ensures { Gives command_of result (command_by name.now (map word_of arguments.now)) }
+    ensures answer { Gives command_of result (command_by name.now (map word_of arguments.now)) }
+    ensures no_memory { IsErrOf result ParseError.NoMemory → 1 ≤ length arguments.now }
 {
     if name == b"rename-layer".as_slice() {
         rename_layer(alloc, arguments)
@@ -47,7 +49,8 @@ pub(crate) fn command(
 
 #[tactic(auto, unfolding(crate::specs::Commands::rename_layer_of))]
 fn rename_layer(alloc: Global, arguments: &[Word<'_>]) -> Result<Command, ParseError>
-    ensures { Gives command_of result (rename_layer_of (map word_of arguments.now)) }
+    ensures answer { Gives command_of result (rename_layer_of (map word_of arguments.now)) }
+    ensures no_memory { IsErrOf result ParseError.NoMemory → 1 ≤ length arguments.now }
 {
     let [layer, name] = arguments else {
         return Err(ParseError::BadArguments);
@@ -59,7 +62,8 @@ fn rename_layer(alloc: Global, arguments: &[Word<'_>]) -> Result<Command, ParseE
 
 #[tactic(auto, unfolding(crate::specs::Commands::move_layer_of))]
 fn move_layer(alloc: Global, arguments: &[Word<'_>]) -> Result<Command, ParseError>
-    ensures { Gives command_of result (move_layer_of (map word_of arguments.now)) }
+    ensures answer { Gives command_of result (move_layer_of (map word_of arguments.now)) }
+    ensures no_memory { IsErrOf result ParseError.NoMemory → 1 ≤ length arguments.now }
 {
     let [layer, index] = arguments else {
         return Err(ParseError::BadArguments);
@@ -71,7 +75,8 @@ fn move_layer(alloc: Global, arguments: &[Word<'_>]) -> Result<Command, ParseErr
 
 #[tactic(auto, unfolding(crate::specs::Commands::drop_layer_of))]
 fn drop_layer(alloc: Global, arguments: &[Word<'_>]) -> Result<Command, ParseError>
-    ensures { Gives command_of result (drop_layer_of (map word_of arguments.now)) }
+    ensures answer { Gives command_of result (drop_layer_of (map word_of arguments.now)) }
+    ensures no_memory { IsErrOf result ParseError.NoMemory → 1 ≤ length arguments.now }
 {
     let [layer] = arguments else {
         return Err(ParseError::BadArguments);
@@ -82,7 +87,8 @@ fn drop_layer(alloc: Global, arguments: &[Word<'_>]) -> Result<Command, ParseErr
 
 #[tactic(auto, unfolding(crate::specs::Commands::keep_layers_of))]
 fn keep_layers(alloc: Global, arguments: &[Word<'_>]) -> Result<Command, ParseError>
-    ensures { Gives command_of result (keep_layers_of (map word_of arguments.now)) }
+    ensures answer { Gives command_of result (keep_layers_of (map word_of arguments.now)) }
+    ensures no_memory { IsErrOf result ParseError.NoMemory → 1 ≤ length arguments.now }
 {
     if arguments.is_empty() {
         return Err(ParseError::BadArguments);
@@ -93,7 +99,8 @@ fn keep_layers(alloc: Global, arguments: &[Word<'_>]) -> Result<Command, ParseEr
 
 #[tactic(auto, unfolding(crate::specs::Commands::insert_feature_of))]
 fn insert_feature(alloc: Global, arguments: &[Word<'_>]) -> Result<Command, ParseError>
-    ensures { Gives command_of result (insert_feature_of (map word_of arguments.now)) }
+    ensures answer { Gives command_of result (insert_feature_of (map word_of arguments.now)) }
+    ensures no_memory { IsErrOf result ParseError.NoMemory → 1 ≤ length arguments.now }
 {
     let [layer, index, geometry @ ..] = arguments else {
         return Err(ParseError::BadArguments);
@@ -113,7 +120,8 @@ fn insert_feature(alloc: Global, arguments: &[Word<'_>]) -> Result<Command, Pars
 
 #[tactic(auto, unfolding(crate::specs::Commands::move_feature_of))]
 fn move_feature(alloc: Global, arguments: &[Word<'_>]) -> Result<Command, ParseError>
-    ensures { Gives command_of result (move_feature_of (map word_of arguments.now)) }
+    ensures answer { Gives command_of result (move_feature_of (map word_of arguments.now)) }
+    ensures no_memory { IsErrOf result ParseError.NoMemory → 1 ≤ length arguments.now }
 {
     let [layer, feature, index] = arguments else {
         return Err(ParseError::BadArguments);
@@ -129,7 +137,8 @@ fn move_feature(alloc: Global, arguments: &[Word<'_>]) -> Result<Command, ParseE
 
 #[tactic(auto, unfolding(crate::specs::Commands::drop_feature_of))]
 fn drop_feature(alloc: Global, arguments: &[Word<'_>]) -> Result<Command, ParseError>
-    ensures { Gives command_of result (drop_feature_of (map word_of arguments.now)) }
+    ensures answer { Gives command_of result (drop_feature_of (map word_of arguments.now)) }
+    ensures no_memory { IsErrOf result ParseError.NoMemory → 1 ≤ length arguments.now }
 {
     let [layer, feature] = arguments else {
         return Err(ParseError::BadArguments);
@@ -140,7 +149,8 @@ fn drop_feature(alloc: Global, arguments: &[Word<'_>]) -> Result<Command, ParseE
 
 #[tactic(auto, unfolding(crate::specs::Commands::set_id_of))]
 fn set_id(alloc: Global, arguments: &[Word<'_>]) -> Result<Command, ParseError>
-    ensures { Gives command_of result (set_id_of (map word_of arguments.now)) }
+    ensures answer { Gives command_of result (set_id_of (map word_of arguments.now)) }
+    ensures no_memory { IsErrOf result ParseError.NoMemory → 1 ≤ length arguments.now }
 {
     let [layer, feature, id] = arguments else {
         return Err(ParseError::BadArguments);
@@ -152,7 +162,8 @@ fn set_id(alloc: Global, arguments: &[Word<'_>]) -> Result<Command, ParseError>
 
 #[tactic(auto, unfolding(crate::specs::Commands::clear_id_of))]
 fn clear_id(alloc: Global, arguments: &[Word<'_>]) -> Result<Command, ParseError>
-    ensures { Gives command_of result (clear_id_of (map word_of arguments.now)) }
+    ensures answer { Gives command_of result (clear_id_of (map word_of arguments.now)) }
+    ensures no_memory { IsErrOf result ParseError.NoMemory → 1 ≤ length arguments.now }
 {
     let [layer, feature] = arguments else {
         return Err(ParseError::BadArguments);

@@ -2,8 +2,8 @@
 //!
 //! - A line asks for what its definition says, or is refused by the first of its faults; out of
 //!   memory alone may come in place of that (`answer`). It never does for a line that is too long
-//!   or not UTF-8, a blank line or a comment (`no_memory`): `parse_line`, and `parse_cut` for a
-//!   line as it was cut.
+//!   or not UTF-8, a blank line, a comment or one word alone (`no_memory`): `parse_line`, and
+//!   `parse_cut` for a line as it was cut.
 #![tactic(auto)]
 
 mod commands;

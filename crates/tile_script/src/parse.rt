@@ -8,20 +8,22 @@ ghost use Rattle.tile_lines.specs.CutStands.{cut_seen};
 ghost use Rattle.tile_request.specs.RequestStands.{request_of};
 ghost use Rattle.tile_script.specs.Line.{request_in, is_remark, answer_to, TakesMemory};
 ghost use Rattle.tile_words.specs.Answers.{Gives};
+ghost use Rattle.tile_words.specs.Words.{IsLoneWord};
 
 use crate::requests::request;
 use simdutf8::basic::from_utf8;
 use std::alloc::Global;
 use tile_lines::{Cut, LINE_LIMIT};
 use tile_request::Request;
-use tile_words::{ParseError, after_blanks, words_of};
+use tile_words::{ParseError, after_blanks, lone_word, words_of};
 
 /// The request that a line asks for, or nothing where it is blank or a comment.
 #[tactic(auto, unfolding(crate::specs::Line::answer_to), using(crate::proofs::Silent::asks_something))]
 pub fn parse_line(alloc: Global, line: &[u8]) -> Result<Option<Request>, ParseError>
     ensures answer { Gives (option_map request_of) result (answer_to line.now) }
 
-    // For a line that is too long or no UTF-8, a blank line and a comment memory never runs out.
+    // For a line that is too long or no UTF-8, a blank line, a comment and a word alone memory
+    // never runs out.
     ensures no_memory { IsErrOf result ParseError.NoMemory → TakesMemory line.now }
 {
     if line.len() > LINE_LIMIT {
@@ -69,8 +71,12 @@ fn is_remark(line: &[u8]) -> bool
 
 #[tactic(auto, unfolding(crate::specs::Line::request_in))]
 fn request_in(alloc: Global, line: &[u8]) -> Result<Request, ParseError>
-    ensures { Gives request_of result (request_in line.now) }
+    ensures answer { Gives request_of result (request_in line.now) }
+    ensures no_memory { IsErrOf result ParseError.NoMemory → ¬ IsLoneWord line.now }
 {
+    if let Some(word) = lone_word(line) {
+        return request(alloc, &[word]);
+    }
     let words = words_of(alloc, line)?;
     request(alloc, &words)
 }

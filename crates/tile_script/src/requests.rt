@@ -1,6 +1,7 @@
 //! The requests that words ask for, each with its arguments.
 
-ghost use Rattle.std.specs.Prelude.{map};
+ghost use Rattle.std.specs.Prelude.{◌≤◌, length, map};
+ghost use Rattle.std.specs.Result.{IsErrOf};
 ghost use Rattle.tile_request.specs.RequestStands.{request_of};
 ghost use Rattle.tile_script.specs.Line.{alone_of, name_of, list_of, request_by, asked_by};
 ghost use Rattle.tile_words.specs.Answers.{Gives};
@@ -16,7 +17,8 @@ use tile_words::{ParseError, Word};
 /// The request that the words of a line ask for.
 #[tactic(auto, unfolding(crate::specs::Line::asked_by))]
 pub(crate) fn request(alloc: Global, words: &[Word<'_>]) -> Result<Request, ParseError>
-    ensures { Gives request_of result (asked_by (map word_of words.now)) }
+    ensures answer { Gives request_of result (asked_by (map word_of words.now)) }
+    ensures no_memory { IsErrOf result ParseError.NoMemory → 2 ≤ length words.now }
 {
     let [Word::Bare(name), arguments @ ..] = words else {
         return Err(ParseError::UnknownCommand);
@@ -27,7 +29,8 @@ pub(crate) fn request(alloc: Global, words: &[Word<'_>]) -> Result<Request, Pars
 /// The request that begins with this word, with its arguments.
 #[tactic(auto, unfolding(crate::specs::Line::request_by))]
 fn named(alloc: Global, name: &[u8], arguments: &[Word<'_>]) -> Result<Request, ParseError>
-    ensures { Gives request_of result (request_by name.now (map word_of arguments.now)) }
+    ensures answer { Gives request_of result (request_by name.now (map word_of arguments.now)) }
+    ensures no_memory { IsErrOf result ParseError.NoMemory → 1 ≤ length arguments.now }
 {
     if name == b"mark".as_slice() {
         Ok(Request::Mark(mark_name(alloc, arguments)?))
@@ -61,7 +64,8 @@ fn named(alloc: Global, name: &[u8], arguments: &[Word<'_>]) -> Result<Request, 
 /// The request, where it has no arguments.
 #[tactic(auto, unfolding(crate::specs::Line::alone_of))]
 fn alone(request: Request, arguments: &[Word<'_>]) -> Result<Request, ParseError>
-    ensures { Gives request_of result (alone_of (request_of request) (map word_of arguments.now)) }
+    ensures answer { Gives request_of result (alone_of (request_of request) (map word_of arguments.now)) }
+    ensures no_memory { IsErrOf result ParseError.NoMemory → 1 ≤ length arguments.now }
 {
     match arguments {
         [] => Ok(request),
@@ -72,7 +76,8 @@ fn alone(request: Request, arguments: &[Word<'_>]) -> Result<Request, ParseError
 /// The name of a mark.
 #[tactic(auto, unfolding(crate::specs::Line::name_of))]
 fn mark_name(alloc: Global, arguments: &[Word<'_>]) -> Result<Items<u8>, ParseError>
-    ensures { Gives (λ name. name.items) result (name_of (map word_of arguments.now)) }
+    ensures answer { Gives (λ name. name.items) result (name_of (map word_of arguments.now)) }
+    ensures no_memory { IsErrOf result ParseError.NoMemory → 1 ≤ length arguments.now }
 {
     let [name] = arguments else {
         return Err(ParseError::BadArguments);
@@ -82,7 +87,8 @@ fn mark_name(alloc: Global, arguments: &[Word<'_>]) -> Result<Items<u8>, ParseEr
 
 #[tactic(auto, unfolding(crate::specs::Line::list_of))]
 fn list(alloc: Global, arguments: &[Word<'_>]) -> Result<Request, ParseError>
-    ensures { Gives request_of result (list_of (map word_of arguments.now)) }
+    ensures answer { Gives request_of result (list_of (map word_of arguments.now)) }
+    ensures no_memory { IsErrOf result ParseError.NoMemory → 1 ≤ length arguments.now }
 {
     match arguments {
         [] => Ok(Request::List(What::Whole)),

@@ -99,7 +99,7 @@ behind_blanks gap bytes blanks e = cut (position_or_len (λ b. not (is_blank b))
     cut : (k : ℕ) → k ≡ length gap → drop k (gap ++ bytes) ≡ bytes
     cut k is = rw is (drop-append_seam gap bytes)
 
-blanks_end : (bytes : List ℕ) → AreBlanks bytes → after_blanks bytes ≡ []
+pub blanks_end : (bytes : List ℕ) → AreBlanks bytes → after_blanks bytes ≡ []
 blanks_end bytes blanks = ap after_blanks (sym (append-nil bytes)) ∙ behind_blanks bytes [] blanks refl
 
 unquoted : (q : Bool) (x y z : Option (Word × List ℕ)) → q ≡ false → y ≡ z → cond q x y ≡ z
@@ -121,7 +121,7 @@ no_gap bytes (Bare (b ∷ name)) rest s =
     ap (λ (bs : List ℕ). position_or_len (λ b. not (is_blank b)) (bs ++ rest)) s.0 ∙ rw no_blank refl
 no_gap bytes (Quoted text) rest s = ap (λ (bs : List ℕ). position_or_len (λ b. not (is_blank b)) (bs ++ rest)) s.1
 
-next_again : (line gap spelled rest : List ℕ) (word : Word) → line ≡ gap ++ (spelled ++ rest) → AreBlanks gap → SpellsWord spelled word → ends_word rest ≡ true → word_at line ≡ Some (word, rest)
+pub next_again : (line gap spelled rest : List ℕ) (word : Word) → line ≡ gap ++ (spelled ++ rest) → AreBlanks gap → SpellsWord spelled word → ends_word rest ≡ true → word_at line ≡ Some (word, rest)
 unfolding word_at
 next_again line gap spelled rest word whole blanks s e =
     ap (λ (bytes : List ℕ). first_word (after_blanks bytes)) whole ∙ ap first_word (behind_blanks gap (spelled ++ rest) blanks (no_gap spelled word rest s)) ∙ word_again spelled word rest s e

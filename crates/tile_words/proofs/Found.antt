@@ -159,7 +159,7 @@ gap_blank line = blanks_from (gap_of line) (fronts (λ b. not (is_blank b)) line
 gap_first : (line : List ℕ) → line ≡ gap_of line ++ after_blanks line
 gap_first line = sym (take-append-drop (position_or_len (λ b. not (is_blank b)) line) line)
 
-word_spelled : (line : List ℕ) (word : Word) (rest : List ℕ) (words : List Word) → word_at line ≡ Some (word, rest) → SpellsWords rest words → SpellsWords line (word ∷ words)
+pub word_spelled : (line : List ℕ) (word : Word) (rest : List ℕ) (words : List Word) → word_at line ≡ Some (word, rest) → SpellsWords rest words → SpellsWords line (word ∷ words)
 unfolding word_at
 word_spelled line word rest words read others =
     let f = first_spelled (after_blanks line) word rest (head_behind line) read in
@@ -175,7 +175,7 @@ words_spelled (suc n) line blanks = stepped (word_at line) refl (words_spelled n
     stepped None read others left = left
     stepped (Some x) read others left = word_spelled line x.0 x.1 (repeated word_at n x.1).0 read (others x.1 left)
 
-left_blank : (rest : List ℕ) → eqb (length (after_blanks rest)) 0 ≡ true → AreBlanks rest
+pub left_blank : (rest : List ℕ) → eqb (length (after_blanks rest)) 0 ≡ true → AreBlanks rest
 left_blank rest test =
     let nothing : after_blanks rest ≡ [] = nil_from_length (after_blanks rest) (eqb-true (length (after_blanks rest)) 0 test) in
     subst AreBlanks (sym (gap_first rest ∙ ap (λ (xs : List ℕ). gap_of rest ++ xs) nothing ∙ append-nil (gap_of rest))) (gap_blank rest)

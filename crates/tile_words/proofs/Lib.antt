@@ -1,5 +1,6 @@
 pub mod Again
 pub mod Found
+mod Lone
 pub mod Places
 pub mod Repeats
 pub mod Short

@@ -1,5 +1,5 @@
 -- The words of a line. Blanks stand between them: spaces, tabs and carriage returns.
-use Rattle.std.specs.Prelude.{ℕ, zero, suc, ◌+◌, ◌*◌, Bool, true, ◌&&◌, ◌||◌, not, List, [], ◌∷◌, length, drop, Option, Some, None, option_map, ◌==◌, nat_lt, if◌then◌else◌}
+use Rattle.std.specs.Prelude.{◌≡◌, ℕ, zero, suc, ◌+◌, ◌*◌, Bool, true, ◌&&◌, ◌||◌, not, List, [], ◌∷◌, length, drop, Option, Some, None, option_map, ◌==◌, nat_lt, if◌then◌else◌}
 use Rattle.std.specs.Option.{option_map_or}
 use Rattle.std.specs.List.{position_or_len, before_first}
 use Rattle.std.specs.Char.{digit_value}
@@ -46,9 +46,8 @@ hex_byte high low = if nat_lt (digit_value high) 8 && nat_lt (digit_value low) 1
 
 -- the byte of two hexadecimal digits at the beginning, and what follows them
 abbrev pub hex_at : List ℕ → Option (ℕ × List ℕ)
-hex_at [] = None
-hex_at (high ∷ []) = None
 hex_at (high ∷ low ∷ more) = option_map (λ b. (b, more)) (hex_byte high low)
+hex_at bytes = None
 
 -- the byte behind a backslash: `x` and two digits, a quote or a backslash; and what follows
 abbrev pub escape_at : List ℕ → Option (ℕ × List ℕ)
@@ -97,3 +96,7 @@ all_found found = if length (after_blanks found.1) == 0 then Some found.0 else N
 -- the words of a line, or none where something in it is no word
 unfoldable pub words_of : List ℕ → Option (List Word)
 words_of line = all_found (taken word_at line)
+
+-- the line is one word alone
+abbrev pub IsLoneWord : List ℕ → Type 0
+IsLoneWord line = (word : Word) × (words_of line ≡ Some (word ∷ []))

@@ -1,8 +1,9 @@
 //! The words of a line, and why a line is refused.
 //!
 //! - The words of a line are those of the definition, or one of them is no word; out of memory
-//!   alone may come in place of that: `words_of`. The text of a quoted word, and what stands behind
-//!   blanks, are as defined: `text`, `after_blanks`.
+//!   alone may come in place of that: `words_of`. A line that is one word alone is read without
+//!   memory: `lone_word`. The text of a quoted word, and what stands behind blanks, are as defined:
+//!   `text`, `after_blanks`.
 #![tactic(auto)]
 
 pub mod laws;
@@ -10,4 +11,4 @@ mod parse_error;
 mod words;
 
 pub use parse_error::ParseError;
-pub use words::{Word, after_blanks, text, words_of};
+pub use words::{Word, after_blanks, lone_word, text, words_of};

@@ -1,8 +1,8 @@
 //! The words of a line, each with the bytes where it stands; the text of a quoted one.
 
-ghost use Rattle.std.specs.Prelude.{◌≡◌, ◌<◌, ◌≤◌, not, length, map, option_map, ok_or, IfOk, IfSome};
+ghost use Rattle.std.specs.Prelude.{◌≡◌, ◌<◌, ◌≤◌, [], ◌∷◌, not, length, map, option_map, ok_or, Some, IfOk, IfSome, IfNone};
 ghost use Rattle.std.specs.List.{position, position_or_len};
-ghost use Rattle.tile_words.specs.Words.{is_blank, ends_bare, after_blanks, ends_word, hex_byte, byte_at, text_at, quoted_at, bare_at, word_at, words_of};
+ghost use Rattle.tile_words.specs.Words.{is_blank, ends_bare, after_blanks, ends_word, hex_byte, byte_at, text_at, quoted_at, bare_at, word_at, words_of, IsLoneWord};
 ghost use Rattle.tile_words.specs.Answers.{Gives};
 ghost use Rattle.tile_words.specs.declared.parse_error.ParseError.TheVariants.{BadWord};
 ghost use Rattle.tile_words.specs.WordStands.{word_of};
@@ -158,6 +158,20 @@ fn word_at(bytes: &[u8]) -> Option<(Word<'_>, &[u8])>
         [] => None,
         [b'"', rest @ ..] => quoted_at(rest),
         word => bare_at(word),
+    }
+}
+
+/// The word of a line that is one word alone. It takes no memory.
+#[tactic(auto, using(crate::proofs::Lone::lone_found, crate::proofs::Lone::lone_rest))]
+pub fn lone_word(line: &[u8]) -> Option<Word<'_>>
+    ensures some { IfSome result (λ word. words_of line.now ≡ Some (word_of word ∷ [])) }
+    ensures none { IfNone result (¬ IsLoneWord line.now) }
+{
+    let (word, rest) = word_at(line)?;
+    if after_blanks(rest).is_empty() {
+        Some(word)
+    } else {
+        None
     }
 }
 

@@ -4,10 +4,10 @@ use Rattle.std.specs.declared.option.Option.{Option}
 use Rattle.std.specs.declared.vec.Vec.{Vec}
 use Rattle.std.specs.declared.alloc.Global.{Global}
 use Rattle.std.proofs.lemmas.List.{drop_at}
-use Rattle.mvt_document.specs.Opens.{OpensAs}
+use Rattle.mvt_document.specs.Opens.{OpensAs, OpensAsNothing}
 use Rattle.mvt_document.specs.Plain.{Document}
 use Rattle.tile_device.specs.Seen.{Seen}
-use Rattle.tile_run.specs.Course.{OpensAsNothing, IsFaultOf}
+use Rattle.tile_run.specs.Course.{IsFaultOf}
 use Rattle.tile_run.specs.DeviceLaws.{GivesUp, HasCause, HaveLowCounts}
 use Rattle.tile_run.specs.Headline.{Devices, AllServe, IsRunOf, Runs, outcome_of, tile_written}
 use Rattle.tileshell.specs.InMemory.{handed_out, bytes_in, tile_given, IsEditOf, EditsTile, RefusesFile, NamesLongScript}

@@ -3,10 +3,10 @@ use Rattle.std.specs.Prelude.{◌≡◌, ◌≢◌, ◌⊎◌, ◌↔◌, ℕ, �
 use Rattle.std.specs.declared.option.Option.{Option}
 use Rattle.std.specs.declared.vec.Vec.{Vec}
 use Rattle.std.specs.declared.alloc.Global.{Global}
-use Rattle.mvt_document.specs.Opens.{OpensAs}
+use Rattle.mvt_document.specs.Opens.{OpensAs, OpensAsNothing}
 use Rattle.mvt_document.specs.Plain.{Document}
 use Rattle.tile_lines.specs.Lines.{whole_lines}
-use Rattle.tile_run.specs.Course.{OpensAsNothing, IsFaultOf}
+use Rattle.tile_run.specs.Course.{IsFaultOf}
 use Rattle.tile_run.specs.Headline.{outcome_of}
 use Rattle.tile_reply.specs.Replies.{NoneIsOutOfMemory}
 use Rattle.tile_run.specs.Run.{Progress, after_lines, at_first, is_over, ran, tile_of}

@@ -7,12 +7,12 @@ use Rattle.mvt_document.proofs.varint.number_at_front.Goals.{else-last-eq9-via-t
 
 pub returns-in_err-last-clause-none : goal.returns-in_err-last-clause-none
 returns-in_err-last-clause-none c =
-    rw c.from_residual.ensures (none_ends c.args.bytes.now (ends_nowhere c.args.bytes.now c.in_err-last.ensures))
+    rw c.from_residual.ensures (λ number. none_ends c.args.bytes.now (ends_nowhere c.args.bytes.now c.in_err-last.ensures) number.thing.value number.thing.width number.rest number.holds number.spelled)
 
 pub returns-then-bytes-gt-TENTH_BYTE_MAX-clause-none : goal.returns-then-bytes-gt-TENTH_BYTE_MAX-clause-none
 returns-then-bytes-gt-TENTH_BYTE_MAX-clause-none c =
     let ends : EndsAt c.args.bytes.now c.in_ok-last.last = ends_at c.args.bytes.now c.in_ok-last.last c.in_ok-last.ensures in
-    none_fits c.args.bytes.now (λ k h. ends.high k (omega arith)) c.if-bytes-gt-TENTH_BYTE_MAX.true
+    λ number. none_fits c.args.bytes.now (λ k h. ends.high k (omega arith)) c.if-bytes-gt-TENTH_BYTE_MAX.true number.thing.value number.thing.width number.rest number.holds number.spelled
 
 pub loop-index-init : goal.loop-index-init
 loop-index-init c =

@@ -7,7 +7,7 @@ use Rattle.mvt_read.proofs.decode.decode_all.Goals as goal
 pub returns-in_default-clause-stops : goal.returns-in_default-clause-stops
 returns-in_default-clause-stops g c =
     stops_at g.T.Decode.as_field g.T.Decode.is_whole g.T.Decode.makes c.args.content.now c.loop-place.place c.loop-place.items.items c.loop-place.invariant c.loop-place-test.true
-    (λ field rest p m e. c.in_default.ensures.none field rest p.valid p.stored e)
+    (λ field rest p m e. c.in_default.ensures.none (record { thing = field; holds = p; rest = rest; spelled = e }))
 
 pub returns-in-Err-Broken-clause-stops : goal.returns-in-Err-Broken-clause-stops
 returns-in-Err-Broken-clause-stops g c =

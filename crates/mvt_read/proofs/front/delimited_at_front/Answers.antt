@@ -1,5 +1,8 @@
-use Rattle.mvt_read.proofs.Begins.{IsNumberAt, content_taken, content_whole, content_cut}
+use Rattle.mvt_read.proofs.Begins.{IsNumberAt, content_taken, content_whole, content_cut, length_missing}
 use Rattle.mvt_read.proofs.front.delimited_at_front.Goals as goal
+
+pub returns-in_err-length-clause-none : goal.returns-in_err-length-clause-none
+returns-in_err-length-clause-none c = rw c.from_residual.ensures (length_missing c.args.bytes.now c.in_err-length.ensures.none)
 
 pub returns-then-length-rest-clause-none : goal.returns-then-length-rest-clause-none
 returns-then-length-rest-clause-none c =

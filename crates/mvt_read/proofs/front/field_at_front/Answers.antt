@@ -6,9 +6,9 @@ pub returns-in_err-body-clause-none : goal.returns-in_err-body-clause-none
 returns-in_err-body-clause-none c =
     let n = c.in_ok-tag.tag in
     let s : IsNumberAt n.value n.width c.args.bytes.now = record { within = c.in_ok-tag.ensures.within; spelled = c.in_ok-tag.ensures.found; valid = n.spelled } in
-    rw c.from_residual-in_err-body.ensures (λ f rest p q e.
-    let r = body_front n.value n.width c.args.bytes.now f rest s p q e in
-    c.in_err-body.ensures.none f.body rest r.0 (rw c.from-start.ensures r.1))
+    rw c.from_residual-in_err-body.ensures (λ f.
+    let r = body_front n.value n.width c.args.bytes.now f.thing f.rest s f.holds.valid f.holds.stored f.spelled in
+    c.in_err-body.ensures.none (record { thing = f.thing.body; holds = r.0; rest = f.rest; spelled = rw c.from-start.ensures r.1 }))
 
 pub returns-clause-spelled : goal.returns-clause-spelled
 returns-clause-spelled c =

@@ -1,4 +1,4 @@
-use Rattle.std.proofs.Common.{◌≡◌, length, arith, append-nil, sym, ◌∙◌}
+use Rattle.std.proofs.Common.{◌≡◌, [], length, arith, append-nil, sym, ◌∙◌}
 use Rattle.mvt_read.specs.Fronts.{front_of}
 use Rattle.mvt_value.proofs.Fields.{one_message, value_of_field, shown_value}
 use Rattle.mvt_value.proofs.read.value_of.Goals as goal
@@ -18,5 +18,5 @@ returns-in_default-clause-only c = λ v h. absurd (
           let f = front_of w.in-Some.field in
           let one = one_message c.args.bytes.now f h.field w.in-Some.length w.in-Some.ensures.valid w.in-Some.ensures.stored h.valid h.stored w.in-Some.ensures.within w.in-Some.ensures.spelled h.spelled in
           w.if-length-bytes.false one.1
-      | in_default-via-in_default w ↦ w.in_default.ensures.none h.field _ h.valid h.stored (sym h.spelled ∙ sym (append-nil _))
+      | in_default-via-in_default w ↦ w.in_default.ensures.none (record { thing = h.field; holds = record { valid = h.valid; stored = h.stored }; rest = []; spelled = sym h.spelled ∙ sym (append-nil _) })
     ])

@@ -9,7 +9,7 @@ use Rattle.mvt_numbers.proofs.packed.Packed.first.Goals as goal
 pub returns-in_default : goal.returns-in_default
 returns-in_default c =
     let p = c.args.self in
-    packed-bad p.field p.place (drop p.place p.bytes.now) (omega (arith, length-drop p.place p.bytes.now)) (λ number rest valid e. c.in_default.ensures.none number.value number.width rest valid (take_rest p.bytes.now p.place ∙ e))
+    packed-bad p.field p.place (drop p.place p.bytes.now) (omega (arith, length-drop p.place p.bytes.now)) (λ number rest valid e. c.in_default.ensures.none (record { thing = number; holds = valid; rest = rest; spelled = take_rest p.bytes.now p.place ∙ e }))
 
 pub returns : goal.returns
 returns c =
