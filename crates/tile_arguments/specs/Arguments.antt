@@ -1,5 +1,5 @@
 -- What single arguments of a request say.
-use Rattle.std.specs.Prelude.{ℕ, ◌-◌, ◌^◌, ℤ, pos, neg_ℤ, Bool, true, false, ◌&&◌, not, List, [], ◌∷◌, length, Option, Some, None, option_map, option_and_then, ok_or, Result, Ok, Err, ◌==◌, nat_eq, nat_lt, nat_le, drop, if◌then◌else◌, codes}
+use Rattle.std.specs.Prelude.{ℕ, ◌-◌, ◌^◌, ℤ, pos, neg_ℤ, Bool, true, false, ◌&&◌, not, List, [], ◌∷◌, length, Option, Some, None, option_map, option_and_then, ok_or, Result, Ok, Err, IsOk, ◌==◌, nat_eq, nat_lt, nat_le, drop, if◌then◌else◌, codes}
 use Rattle.std.specs.List.{starts_with, before_first, after_first, slice_split, list_all}
 use Rattle.std.specs.Option.{option_zip}
 use Rattle.std.specs.Result.{result_ok}
@@ -208,3 +208,9 @@ geometry_of (Bare name ∷ words) = do
   kind ← kind_of name
   parts ← parts_of words
   shaped kind parts
+
+-- the words name a kind, and behind it are points and bars alone
+abbrev pub DrawsPoints : List Word → Type 0
+DrawsPoints [] = ⊥
+DrawsPoints (Quoted text ∷ words) = ⊥
+DrawsPoints (Bare name ∷ words) = IsOk (kind_of name) × IsOk (parts_of words)

@@ -2,8 +2,9 @@
 //!
 //! - A number, a coordinate, and a feature are read as the definition says, or refused as it says:
 //!   `number`, `number_argument`, `distance`, `feature_choice`. So are a text, a layer, a value by
-//!   its type, and a geometry, where out of memory alone may come in place of that:
-//!   `text_argument`, `text_arguments`, `layer_choice`, `new_value`, `new_geometry`.
+//!   its type, and a geometry, where out of memory alone may come in place of that (`answer`), and
+//!   only where the words say a text, or a kind and points (`no_memory`): `text_argument`,
+//!   `text_arguments`, `layer_choice`, `new_value`, `new_geometry`.
 #![tactic(auto)]
 
 mod choices;
