@@ -9,7 +9,9 @@ use Rattle.mvt_document.specs.Opens.{IsLayerItem}
 use Rattle.mvt_document.specs.Splicing.{part}
 use Rattle.mvt_document.specs.Wire.{bytes_of, layer_item_bytes}
 use Rattle.mvt_geometry.specs.Shapes.{Geometry}
+use Rattle.mvt_geometry.specs.Checks.{is_in_range}
 use Rattle.mvt_geometry.specs.Integers.{IsInRange}
+use Rattle.mvt_geometry.proofs.Checks.{in_range-Decides}
 use Rattle.mvt_geometry.specs.declared.EncodeError.{EncodeError}
 use Rattle.mvt_geometry.specs.declared.EncodeError.TheVariants as encode_errors
 use Rattle.mvt_view.specs.Views.{features_in}
@@ -17,14 +19,13 @@ use Rattle.mvt_document.specs.Lists.{CanSplice}
 use Rattle.mvt_document.specs.Places.{change_items}
 use Rattle.mvt_change.specs.Changes.{FitsStep, LayerStep, go_step}
 use Rattle.mvt_command.specs.Command.{InsertFeature, LayerChoice}
-use Rattle.mvt_meaning.specs.Meaning.{applied, feature_count, geometry_refusal, is_in_range, new_feature, within_limit}
+use Rattle.mvt_meaning.specs.Meaning.{applied, feature_count, geometry_refusal, new_feature, within_limit}
 use Rattle.mvt_meaning.specs.Ordinals.{insert_nth}
 use Rattle.mvt_meaning.specs.Selection.{is_feature, layer_positions, selected}
 use Rattle.mvt_meaning.specs.declared.refusal.Refusal.TheVariants.{BadPlace, NoMemory, OutOfRange, TooLarge}
 use Rattle.mvt_meaning.proofs.Found.{change_layer_found, items_at_found}
 use Rattle.mvt_edit.specs.Placing.{IsPlaceFor}
 use Rattle.mvt_edit.specs.Prepared.{IsPrepared}
-use Rattle.mvt_edit.proofs.InRange.{in_range_Decides}
 use Rattle.mvt_edit.proofs.MovesPrepared.{count_features, feature_count_found}
 use Rattle.mvt_edit.proofs.NamesAndIds.{limit_kept, limit_passed}
 use Rattle.mvt_edit.proofs.NewFeature.{new_feature_valid}
@@ -43,7 +44,7 @@ module _ (choice : LayerChoice) (index ordinal position : ℕ) (geometry : Geome
 
     pub insertion_out_of_range : ¬ IsInRange geometry → applied (InsertFeature choice index geometry) document ≡ Err OutOfRange
     insertion_out_of_range far =
-        let outside : is_in_range geometry ≡ false = false_from_ne_true (is_in_range geometry) (λ short. far ((in_range_Decides geometry).0 short)) in
+        let outside : is_in_range geometry ≡ false = false_from_ne_true (is_in_range geometry) (λ short. far ((in_range-Decides geometry).0 short)) in
         rw (chosen, inside, outside) refl
 
     -- as out of memory, or since it is out of range
@@ -63,7 +64,7 @@ module _ (choice : LayerChoice) (index ordinal position : ℕ) (geometry : Geome
     module _ (in_range : IsInRange geometry) where
       limited : applied (InsertFeature choice index geometry) document ≡ within_limit (change_items (insert_nth is_feature index (new_feature geometry)) position document)
       limited =
-          let short : is_in_range geometry ≡ true = (in_range_Decides geometry).1 in_range in
+          let short : is_in_range geometry ≡ true = (in_range-Decides geometry).1 in_range in
           rw (chosen, inside, short) (ap within_limit (change_layer_found document ordinal position layer placed there (insert_nth is_feature index (new_feature geometry))))
 
       pub insertion_too_large : MAX_FILE < length (bytes_of (go_step (LayerStep position place 0 (new_feature geometry ∷ [])) document)) → applied (InsertFeature choice index geometry) document ≡ Err TooLarge

@@ -11,7 +11,6 @@ pub mod Moving
 pub mod Inserting
 pub mod NewFeature
 pub mod MovesPrepared
-pub mod InRange
 pub mod InsertionPrepared
 pub mod Refusing
 pub mod PutLast

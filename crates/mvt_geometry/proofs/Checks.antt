@@ -19,10 +19,10 @@ each : {A : Type 0} (test : A → Bool) (P : A → Type 0) → ((x : A) → Deci
 each test P one [] = (λ _. tt, λ _. refl)
 each test P one (x ∷ list) = Decides-and (test x) (list_all test list) (one x) (each test P one list)
 
-counted : (kind : Kind) (count : ℕ) → Decides (is_part_count kind count) (IsPartCount kind count)
-counted Dots count = Decides-eqb count 1
-counted Lines count = leb-Decides 1 count
-counted Areas count = leb-Decides 1 count
+pub counted-Decides : (kind : Kind) (count : ℕ) → Decides (is_part_count kind count) (IsPartCount kind count)
+counted-Decides Dots count = Decides-eqb count 1
+counted-Decides Lines count = leb-Decides 1 count
+counted-Decides Areas count = leb-Decides 1 count
 
 placed : (p : Point) → Decides (is_placed p) (IsPlaced p)
 placed p =
@@ -37,10 +37,10 @@ part kind points =
 geometry : (g : Geometry) → Decides (is_geometry g) (IsGeometry g)
 geometry g =
     Decides-like (is_geometry g) (λ (h : IsPartCount g.kind (length g.parts) × AllByRecursion (IsPart g.kind) g.parts). record { counted = h.0; parts = h.1 }) (λ h. (h.counted, h.parts))
-    (Decides-and _ _ (counted g.kind (length g.parts)) (each (is_part g.kind) (IsPart g.kind) (part g.kind) g.parts))
+    (Decides-and _ _ (counted-Decides g.kind (length g.parts)) (each (is_part g.kind) (IsPart g.kind) (part g.kind) g.parts))
 
-in_range : (g : Geometry) → Decides (is_in_range g) (IsInRange g)
-in_range g =
+pub in_range-Decides : (g : Geometry) → Decides (is_in_range g) (IsInRange g)
+in_range-Decides g =
     Decides-like (is_in_range g) (λ (h : AllByRecursion IsWay (ways origin (joined g.parts)) × AllByRecursion (IsRepeated g.kind) g.parts). record { short = h.0; repeated = h.1 }) (λ h. (h.short, h.repeated))
     (Decides-and _ _ (each is_way IsWay (λ way. Decides-ltb (unsigned_abs way) (2 ^ 31)) (ways origin (joined g.parts))) (each (is_repeated g.kind) (IsRepeated g.kind) (λ points. Decides-ltb (repeats g.kind points) (2 ^ 29)) g.parts))
 
@@ -50,4 +50,4 @@ has_geometry-Decides kind numbers g =
     Decides-like (has_geometry kind numbers g)
     (λ (h : (kind ≡ number_of g.kind) × (IsGeometry g × (IsInRange g × (numbers ≡ integers g)))). record { of_kind = h.0; valid = h.1.0; in_range = h.1.1.0; spelled = h.1.1.1 })
     (λ h. (h.of_kind, (h.valid, (h.in_range, h.spelled))))
-    (Decides-and _ _ (Decides-eqb kind (number_of g.kind)) (Decides-and _ _ (geometry g) (Decides-and _ _ (in_range g) (bytes_eq-Decides numbers (integers g)))))
+    (Decides-and _ _ (Decides-eqb kind (number_of g.kind)) (Decides-and _ _ (geometry g) (Decides-and _ _ (in_range-Decides g) (bytes_eq-Decides numbers (integers g)))))

@@ -6,5 +6,5 @@ pub mod Packs
 pub mod Only
 pub mod Small
 pub mod Mapped
-mod Checks
+pub mod Checks
 pub mod Found

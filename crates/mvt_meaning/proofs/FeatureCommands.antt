@@ -9,7 +9,8 @@ use Rattle.mvt_document.specs.Places.{in_feature}
 use Rattle.mvt_view.specs.Views.{feature_in, features, features_in, layers, plain_in, value_in}
 use Rattle.mvt_meaning.specs.Ordinals.{change_nth, insert_nth, move_nth, without}
 use Rattle.mvt_meaning.specs.Selection.{is_feature, selected, selected_feature, selected_in}
-use Rattle.mvt_meaning.specs.Meaning.{◌>>=◌, change_feature, change_layer, feature_count, identified, is_id, is_in_range, new_feature, new_number, refuse_if, with_id, with_number, within_limit, without_id}
+use Rattle.mvt_geometry.specs.Checks.{is_in_range}
+use Rattle.mvt_meaning.specs.Meaning.{◌>>=◌, change_feature, change_layer, feature_count, identified, is_id, new_feature, new_number, refuse_if, with_id, with_number, within_limit, without_id}
 use Rattle.mvt_meaning.specs.Kept.{ChangesFeature}
 use Rattle.mvt_meaning.specs.FeatureLaws.{ClearIdClears, ClearsId, DropFeatureDrops, DropsFeature, InsertFeatureInserts, InsertsFeature, MoveFeatureMoves, MovesFeature, SetIdSets, SetsId}
 use Rattle.mvt_meaning.specs.declared.refusal.Refusal.TheVariants.{BadPlace, OutOfRange}

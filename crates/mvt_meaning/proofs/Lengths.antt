@@ -13,7 +13,8 @@ use Rattle.mvt_command.specs.Command.{Command, RenameLayer, MoveLayer, DropLayer
 use Rattle.mvt_meaning.specs.Ordinals.{from_nth, change_first, change_nth, without, before, behind, move_nth, insert_nth}
 use Rattle.mvt_meaning.specs.Selection.{is_feature, is_layer, selected, selected_in}
 use Rattle.mvt_view.specs.Views.{layers}
-use Rattle.mvt_meaning.specs.Meaning.{◌>>=◌, applied, refuse_if, layer_count, feature_count, is_in_range, within_limit, change_layer, change_feature, is_id, is_kept, is_taken, without_id, identified, named_items, new_feature}
+use Rattle.mvt_geometry.specs.Checks.{is_in_range}
+use Rattle.mvt_meaning.specs.Meaning.{◌>>=◌, applied, refuse_if, layer_count, feature_count, within_limit, change_layer, change_feature, is_id, is_kept, is_taken, without_id, identified, named_items, new_feature}
 use Rattle.mvt_meaning.specs.Weights.{weigh}
 use Rattle.mvt_meaning.specs.SizeLaws.{CommandFits, NeverLonger, may_lengthen}
 use Rattle.mvt_meaning.specs.declared.refusal.Refusal.{Refusal}

@@ -11,7 +11,8 @@ use Rattle.mvt_command.proofs.Others.{Other, either}
 use Rattle.mvt_view.specs.Views.{features, has_id, is_named, layers, ordinals_of, the_one}
 use Rattle.mvt_meaning.specs.MemoryLaws.{NoCommandIsOutOfMemory}
 use Rattle.mvt_meaning.specs.Selection.{selected, selected_feature, selected_in}
-use Rattle.mvt_meaning.specs.Meaning.{◌>>=◌, applied, refuse_if, within_limit, is_taken, is_kept, is_in_range, layer_count, feature_count}
+use Rattle.mvt_geometry.specs.Checks.{is_in_range}
+use Rattle.mvt_meaning.specs.Meaning.{◌>>=◌, applied, refuse_if, within_limit, is_taken, is_kept, layer_count, feature_count}
 use Rattle.mvt_meaning.specs.declared.refusal.Refusal.{Refusal}
 use Rattle.mvt_meaning.specs.declared.refusal.Refusal.TheVariants.{NoMemory, NoLayer, AmbiguousLayer, NoFeature, AmbiguousFeature, BadPlace, NameTaken, OutOfRange, TooLarge}
 

@@ -8,12 +8,14 @@ use Rattle.mvt_document.specs.Wire.{spelling}
 use Rattle.mvt_geometry.specs.Shapes.{Geometry, IsGeometry, number_of}
 use Rattle.mvt_geometry.specs.Integers.{IsInRange, IsRepeated, IsWay, encoded, integers, joined, origin, repeats, ways}
 use Rattle.mvt_geometry.specs.Laws as geometry_laws
+use Rattle.mvt_geometry.specs.Checks.{is_in_range}
+use Rattle.mvt_geometry.proofs.Checks.{in_range-Decides}
 use Rattle.mvt_geometry.proofs.Small.{packs_integers}
 use Rattle.mvt_numbers.specs.Numbers.{Placed, all_good, and_more, numbers, packed, pieces, through_bad}
 use Rattle.mvt_numbers.specs.Laws.{in_a_row}
 use Rattle.mvt_numbers.proofs.Pieces.{row-packed}
 use Rattle.mvt_view.specs.Attributes.{values_in}
-use Rattle.mvt_meaning.specs.Meaning.{is_in_range, minimal, new_content, new_number}
+use Rattle.mvt_meaning.specs.Meaning.{minimal, new_content, new_number}
 use Rattle.mvt_meaning.specs.FeatureLaws.{IsNew}
 
 -- the feature that new_feature has
@@ -23,22 +25,6 @@ drawn_feature geometry = record {
   width = 1;
   fields = new_number 24 (number_of geometry.kind) ∷ new_content 34 (encoded geometry) ∷ [];
 }
-
--- ---- the range
-
-none_any : {A : Type 0} (fails : A → Bool) (P : A → Type 0) → ((x : A) → fails x ≡ false → P x) → (xs : List A) → list_any fails xs ≡ false → AllByRecursion P xs
-none_any fails P each [] e = tt
-none_any fails P each (x ∷ xs) e =
-    let parts = or_parts (fails x) (list_any fails xs) e in
-    (each x parts.0, none_any fails P each xs parts.1)
-
-in_range : (geometry : Geometry) → is_in_range geometry ≡ true → IsInRange geometry
-in_range geometry e =
-    let parts = and_parts (not (list_any (λ way. nat_lt (2 ^ 31 - 1) (unsigned_abs way)) (ways origin (joined geometry.parts)))) (not (list_any (λ points. nat_lt (2 ^ 29 - 1) (repeats geometry.kind points)) geometry.parts)) e in
-    record {
-      short = none_any (λ way. nat_lt (2 ^ 31 - 1) (unsigned_abs way)) IsWay (λ way low. let at_most = ltb-false (2 ^ 31 - 1) (unsigned_abs way) low in omega arith) (ways origin (joined geometry.parts)) (not-true _ parts.0);
-      repeated = none_any (λ points. nat_lt (2 ^ 29 - 1) (repeats geometry.kind points)) (IsRepeated geometry.kind) (λ points low. let at_most = ltb-false (2 ^ 29 - 1) (repeats geometry.kind points) low in omega arith) geometry.parts (not-true _ parts.1);
-    }
 
 -- ---- its numbers
 
@@ -66,7 +52,7 @@ numbers_drawn geometry valid range =
 
 pub is_new : (geometry : Geometry) → IsGeometry geometry → is_in_range geometry ≡ true → IsNew geometry (drawn_feature geometry)
 is_new geometry valid short =
-    let range = in_range geometry short in
+    let range = (in_range-Decides geometry).0 short in
     record {
       drawn = record {
         integers = integers geometry;

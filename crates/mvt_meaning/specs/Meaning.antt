@@ -9,7 +9,8 @@ use Rattle.mvt_document.specs.declared.TheConstants.{MAX_FILE}
 use Rattle.mvt_document.specs.Plain.{Number, Body, Spelled, Eight, Four, Delimited, Group, Field, LayerItem, OfFeature, PlainInLayer, TileItem, OfLayer, PlainInTile, Document}
 use Rattle.mvt_document.specs.Wire.{bytes_of, minimal_width}
 use Rattle.mvt_geometry.specs.Shapes.{Geometry, number_of}
-use Rattle.mvt_geometry.specs.Integers.{encoded, joined, origin, repeats, ways}
+use Rattle.mvt_geometry.specs.Integers.{encoded}
+use Rattle.mvt_geometry.specs.Checks.{is_in_range}
 use Rattle.mvt_geometry.specs.declared.faults.EncodeError.{EncodeError}
 use Rattle.mvt_geometry.specs.declared.faults.EncodeError.TheVariants as encode_errors
 use Rattle.mvt_view.specs.Views.{content_in, features_in, is_named, layers, ordinals_of, value_in}
@@ -118,13 +119,6 @@ new_feature geometry = OfFeature (record {
   width = 1;
   fields = new_number 24 (number_of geometry.kind) ∷ new_content 34 (encoded geometry) ∷ [];
 })
-
--- each way of the geometry is from -(2^31 - 1) to 2^31 - 1, and each command is carried out fewer than 2^29 times
--- (tiles 4.3)
-abbrev pub is_in_range : Geometry → Bool
-is_in_range geometry =
-    not (list_any (λ way. nat_lt (2 ^ 31 - 1) (unsigned_abs way)) (ways origin (joined geometry.parts)))
-    && not (list_any (λ points. nat_lt (2 ^ 29 - 1) (repeats geometry.kind points)) geometry.parts)
 
 -- ---- places in a document
 
