@@ -1,7 +1,7 @@
 -- What a command makes of a document, and when it is refused. `applied` has a line for each refusal, in their order,
 -- and one for the meaning: a list of the tile, of a layer or of a feature in which one item is changed, left out, moved
 -- or new, or which is filtered.
-use Rattle.std.specs.Prelude.{ℕ, ◌-◌, ◌^◌, ◌==◌, nat_lt, Bool, true, ◌&&◌, not, unsigned_abs, List, [], ◌∷◌, length, filter, slice_get, Option, None, Result, Ok, Err, is_some, if◌then◌else◌}
+use Rattle.std.specs.Prelude.{ℕ, ◌==◌, nat_lt, Bool, true, not, List, [], ◌∷◌, length, filter, slice_get, Option, None, Result, Ok, Err, is_some, if◌then◌else◌}
 use Rattle.std.specs.List.{list_any}
 use Rattle.std.specs.Option.{option_map_or}
 use Rattle.std.specs.Result.{result_unwrap_or}

@@ -1,6 +1,7 @@
 -- No argument is refused as out of memory by its definition.
 use Rattle.std.proofs.Common.{◌≡◌, ◌≢◌, ℕ, List, [], ◌∷◌, Option, Some, None, Result, Ok, Err, refl, subst}
 use Rattle.std.specs.Prelude.{codes, ok_or}
+use Rattle.std.specs.List.{find}
 use Rattle.std.specs.Str.{bytes_eq}
 use Rattle.mvt_geometry.specs.declared.shapes.Point.{Point}
 use Rattle.mvt_geometry.specs.declared.shapes.Kind.{Kind}
@@ -11,7 +12,7 @@ use Rattle.tile_words.specs.declared.parse_error.ParseError.{ParseError}
 use Rattle.tile_words.specs.declared.parse_error.ParseError.TheVariants as parse
 use Rattle.mvt_command.proofs.Others.{Other, either}
 use Rattle.tile_arguments.proofs.Judged.{only_other, texts_only, parts_only}
-use Rattle.tile_arguments.specs.Arguments.{behind, is_number, number_of, number_in, text_in, text_of, texts_of, layer_by, layer_of, feature_by, feature_of, parts_of, kind_of, are_parts, shaped, geometry_of}
+use Rattle.tile_arguments.specs.Arguments.{behind, is_number, number_of, number_in, text_in, text_of, texts_of, layer_by, layer_of, feature_by, feature_of, parts_of, kinds, kind_word, kind_of, are_parts, shaped, geometry_of}
 
 pub then_other : {A B : Type 0} (r : Result A ParseError) (f : A → Result B ParseError) → Other parse.NoMemory r → ((x : A) → Other parse.NoMemory (f x)) → Other parse.NoMemory (r >>= f)
 then_other (Ok x) f first second = second x
@@ -64,10 +65,7 @@ texts_other words = only_other parse.BadArguments (texts_of words) (λ e. cc) (t
 
 pub kind_other : (name : List ℕ) → Other parse.NoMemory (kind_of name)
 unfolding kind_of
-kind_other name =
-    either parse.NoMemory (bytes_eq name (codes "point")) _ _ tt (
-    either parse.NoMemory (bytes_eq name (codes "line")) _ _ tt (
-    either parse.NoMemory (bytes_eq name (codes "polygon")) _ _ tt (λ e. cc)))
+kind_other name = ok_or_other (find (λ kind. bytes_eq name (kind_word kind)) kinds) parse.BadGeometryText (λ e. cc)
 
 shaped_other : (kind : Kind) (parts : List (List Point)) → Other parse.NoMemory (shaped kind parts)
 unfolding shaped

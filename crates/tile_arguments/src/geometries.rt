@@ -7,7 +7,7 @@ ghost use Rattle.mvt_geometry.specs.Shapes.{IsPlaced};
 ghost use Rattle.mvt_geometry.specs.Stands.{points_of};
 ghost use Rattle.tile_words.specs.Answers.{Gives};
 ghost use Rattle.tile_words.specs.WordStands.{word_of};
-ghost use Rattle.tile_arguments.specs.Arguments.{point_in, point_of, part_of, is_bar, parts_of, shaped, kind_of, geometry_of, DrawsPoints};
+ghost use Rattle.tile_arguments.specs.Arguments.{point_in, point_of, part_of, is_bar, parts_of, shaped, kind_word, kind_of, geometry_of, DrawsPoints};
 
 use crate::numbers::way;
 use mvt_document::Items;
@@ -41,16 +41,27 @@ fn shaped(kind: Kind, parts: Items<Part>) -> Result<Geometry, ParseError>
     }
 }
 
-/// The kind of this name.
+/// The word of a kind.
+pub fn kind_word(kind: Kind) -> &'static [u8]
+    ensures { result.now ≡ kind_word kind }
+{
+    match kind {
+        Kind::Dots => b"point",
+        Kind::Lines => b"line",
+        Kind::Areas => b"polygon",
+    }
+}
+
+/// The kind with this word.
 #[tactic(auto, unfolding(crate::specs::Arguments::kind_of))]
 fn kind_of(name: &[u8]) -> Result<Kind, ParseError>
     ensures { result ≡ kind_of name.now }
 {
-    if name == b"point".as_slice() {
+    if name == kind_word(Kind::Dots) {
         Ok(Kind::Dots)
-    } else if name == b"line".as_slice() {
+    } else if name == kind_word(Kind::Lines) {
         Ok(Kind::Lines)
-    } else if name == b"polygon".as_slice() {
+    } else if name == kind_word(Kind::Areas) {
         Ok(Kind::Areas)
     } else {
         Err(ParseError::BadGeometryText)
