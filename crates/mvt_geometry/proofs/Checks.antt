@@ -19,10 +19,10 @@ each : {A : Type 0} (test : A → Bool) (P : A → Type 0) → ((x : A) → Deci
 each test P one [] = (λ _. tt, λ _. refl)
 each test P one (x ∷ list) = Decides-and (test x) (list_all test list) (one x) (each test P one list)
 
-counted : (kind : Kind) (count : ℕ) → Decides (is_part_count kind count) (IsPartCount kind count)
-counted Dots count = Decides-eqb count 1
-counted Lines count = leb-Decides 1 count
-counted Areas count = leb-Decides 1 count
+pub counted-Decides : (kind : Kind) (count : ℕ) → Decides (is_part_count kind count) (IsPartCount kind count)
+counted-Decides Dots count = Decides-eqb count 1
+counted-Decides Lines count = leb-Decides 1 count
+counted-Decides Areas count = leb-Decides 1 count
 
 placed : (p : Point) → Decides (is_placed p) (IsPlaced p)
 placed p =
@@ -37,7 +37,7 @@ part kind points =
 geometry : (g : Geometry) → Decides (is_geometry g) (IsGeometry g)
 geometry g =
     Decides-like (is_geometry g) (λ (h : IsPartCount g.kind (length g.parts) × AllByRecursion (IsPart g.kind) g.parts). record { counted = h.0; parts = h.1 }) (λ h. (h.counted, h.parts))
-    (Decides-and _ _ (counted g.kind (length g.parts)) (each (is_part g.kind) (IsPart g.kind) (part g.kind) g.parts))
+    (Decides-and _ _ (counted-Decides g.kind (length g.parts)) (each (is_part g.kind) (IsPart g.kind) (part g.kind) g.parts))
 
 pub in_range-Decides : (g : Geometry) → Decides (is_in_range g) (IsInRange g)
 in_range-Decides g =

@@ -66,8 +66,8 @@ all_repeated : (kind : Kind) (from : Point) (parts : List (List Point)) → AreI
 all_repeated kind from [] h = tt
 all_repeated kind from (part ∷ parts) h = (h.0.repeated, all_repeated kind (last_from from part) parts h.1)
 
-pub is_in_range : (kind : Kind) (parts : List (List Point)) → AreInRange kind origin parts → IsInRange (with kind parts)
-is_in_range kind parts h = record { short = all_short kind origin parts h; repeated = all_repeated kind origin parts h }
+pub whole_in_range : (kind : Kind) (parts : List (List Point)) → AreInRange kind origin parts → IsInRange (with kind parts)
+whole_in_range kind parts h = record { short = all_short kind origin parts h; repeated = all_repeated kind origin parts h }
 
 are_from : (kind : Kind) (from : Point) (parts : List (List Point)) → AllByRecursion IsWay (ways from (joined parts)) → AllByRecursion (IsRepeated kind) parts → AreInRange kind from parts
 are_from kind from [] short repeated = tt
@@ -75,8 +75,8 @@ are_from kind from (part ∷ parts) short repeated =
     let apart = ways_apart from part (joined parts) short in
     (record { short = apart.0; repeated = repeated.0 }, are_from kind (last_from from part) parts apart.1 repeated.1)
 
-pub are_in_range : (kind : Kind) (parts : List (List Point)) → IsInRange (with kind parts) → AreInRange kind origin parts
-are_in_range kind parts h = are_from kind origin parts h.short h.repeated
+pub parts_in_range : (kind : Kind) (parts : List (List Point)) → IsInRange (with kind parts) → AreInRange kind origin parts
+parts_in_range kind parts h = are_from kind origin parts h.short h.repeated
 
 -- two integers that are put one after the other
 pub two_put : (x y old between new : List ℕ) → between ≡ old ++ x → new ≡ between ++ y → new ≡ old ++ (x ++ (y ++ []))

@@ -10,7 +10,7 @@ use Rattle.mvt_geometry.specs.Shapes.{Point, Kind, Dots, Lines, Areas, Geometry,
 use Rattle.mvt_geometry.specs.Integers.{ways, parameters, last_from, path, origin, integers, IsWay, IsInRange}
 use Rattle.mvt_geometry.specs.Walks.{integers_of_part, integers_from, IsPartInRange, AreInRange}
 use Rattle.mvt_geometry.specs.Laws.{minimal, PacksIntegers}
-use Rattle.mvt_geometry.proofs.Packs.{integers-from, are_in_range}
+use Rattle.mvt_geometry.proofs.Packs.{integers-from, parts_in_range}
 
 abbrev IsSmall : ℕ → Type 0
 IsSmall integer = integer < 2 ^ 32
@@ -50,7 +50,7 @@ all_numbers (value ∷ values) h = (let small = h.0 in minimal_spelling value (o
 
 pub packs_integers : (g : Geometry) → IsGeometry g → IsInRange g → PacksIntegers g
 packs_integers g valid range =
-    let small = subst (λ (s : List ℕ). AllByRecursion IsSmall s) (integers-from g.kind g.parts valid.counted) (small_integers g.kind origin g.parts (are_in_range g.kind g.parts range)) in
+    let small = subst (λ (s : List ℕ). AllByRecursion IsSmall s) (integers-from g.kind g.parts valid.counted) (small_integers g.kind origin g.parts (parts_in_range g.kind g.parts range)) in
     record {
       spelled = sym (flat_map-map spelling minimal (integers g));
       valid = all_numbers (integers g) small;

@@ -1,12 +1,10 @@
 -- The feature that an insertion brings has the geometry.
-use Rattle.std.proofs.Common.{◌≡◌, ℕ, ◌+◌, ◌-◌, ◌^◌, Bool, true, false, not, Option, Some, None, option_map, List, [], ◌∷◌, ◌++◌, length, map, nat_lt, unsigned_abs, refl, ap, ◌∙◌, arith}
-use Rattle.std.proofs.lemmas.Bool.{and_parts, ltb-false, not-true, or_parts}
+use Rattle.std.proofs.Common.{◌≡◌, ℕ, ◌+◌, true, Option, Some, None, option_map, List, [], ◌∷◌, ◌++◌, length, map, refl, ap, ◌∙◌}
 use Rattle.std.proofs.lemmas.List.{append-nil}
-use Rattle.std.specs.List.{AllByRecursion, list_any}
 use Rattle.mvt_document.specs.Plain.{Feature}
 use Rattle.mvt_document.specs.Wire.{spelling}
 use Rattle.mvt_geometry.specs.Shapes.{Geometry, IsGeometry, number_of}
-use Rattle.mvt_geometry.specs.Integers.{IsInRange, IsRepeated, IsWay, encoded, integers, joined, origin, repeats, ways}
+use Rattle.mvt_geometry.specs.Integers.{IsInRange, encoded, integers}
 use Rattle.mvt_geometry.specs.Laws as geometry_laws
 use Rattle.mvt_geometry.proofs.Checks.{in_range-Decides}
 use Rattle.mvt_geometry.proofs.Small.{packs_integers}

@@ -1,7 +1,7 @@
 -- No argument is refused as out of memory by its definition.
-use Rattle.std.proofs.Common.{◌≢◌, ℕ, List, [], ◌∷◌, Option, Some, None, Result, Ok, Err}
-use Rattle.std.specs.Prelude.{codes, ok_or, option_and_then}
-use Rattle.std.specs.List.{slice_split}
+use Rattle.std.proofs.Common.{◌≡◌, ◌≢◌, ℕ, List, [], ◌∷◌, Option, Some, None, Result, Ok, Err, refl, subst}
+use Rattle.std.specs.Prelude.{codes, ok_or}
+use Rattle.std.specs.List.{find}
 use Rattle.std.specs.Str.{bytes_eq}
 use Rattle.mvt_geometry.specs.declared.shapes.Point.{Point}
 use Rattle.mvt_geometry.specs.declared.shapes.Kind.{Kind}
@@ -11,7 +11,8 @@ use Rattle.tile_words.specs.Answers.{◌>>=◌}
 use Rattle.tile_words.specs.declared.parse_error.ParseError.{ParseError}
 use Rattle.tile_words.specs.declared.parse_error.ParseError.TheVariants as parse
 use Rattle.mvt_command.proofs.Others.{Other, either}
-use Rattle.tile_arguments.specs.Arguments.{behind, bare_in, is_number, number_of, number_in, text_in, text_of, each, texts_of, layer_by, layer_of, feature_by, feature_of, point_in, point_of, part_of, is_bar, parts_of, kind_of, are_parts, shaped, geometry_of}
+use Rattle.tile_arguments.proofs.Judged.{only_other, texts_only, parts_only}
+use Rattle.tile_arguments.specs.Arguments.{behind, is_number, number_of, number_in, text_in, text_of, texts_of, layer_by, layer_of, feature_by, feature_of, parts_of, kinds, kind_word, kind_of, are_parts, shaped, geometry_of}
 
 pub then_other : {A B : Type 0} (r : Result A ParseError) (f : A → Result B ParseError) → Other parse.NoMemory r → ((x : A) → Other parse.NoMemory (f x)) → Other parse.NoMemory (r >>= f)
 then_other (Ok x) f first second = second x
@@ -21,7 +22,10 @@ pub ok_or_other : {A : Type 0} (o : Option A) (refusal : ParseError) → refusal
 ok_or_other None refusal other = other
 ok_or_other (Some x) refusal other = tt
 
-number_other : (bytes : List ℕ) → Other parse.NoMemory (number_of bytes)
+pub never_memory : {A : Type 0} (r : Result A ParseError) → Other parse.NoMemory r → r ≡ Err parse.NoMemory → ⊥
+never_memory r other e = let refused = subst (Other parse.NoMemory) e other in refused refl
+
+pub number_other : (bytes : List ℕ) → Other parse.NoMemory (number_of bytes)
 unfolding number_of
 number_other bytes = either parse.NoMemory (is_number bytes) _ _ tt (λ e. cc)
 
@@ -54,35 +58,14 @@ number_in_other (Quoted text) = λ e. cc
 
 -- ---- several arguments
 
-each_other : {A B : Type 0} (f : A → Result B ParseError) → ((x : A) → Other parse.NoMemory (f x)) → (xs : List A) → Other parse.NoMemory (each f xs)
-unfolding each
-each_other f other [] = tt
-each_other f other (x ∷ xs) = then_other (f x) _ (other x) (λ y. then_other (each f xs) _ (each_other f other xs) (λ ys. tt))
-
 pub texts_other : (words : List Word) → Other parse.NoMemory (texts_of words)
-unfolding texts_of
-texts_other words = each_other text_of text_other words
+texts_other words = only_other parse.BadArguments (texts_of words) (λ e. cc) (texts_only words)
 
 -- ---- geometries
 
-point_other : (word : Word) → Other parse.NoMemory (point_of word)
-unfolding point_of
-point_other word = ok_or_other (option_and_then point_in (bare_in word)) parse.BadGeometryText (λ e. cc)
-
-part_other : (words : List Word) → Other parse.NoMemory (part_of words)
-unfolding part_of
-part_other words = each_other point_of point_other words
-
-parts_other : (words : List Word) → Other parse.NoMemory (parts_of words)
-unfolding parts_of
-parts_other words = each_other part_of part_other (slice_split is_bar words)
-
-kind_other : (name : List ℕ) → Other parse.NoMemory (kind_of name)
+pub kind_other : (name : List ℕ) → Other parse.NoMemory (kind_of name)
 unfolding kind_of
-kind_other name =
-    either parse.NoMemory (bytes_eq name (codes "point")) _ _ tt (
-    either parse.NoMemory (bytes_eq name (codes "line")) _ _ tt (
-    either parse.NoMemory (bytes_eq name (codes "polygon")) _ _ tt (λ e. cc)))
+kind_other name = ok_or_other (find (λ kind. bytes_eq name (kind_word kind)) kinds) parse.BadGeometryText (λ e. cc)
 
 shaped_other : (kind : Kind) (parts : List (List Point)) → Other parse.NoMemory (shaped kind parts)
 unfolding shaped
@@ -93,4 +76,4 @@ unfolding geometry_of
 geometry_other [] = λ e. cc
 geometry_other (Quoted text ∷ words) = λ e. cc
 geometry_other (Bare name ∷ words) =
-    then_other (kind_of name) _ (kind_other name) (λ kind. then_other (parts_of words) _ (parts_other words) (λ parts. shaped_other kind parts))
+    then_other (kind_of name) _ (kind_other name) (λ kind. then_other (parts_of words) _ (only_other parse.BadGeometryText (parts_of words) (λ e. cc) (parts_only words)) (λ parts. shaped_other kind parts))

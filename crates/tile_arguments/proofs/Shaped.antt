@@ -4,16 +4,15 @@ use Rattle.std.specs.Prelude.{◌&&◌, ◌==◌, codes, option_map, option_and_
 use Rattle.std.specs.List.{AllByRecursion, before_first, after_first, list_all, slice_split}
 use Rattle.std.specs.Str.Parse.{digits_value}
 use Rattle.std.proofs.lemmas.Bool.{leb-true, le-leb}
-use Rattle.std.proofs.lemmas.Bool.Decides.{nat_tests}
-use Rattle.mvt_geometry.specs.Shapes.{Geometry, IsPartCount, least_points, IsPlaced, IsPart, IsGeometry}
+use Rattle.mvt_geometry.specs.Shapes.{Geometry, least_points, IsPlaced, IsPart, IsGeometry}
 use Rattle.mvt_geometry.specs.declared.shapes.Point.{Point}
 use Rattle.mvt_geometry.specs.declared.shapes.Kind.{Kind}
-use Rattle.mvt_geometry.specs.declared.shapes.Kind.TheVariants.{Dots, Lines, Areas}
 use Rattle.tile_words.specs.Answers.{◌>>=◌}
 use Rattle.tile_words.specs.Words.{Word}
 use Rattle.tile_words.specs.declared.parse_error.ParseError.{ParseError}
 use Rattle.tile_words.specs.declared.parse_error.ParseError.TheVariants.{BadGeometryText}
 use Rattle.mvt_geometry.specs.Checks.{is_part_count}
+use Rattle.mvt_geometry.proofs.Checks.{counted-Decides}
 use Rattle.tile_arguments.specs.Arguments.{behind, are_digits, number_up_to, signed_by, signed_of, way_of, each, point_at, point_in, bare_in, point_of, part_of, is_bar, parts_of, are_parts, shaped}
 use Rattle.tile_arguments.proofs.Digits.{both_true}
 
@@ -101,16 +100,6 @@ parts_placed words parts e = each_all part_of (AllByRecursion IsPlaced) part_pla
 
 -- ---- geometries
 
-counted : (kind : Kind) (count : ℕ) → is_part_count kind count ≡ true → IsPartCount kind count
-counted Dots count e = grind (arith, nat_tests)
-counted Lines count e = leb-true 1 count e
-counted Areas count e = leb-true 1 count e
-
-counts : (kind : Kind) (count : ℕ) → IsPartCount kind count → is_part_count kind count ≡ true
-counts Dots count e = grind (arith, nat_tests)
-counts Lines count le = le-leb 1 count le
-counts Areas count le = le-leb 1 count le
-
 enough_each : (kind : Kind) (parts : List (List Point)) → list_all (λ points. leb (least_points kind) (length points)) parts ≡ true → AllByRecursion (AllByRecursion IsPlaced) parts → AllByRecursion (IsPart kind) parts
 enough_each kind [] e placed = tt
 enough_each kind (points ∷ parts) e placed =
@@ -124,10 +113,10 @@ each_enough kind (points ∷ parts) all = rw (le-leb _ _ all.0.enough, each_enou
 is_shaped : (kind : Kind) (parts : List (List Point)) → AllByRecursion (AllByRecursion IsPlaced) parts → are_parts kind parts ≡ true → IsGeometry (record { kind = kind; parts = parts })
 is_shaped kind parts placed e =
     let both = both_true (is_part_count kind (length parts)) (list_all (λ points. leb (least_points kind) (length points)) parts) e in
-    record { counted = counted kind (length parts) both.0; parts = enough_each kind parts both.1 placed }
+    record { counted = (counted-Decides kind (length parts)).0 both.0; parts = enough_each kind parts both.1 placed }
 
 has_shape : (kind : Kind) (parts : List (List Point)) → IsGeometry (record { kind = kind; parts = parts }) → are_parts kind parts ≡ true
-has_shape kind parts valid = rw (counts kind (length parts) valid.counted, each_enough kind parts valid.parts) refl
+has_shape kind parts valid = rw ((counted-Decides kind (length parts)).1 valid.counted, each_enough kind parts valid.parts) refl
 
 pub shaped_ok : (kind : Kind) (parts : List (List Point)) → IsGeometry (record { kind = kind; parts = parts }) → shaped kind parts ≡ Ok (record { kind = kind; parts = parts })
 unfolding shaped

@@ -1,6 +1,6 @@
 -- What single arguments of a request say.
-use Rattle.std.specs.Prelude.{ℕ, ◌-◌, ◌^◌, ℤ, pos, neg_ℤ, Bool, true, false, ◌&&◌, not, List, [], ◌∷◌, length, Option, Some, None, option_map, option_and_then, ok_or, Result, Ok, Err, ◌==◌, nat_eq, nat_lt, nat_le, drop, if◌then◌else◌, codes}
-use Rattle.std.specs.List.{starts_with, before_first, after_first, slice_split, list_all}
+use Rattle.std.specs.Prelude.{ℕ, ◌-◌, ◌^◌, ℤ, pos, neg_ℤ, Bool, true, false, ◌&&◌, not, List, [], ◌∷◌, length, Option, Some, None, option_map, option_and_then, ok_or, Result, Ok, Err, IsOk, ◌==◌, nat_eq, nat_lt, nat_le, drop, if◌then◌else◌, codes}
+use Rattle.std.specs.List.{starts_with, before_first, after_first, slice_split, list_all, find}
 use Rattle.std.specs.Option.{option_zip}
 use Rattle.std.specs.Result.{result_ok}
 use Rattle.std.specs.Str.{bytes_eq, all_ascii_digits}
@@ -184,13 +184,19 @@ is_bar (Quoted text) = false
 unfoldable pub parts_of : List Word → Result (List (List Point)) ParseError
 parts_of words = each part_of (slice_split is_bar words)
 
--- the kind that the bytes name: `point`, `line` or `polygon`; else BadGeometryText
+-- the kinds
+abbrev pub kinds : List Kind
+kinds = Dots ∷ Lines ∷ Areas ∷ []
+
+-- the word of a kind: `point`, `line` or `polygon`
+abbrev pub kind_word : Kind → List ℕ
+kind_word Dots = codes "point"
+kind_word Lines = codes "line"
+kind_word Areas = codes "polygon"
+
+-- the kind whose word the bytes are; else BadGeometryText
 unfoldable pub kind_of : List ℕ → Result Kind ParseError
-kind_of name =
-    if bytes_eq name (codes "point") then Ok Dots
-    else (if bytes_eq name (codes "line") then Ok Lines
-    else (if bytes_eq name (codes "polygon") then Ok Areas
-    else Err BadGeometryText))
+kind_of name = ok_or (find (λ kind. bytes_eq name (kind_word kind)) kinds) BadGeometryText
 
 -- a geometry of this kind may have this many parts, and each part has enough points
 abbrev pub are_parts : Kind → List (List Point) → Bool
@@ -207,3 +213,9 @@ geometry_of (Bare name ∷ words) = do
   parts ← parts_of words
   shaped kind parts
 geometry_of words = Err BadGeometryText
+
+-- the words name a kind, and behind it are points and bars alone
+abbrev pub DrawsPoints : List Word → Type 0
+DrawsPoints [] = ⊥
+DrawsPoints (Quoted text ∷ words) = ⊥
+DrawsPoints (Bare name ∷ words) = IsOk (kind_of name) × IsOk (parts_of words)

@@ -1,9 +1,11 @@
 //! How a word selects a layer or a feature.
 
+ghost use Rattle.std.specs.Prelude.{IsSome};
+ghost use Rattle.std.specs.Result.{IsErrOf};
 ghost use Rattle.mvt_command.specs.CommandStands.{layer_choice_of, feature_choice_of};
 ghost use Rattle.tile_words.specs.Answers.{Gives, GivesAlways};
 ghost use Rattle.tile_words.specs.WordStands.{word_of};
-ghost use Rattle.tile_arguments.specs.Arguments.{layer_of, feature_of};
+ghost use Rattle.tile_arguments.specs.Arguments.{text_in, layer_of, feature_of};
 
 use crate::marks::behind;
 use crate::numbers::number;
@@ -15,7 +17,8 @@ use tile_words::{ParseError, Word};
 /// The layer that a word means.
 #[tactic(auto, unfolding(crate::specs::Arguments::layer_of))]
 pub fn layer_choice(alloc: Global, word: Word<'_>) -> Result<LayerChoice, ParseError>
-    ensures { Gives layer_choice_of result (layer_of (word_of word.entry)) }
+    ensures answer { Gives layer_choice_of result (layer_of (word_of word.entry)) }
+    ensures no_memory { IsErrOf result ParseError.NoMemory → IsSome (text_in (word_of word.entry)) }
 {
     match word {
         Word::Bare(bytes) => match behind(b"#", bytes) {

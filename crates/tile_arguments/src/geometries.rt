@@ -1,12 +1,13 @@
 //! Geometries, each by the name of its kind and its points.
 
-ghost use Rattle.std.specs.Prelude.{◌≡◌, ◌==◌, map, position};
-ghost use Rattle.std.specs.List.{AllByRecursion};
+ghost use Rattle.std.specs.Prelude.{◌≡◌, ◌==◌, ◌||◌, is_ok, IsOk, map, position};
+ghost use Rattle.std.specs.List.{AllByRecursion, list_all};
+ghost use Rattle.std.specs.Result.{IsErrOf};
 ghost use Rattle.mvt_geometry.specs.Shapes.{IsPlaced};
 ghost use Rattle.mvt_geometry.specs.Stands.{points_of};
 ghost use Rattle.tile_words.specs.Answers.{Gives};
 ghost use Rattle.tile_words.specs.WordStands.{word_of};
-ghost use Rattle.tile_arguments.specs.Arguments.{point_in, point_of, part_of, is_bar, parts_of, shaped, kind_of, geometry_of};
+ghost use Rattle.tile_arguments.specs.Arguments.{point_in, point_of, part_of, is_bar, parts_of, shaped, kind_word, kind_of, geometry_of, DrawsPoints};
 
 use crate::numbers::way;
 use mvt_document::Items;
@@ -17,7 +18,8 @@ use tile_words::{ParseError, Word};
 /// The geometry that words say: the name of its kind, and its points.
 #[tactic(auto, unfolding(crate::specs::Arguments::geometry_of))]
 pub fn new_geometry(alloc: Global, words: &[Word<'_>]) -> Result<Geometry, ParseError>
-    ensures { Gives (λ geometry. geometry) result (geometry_of (map word_of words.now)) }
+    ensures answer { Gives (λ geometry. geometry) result (geometry_of (map word_of words.now)) }
+    ensures no_memory { IsErrOf result ParseError.NoMemory → DrawsPoints (map word_of words.now) }
 {
     let [Word::Bare(name), words @ ..] = words else {
         return Err(ParseError::BadGeometryText);
@@ -39,16 +41,27 @@ fn shaped(kind: Kind, parts: Items<Part>) -> Result<Geometry, ParseError>
     }
 }
 
-/// The kind of this name.
+/// The word of a kind.
+pub fn kind_word(kind: Kind) -> &'static [u8]
+    ensures { result.now ≡ kind_word kind }
+{
+    match kind {
+        Kind::Dots => b"point",
+        Kind::Lines => b"line",
+        Kind::Areas => b"polygon",
+    }
+}
+
+/// The kind with this word.
 #[tactic(auto, unfolding(crate::specs::Arguments::kind_of))]
 fn kind_of(name: &[u8]) -> Result<Kind, ParseError>
     ensures { result ≡ kind_of name.now }
 {
-    if name == b"point".as_slice() {
+    if name == kind_word(Kind::Dots) {
         Ok(Kind::Dots)
-    } else if name == b"line".as_slice() {
+    } else if name == kind_word(Kind::Lines) {
         Ok(Kind::Lines)
-    } else if name == b"polygon".as_slice() {
+    } else if name == kind_word(Kind::Areas) {
         Ok(Kind::Areas)
     } else {
         Err(ParseError::BadGeometryText)
@@ -56,15 +69,28 @@ fn kind_of(name: &[u8]) -> Result<Kind, ParseError>
 }
 
 /// Parts with a bar between each two.
-#[tactic(auto, unfolding(crate::specs::Arguments::parts_of))]
+#[tactic(auto, using(crate::proofs::Judged::parts_said))]
 fn parts(alloc: Global, words: &[Word<'_>]) -> Result<Items<Part>, ParseError>
-    ensures { Gives (λ parts. map points_of parts.items) result (parts_of (map word_of words.now)) }
+    ensures answer { Gives (λ parts. map points_of parts.items) result (parts_of (map word_of words.now)) }
+    ensures no_memory { IsErrOf result ParseError.NoMemory → IsOk (parts_of (map word_of words.now)) }
 {
+    if !are_points(words) {
+        return Err(ParseError::BadGeometryText);
+    }
     let mut parts = Vec::new(alloc);
     for group in words.split(|word| is_bar(*word)) {
         parts.push(part(alloc, group)?)?;
     }
     Ok(Items::from_vec(parts))
+}
+
+/// Whether each word is a point or a bar.
+fn are_points(words: &[Word<'_>]) -> bool
+    ensures { result ≡ list_all (λ word. is_bar (word_of word) || is_ok (point_of (word_of word))) words.now }
+{
+    words
+        .iter()
+        .all(|word| is_bar(*word) || point(*word).is_ok())
 }
 
 fn is_bar(word: Word<'_>) -> bool

@@ -1,10 +1,13 @@
 //! Values, each by its type and a word.
 
-ghost use Rattle.std.specs.Prelude.{◌≡◌, IfOk, option_map};
+ghost use Rattle.std.specs.Prelude.{◌≡◌, codes, IfOk, IsErr, IsSome, IsTrue, option_map};
+ghost use Rattle.std.specs.Result.{IsErrOf};
+ghost use Rattle.std.specs.Str.{bytes_eq};
 ghost use Rattle.mvt_value.specs.Stands.{new_value_of};
 ghost use Rattle.tile_words.specs.Answers.{Gives};
+ghost use Rattle.tile_words.specs.Words.{Bare};
 ghost use Rattle.tile_words.specs.WordStands.{word_of};
-ghost use Rattle.tile_arguments.specs.Arguments.{value_of, value_in, bare_value, pairs_in, integer_of, truth_in};
+ghost use Rattle.tile_arguments.specs.Arguments.{text_in, value_of, value_in, bare_value, pairs_in, integer_of, truth_in};
 
 use crate::numbers::{number, signed};
 use crate::texts::text_in;
@@ -16,7 +19,8 @@ use tile_words::{ParseError, Word};
 /// The value that a word says, of the type that the word before it names.
 #[tactic(auto, unfolding(crate::specs::Arguments::value_of))]
 pub fn new_value(alloc: Global, name: Word<'_>, value: Word<'_>) -> Result<NewValue, ParseError>
-    ensures { Gives new_value_of result (value_of (word_of name.entry) (word_of value.entry)) }
+    ensures answer { Gives new_value_of result (value_of (word_of name.entry) (word_of value.entry)) }
+    ensures no_memory { IsErrOf result ParseError.NoMemory → (word_of name.entry ≡ Bare (codes "string")) × IsSome (text_in (word_of value.entry)) }
 {
     match name {
         Word::Bare(name) => value_in(alloc, name, value)?.ok_or(ParseError::BadValue),
@@ -27,7 +31,8 @@ pub fn new_value(alloc: Global, name: Word<'_>, value: Word<'_>) -> Result<NewVa
 /// The value of the type with this name that a word says, where it says one.
 #[tactic(auto, unfolding(crate::specs::Arguments::value_in))]
 fn value_in(alloc: Global, name: &[u8], value: Word<'_>) -> Result<Option<NewValue>, AllocError>
-    ensures { IfOk result (λ said. option_map new_value_of said ≡ value_in name.now (word_of value.entry)) }
+    ensures said { IfOk result (λ said. option_map new_value_of said ≡ value_in name.now (word_of value.entry)) }
+    ensures no_memory { IsErr result → (name.now ≡ codes "string") × IsSome (text_in (word_of value.entry)) }
 {
     if name == b"string".as_slice() {
         return Ok(text_in(alloc, value)?.map(NewValue::Text));

@@ -8,3 +8,4 @@ pub mod LineLaws
 pub mod ListingLaws
 pub mod There
 mod Choosing
+mod KindWords

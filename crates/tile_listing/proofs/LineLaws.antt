@@ -1,22 +1,24 @@
 -- Each line of a listing may be told.
 use Rattle.std.proofs.Common.{◌≡◌, ◌≢◌, ℕ, ◌==◌, Bool, true, false, List, [], ◌∷◌, ◌++◌, length, map, Option, Some, None, codes, decimal, refl, sym, ◌∙◌}
 use Rattle.std.specs.Prelude.{◌&&◌, not, slice_index, if◌then◌else◌}
-use Rattle.std.specs.List.{AllByRecursion, enumerate_from}
+use Rattle.std.specs.List.{AllByRecursion, enumerate_from, find}
 use Rattle.std.specs.Option.{option_and_then, option_map_or}
 use Rattle.std.proofs.lemmas.Bool.{and_parts, false≢true}
 use Rattle.mvt_document.specs.Plain.{Document, Feature, Layer}
 use Rattle.mvt_value.specs.Values.{Value}
 use Rattle.mvt_value.proofs.Fields.{read_in_range}
 use Rattle.mvt_numbers.specs.Numbers.{numbers}
-use Rattle.mvt_geometry.specs.Shapes.{Geometry, IsGeometry}
+use Rattle.mvt_geometry.specs.Shapes.{Geometry, IsGeometry, number_of}
+use Rattle.mvt_geometry.specs.declared.shapes.Kind.{Kind}
 use Rattle.mvt_view.specs.Views.{extent_of, features, id_of, keys, kind_of, layers, name_of, values, version_of}
 use Rattle.mvt_view.specs.Attributes.{attributes, values_in}
 use Rattle.mvt_value.specs.Found.{value_in}
 use Rattle.mvt_geometry.specs.Found.{geometry_in}
 use Rattle.mvt_value.proofs.Found.{value_in_bytes}
 use Rattle.mvt_geometry.proofs.Found.{geometry_in_numbers}
+use Rattle.tile_arguments.specs.Arguments.{kinds, kind_word}
 use Rattle.tile_text.specs.Texts.{text_form, value_form, raw_form, geometry_form}
-use Rattle.tile_text.proofs.Feeds.{text_form_feedless, value_form_feedless, raw_form_feedless, geometry_form_feedless}
+use Rattle.tile_text.proofs.Feeds.{kind_feedless, text_form_feedless, value_form_feedless, raw_form_feedless, geometry_form_feedless}
 use Rattle.tile_lines.specs.Lines.{is_line_feed, HasNoLineFeed}
 use Rattle.tile_listing.specs.Listing.{absent, attribute_line, attribute_lines, feature_line, geometry_line, geometry_of, id_word, key_line, kind_form, layer_line, layer_numbers, layers_line, lines_of_feature, lines_of_layer, lines_of_tile, name_word, numbered, spaced, value_line, value_shown}
 use Rattle.tile_listing.specs.Told.{MayBeTold}
@@ -61,13 +63,14 @@ either_uncut : (b : Bool) (xs ys : List ℕ) → HasNoLineFeed xs → HasNoLineF
 either_uncut true xs ys h k = h
 either_uncut false xs ys h k = k
 
+found_kind_uncut : (found : Option Kind) (other : List ℕ) → HasNoLineFeed other → HasNoLineFeed (option_map_or kind_word found other)
+found_kind_uncut None other h = h
+found_kind_uncut (Some kind) other h = kind_feedless kind
+
 kind_uncut : (kind : ℕ) → HasNoLineFeed (kind_form kind)
 kind_uncut kind =
     either_uncut (kind == 0) (codes "unknown") _ (tested (codes "unknown") refl)
-    (either_uncut (kind == 1) (codes "point") _ (tested (codes "point") refl)
-    (either_uncut (kind == 2) (codes "line") _ (tested (codes "line") refl)
-    (either_uncut (kind == 3) (codes "polygon") _ (tested (codes "polygon") refl)
-    (spaced_uncut (codes "kind" ∷ decimal kind ∷ []) (tested (codes "kind") refl, (decimal_uncut kind, tt))))))
+    (found_kind_uncut (find (λ k. number_of k == kind) kinds) _ (spaced_uncut (codes "kind" ∷ decimal kind ∷ []) (tested (codes "kind") refl, (decimal_uncut kind, tt))))
 
 found_is_geometry : (kind : ℕ) (read : Option (List ℕ)) (geometry : Geometry) → option_and_then (geometry_in kind) read ≡ Some geometry → IsGeometry geometry
 found_is_geometry kind None geometry e = absurd cc

@@ -1,11 +1,11 @@
 -- What a listing shows of a tile, of a layer and of a feature. The forms of its lines are a choice of this project.
 use Rattle.std.specs.Prelude.{◌≡◌, ◌⊎◌, ℕ, ◌==◌, List, [], ◌∷◌, ◌++◌, Option, Result, Ok, Err, codes, decimal, length, map, slice_get, if◌then◌else◌}
-use Rattle.std.specs.List.{enumerate_from, flat_map, join_with_byte}
+use Rattle.std.specs.List.{enumerate_from, find, flat_map, join_with_byte}
 use Rattle.std.specs.Option.{ok_or, option_and_then, option_map_or}
 use Rattle.mvt_document.specs.Held.{Held}
 use Rattle.mvt_document.specs.Plain.{Document, Feature, Layer}
 use Rattle.mvt_numbers.specs.Numbers.{numbers}
-use Rattle.mvt_geometry.specs.Shapes.{Geometry}
+use Rattle.mvt_geometry.specs.Shapes.{Geometry, number_of}
 use Rattle.mvt_command.specs.Command.{FeatureChoice, LayerChoice}
 use Rattle.mvt_view.specs.Views.{extent_of, features, id_of, keys, kind_of, layers, name_of, values, version_of}
 use Rattle.mvt_view.specs.Attributes.{attributes, values_in}
@@ -15,6 +15,7 @@ use Rattle.mvt_meaning.specs.declared.refusal.Refusal.{Refusal}
 use Rattle.mvt_meaning.specs.declared.refusal.Refusal.TheVariants.{NoFeature, NoLayer, NoMemory}
 use Rattle.mvt_value.specs.Found.{value_in}
 use Rattle.mvt_geometry.specs.Found.{geometry_in}
+use Rattle.tile_arguments.specs.Arguments.{kinds, kind_word}
 use Rattle.tile_text.specs.Texts.{geometry_form, raw_form, text_form, value_form}
 use Rattle.tile_lines.specs.Lines.{with_feed}
 use Rattle.tile_request.specs.Request.{What, Whole, OneLayer, OneFeature}
@@ -70,14 +71,11 @@ value_line ordinal value = spaced (codes "value" ∷ decimal ordinal ∷ value_s
 abbrev pub id_word : Option ℕ → List ℕ
 id_word id = option_map_or decimal id absent
 
--- a kind as a word: `unknown`, `point`, `line` or `polygon`; another by its number (tiles 4.3.4)
+-- the word of the kind with this number; `unknown` for 0, and another number as it is (tiles 4.3.4)
 abbrev pub kind_form : ℕ → List ℕ
-kind_form kind =
-    if kind == 0 then codes "unknown"
-    else (if kind == 1 then codes "point"
-    else (if kind == 2 then codes "line"
-    else (if kind == 3 then codes "polygon"
-    else spaced (codes "kind" ∷ decimal kind ∷ []))))
+kind_form number =
+    if number == 0 then codes "unknown"
+    else option_map_or kind_word (find (λ kind. number_of kind == number) kinds) (spaced (codes "kind" ∷ decimal number ∷ []))
 
 -- the line of a feature: its ordinal, its id and its kind
 abbrev pub feature_line : ℕ → Feature → List ℕ

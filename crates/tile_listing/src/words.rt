@@ -4,17 +4,13 @@ ghost use Rattle.std.specs.Prelude.{◌≡◌, ◌++◌, OnOk, decimal};
 ghost use Rattle.std.specs.Option.{option_copied};
 ghost use Rattle.tile_listing.specs.Listing.{id_word, kind_form, name_word, value_shown};
 
+use mvt_geometry::Kind;
 use mvt_value::value_of;
 use std::alloc::AllocError;
+use tile_arguments::kind_word;
 use tile_text::{put_decimal, put_text, put_value};
 
 const UNKNOWN: u64 = 0;
-
-const POINT: u64 = 1;
-
-const LINESTRING: u64 = 2;
-
-const POLYGON: u64 = 3;
 
 /// Adds some text and a number behind it.
 pub(crate) fn put_number(line: &mut Vec<u8>, front: &[u8], number: u64) -> Result<(), AllocError>
@@ -45,16 +41,14 @@ pub(crate) fn put_id(line: &mut Vec<u8>, id: Option<u64>) -> Result<(), AllocErr
     }
 }
 
-/// Adds the kind of a feature's geometry.
-pub(crate) fn put_kind(line: &mut Vec<u8>, kind: u64) -> Result<(), AllocError>
-    ensures { OnOk result (line.new.items ≡ line.old.items ++ kind_form kind) }
+/// Adds the kind with this number.
+pub(crate) fn put_kind(line: &mut Vec<u8>, number: u64) -> Result<(), AllocError>
+    ensures { OnOk result (line.new.items ≡ line.old.items ++ kind_form number) }
 {
-    match kind {
-        UNKNOWN => line.extend_from_slice(b"unknown"),
-        POINT => line.extend_from_slice(b"point"),
-        LINESTRING => line.extend_from_slice(b"line"),
-        POLYGON => line.extend_from_slice(b"polygon"),
-        _ => put_number(line, b"kind ", kind),
+    match Kind::from_number(number) {
+        Some(kind) => line.extend_from_slice(kind_word(kind)),
+        None if number == UNKNOWN => line.extend_from_slice(b"unknown"),
+        None => put_number(line, b"kind ", number),
     }
 }
 

@@ -2,7 +2,6 @@
 
 ghost use Rattle.std.specs.Prelude.{◌≡◌, ℕ, List, option_map};
 ghost use Rattle.std.specs.Result.{IsErrOf};
-ghost use Rattle.std.specs.Str.{is_utf8};
 ghost use Rattle.tile_lines.specs.Cutting.{cut_of};
 ghost use Rattle.tile_lines.specs.CutStands.{cut_seen};
 ghost use Rattle.tile_request.specs.RequestStands.{request_of};
@@ -11,11 +10,10 @@ ghost use Rattle.tile_words.specs.Answers.{Gives};
 ghost use Rattle.tile_words.specs.Words.{IsLoneWord};
 
 use crate::requests::request;
-use simdutf8::basic::from_utf8;
 use std::alloc::Global;
 use tile_lines::{Cut, LINE_LIMIT};
 use tile_request::Request;
-use tile_words::{ParseError, after_blanks, lone_word, words_of};
+use tile_words::{ParseError, after_blanks, is_utf8, lone_word, words_of};
 
 /// The request that a line asks for, or nothing where it is blank or a comment.
 #[tactic(auto, unfolding(crate::specs::Line::answer_to), using(crate::proofs::Silent::asks_something))]
@@ -52,12 +50,6 @@ pub fn parse_cut(alloc: Global, cut: Cut<'_>) -> Result<Option<Request>, ParseEr
         Cut::Line(line) => parse_line(alloc, line),
         Cut::TooLong => Err(ParseError::LineTooLong),
     }
-}
-
-fn is_utf8(line: &[u8]) -> bool
-    ensures { result ≡ is_utf8 line.now }
-{
-    from_utf8(line).is_ok()
 }
 
 fn is_remark(line: &[u8]) -> bool

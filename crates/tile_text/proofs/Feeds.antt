@@ -15,7 +15,8 @@ use Rattle.mvt_geometry.specs.Shapes.{Geometry, IsGeometry, IsPart, IsPlaced}
 use Rattle.mvt_geometry.specs.declared.shapes.Point.{Point}
 use Rattle.mvt_geometry.specs.declared.shapes.Kind.{Kind}
 use Rattle.mvt_geometry.specs.declared.shapes.Kind.TheVariants.{Dots, Lines, Areas}
-use Rattle.tile_text.specs.Texts.{is_mark, quoted_byte, quoted, text_form, truth_form, value_form, raw_form, point_form, kind_word, part_words, geometry_form}
+use Rattle.tile_arguments.specs.Arguments.{kind_word}
+use Rattle.tile_text.specs.Texts.{is_mark, quoted_byte, quoted, text_form, truth_form, value_form, raw_form, point_form, part_words, geometry_form}
 use Rattle.tile_text.specs.TextStands.{spaced}
 use Rattle.tile_text.proofs.Digits.{hex_digit_fails, hex_all, decimal_all, signed_all}
 use Rattle.tile_text.proofs.Lists.{all_append, all_weaker, none_passes, words_all}
@@ -108,7 +109,7 @@ signed_feedless z le = signed_all (λ b. eqb b 10 ≡ false) refl digit_feedless
 point_feedless : (p : Point) → IsPlaced p → IsFeedless (point_form p)
 point_feedless p placed = joined (signed_decimal p.x) (44 ∷ signed_decimal p.y) (signed_feedless p.x placed.x) (refl, signed_feedless p.y placed.y)
 
-kind_feedless : (kind : Kind) → IsFeedless (kind_word kind)
+pub kind_feedless : (kind : Kind) → IsFeedless (kind_word kind)
 kind_feedless Dots = tested (codes "point") refl
 kind_feedless Lines = tested (codes "line") refl
 kind_feedless Areas = tested (codes "polygon") refl

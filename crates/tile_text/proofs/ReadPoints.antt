@@ -19,9 +19,9 @@ use Rattle.tile_words.specs.Answers.{◌>>=◌}
 use Rattle.tile_words.specs.Spelling.{SpellsWord, SpellsWords}
 use Rattle.tile_words.specs.declared.parse_error.ParseError.{ParseError}
 use Rattle.tile_words.specs.declared.parse_error.ParseError.TheVariants.{BadGeometryText}
-use Rattle.mvt_geometry.specs.Checks.{is_part_count}
-use Rattle.tile_arguments.specs.Arguments.{way_of, each, point_at, point_in, point_of, part_of, is_bar, parts_of, kind_of, shaped, geometry_of}
-use Rattle.tile_text.specs.Texts.{point_form, kind_word, part_words, geometry_words}
+use Rattle.mvt_geometry.proofs.Checks.{counted-Decides}
+use Rattle.tile_arguments.specs.Arguments.{way_of, each, point_at, point_in, point_of, part_of, is_bar, parts_of, kind_word, kind_of, shaped, geometry_of}
+use Rattle.tile_text.specs.Texts.{point_form, part_words, geometry_words}
 use Rattle.tile_text.specs.TextStands.{spaced}
 use Rattle.tile_text.specs.ReadBack.{IsNear, IsReadAsGeometry}
 use Rattle.tile_text.proofs.Digits.{signed_all}
@@ -140,11 +140,6 @@ some_part Dots count h = omega (arith, h)
 some_part Lines count h = h
 some_part Areas count h = h
 
-counted : (kind : Kind) (count : ℕ) → IsPartCount kind count → is_part_count kind count ≡ true
-counted Dots count h = rw h refl
-counted Lines count h = le-leb 1 count h
-counted Areas count h = le-leb 1 count h
-
 all_enough : (kind : Kind) (parts : List (List Point)) → AllByRecursion (IsPart kind) parts → list_all (λ points. leb (least_points kind) (length points)) parts ≡ true
 all_enough kind [] h = refl
 all_enough kind (part ∷ parts) h =
@@ -155,7 +150,7 @@ all_enough kind (part ∷ parts) h =
 shape_reads : (g : Geometry) → IsGeometry g → shaped g.kind g.parts ≡ Ok g
 unfolding shaped
 shape_reads g valid =
-    let count = counted g.kind (length g.parts) valid.counted in
+    let count = (counted-Decides g.kind (length g.parts)).1 valid.counted in
     let enough = all_enough g.kind g.parts valid.parts in
     rw (count, enough) refl
 

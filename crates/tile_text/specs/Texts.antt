@@ -9,8 +9,7 @@ use Rattle.hex.specs.Hex.{encode_lower}
 use Rattle.mvt_value.specs.Values.{Value, OfText, OfFloat, OfDouble, OfInt, OfUint, OfSint, OfBool}
 use Rattle.mvt_geometry.specs.Shapes.{Geometry}
 use Rattle.mvt_geometry.specs.declared.shapes.Point.{Point}
-use Rattle.mvt_geometry.specs.declared.shapes.Kind.{Kind}
-use Rattle.mvt_geometry.specs.declared.shapes.Kind.TheVariants.{Dots, Lines, Areas}
+use Rattle.tile_arguments.specs.Arguments.{kind_word}
 
 -- ---- texts
 
@@ -70,12 +69,6 @@ raw_form (b ∷ bytes) = codes "raw " ++ encode_lower (b ∷ bytes)
 -- a point: `X,Y`
 abbrev pub point_form : Point → List ℕ
 point_form p = signed_decimal p.x ++ 44 ∷ signed_decimal p.y
-
--- the word of a kind: `point`, `line` or `polygon`
-abbrev pub kind_word : Kind → List ℕ
-kind_word Dots = codes "point"
-kind_word Lines = codes "line"
-kind_word Areas = codes "polygon"
 
 -- the points of each part, with the word `/` between two parts
 abbrev pub part_words : List (List Point) → List (List ℕ)

@@ -4,12 +4,13 @@ ghost use Rattle.std.specs.Prelude.{◌≡◌, ◌++◌, map, OnOk};
 ghost use Rattle.std.specs.List.{flat_map};
 ghost use Rattle.mvt_geometry.specs.Stands.{points_of};
 ghost use Rattle.tile_text.specs.Extends.{Extends};
-ghost use Rattle.tile_text.specs.Texts.{point_form, kind_word, part_words, geometry_form};
+ghost use Rattle.tile_text.specs.Texts.{point_form, part_words, geometry_form};
 ghost use Rattle.tile_text.specs.TextStands.{spaced, other_part};
 
 use crate::numbers::put_signed_decimal;
-use mvt_geometry::{Geometry, Kind, Part, Point};
+use mvt_geometry::{Geometry, Part, Point};
 use std::alloc::AllocError;
+use tile_arguments::kind_word;
 
 /// Adds the word of the kind to the line, and the points behind it.
 pub fn put_geometry(line: &mut Vec<u8>, geometry: &Geometry) -> Result<(), AllocError>
@@ -18,16 +19,6 @@ pub fn put_geometry(line: &mut Vec<u8>, geometry: &Geometry) -> Result<(), Alloc
 {
     line.extend_from_slice(kind_word(geometry.kind()))?;
     put_parts(line, geometry.parts())
-}
-
-fn kind_word(kind: Kind) -> &'static [u8]
-    ensures { result.now ≡ kind_word kind }
-{
-    match kind {
-        Kind::Dots => b"point",
-        Kind::Lines => b"line",
-        Kind::Areas => b"polygon",
-    }
 }
 
 /// Adds the points of all parts, and what separates the parts.

@@ -2,15 +2,14 @@
 
 ghost use Rattle.std.specs.Prelude.{◌≡◌, ◌<◌, ◌≤◌, ◌++◌, length, IfOk, OnOk, IsTrue};
 ghost use Rattle.std.specs.List.{flat_map, position, position_or_len};
-ghost use Rattle.std.specs.Str.{is_utf8};
 ghost use Rattle.hex.specs.Hex.{encode_lower};
 ghost use Rattle.tile_text.specs.Extends.{Extends};
 ghost use Rattle.tile_text.specs.Texts.{is_escaped, quoted_byte, quoted, text_form};
 
 use hex::encode_to_slice;
 use mvt_document::Items;
-use simdutf8::basic::from_utf8;
 use std::alloc::{AllocError, Global};
+use tile_words::is_utf8;
 
 /// How many bytes are put into digits at a time.
 const CHUNK: usize = 64;
@@ -35,12 +34,6 @@ pub fn put_text(line: &mut Vec<u8>, bytes: &[u8]) -> Result<(), AllocError>
         line.extend_from_slice(b"x:")?;
         put_hex(line, bytes)
     }
-}
-
-fn is_utf8(bytes: &[u8]) -> bool
-    ensures { result ≡ is_utf8 bytes.now }
-{
-    from_utf8(bytes).is_ok()
 }
 
 fn put_quoted(line: &mut Vec<u8>, text: &[u8]) -> Result<(), AllocError>

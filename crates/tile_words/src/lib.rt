@@ -3,12 +3,14 @@
 //! - The words of a line are those of the definition, or one of them is no word; out of memory
 //!   alone may come in place of that: `words_of`. A line that is one word alone is read without
 //!   memory: `lone_word`. The text of a quoted word, and what stands behind blanks, are as defined:
-//!   `text`, `after_blanks`.
+//!   `text`, `after_blanks`. Whether bytes are UTF-8 is told: `is_utf8`.
 #![tactic(auto)]
 
 pub mod laws;
 mod parse_error;
+mod utf8;
 mod words;
 
 pub use parse_error::ParseError;
+pub use utf8::is_utf8;
 pub use words::{Word, after_blanks, lone_word, text, words_of};

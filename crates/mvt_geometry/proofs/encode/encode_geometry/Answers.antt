@@ -6,7 +6,7 @@ use Rattle.mvt_geometry.specs.declared.shapes.Part.{Part}
 use Rattle.mvt_geometry.specs.Stands.{points_of}
 use Rattle.mvt_geometry.specs.Integers.{packed, origin}
 use Rattle.mvt_geometry.specs.Walks.{AreInRange, IsPartInRange, integers_from}
-use Rattle.mvt_geometry.proofs.Packs.{PuttingParts, put_parts_all, integers-from, is_in_range, are_in_range}
+use Rattle.mvt_geometry.proofs.Packs.{PuttingParts, put_parts_all, integers-from, whole_in_range, parts_in_range}
 use Rattle.mvt_geometry.proofs.encode.encode_geometry.Goals as goal
 
 pub returns-in_err-from-clause-out_of_range : goal.returns-in_err-from-clause-out_of_range
@@ -15,7 +15,7 @@ returns-in_err-from-clause-out_of_range c = λ e range.
     let g = c.args.geometry.now in
     let parts = c.parts-part-items.result.now in
     let i = c.loop-part.part-index in
-    let all = subst (λ (k : Kind). AreInRange k origin g.parts) (sym c.kind-kind.ensures) (are_in_range g.kind g.parts range) in
+    let all = subst (λ (k : Kind). AreInRange k origin g.parts) (sym c.kind-kind.ensures) (parts_in_range g.kind g.parts range) in
     let left = c.loop-part.invariant.only all in
     let front = ap (map points_of) (drop_more parts i c.part-item.result (omega (arith, c.loop-part-test.true))) in
     let here = subst (λ (s : List (List Point)). AreInRange c.kind-kind.result c.loop-part.from s) front left in
@@ -37,4 +37,4 @@ returns-clause-in_range c =
     let none = ap (map points_of) (drop_all c.loop-part.part-index c.parts-part-items.result.now (omega (arith, c.loop-part-test.false))) in
     let whole = subst (λ (s : List (List Point)). PuttingParts kind g.parts c.loop-part.from s c.loop-part.bytes.items) none c.loop-part.invariant in
     let all = put_parts_all kind g.parts c.loop-part.from c.loop-part.bytes.items whole in
-    is_in_range g.kind g.parts (subst (λ (k : Kind). AreInRange k origin g.parts) c.kind-kind.ensures all.1)
+    whole_in_range g.kind g.parts (subst (λ (k : Kind). AreInRange k origin g.parts) c.kind-kind.ensures all.1)

@@ -11,6 +11,8 @@ use Rattle.tile_words.specs.declared.parse_error.ParseError.{ParseError}
 use Rattle.tile_words.specs.WordStands.{word_of}
 use Rattle.tile_arguments.specs.Arguments.{each, part_of, is_bar, parts_of}
 use Rattle.tile_arguments.proofs.Each.{onto_next, onto_stops, onto_all, each-map, split-map}
+use Rattle.tile_words.specs.declared.parse_error.ParseError.TheVariants.{BadGeometryText}
+use Rattle.tile_arguments.proofs.Judged.{only_refused, parts_only, parts_said}
 use Rattle.tile_arguments.proofs.geometries.parts.Goals as goal
 
 abbrev ends : Word → Bool
@@ -37,9 +39,9 @@ loop-group-preserved c =
     let parts : map points_of c.push.new.self.items ≡ map points_of c.loop-group.parts.items ++ points_of c.in_ok-part.field-0 ∷ [] = rw c.in_ok-push.ensures.items (map_push points_of c.loop-group.parts.items c.in_ok-part.field-0) in
     rw (parts, length_push c.loop-group.yielded c.in-Some.group) (onto_next read (groups c.args.words.now) (length c.loop-group.yielded) c.in-Some.group.now (map points_of c.loop-group.parts.items) (points_of c.in_ok-part.field-0) turn.0 (ap read (sym turn.1) ∙ c.in_ok-part.ensures) c.loop-group.invariant)
 
-pub returns-in_err-part : goal.returns-in_err-part
+pub returns-in_err-part-clause-answer : goal.returns-in_err-part-clause-answer
 unfolding parts_of
-returns-in_err-part c =
+returns-in_err-part-clause-answer c =
     let refused : c.from_residual.result ≡ Err c.in_err-part.field-0.0 = search rules in
     let chain = YieldsList-from_slice_split _ ends c.args.words.now (cc) (cc) (cc) (λ x r q k. search rules) in
     let turn = YieldsList-turn chain c.loop-group.yielded _ c.loop-group.yielded_by _ _ c.in-Some.group c.in-Some.is c.next.ensures.steps in
@@ -48,11 +50,15 @@ returns-in_err-part c =
       | inr e ↦ inr (plain_groups c.args.words.now ∙ onto_stops read (groups c.args.words.now) (length c.loop-group.yielded) c.in-Some.group.now (map points_of c.loop-group.parts.items) c.in_err-part.field-0.0 turn.0 (ap read (sym turn.1) ∙ e) c.loop-group.invariant)
     ])
 
-pub returns : goal.returns
+pub returns-clause-answer : goal.returns-clause-answer
 unfolding parts_of
-returns c =
+returns-clause-answer c =
     let chain = YieldsList-from_slice_split _ ends c.args.words.now (cc) (cc) (cc) (λ x r q k. search rules) in
     let last = YieldsList-end chain c.loop-group.yielded _ c.loop-group.yielded_by _ _ c.in-None.is c.next.ensures.steps in
     plain_groups c.args.words.now
     ∙ onto_all read (groups c.args.words.now) (length c.loop-group.yielded) (map points_of c.loop-group.parts.items) (not_more (length c.loop-group.yielded) (length (groups c.args.words.now)) last.1) c.loop-group.invariant
     ∙ ap (λ (parts : List Part). Ok (map points_of parts)) (sym c.from_vec.ensures)
+
+pub returns-then-not-are_points-clause-answer : goal.returns-then-not-are_points-clause-answer
+returns-then-not-are_points-clause-answer c =
+    inr (only_refused BadGeometryText (parts_of (map word_of c.args.words.now)) (parts_only (map word_of c.args.words.now)) (parts_said c.args.words.now ∙ sym c.are_points.ensures ∙ c.if-not-are_points.true))

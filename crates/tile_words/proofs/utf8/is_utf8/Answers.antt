@@ -2,7 +2,7 @@ use Rattle.std.proofs.Common.{◌≡◌, ℕ, Bool, true, false, List, Result, O
 use Rattle.std.specs.Prelude.{MatchResult, is_ok}
 use Rattle.std.specs.Str.{IsUtf8, is_utf8}
 use Rattle.std.proofs.lemmas.Str.{IsUtf8-from_is_utf8, is_utf8-from_IsUtf8}
-use Rattle.tile_text.proofs.texts.is_utf8.Goals as goal
+use Rattle.tile_words.proofs.utf8.is_utf8.Goals as goal
 
 not_true : (b : Bool) → ¬ (b ≡ true) → b ≡ false
 not_true true h = absurd (h refl)
