@@ -16,7 +16,7 @@ use Rattle.mvt_change.specs.ChangeStands.{step_of}
 use Rattle.mvt_change.specs.Changes.{TileStep, LayerStep, FeatureStep, go, turn, Fits}
 use Rattle.mvt_change.specs.Room.{capacity, KeepsDocument, KeepsList, KeepsTileItem}
 use Rattle.mvt_change.specs.HeldChanges.{go_held_step, go_held, StepHasRoom, HaveRoom}
-use Rattle.mvt_change.specs.Runs.{tile_splice, turned_in_tile, held_part, IsRoomierStep, IsInTile, LeadsBack}
+use Rattle.mvt_change.specs.Runs.{tile_splice, turned_in_tile, held_part, IsRoomierStep, IsInTile, GoesBack}
 use Rattle.mvt_change.proofs.Changed.{map-part, map-splice}
 use Rattle.mvt_change.proofs.Splicing.{length-part}
 use Rattle.mvt_change.proofs.Keeping.{document_order, tile_item_order, zip_same}
@@ -117,7 +117,7 @@ room_append [] last document room more = (more, tt)
 room_append (step ∷ steps) last document room more = (room.0, room_append steps last (go_held_step step document) room.1 more)
 
 pub leads : (steps : List Step) (document after : Document) → AllByRecursion IsInTile steps → FitAll tile_splice steps (length document.items.items) → KeepsDocument (go_held steps document) after
-    → LeadsBack (reverse (turned_all tile_splice turned_in_tile steps document.items.items)) document after
+    → GoesBack (reverse (turned_all tile_splice turned_in_tile steps document.items.items)) document after
 leads [] document after all fit keeps = record { room = tt; back = keeps }
 leads (InTile index taken put ∷ steps) document after all fit keeps =
     let step = InTile index taken put in
@@ -133,7 +133,7 @@ leads (InTile index taken put ∷ steps) document after all fit keeps =
     let has = exchange_has_room document_order tile_item_order tile_room index taken put back document between fit.0 refl more before.back in
     let goes_back = exchange_leads_back document_order tile_item_order tile_room index taken put back document between fit.0 refl before.back in
     let turned : reverse (last ∷ rest) ≡ reverse rest ++ last ∷ [] = reverse-append (last ∷ []) rest in
-    subst (λ made. LeadsBack made document after) (sym turned)
+    subst (λ made. GoesBack made document after) (sym turned)
     (record {
       room = room_append (reverse rest) last after before.room has;
       back = subst (KeepsDocument document) (sym (go_append (reverse rest) last after)) goes_back;

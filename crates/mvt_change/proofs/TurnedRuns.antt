@@ -14,7 +14,7 @@ use Rattle.mvt_change.specs.ChangeStands.{step_of}
 use Rattle.mvt_change.specs.Changes.{Fits, go, go_step, turn}
 use Rattle.mvt_change.specs.Room.{KeepsLayerItem, KeepsTileItem, KeepsDocument}
 use Rattle.mvt_change.specs.HeldChanges.{go_held_step, go_held, HaveRoom, IsTurned, AreTurned}
-use Rattle.mvt_change.specs.Runs.{LeadsBack}
+use Rattle.mvt_change.specs.Runs.{GoesBack}
 use Rattle.mvt_change.proofs.Keeping.{document_order}
 use Rattle.mvt_change.proofs.HeldSteps.{step_keeps, have_room_keeps, fits_finds}
 use Rattle.mvt_change.proofs.TurnedSteps.{step_stands, turned_stands, turned_room, turned_leads}
@@ -114,7 +114,7 @@ all_have_room (step ∷ steps) document (next ∷ turned) fits are =
     (have_room_joined (reverse turned) (next ∷ []) after (all_have_room steps there turned fit are.1) last)
 
 -- so do they from what is the same and has no less room
-pub all_lead_back : (steps : List Step) (document : Document) (turned : List Step) (after : Document) → Fits (map step_of steps) (document_of document) → AreTurned steps document turned → KeepsDocument (go_held steps document) after → LeadsBack (reverse turned) document after
+pub all_lead_back : (steps : List Step) (document : Document) (turned : List Step) (after : Document) → Fits (map step_of steps) (document_of document) → AreTurned steps document turned → KeepsDocument (go_held steps document) after → GoesBack (reverse turned) document after
 all_lead_back steps document turned after fits are keeps =
     record {
       room = have_room_keeps (reverse turned) (go_held steps document) after keeps (all_have_room steps document turned fits are);
@@ -134,7 +134,7 @@ one_turned [] d next document one is = absurd (omega arith)
 one_turned (step ∷ []) d next document one is = all_stand (step ∷ []) document (next ∷ []) (is, tt)
 one_turned (step ∷ other ∷ steps) d next document one is = absurd (omega arith)
 
-pub one_leads_back : (steps : List Step) (d next : Step) (document after : Document) → length steps ≡ 1 → Fits (map step_of steps) (document_of document) → IsTurned (slice_index_or steps 0 d) document next → KeepsDocument (go_held_step (slice_index_or steps 0 d) document) after → LeadsBack (reverse (slice_set steps 0 next)) document after
+pub one_leads_back : (steps : List Step) (d next : Step) (document after : Document) → length steps ≡ 1 → Fits (map step_of steps) (document_of document) → IsTurned (slice_index_or steps 0 d) document next → KeepsDocument (go_held_step (slice_index_or steps 0 d) document) after → GoesBack (reverse (slice_set steps 0 next)) document after
 one_leads_back [] d next document after one fits is keeps = absurd (omega arith)
 one_leads_back (step ∷ []) d next document after one fits is keeps = all_lead_back (step ∷ []) document (next ∷ []) after fits (is, tt) keeps
 one_leads_back (step ∷ other ∷ steps) d next document after one fits is keeps = absurd (omega arith)

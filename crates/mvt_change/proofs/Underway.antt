@@ -10,7 +10,7 @@ use Rattle.mvt_change.specs.ChangeStands.{step_of}
 use Rattle.mvt_change.specs.Changes.{Change, go_step, go, Fits, turn_step, turn}
 use Rattle.mvt_change.specs.Room.{KeepsDocument}
 use Rattle.mvt_change.specs.HeldChanges.{go_held_step, go_held, StepHasRoom, HaveRoom}
-use Rattle.mvt_change.specs.Runs.{LeadsBack}
+use Rattle.mvt_change.specs.Runs.{GoesBack}
 use Rattle.mvt_change.proofs.Turning.{go_joined, joined_fits, turn_joined, turned_back as leads_to_start, turned_twice}
 use Rattle.mvt_change.proofs.HeldSteps.{have_room_keeps}
 use Rattle.mvt_change.proofs.TurnedRuns.{have_room_joined}
@@ -32,7 +32,7 @@ pub goes_on : (change : Change) (start : plain.Document) (made run rest turned :
     → IsUnderway change start made (run ++ rest) document
     → document_of after ≡ go (map step_of run) (document_of document)
     → map step_of (reverse turned) ≡ turn (map step_of run) (document_of document)
-    → LeadsBack (reverse turned) document after
+    → GoesBack (reverse turned) document after
     → IsUnderway change start (reverse turned ++ made) rest after
 goes_on change start made run rest turned document after under makes stands leads_back =
     let runs = map step_of run in
@@ -81,7 +81,7 @@ module _ (change : Change) (start : plain.Document) (steps part : List Step) (fr
   apart : IsUnderway change start (reverse (take from steps)) (run ++ rest) document
   apart = subst (λ left. IsUnderway change start (reverse (take from steps)) left document) (rest_apart steps from (to - from)) under
 
-  pub run_on : document_of after ≡ go (map step_of run) (document_of document) → map step_of (reverse part) ≡ turn (map step_of run) (document_of document) → LeadsBack (reverse part) document after
+  pub run_on : document_of after ≡ go (map step_of run) (document_of document) → map step_of (reverse part) ≡ turn (map step_of run) (document_of document) → GoesBack (reverse part) document after
       → IsUnderway change start (reverse (take to (put_mid from (to - from) steps part))) (drop to (put_mid from (to - from) steps part)) after
   run_on makes stands leads =
       let front = take from steps in

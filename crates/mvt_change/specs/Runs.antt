@@ -114,6 +114,6 @@ IsRun [] = ⊥
 IsRun (first ∷ steps) = AllByRecursion (SharesList first) steps
 
 -- the steps can be carried out on `after` with no growth, and lead back to the document, with no less room
-pub record LeadsBack (steps : List Step) (document after : Document) : Type 0 where
+pub record GoesBack (steps : List Step) (document after : Document) : Type 0 where
   pub room : HaveRoom steps after
   pub back : KeepsDocument document (go_held steps after)

@@ -13,7 +13,7 @@ ghost use Rattle.mvt_change.specs.Room.{KeepsDocument, KeepsField, KeepsLayerIte
 ghost use Rattle.mvt_change.specs.HeldChanges.{CanMoveAt, CanMoveHeld, ExchangesFirst, HasHeldPart, TakesOut, exchanged, held_moved, move_held_at};
 ghost use Rattle.mvt_change.specs.LayerRuns.{IsInLayer, PassesOver};
 ghost use Rattle.mvt_change.specs.FeatureRuns.{IsInFeature};
-ghost use Rattle.mvt_change.specs.Runs.{LeadsBack, feature_splice, layer_splice, turned_in_feature, turned_in_layer};
+ghost use Rattle.mvt_change.specs.Runs.{GoesBack, feature_splice, layer_splice, turned_in_feature, turned_in_layer};
 
 use crate::change::{Place, Step};
 use mvt_document::{Document, Field, Items, LayerItem};
@@ -131,7 +131,7 @@ pub(crate) fn run_in_layer(
         then go (map step_of steps.old) (document_of document.old)
         else document_of document.old) }
     ensures turned { OnOk result (map step_of (reverse steps.new) ≡ turn (map step_of steps.old) (document_of document.old)) }
-    ensures back { OnOk result (LeadsBack (reverse steps.new) document.old document.new) }
+    ensures back { OnOk result (GoesBack (reverse steps.new) document.old document.new) }
     ensures same { OnErr result (map step_of steps.new ≡ map step_of steps.old) }
     ensures kept { OnErr result (KeepsDocument document.old document.new) }
 {
@@ -161,7 +161,7 @@ pub(crate) fn run_in_feature(
         then go (map step_of steps.old) (document_of document.old)
         else document_of document.old) }
     ensures turned { OnOk result (map step_of (reverse steps.new) ≡ turn (map step_of steps.old) (document_of document.old)) }
-    ensures back { OnOk result (LeadsBack (reverse steps.new) document.old document.new) }
+    ensures back { OnOk result (GoesBack (reverse steps.new) document.old document.new) }
     ensures same { OnErr result (map step_of steps.new ≡ map step_of steps.old) }
     ensures kept { OnErr result (KeepsDocument document.old document.new) }
 {

@@ -7,7 +7,7 @@ ghost use Rattle.mvt_document.specs.Stands.{document_of};
 ghost use Rattle.mvt_change.specs.ChangeStands.{step_of};
 ghost use Rattle.mvt_change.specs.Changes.{Fits, go, turn};
 ghost use Rattle.mvt_change.specs.Room.{KeepsDocument};
-ghost use Rattle.mvt_change.specs.Runs.{IsInTile, IsRun, LeadsBack, SharesList};
+ghost use Rattle.mvt_change.specs.Runs.{IsInTile, IsRun, GoesBack, SharesList};
 
 use crate::change::Step;
 use crate::lists::{run_in_feature, run_in_layer};
@@ -212,7 +212,7 @@ pub(crate) fn flip_run(
         then go (map step_of steps.old) (document_of document.old)
         else document_of document.old) }
     ensures turned { OnOk result (map step_of (reverse steps.new) ≡ turn (map step_of steps.old) (document_of document.old)) }
-    ensures back { OnOk result (LeadsBack (reverse steps.new) document.old document.new) }
+    ensures back { OnOk result (GoesBack (reverse steps.new) document.old document.new) }
     ensures same { OnErr result (map step_of steps.new ≡ map step_of steps.old) }
     ensures kept { OnErr result (KeepsDocument document.old document.new) }
 {
@@ -240,7 +240,7 @@ pub(crate) fn run_in_tile(
         then go (map step_of steps.old) (document_of document.old)
         else document_of document.old) }
     ensures turned { OnOk result (map step_of (reverse steps.new) ≡ turn (map step_of steps.old) (document_of document.old)) }
-    ensures back { OnOk result (LeadsBack (reverse steps.new) document.old document.new) }
+    ensures back { OnOk result (GoesBack (reverse steps.new) document.old document.new) }
     ensures same { OnErr result (map step_of steps.new ≡ map step_of steps.old) }
     ensures kept { OnErr result (KeepsDocument document.old document.new) }
 {

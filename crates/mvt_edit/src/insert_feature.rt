@@ -2,7 +2,7 @@
 
 ghost use Rattle.std.specs.Prelude.{◌≡◌, ◌<◌, [], ◌∷◌, map, IfNone, IfOk, IfSome, IsErrOf, OnOk, length};
 ghost use Rattle.mvt_document.specs.Stands.{document_of, field_of, layer_item_of};
-ghost use Rattle.mvt_geometry.specs.Shapes.{number_of};
+ghost use Rattle.mvt_geometry.specs.Shapes.{kind_number};
 ghost use Rattle.mvt_geometry.specs.Integers.{IsInRange};
 ghost use Rattle.mvt_view.specs.Views.{features_in};
 ghost use Rattle.mvt_command.specs.Command.{InsertFeature};
@@ -89,7 +89,7 @@ fn new_feature(alloc: Global, geometry: &Geometry) -> Result<LayerItem, EncodeEr
 /// The fields of a feature of this kind, whose geometry has these bytes.
 fn fields_of(alloc: Global, kind: Kind, bytes: Items<u8>) -> Result<Items<Field>, AllocError>
     ensures { IfOk result (λ fields. map field_of fields.items
-        ≡ new_number 24 (number_of kind) ∷ new_content 34 bytes.items ∷ []) }
+        ≡ new_number 24 (kind_number kind) ∷ new_content 34 bytes.items ∷ []) }
 {
     let kind = Field {
         tag: Varint::minimal(KIND_TAG),

@@ -8,8 +8,8 @@ use Rattle.std.proofs.lemmas.Slice.Eq.{bytes_eq-Decides}
 use Rattle.mvt_geometry.specs.declared.shapes.Point.{Point}
 use Rattle.mvt_geometry.specs.declared.shapes.Kind.{Kind}
 use Rattle.mvt_geometry.specs.declared.shapes.Kind.TheVariants.{Dots, Lines, Areas}
-use Rattle.mvt_geometry.specs.Shapes.{number_of, Geometry, IsPartCount, least_points, IsPlaced, IsPart, IsGeometry}
-use Rattle.mvt_geometry.specs.Integers.{origin, ways, joined, integers, IsWay, repeats, IsRepeated, IsInRange, HasGeometry}
+use Rattle.mvt_geometry.specs.Shapes.{kind_number, Geometry, IsPartCount, least_points, IsPlaced, IsPart, IsGeometry}
+use Rattle.mvt_geometry.specs.Integers.{origin, ways, all_points, integers, IsWay, repeats, IsRepeated, IsInRange, HasGeometry}
 use Rattle.mvt_geometry.specs.Checks.{is_part_count, is_placed, is_part, is_geometry, is_way, is_repeated, is_in_range, has_geometry}
 
 leb-Decides : (a b : ℕ) → Decides (leb a b) (a ≤ b)
@@ -41,13 +41,13 @@ geometry g =
 
 pub in_range-Decides : (g : Geometry) → Decides (is_in_range g) (IsInRange g)
 in_range-Decides g =
-    Decides-like (is_in_range g) (λ (h : AllByRecursion IsWay (ways origin (joined g.parts)) × AllByRecursion (IsRepeated g.kind) g.parts). record { short = h.0; repeated = h.1 }) (λ h. (h.short, h.repeated))
-    (Decides-and _ _ (each is_way IsWay (λ way. Decides-ltb (unsigned_abs way) (2 ^ 31)) (ways origin (joined g.parts))) (each (is_repeated g.kind) (IsRepeated g.kind) (λ points. Decides-ltb (repeats g.kind points) (2 ^ 29)) g.parts))
+    Decides-like (is_in_range g) (λ (h : AllByRecursion IsWay (ways origin (all_points g.parts)) × AllByRecursion (IsRepeated g.kind) g.parts). record { short = h.0; repeated = h.1 }) (λ h. (h.short, h.repeated))
+    (Decides-and _ _ (each is_way IsWay (λ way. Decides-ltb (unsigned_abs way) (2 ^ 31)) (ways origin (all_points g.parts))) (each (is_repeated g.kind) (IsRepeated g.kind) (λ points. Decides-ltb (repeats g.kind points) (2 ^ 29)) g.parts))
 
 pub has_geometry-Decides : (kind : ℕ) (numbers : List ℕ) (g : Geometry) → Decides (has_geometry kind numbers g) (HasGeometry kind numbers g)
 unfolding has_geometry
 has_geometry-Decides kind numbers g =
     Decides-like (has_geometry kind numbers g)
-    (λ (h : (kind ≡ number_of g.kind) × (IsGeometry g × (IsInRange g × (numbers ≡ integers g)))). record { of_kind = h.0; valid = h.1.0; in_range = h.1.1.0; spelled = h.1.1.1 })
+    (λ (h : (kind ≡ kind_number g.kind) × (IsGeometry g × (IsInRange g × (numbers ≡ integers g)))). record { of_kind = h.0; valid = h.1.0; in_range = h.1.1.0; spelled = h.1.1.1 })
     (λ h. (h.of_kind, (h.valid, (h.in_range, h.spelled))))
-    (Decides-and _ _ (Decides-eqb kind (number_of g.kind)) (Decides-and _ _ (geometry g) (Decides-and _ _ (in_range-Decides g) (bytes_eq-Decides numbers (integers g)))))
+    (Decides-and _ _ (Decides-eqb kind (kind_number g.kind)) (Decides-and _ _ (geometry g) (Decides-and _ _ (in_range-Decides g) (bytes_eq-Decides numbers (integers g)))))

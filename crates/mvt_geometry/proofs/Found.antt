@@ -9,11 +9,11 @@ use Rattle.std.proofs.lemmas.List.{append-nil, length-append, take_at, drop_at}
 use Rattle.mvt_geometry.specs.declared.shapes.Point.{Point}
 use Rattle.mvt_geometry.specs.declared.shapes.Kind.{Kind}
 use Rattle.mvt_geometry.specs.declared.shapes.Kind.TheVariants.{Dots, Lines, Areas}
-use Rattle.mvt_geometry.specs.Shapes.{number_of, Geometry, IsPart, IsGeometry}
-use Rattle.mvt_geometry.specs.Integers.{command, origin, parameters, last_from, path, paths, joined, integers_of, HasGeometry}
+use Rattle.mvt_geometry.specs.Shapes.{kind_number, Geometry, IsPart, IsGeometry}
+use Rattle.mvt_geometry.specs.Integers.{command, origin, parameters, last_from, path, paths, all_points, integers_of, HasGeometry}
 use Rattle.mvt_document.specs.Signed.{zigzag, unzigzag}
 use Rattle.mvt_geometry.specs.Checks.{has_geometry}
-use Rattle.mvt_geometry.specs.Found.{moved, points_in, parts_in, parts_of, kind_of, guessed, geometry_in}
+use Rattle.mvt_geometry.specs.Found.{point_after, points_in, parts_in, parts_of, kind_numbered, guessed, geometry_in}
 use Rattle.mvt_geometry.specs.Laws.{GeometryIn}
 use Rattle.mvt_document.proofs.Signed.{unzigzag-zigzag}
 use Rattle.mvt_geometry.proofs.Checks.{has_geometry-Decides}
@@ -27,7 +27,7 @@ step from to =
     back : from +ℤ (to -ℤ from) ≡ to
     back = omega (arith, ints)
 
-moved-way : (from to : Point) → moved from (zigzag (to.x -ℤ from.x)) (zigzag (to.y -ℤ from.y)) ≡ to
+moved-way : (from to : Point) → point_after from (zigzag (to.x -ℤ from.x)) (zigzag (to.y -ℤ from.y)) ≡ to
 moved-way from to =
     ap (λ (x : ℤ). record { x = x; y = from.y +ℤ unzigzag (zigzag (to.y -ℤ from.y)) }) (step from.x to.x)
     ∙ ap (λ (y : ℤ). record { x = to.x; y = y }) (step from.y to.y)
@@ -91,9 +91,9 @@ some_points Areas (part ∷ parts) p = (omega (arith, p.0.enough), some_points A
 
 -- ---- the guess
 
-one_part : (parts : List (List Point)) → length parts ≡ 1 → points_in origin (parameters origin (joined parts)) ∷ [] ≡ parts
+one_part : (parts : List (List Point)) → length parts ≡ 1 → points_in origin (parameters origin (all_points parts)) ∷ [] ≡ parts
 one_part [] e = absurd (omega arith)
-one_part (part ∷ []) e = ap (λ (points : List Point). points ∷ []) (points_in-parameters origin (joined (part ∷ [])) ∙ append-nil part)
+one_part (part ∷ []) e = ap (λ (points : List Point). points ∷ []) (points_in-parameters origin (all_points (part ∷ [])) ∙ append-nil part)
 one_part (part ∷ other ∷ more) e = absurd (omega arith)
 
 parts_of-integers : (kind : Kind) (parts : List (List Point)) → IsGeometry (record { kind = kind; parts = parts }) → parts_of kind (integers_of kind parts) ≡ parts
@@ -106,14 +106,14 @@ parts_of-integers Areas parts valid =
     let closing : List ℕ = command 7 1 ∷ [] in
     parts_in-paths closing (length (paths closing origin parts)) origin parts (paths_long closing origin parts some) some
 
-kind_of-number : (kind : Kind) → kind_of (number_of kind) ≡ kind
+kind_of-number : (kind : Kind) → kind_numbered (kind_number kind) ≡ kind
 kind_of-number Dots = refl
 kind_of-number Lines = refl
 kind_of-number Areas = refl
 
 guessed-integers : (kind : ℕ) (numbers : List ℕ) (g : Geometry) → HasGeometry kind numbers g → guessed kind numbers ≡ g
 guessed-integers kind numbers g h =
-    let same : kind_of kind ≡ g.kind = ap kind_of h.of_kind ∙ kind_of-number g.kind in
+    let same : kind_numbered kind ≡ g.kind = ap kind_numbered h.of_kind ∙ kind_of-number g.kind in
     ap (λ (k : Kind). record { kind = k; parts = parts_of k numbers }) same
     ∙ ap (λ (n : List ℕ). record { kind = g.kind; parts = parts_of g.kind n }) h.spelled
     ∙ ap (λ (parts : List (List Point)). record { kind = g.kind; parts = parts }) (parts_of-integers g.kind g.parts h.valid)

@@ -4,7 +4,7 @@ use Rattle.std.specs.List.{AllByRecursion}
 use Rattle.std.proofs.lemmas.List.{take_at}
 use Rattle.mvt_geometry.specs.Shapes.{Point, IsPlaced}
 use Rattle.mvt_geometry.specs.Integers.{parameters, path, last_from}
-use Rattle.mvt_geometry.specs.Walks.{IsMove, Leads, GoesOn, Begins}
+use Rattle.mvt_geometry.specs.Walks.{IsMove, LeadsThrough, GoesOn, BeginsWithPart}
 use Rattle.mvt_geometry.proofs.Moves.{one_move, same_way}
 
 -- ---- how many numbers, and which points they lead to
@@ -51,11 +51,11 @@ one_path closing from (p ∷ a) (q ∷ b) x y some some' e =
 
 -- ---- numbers that begin with a path
 
-pub begins_once : (least : ℕ) (closing : List ℕ) (from : Point) (numbers : List ℕ) (a b : List Point) (x y : List ℕ) → 1 ≤ least → Begins least closing from numbers a x → Begins least closing from numbers b y → (a ≡ b) × (x ≡ y)
+pub begins_once : (least : ℕ) (closing : List ℕ) (from : Point) (numbers : List ℕ) (a b : List Point) (x y : List ℕ) → 1 ≤ least → BeginsWithPart least closing from numbers a x → BeginsWithPart least closing from numbers b y → (a ≡ b) × (x ≡ y)
 begins_once least closing from numbers a b x y some p q =
     one_path closing from a b x y (omega (arith, p.valid.enough)) (omega (arith, q.valid.enough)) (sym p.spelled ∙ q.spelled)
 
-pub begins_open : (least : ℕ) (closing : List ℕ) (from : Point) (numbers : List ℕ) (points : List Point) (rest : List ℕ) → 1 ≤ least → Begins least closing from numbers points rest → Begins least [] from numbers points (closing ++ rest)
+pub begins_open : (least : ℕ) (closing : List ℕ) (from : Point) (numbers : List ℕ) (points : List Point) (rest : List ℕ) → 1 ≤ least → BeginsWithPart least closing from numbers points rest → BeginsWithPart least [] from numbers points (closing ++ rest)
 begins_open least closing from numbers points rest some p = record {
   valid = p.valid;
   spelled = p.spelled ∙ path_closed closing from points rest (omega (arith, p.valid.enough));
@@ -71,11 +71,11 @@ pub record Opens (least : ℕ) (from : Point) (a x y c : ℕ) (behind : List ℕ
   pub move_to : a ≡ 9
   pub line_to : c ≡ 2 + 8 * length others
   pub moves : IsMove from x y first
-  pub leads : Leads first (parameters first others) others
+  pub leads : LeadsThrough first (parameters first others) others
   pub spelled : behind ≡ parameters first others ++ rest
   pub enough : least ≤ suc (length others)
 
-pub opens_from : (least : ℕ) (from : Point) (a x y c : ℕ) (behind : List ℕ) (points : List Point) (rest : List ℕ) → 1 ≤ least → Begins least [] from (a ∷ x ∷ y ∷ c ∷ behind) points rest → Opens least from a x y c behind points rest
+pub opens_from : (least : ℕ) (from : Point) (a x y c : ℕ) (behind : List ℕ) (points : List Point) (rest : List ℕ) → 1 ≤ least → BeginsWithPart least [] from (a ∷ x ∷ y ∷ c ∷ behind) points rest → Opens least from a x y c behind points rest
 opens_from least from a x y c behind [] rest some p = let e = p.valid.enough in absurd (omega arith)
 opens_from least from a x y c behind (first ∷ others) rest some p =
     let flat = p.spelled ∙ path-append [] from first others rest in
@@ -94,11 +94,11 @@ opens_from least from a x y c behind (first ∷ others) rest some p =
       enough = p.valid.enough;
     }
 
-pub begins_from : (least : ℕ) (from : Point) (x y n : ℕ) (numbers behind rest : List ℕ) (first : Point) (points : List Point) → IsMove from x y first → GoesOn first numbers points → length numbers ≡ 2 * n → least ≤ 1 + n → n < 2 ^ 29 → behind ≡ numbers ++ rest → Begins least [] from (9 ∷ x ∷ y ∷ (2 + 8 * n) ∷ behind) points rest
+pub begins_from : (least : ℕ) (from : Point) (x y n : ℕ) (numbers behind rest : List ℕ) (first : Point) (points : List Point) → IsMove from x y first → GoesOn first numbers points → length numbers ≡ 2 * n → least ≤ 1 + n → n < 2 ^ 29 → behind ≡ numbers ++ rest → BeginsWithPart least [] from (9 ∷ x ∷ y ∷ (2 + 8 * n) ∷ behind) points rest
 begins_from least from x y n numbers behind rest first [] m g count enough few is = absurd g
 begins_from least from x y n numbers behind rest first (p ∷ points) m g count enough few is =
     let same : p ≡ first = g.0 in
-    let l = subst (λ (q : Point). Leads q numbers points) (sym same) g.1 in
+    let l = subst (λ (q : Point). LeadsThrough q numbers points) (sym same) g.1 in
     let move = subst (λ (q : Point). IsMove from x y q) (sym same) m in
     let counts : length points ≡ n = omega (arith, length-parameters p points, ap length l.spelled) in
     let along = move.along.spelled in
@@ -120,7 +120,7 @@ begins_from least from x y n numbers behind rest first (p ∷ points) m g count 
 
 -- ---- what is no path
 
-pub four_at_least : (least : ℕ) (from : Point) (numbers : List ℕ) (points : List Point) (rest : List ℕ) → 1 ≤ least → Begins least [] from numbers points rest → 4 ≤ length numbers
+pub four_at_least : (least : ℕ) (from : Point) (numbers : List ℕ) (points : List Point) (rest : List ℕ) → 1 ≤ least → BeginsWithPart least [] from numbers points rest → 4 ≤ length numbers
 four_at_least least from numbers [] rest some p = let e = p.valid.enough in absurd (omega arith)
 four_at_least least from numbers (first ∷ points) rest some p = let e = ap length (p.spelled ∙ path-append [] from first points rest) in omega (arith, e)
 
@@ -131,13 +131,13 @@ first_four (a ∷ b ∷ []) h = absurd (omega arith)
 first_four (a ∷ b ∷ c ∷ []) h = absurd (omega arith)
 first_four (a ∷ b ∷ c ∷ d ∷ s) h = refl
 
-pub begins_with_four : (least : ℕ) (from : Point) (numbers : List ℕ) (points : List Point) (rest : List ℕ) → 1 ≤ least → Begins least [] from numbers points rest → Opens least from (get_or numbers 0 0) (get_or numbers 1 0) (get_or numbers 2 0) (get_or numbers 3 0) (drop 4 numbers) points rest
+pub begins_with_four : (least : ℕ) (from : Point) (numbers : List ℕ) (points : List Point) (rest : List ℕ) → 1 ≤ least → BeginsWithPart least [] from numbers points rest → Opens least from (get_or numbers 0 0) (get_or numbers 1 0) (get_or numbers 2 0) (get_or numbers 3 0) (drop 4 numbers) points rest
 begins_with_four least from numbers points rest some p =
     let front = first_four numbers (four_at_least least from numbers points rest some p) in
-    opens_from least from _ _ _ _ _ points rest some (subst (λ (s : List ℕ). Begins least [] from s points rest) front p)
+    opens_from least from _ _ _ _ _ points rest some (subst (λ (s : List ℕ). BeginsWithPart least [] from s points rest) front p)
 
 -- the numbers that lead from the first point of a path to its others
-pub goes_on_from : (least : ℕ) (from : Point) (numbers : List ℕ) (points : List Point) (rest : List ℕ) (first : Point) → 1 ≤ least → Begins least [] from numbers points rest → IsMove from (get_or numbers 1 0) (get_or numbers 2 0) first → GoesOn first (take (2 * (get_or numbers 3 0 / 8)) (drop 4 numbers)) points
+pub goes_on_from : (least : ℕ) (from : Point) (numbers : List ℕ) (points : List Point) (rest : List ℕ) (first : Point) → 1 ≤ least → BeginsWithPart least [] from numbers points rest → IsMove from (get_or numbers 1 0) (get_or numbers 2 0) first → GoesOn first (take (2 * (get_or numbers 3 0 / 8)) (drop 4 numbers)) points
 goes_on_from least from numbers points rest first some p m =
     let o = begins_with_four least from numbers points rest some p in
     let same : o.first ≡ first = one_move from _ _ o.first first o.moves m in

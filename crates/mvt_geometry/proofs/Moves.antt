@@ -6,7 +6,7 @@ use Rattle.mvt_document.specs.Signed.{zigzag}
 use Rattle.mvt_document.proofs.Signed.{one_in_zigzag}
 use Rattle.mvt_geometry.specs.Shapes.{Point, IsPlaced}
 use Rattle.mvt_geometry.specs.Integers.{last_from}
-use Rattle.mvt_geometry.specs.Walks.{IsStep, IsMove, Leads, GoesOn}
+use Rattle.mvt_geometry.specs.Walks.{IsStep, IsMove, LeadsThrough, GoesOn}
 
 -- ---- one step leads to one point
 
@@ -31,10 +31,10 @@ same_way from p q along down =
 
 -- ---- parameters that lead on
 
-pub leads_none : (from : Point) → Leads from [] []
+pub leads_none : (from : Point) → LeadsThrough from [] []
 leads_none from = record { spelled = refl; short = tt; placed = tt }
 
-pub leads_more : (from : Point) (x y : ℕ) (p : Point) (numbers : List ℕ) (points : List Point) → IsMove from x y p → Leads p numbers points → Leads from (x ∷ y ∷ numbers) (p ∷ points)
+pub leads_more : (from : Point) (x y : ℕ) (p : Point) (numbers : List ℕ) (points : List Point) → IsMove from x y p → LeadsThrough p numbers points → LeadsThrough from (x ∷ y ∷ numbers) (p ∷ points)
 leads_more from x y p numbers points m l =
     let a = m.along.spelled in
     let b = m.down.spelled in
@@ -45,7 +45,7 @@ leads_more from x y p numbers points m l =
       placed = (record { x = m.along.placed; y = m.down.placed }, l.placed);
     }
 
-pub leads_less : (from : Point) (x y : ℕ) (numbers : List ℕ) (points : List Point) → Leads from (x ∷ y ∷ numbers) points → (p : Point) × (more : List Point) × (points ≡ p ∷ more) × IsMove from x y p × Leads p numbers more
+pub leads_less : (from : Point) (x y : ℕ) (numbers : List ℕ) (points : List Point) → LeadsThrough from (x ∷ y ∷ numbers) points → (p : Point) × (more : List Point) × (points ≡ p ∷ more) × IsMove from x y p × LeadsThrough p numbers more
 leads_less from x y numbers [] l = let e = l.spelled in absurd (cc)
 leads_less from x y numbers (p ∷ more) l =
     let e = l.spelled in (
@@ -59,7 +59,7 @@ leads_less from x y numbers (p ∷ more) l =
       record { spelled = cc; short = l.short.1.1; placed = l.placed.1 },
     )
 
-leads_odd : (from : Point) (x : ℕ) (points : List Point) → Leads from (x ∷ []) points → ⊥
+leads_odd : (from : Point) (x : ℕ) (points : List Point) → LeadsThrough from (x ∷ []) points → ⊥
 leads_odd from x [] l = let e = l.spelled in cc
 leads_odd from x (p ∷ points) l = let e = l.spelled in cc
 
@@ -68,8 +68,8 @@ leads_odd from x (p ∷ points) l = let e = l.spelled in cc
 pub record ReadOn (first : Point) (all : List ℕ) (last : Point) (rest : List ℕ) (read : List Point) : Type 0 where
   pub placed : IsPlaced last
   pub ends : last ≡ last_from first read
-  pub goes_on : (more : List Point) → Leads last rest more → GoesOn first all (read ++ more)
-  pub only : (points : List Point) → GoesOn first all points → (more : List Point) × (points ≡ read ++ more) × Leads last rest more
+  pub goes_on : (more : List Point) → LeadsThrough last rest more → GoesOn first all (read ++ more)
+  pub only : (points : List Point) → GoesOn first all points → (more : List Point) × (points ≡ read ++ more) × LeadsThrough last rest more
 
 pub last-push : (from : Point) (points : List Point) (p : Point) → last_from from (points ++ p ∷ []) ≡ p
 last-push from [] p = refl
@@ -85,7 +85,7 @@ read_more first all last x y behind read p m r = record {
       let left = r.only points g in
       let next = leads_less last x y behind left.0 left.2 in
       let same : next.0 ≡ p = one_move last x y next.0 p next.3 m in
-      (next.1, left.1 ∙ ap (λ (more : List Point). read ++ more) next.2 ∙ ap (λ (q : Point). read ++ (q ∷ next.1)) same ∙ sym (append_assoc read (p ∷ []) next.1), subst (λ (q : Point). Leads q behind next.1) same next.4);
+      (next.1, left.1 ∙ ap (λ (more : List Point). read ++ more) next.2 ∙ ap (λ (q : Point). read ++ (q ∷ next.1)) same ∙ sym (append_assoc read (p ∷ []) next.1), subst (λ (q : Point). LeadsThrough q behind next.1) same next.4);
 }
 
 pub read_end : (first : Point) (all : List ℕ) (last : Point) (read : List Point) → ReadOn first all last [] read → GoesOn first all read

@@ -1,8 +1,8 @@
 -- Numbers have one geometry of a kind at most.
 use Rattle.std.proofs.Common.{◌≡◌, ℕ, ◌+◌, ◌*◌, ◌≤◌, suc, List, [], ◌∷◌, ◌++◌, length, refl, sym, ap, ◌∙◌, subst, arith}
-use Rattle.mvt_geometry.specs.Shapes.{Point, Kind, Dots, Lines, Areas, number_of, Geometry, IsGeometry}
+use Rattle.mvt_geometry.specs.Shapes.{Point, Kind, Dots, Lines, Areas, kind_number, Geometry, IsGeometry}
 use Rattle.mvt_geometry.specs.Integers.{parameters, paths, last_from, closing_of, origin, integers, IsInRange, HasGeometry}
-use Rattle.mvt_geometry.specs.Walks.{Begins, Goes}
+use Rattle.mvt_geometry.specs.Walks.{BeginsWithPart, Goes}
 use Rattle.mvt_geometry.specs.Laws.{HasItself}
 use Rattle.mvt_geometry.proofs.Fronts.{one_way, begins_once}
 use Rattle.mvt_geometry.proofs.Parts.{begins_some, geometry_goes, same_kind}
@@ -11,14 +11,14 @@ use Rattle.mvt_geometry.proofs.Single.{AreDots, dots_of}
 one_parts : (least : ℕ) (closing : List ℕ) (from : Point) (numbers : List ℕ) (a b : List (List Point)) → 1 ≤ least → Goes least closing from numbers a → Goes least closing from numbers b → a ≡ b
 one_parts least closing from numbers [] [] some p q = refl
 one_parts least closing from numbers [] (part ∷ b) some p q =
-    let begins : Begins least closing from numbers part (paths closing (last_from from part) b) = record { valid = q.valid.0; spelled = q.spelled } in
+    let begins : BeginsWithPart least closing from numbers part (paths closing (last_from from part) b) = record { valid = q.valid.0; spelled = q.spelled } in
     absurd (omega (arith, ap length p.spelled, begins_some least closing from numbers part (paths closing (last_from from part) b) some begins))
 one_parts least closing from numbers (part ∷ a) [] some p q =
-    let begins : Begins least closing from numbers part (paths closing (last_from from part) a) = record { valid = p.valid.0; spelled = p.spelled } in
+    let begins : BeginsWithPart least closing from numbers part (paths closing (last_from from part) a) = record { valid = p.valid.0; spelled = p.spelled } in
     absurd (omega (arith, ap length q.spelled, begins_some least closing from numbers part (paths closing (last_from from part) a) some begins))
 one_parts least closing from numbers (part ∷ a) (next ∷ b) some p q =
-    let first : Begins least closing from numbers part (paths closing (last_from from part) a) = record { valid = p.valid.0; spelled = p.spelled } in
-    let second : Begins least closing from numbers next (paths closing (last_from from next) b) = record { valid = q.valid.0; spelled = q.spelled } in
+    let first : BeginsWithPart least closing from numbers part (paths closing (last_from from part) a) = record { valid = p.valid.0; spelled = p.spelled } in
+    let second : BeginsWithPart least closing from numbers next (paths closing (last_from from next) b) = record { valid = q.valid.0; spelled = q.spelled } in
     let once = begins_once least closing from numbers part next (paths closing (last_from from part) a) (paths closing (last_from from next) b) some first second in
     let rest : Goes least closing (last_from from next) (paths closing (last_from from next) b) b = record { valid = q.valid.1; spelled = refl } in
     let moved : Goes least closing (last_from from part) (paths closing (last_from from next) b) b = subst (λ (s : List Point). Goes least closing (last_from from s) (paths closing (last_from from next) b) b) (sym once.0) rest in
@@ -39,7 +39,7 @@ same_dots numbers a b p q =
     tail_of [] = []
     tail_of (n ∷ s) = s
 
-same_parts : (kind : Kind) (numbers : List ℕ) (g h : Geometry) → HasGeometry (number_of kind) numbers g → HasGeometry (number_of kind) numbers h → g.parts ≡ h.parts
+same_parts : (kind : Kind) (numbers : List ℕ) (g h : Geometry) → HasGeometry (kind_number kind) numbers g → HasGeometry (kind_number kind) numbers h → g.parts ≡ h.parts
 same_parts Dots numbers g h p q = same_dots numbers g.parts h.parts (dots_of numbers g p) (dots_of numbers h q)
 same_parts Lines numbers g h p q = one_parts 2 (closing_of Lines) origin numbers g.parts h.parts (omega arith) (geometry_goes Lines numbers g tt p) (geometry_goes Lines numbers h tt q)
 same_parts Areas numbers g h p q = one_parts 3 (closing_of Areas) origin numbers g.parts h.parts (omega arith) (geometry_goes Areas numbers g tt p) (geometry_goes Areas numbers h tt q)
@@ -59,5 +59,5 @@ one_geometry kind numbers g h p q =
 
 pub has_itself : (g : Geometry) → IsGeometry g → IsInRange g → HasItself g
 has_itself g valid range =
-    let has : HasGeometry (number_of g.kind) (integers g) g = record { of_kind = refl; valid = valid; in_range = range; spelled = refl } in
-    record { has = has; only = λ h q. one_geometry (number_of g.kind) (integers g) h g q has }
+    let has : HasGeometry (kind_number g.kind) (integers g) g = record { of_kind = refl; valid = valid; in_range = range; spelled = refl } in
+    record { has = has; only = λ h q. one_geometry (kind_number g.kind) (integers g) h g q has }

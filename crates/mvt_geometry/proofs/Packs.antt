@@ -4,7 +4,7 @@ use Rattle.std.specs.List.{AllByRecursion}
 use Rattle.std.proofs.lemmas.List.{append-nil}
 use Rattle.std.proofs.lemmas.List.Concat.{flat_map-append}
 use Rattle.mvt_geometry.specs.Shapes.{Point, Kind, Dots, Lines, Areas, IsPartCount, IsPart}
-use Rattle.mvt_geometry.specs.Integers.{ways, parameters, last_from, path, paths, closing_of, joined, origin, integers_of, IsWay, IsRepeated, IsInRange, shortest, packed}
+use Rattle.mvt_geometry.specs.Integers.{ways, parameters, last_from, path, paths, closing_of, all_points, origin, integers_of, IsWay, IsRepeated, IsInRange, shortest, packed}
 use Rattle.mvt_geometry.specs.Walks.{integers_of_part, integers_from, AreInRange}
 use Rattle.mvt_geometry.proofs.Parts.{ways_apart, ways_together, with}
 
@@ -58,9 +58,9 @@ integers-from Dots parts counted = from_dots parts counted
 integers-from Lines parts counted = from_lines origin parts
 integers-from Areas parts counted = from_areas origin parts
 
-all_short : (kind : Kind) (from : Point) (parts : List (List Point)) → AreInRange kind from parts → AllByRecursion IsWay (ways from (joined parts))
+all_short : (kind : Kind) (from : Point) (parts : List (List Point)) → AreInRange kind from parts → AllByRecursion IsWay (ways from (all_points parts))
 all_short kind from [] h = tt
-all_short kind from (part ∷ parts) h = ways_together from part (joined parts) h.0.short (all_short kind (last_from from part) parts h.1)
+all_short kind from (part ∷ parts) h = ways_together from part (all_points parts) h.0.short (all_short kind (last_from from part) parts h.1)
 
 all_repeated : (kind : Kind) (from : Point) (parts : List (List Point)) → AreInRange kind from parts → AllByRecursion (IsRepeated kind) parts
 all_repeated kind from [] h = tt
@@ -69,10 +69,10 @@ all_repeated kind from (part ∷ parts) h = (h.0.repeated, all_repeated kind (la
 pub whole_in_range : (kind : Kind) (parts : List (List Point)) → AreInRange kind origin parts → IsInRange (with kind parts)
 whole_in_range kind parts h = record { short = all_short kind origin parts h; repeated = all_repeated kind origin parts h }
 
-are_from : (kind : Kind) (from : Point) (parts : List (List Point)) → AllByRecursion IsWay (ways from (joined parts)) → AllByRecursion (IsRepeated kind) parts → AreInRange kind from parts
+are_from : (kind : Kind) (from : Point) (parts : List (List Point)) → AllByRecursion IsWay (ways from (all_points parts)) → AllByRecursion (IsRepeated kind) parts → AreInRange kind from parts
 are_from kind from [] short repeated = tt
 are_from kind from (part ∷ parts) short repeated =
-    let apart = ways_apart from part (joined parts) short in
+    let apart = ways_apart from part (all_points parts) short in
     (record { short = apart.0; repeated = repeated.0 }, are_from kind (last_from from part) parts apart.1 repeated.1)
 
 pub parts_in_range : (kind : Kind) (parts : List (List Point)) → IsInRange (with kind parts) → AreInRange kind origin parts

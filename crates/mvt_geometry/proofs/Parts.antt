@@ -2,9 +2,9 @@
 use Rattle.std.proofs.Common.{◌≡◌, ℕ, ◌-◌, ◌^◌, ◌<◌, ◌≤◌, List, [], ◌∷◌, ◌++◌, length, refl, sym, ap, ◌∙◌, subst, arith, append_assoc}
 use Rattle.std.specs.List.{AllByRecursion}
 use Rattle.std.proofs.lemmas.List.{append-nil, length-append}
-use Rattle.mvt_geometry.specs.Shapes.{Point, Kind, Dots, Lines, Areas, number_of, least_points, Geometry, IsPlaced, IsPart, IsGeometry}
-use Rattle.mvt_geometry.specs.Integers.{ways, last_from, path, paths, closing_of, joined, origin, integers_of, IsWay, IsInRange, HasGeometry}
-use Rattle.mvt_geometry.specs.Walks.{Begins, ArePaths, Goes, IsDrawn}
+use Rattle.mvt_geometry.specs.Shapes.{Point, Kind, Dots, Lines, Areas, kind_number, least_points, Geometry, IsPlaced, IsPart, IsGeometry}
+use Rattle.mvt_geometry.specs.Integers.{ways, last_from, path, paths, closing_of, all_points, origin, integers_of, IsWay, IsInRange, HasGeometry}
+use Rattle.mvt_geometry.specs.Walks.{BeginsWithPart, ArePaths, Goes, IsDrawn}
 use Rattle.mvt_geometry.proofs.Fronts.{begins_once, last_placed}
 
 -- ---- one path more, and one less
@@ -12,7 +12,7 @@ use Rattle.mvt_geometry.proofs.Fronts.{begins_once, last_placed}
 pub goes_none : (least : ℕ) (closing : List ℕ) (from : Point) → Goes least closing from [] []
 goes_none least closing from = record { valid = tt; spelled = refl }
 
-pub goes_more : (least : ℕ) (closing : List ℕ) (from : Point) (numbers : List ℕ) (part : List Point) (rest : List ℕ) (more : List (List Point)) → Begins least closing from numbers part rest → Goes least closing (last_from from part) rest more → Goes least closing from numbers (part ∷ more)
+pub goes_more : (least : ℕ) (closing : List ℕ) (from : Point) (numbers : List ℕ) (part : List Point) (rest : List ℕ) (more : List (List Point)) → BeginsWithPart least closing from numbers part rest → Goes least closing (last_from from part) rest more → Goes least closing from numbers (part ∷ more)
 goes_more least closing from numbers part rest more b g = record {
   valid = (b.valid, g.valid);
   spelled = b.spelled ∙ ap (λ (r : List ℕ). path closing from part ++ r) g.spelled;
@@ -24,7 +24,7 @@ pub record First (least : ℕ) (closing : List ℕ) (from : Point) (numbers : Li
   pub more : List (List Point)
   pub rest : List ℕ
   pub is : parts ≡ part ∷ more
-  pub begins : Begins least closing from numbers part rest
+  pub begins : BeginsWithPart least closing from numbers part rest
   pub goes : Goes least closing (last_from from part) rest more
 
 pub goes_less : (least : ℕ) (closing : List ℕ) (from : Point) (numbers : List ℕ) (parts : List (List Point)) → 1 ≤ length numbers → Goes least closing from numbers parts → First least closing from numbers parts
@@ -42,7 +42,7 @@ pub path_some : (closing : List ℕ) (from : Point) (points : List Point) → 1 
 path_some closing from [] some = absurd (omega arith)
 path_some closing from (p ∷ points) some = omega arith
 
-pub begins_some : (least : ℕ) (closing : List ℕ) (from : Point) (numbers : List ℕ) (points : List Point) (rest : List ℕ) → 1 ≤ least → Begins least closing from numbers points rest → 1 ≤ length numbers
+pub begins_some : (least : ℕ) (closing : List ℕ) (from : Point) (numbers : List ℕ) (points : List Point) (rest : List ℕ) → 1 ≤ least → BeginsWithPart least closing from numbers points rest → 1 ≤ length numbers
 begins_some least closing from numbers points rest some b =
     omega (arith, ap length b.spelled, length-append {A = ℕ}, path_some closing from points (omega (arith, b.valid.enough)))
 
@@ -53,7 +53,7 @@ pub record PartsRead (least : ℕ) (closing : List ℕ) (start : Point) (all : L
   pub goes_on : (more : List (List Point)) → Goes least closing from rest more → Goes least closing start all (read ++ more)
   pub only : (parts : List (List Point)) → Goes least closing start all parts → (more : List (List Point)) × (parts ≡ read ++ more) × Goes least closing from rest more
 
-pub parts_more : (least : ℕ) (closing : List ℕ) (start : Point) (all : List ℕ) (from : Point) (rest : List ℕ) (read : List (List Point)) (part : List Point) (behind : List ℕ) → 1 ≤ least → Begins least closing from rest part behind → PartsRead least closing start all from rest read → PartsRead least closing start all (last_from from part) behind (read ++ part ∷ [])
+pub parts_more : (least : ℕ) (closing : List ℕ) (start : Point) (all : List ℕ) (from : Point) (rest : List ℕ) (read : List (List Point)) (part : List Point) (behind : List ℕ) → 1 ≤ least → BeginsWithPart least closing from rest part behind → PartsRead least closing start all from rest read → PartsRead least closing start all (last_from from part) behind (read ++ part ∷ [])
 parts_more least closing start all from rest read part behind some b r = record {
   placed = last_placed from part r.placed b.valid.placed;
   goes_on = λ more g.
@@ -66,7 +66,7 @@ parts_more least closing start all from rest read part behind some b r = record 
       (next.more, left.1 ∙ ap (λ (more : List (List Point)). read ++ more) next.is ∙ ap (λ (p : List Point). read ++ (p ∷ next.more)) one.0 ∙ sym (append_assoc read (part ∷ []) next.more), subst (λ (s : List ℕ). Goes least closing (last_from from part) s next.more) one.1 there);
 }
 
-pub parts_no_more : (least : ℕ) (closing : List ℕ) (start : Point) (all : List ℕ) (from : Point) (rest : List ℕ) (read : List (List Point)) → 1 ≤ length rest → PartsRead least closing start all from rest read → ((points : List Point) (behind : List ℕ) → Begins least closing from rest points behind → ⊥) → (parts : List (List Point)) → Goes least closing start all parts → ⊥
+pub parts_no_more : (least : ℕ) (closing : List ℕ) (start : Point) (all : List ℕ) (from : Point) (rest : List ℕ) (read : List (List Point)) → 1 ≤ length rest → PartsRead least closing start all from rest read → ((points : List Point) (behind : List ℕ) → BeginsWithPart least closing from rest points behind → ⊥) → (parts : List (List Point)) → Goes least closing start all parts → ⊥
 parts_no_more least closing start all from rest read some r none parts g =
     let left = r.only parts g in
     let next = goes_less least closing from rest left.0 some left.2 in
@@ -94,24 +94,24 @@ pub are_parts : (kind : Kind) (from : Point) (parts : List (List Point)) → Are
 are_parts kind from [] all = tt
 are_parts kind from (part ∷ parts) all = (record { enough = all.0.enough; placed = all.0.placed }, are_parts kind (last_from from part) parts all.1)
 
-pub are_short : (least : ℕ) (from : Point) (parts : List (List Point)) → ArePaths least from parts → AllByRecursion IsWay (ways from (joined parts))
+pub are_short : (least : ℕ) (from : Point) (parts : List (List Point)) → ArePaths least from parts → AllByRecursion IsWay (ways from (all_points parts))
 are_short least from [] all = tt
-are_short least from (part ∷ parts) all = ways_together from part (joined parts) all.0.short (are_short least (last_from from part) parts all.1)
+are_short least from (part ∷ parts) all = ways_together from part (all_points parts) all.0.short (are_short least (last_from from part) parts all.1)
 
 pub are_repeated : (least : ℕ) (from : Point) (parts : List (List Point)) → ArePaths least from parts → AllByRecursion IsShortPart parts
 are_repeated least from [] all = tt
 are_repeated least from (part ∷ parts) all = (all.0.repeated, are_repeated least (last_from from part) parts all.1)
 
-pub are_paths : (kind : Kind) (from : Point) (parts : List (List Point)) → AllByRecursion (IsPart kind) parts → AllByRecursion IsWay (ways from (joined parts)) → AllByRecursion IsShortPart parts → ArePaths (least_points kind) from parts
+pub are_paths : (kind : Kind) (from : Point) (parts : List (List Point)) → AllByRecursion (IsPart kind) parts → AllByRecursion IsWay (ways from (all_points parts)) → AllByRecursion IsShortPart parts → ArePaths (least_points kind) from parts
 are_paths kind from [] parts short repeated = tt
 are_paths kind from (part ∷ more) parts short repeated =
-    let apart = ways_apart from part (joined more) short in
+    let apart = ways_apart from part (all_points more) short in
     (record { enough = parts.0.enough; placed = parts.0.placed; short = apart.0; repeated = repeated.0 }, are_paths kind (last_from from part) more parts.1 apart.1 repeated.1)
 
 abbrev pub with : Kind → List (List Point) → Geometry
 with kind parts = record { kind = kind; parts = parts }
 
-pub has_geometry : (kind : Kind) (numbers : List ℕ) (parts : List (List Point)) → IsDrawn kind → 1 ≤ length parts → Goes (least_points kind) (closing_of kind) origin numbers parts → HasGeometry (number_of kind) numbers (record { kind = kind; parts = parts })
+pub has_geometry : (kind : Kind) (numbers : List ℕ) (parts : List (List Point)) → IsDrawn kind → 1 ≤ length parts → Goes (least_points kind) (closing_of kind) origin numbers parts → HasGeometry (kind_number kind) numbers (record { kind = kind; parts = parts })
 has_geometry Dots numbers parts drawn some g = absurd drawn
 has_geometry Lines numbers parts drawn some g = record {
   of_kind = refl;
@@ -126,7 +126,7 @@ has_geometry Areas numbers parts drawn some g = record {
   spelled = g.spelled;
 }
 
-pub same_kind : (a b : Kind) → number_of a ≡ number_of b → a ≡ b
+pub same_kind : (a b : Kind) → kind_number a ≡ kind_number b → a ≡ b
 same_kind Dots Dots e = refl
 same_kind Dots Lines e = absurd (omega arith)
 same_kind Dots Areas e = absurd (omega arith)
@@ -142,7 +142,7 @@ goes_at Dots numbers parts drawn valid range e = absurd drawn
 goes_at Lines numbers parts drawn valid range e = record { valid = are_paths Lines origin parts valid.parts range.short range.repeated; spelled = e }
 goes_at Areas numbers parts drawn valid range e = record { valid = are_paths Areas origin parts valid.parts range.short range.repeated; spelled = e }
 
-pub geometry_goes : (kind : Kind) (numbers : List ℕ) (g : Geometry) → IsDrawn kind → HasGeometry (number_of kind) numbers g → Goes (least_points kind) (closing_of kind) origin numbers g.parts
+pub geometry_goes : (kind : Kind) (numbers : List ℕ) (g : Geometry) → IsDrawn kind → HasGeometry (kind_number kind) numbers g → Goes (least_points kind) (closing_of kind) origin numbers g.parts
 geometry_goes kind numbers g drawn h =
     let same : kind ≡ g.kind = same_kind kind g.kind h.of_kind in
     let drawn' : IsDrawn g.kind = subst (λ (k : Kind). IsDrawn k) same drawn in
@@ -150,7 +150,7 @@ geometry_goes kind numbers g drawn h =
     subst (λ (k : Kind). Goes (least_points k) (closing_of k) origin numbers g.parts) (sym same) goes
 
 -- a geometry of lines or of areas has numbers
-pub numbers_some : (kind : Kind) (numbers : List ℕ) (g : Geometry) → IsDrawn kind → HasGeometry (number_of kind) numbers g → 1 ≤ length numbers
+pub numbers_some : (kind : Kind) (numbers : List ℕ) (g : Geometry) → IsDrawn kind → HasGeometry (kind_number kind) numbers g → 1 ≤ length numbers
 numbers_some kind numbers g drawn h = some_of g.kind g.parts (subst (λ (k : Kind). IsDrawn k) (same_kind kind g.kind h.of_kind) drawn) h.valid h.spelled
   where
     some_paths : (least : ℕ) (closing : List ℕ) (parts : List (List Point)) (numbers : List ℕ) → 1 ≤ length parts → (kind : Kind) → AllByRecursion (IsPart kind) parts → 1 ≤ least_points kind → numbers ≡ paths closing origin parts → 1 ≤ length numbers

@@ -4,7 +4,7 @@ use Rattle.std.specs.List.{AllByRecursion}
 use Rattle.std.proofs.lemmas.List.{append-nil}
 use Rattle.mvt_geometry.specs.Shapes.{Point, Kind, Dots, Geometry, IsGeometry}
 use Rattle.mvt_geometry.specs.Integers.{ways, parameters, origin, integers_of, IsWay, IsInRange, HasGeometry}
-use Rattle.mvt_geometry.specs.Walks.{IsMove, Leads, GoesOn}
+use Rattle.mvt_geometry.specs.Walks.{IsMove, LeadsThrough, GoesOn}
 use Rattle.mvt_geometry.proofs.Fronts.{length-parameters}
 use Rattle.mvt_geometry.proofs.Parts.{same_kind, with}
 
@@ -14,7 +14,7 @@ pub record AreDots (numbers : List ℕ) (parts : List (List Point)) : Type 0 whe
   pub others : List Point
   pub is : parts ≡ (first ∷ others) ∷ []
   pub spelled : numbers ≡ (1 + 8 * suc (length others)) ∷ parameters origin (first ∷ others)
-  pub leads : Leads origin (parameters origin (first ∷ others)) (first ∷ others)
+  pub leads : LeadsThrough origin (parameters origin (first ∷ others)) (first ∷ others)
 
 are_dots : (numbers : List ℕ) (parts : List (List Point)) → IsGeometry (with Dots parts) → IsInRange (with Dots parts) → numbers ≡ integers_of Dots parts → AreDots numbers parts
 are_dots numbers [] valid range e = absurd (omega (arith, valid.counted))
@@ -57,7 +57,7 @@ pub record DotsOpen (c x y : ℕ) (behind : List ℕ) : Type 0 where
   pub counts : c ≡ 1 + 8 * suc (length others)
   pub long : length behind ≡ 2 * length others
   pub moves : IsMove origin x y first
-  pub leads : Leads first behind others
+  pub leads : LeadsThrough first behind others
 
 open_dots : (c x y : ℕ) (behind : List ℕ) (parts : List (List Point)) → AreDots (c ∷ x ∷ y ∷ behind) parts → DotsOpen c x y behind
 open_dots c x y behind parts d =
@@ -83,7 +83,7 @@ dots_open numbers g h =
 pub dots_have : (x y n : ℕ) (behind : List ℕ) (first : Point) (points : List Point) → IsMove origin x y first → GoesOn first behind points → 2 + length behind ≡ 2 * n → n < 2 ^ 29 → HasGeometry 1 ((1 + 8 * n) ∷ x ∷ y ∷ behind) (record { kind = Dots; parts = points ∷ [] })
 dots_have x y n behind first [] m g count few = absurd g
 dots_have x y n behind first (p ∷ points) m g count few =
-    let l = subst (λ (q : Point). Leads q behind points) (sym g.0) g.1 in
+    let l = subst (λ (q : Point). LeadsThrough q behind points) (sym g.0) g.1 in
     let move = subst (λ (q : Point). IsMove origin x y q) (sym g.0) m in
     let along = move.along.spelled in
     let down = move.down.spelled in

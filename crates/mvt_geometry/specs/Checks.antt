@@ -5,8 +5,8 @@ use Rattle.std.specs.Str.{bytes_eq}
 use Rattle.mvt_geometry.specs.declared.shapes.Point.{Point}
 use Rattle.mvt_geometry.specs.declared.shapes.Kind.{Kind}
 use Rattle.mvt_geometry.specs.declared.shapes.Kind.TheVariants.{Dots, Lines, Areas}
-use Rattle.mvt_geometry.specs.Shapes.{number_of, Geometry, least_points}
-use Rattle.mvt_geometry.specs.Integers.{origin, ways, joined, integers, repeats}
+use Rattle.mvt_geometry.specs.Shapes.{kind_number, Geometry, least_points}
+use Rattle.mvt_geometry.specs.Integers.{origin, ways, all_points, integers, repeats}
 
 -- dots are one part; there is at least one line or ring
 abbrev pub is_part_count : Kind → ℕ → Bool
@@ -35,8 +35,8 @@ is_repeated kind points = nat_lt (repeats kind points) (2 ^ 29)
 
 -- `IsInRange` as a truth value (tiles 4.3.1, 4.3.2)
 abbrev pub is_in_range : Geometry → Bool
-is_in_range g = list_all is_way (ways origin (joined g.parts)) && list_all (is_repeated g.kind) g.parts
+is_in_range g = list_all is_way (ways origin (all_points g.parts)) && list_all (is_repeated g.kind) g.parts
 
 -- `HasGeometry` as a truth value (tiles 4.3)
 unfoldable pub has_geometry : ℕ → List ℕ → Geometry → Bool
-has_geometry kind numbers g = kind == number_of g.kind && (is_geometry g && (is_in_range g && bytes_eq numbers (integers g)))
+has_geometry kind numbers g = kind == kind_number g.kind && (is_geometry g && (is_in_range g && bytes_eq numbers (integers g)))

@@ -12,12 +12,12 @@ use Rattle.mvt_geometry.specs.Checks.{has_geometry}
 -- ---- a guess, which takes the numbers at their word
 
 -- the point to which two parameters lead (tiles 4.3.2)
-abbrev pub moved : Point → ℕ → ℕ → Point
-moved from x y = record { x = from.x +ℤ unzigzag x; y = from.y +ℤ unzigzag y }
+abbrev pub point_after : Point → ℕ → ℕ → Point
+point_after from x y = record { x = from.x +ℤ unzigzag x; y = from.y +ℤ unzigzag y }
 
 -- the points to which parameters lead, two for each point; one that is left over leads nowhere (tiles 4.3.2)
 abbrev pub points_in : Point → List ℕ → List Point
-points_in from (x ∷ y ∷ more) = moved from x y ∷ points_in (moved from x y) more
+points_in from (x ∷ y ∷ more) = point_after from x y ∷ points_in (point_after from x y) more
 points_in from numbers = []
 
 -- the parts that numbers would have, if each part were MoveTo, x, y, LineTo, its parameters and then `closing` more
@@ -35,12 +35,12 @@ parts_of Dots numbers = points_in origin (drop 1 numbers) ∷ []
 parts_of kind numbers = parts_in (length (closing_of kind)) (length numbers) origin numbers
 
 -- the kind with this number; any number but 1 and 2 gives areas
-abbrev pub kind_of : ℕ → Kind
-kind_of number = if number == 1 then Dots else if number == 2 then Lines else Areas
+abbrev pub kind_numbered : ℕ → Kind
+kind_numbered number = if number == 1 then Dots else if number == 2 then Lines else Areas
 
 -- the geometry that numbers would have, if their commands were as they should be (tiles 4.3.1)
 abbrev pub guessed : ℕ → List ℕ → Geometry
-guessed kind numbers = record { kind = kind_of kind; parts = parts_of (kind_of kind) numbers }
+guessed kind numbers = record { kind = kind_numbered kind; parts = parts_of (kind_numbered kind) numbers }
 
 -- ---- the guess, where the numbers have it
 

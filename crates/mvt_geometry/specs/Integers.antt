@@ -3,7 +3,7 @@ use Rattle.std.specs.Prelude.{◌≡◌, ℕ, ◌+◌, ◌-◌, ◌*◌, ◌^◌
 use Rattle.std.specs.List.{AllByRecursion, flat_map}
 use Rattle.mvt_document.specs.Wire.{spell, minimal_width}
 use Rattle.mvt_document.specs.Signed.{zigzag}
-use Rattle.mvt_geometry.specs.Shapes.{Point, Kind, Dots, Lines, Areas, number_of, Geometry, IsGeometry}
+use Rattle.mvt_geometry.specs.Shapes.{Point, Kind, Dots, Lines, Areas, kind_number, Geometry, IsGeometry}
 
 -- ---- commands: MoveTo is 1, LineTo is 2, ClosePath is 7
 
@@ -49,12 +49,12 @@ closing_of Areas = command 7 1 ∷ []
 closing_of kind = []
 
 -- the points of all parts, one after the other
-abbrev pub joined : List (List Point) → List Point
-joined parts = flat_map (λ part. part) parts
+abbrev pub all_points : List (List Point) → List Point
+all_points parts = flat_map (λ part. part) parts
 
 -- the integers of parts of a kind: one MoveTo for all dots, or a path for each line or ring (tiles 4.3.4)
 abbrev pub integers_of : Kind → List (List Point) → List ℕ
-integers_of Dots parts = command 1 (length (joined parts)) ∷ parameters origin (joined parts)
+integers_of Dots parts = command 1 (length (all_points parts)) ∷ parameters origin (all_points parts)
 integers_of kind parts = paths (closing_of kind) origin parts
 
 -- the integers of a geometry (tiles 4.3.4)
@@ -79,13 +79,13 @@ IsRepeated kind points = repeats kind points < 2 ^ 29
 
 -- all ways, the first one from the origin, and all counts fit into their integers (tiles 4.3.1, 4.3.2)
 pub record IsInRange (g : Geometry) : Type 0 where
-  pub short : AllByRecursion IsWay (ways origin (joined g.parts))
+  pub short : AllByRecursion IsWay (ways origin (all_points g.parts))
   pub repeated : AllByRecursion (IsRepeated g.kind) g.parts
 
 -- the numbers are the integers of this geometry, which is valid, in range, and of the kind with this number; no other
 -- kind than 1, 2 and 3 has a geometry (tiles 4.3)
 pub record HasGeometry (kind : ℕ) (numbers : List ℕ) (g : Geometry) : Type 0 where
-  pub of_kind : kind ≡ number_of g.kind
+  pub of_kind : kind ≡ kind_number g.kind
   pub valid : IsGeometry g
   pub in_range : IsInRange g
   pub spelled : numbers ≡ integers g

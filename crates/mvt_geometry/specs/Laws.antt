@@ -4,7 +4,7 @@ use Rattle.std.specs.List.{flat_map, AllByRecursion}
 use Rattle.mvt_document.specs.Plain.{Number}
 use Rattle.mvt_document.specs.Wire.{minimal_width, spelling}
 use Rattle.mvt_document.specs.Groups.{IsNumber}
-use Rattle.mvt_geometry.specs.Shapes.{Geometry, number_of, IsGeometry}
+use Rattle.mvt_geometry.specs.Shapes.{Geometry, kind_number, IsGeometry}
 use Rattle.mvt_geometry.specs.Integers.{integers, IsInRange, HasGeometry, encoded}
 use Rattle.mvt_geometry.specs.Found.{geometry_in}
 
@@ -14,8 +14,8 @@ OneGeometry = (kind : ℕ) (numbers : List ℕ) (g h : Geometry) → HasGeometry
 
 -- the integers of a geometry have it, and no other of its kind
 pub record HasItself (g : Geometry) : Type 0 where
-  pub has : HasGeometry (number_of g.kind) (integers g) g
-  pub only : (h : Geometry) → HasGeometry (number_of g.kind) (integers g) h → h ≡ g
+  pub has : HasGeometry (kind_number g.kind) (integers g) g
+  pub only : (h : Geometry) → HasGeometry (kind_number g.kind) (integers g) h → h ≡ g
 
 -- the integers of a valid geometry in range have it, and no other of its kind
 abbrev pub IntegersHaveTheirs : Type 0

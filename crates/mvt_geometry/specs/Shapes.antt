@@ -8,10 +8,10 @@ pub use Rattle.mvt_geometry.specs.declared.shapes.Kind.TheVariants.{Dots, Lines,
 -- a `Point` is two whole numbers, x and y; a `Kind` is Dots, Lines or Areas
 
 -- the number of a kind: 1 for dots (POINT), 2 for lines (LINESTRING), 3 for areas (POLYGON) (tiles 4.3.4)
-abbrev pub number_of : Kind → ℕ
-number_of Dots = 1
-number_of Lines = 2
-number_of Areas = 3
+abbrev pub kind_number : Kind → ℕ
+kind_number Dots = 1
+kind_number Lines = 2
+kind_number Areas = 3
 
 -- a kind, and parts, each a list of points: all dots together, or each line, or each ring (tiles 4.3.4)
 pub record Geometry : Type 0 where

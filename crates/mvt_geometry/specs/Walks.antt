@@ -17,7 +17,7 @@ pub record IsMove (from : Point) (x y : ℕ) (to : Point) : Type 0 where
   pub down : IsStep from.y y to.y
 
 -- the parameters lead from `from` through these points, which are placed, by ways in range
-pub record Leads (from : Point) (numbers : List ℕ) (points : List Point) : Type 0 where
+pub record LeadsThrough (from : Point) (numbers : List ℕ) (points : List Point) : Type 0 where
   pub spelled : numbers ≡ parameters from points
   pub short : AllByRecursion IsWay (ways from points)
   pub placed : AllByRecursion IsPlaced points
@@ -25,7 +25,7 @@ pub record Leads (from : Point) (numbers : List ℕ) (points : List Point) : Typ
 -- points that begin with `first` and go on as the parameters lead
 abbrev pub GoesOn : Point → List ℕ → List Point → Type 0
 GoesOn first numbers [] = ⊥
-GoesOn first numbers (point ∷ points) = (point ≡ first) × Leads first numbers points
+GoesOn first numbers (point ∷ points) = (point ≡ first) × LeadsThrough first numbers points
 
 -- the points are a part with a path from `from`: enough of them, all placed, ways and count in range
 pub record IsPath (least : ℕ) (from : Point) (points : List Point) : Type 0 where
@@ -35,7 +35,7 @@ pub record IsPath (least : ℕ) (from : Point) (points : List Point) : Type 0 wh
   pub repeated : length points - 1 < 2 ^ 29
 
 -- the numbers begin with the path of a part, and `rest` is behind it
-pub record Begins (least : ℕ) (closing : List ℕ) (from : Point) (numbers : List ℕ) (points : List Point) (rest : List ℕ) : Type 0 where
+pub record BeginsWithPart (least : ℕ) (closing : List ℕ) (from : Point) (numbers : List ℕ) (points : List Point) (rest : List ℕ) : Type 0 where
   pub valid : IsPath least from points
   pub spelled : numbers ≡ path closing from points ++ rest
 

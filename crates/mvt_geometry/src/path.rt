@@ -3,7 +3,7 @@
 ghost use Rattle.std.specs.Prelude.{◌≡◌, ℕ, ◌≤◌, List, [], IfOk, IsErrOf};
 ghost use Rattle.mvt_geometry.specs.Shapes.{Point as PlainPoint, IsPlaced};
 ghost use Rattle.mvt_geometry.specs.Integers.{last_from};
-ghost use Rattle.mvt_geometry.specs.Walks.{Begins};
+ghost use Rattle.mvt_geometry.specs.Walks.{BeginsWithPart};
 
 use crate::faults::GeometryError;
 use crate::shapes::Point;
@@ -34,9 +34,9 @@ pub(crate) fn path_at_front(
 ) -> Result<Front<'_>, GeometryError>
     requires some { 1 ≤ least }
     requires placed { IsPlaced from }
-    ensures found { IfOk result (λ front. Begins least [] from numbers.now front.points.items front.rest.now) }
+    ensures found { IfOk result (λ front. BeginsWithPart least [] from numbers.now front.points.items front.rest.now) }
     ensures last { IfOk result (λ front. front.last ≡ last_from from front.points.items) }
-    ensures bad { IsErrOf result GeometryError.BadGeometry → (points : List PlainPoint) (rest : List ℕ) → Begins least [] from numbers.now points rest → ⊥ }
+    ensures bad { IsErrOf result GeometryError.BadGeometry → (points : List PlainPoint) (rest : List ℕ) → BeginsWithPart least [] from numbers.now points rest → ⊥ }
 {
     let [MOVE_TO_ONE, x, y, command, behind @ ..] = numbers else {
         return Err(GeometryError::BadGeometry);

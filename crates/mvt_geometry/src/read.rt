@@ -1,9 +1,9 @@
 //! `geometry_of`: the geometry that numbers have.
 
 ghost use Rattle.std.specs.Prelude.{◌≡◌, ℕ, List, [], ◌∷◌, IfOk, IsErrOf};
-ghost use Rattle.mvt_geometry.specs.Shapes.{Point as PlainPoint, Geometry as PlainGeometry, number_of, least_points, IsPlaced};
+ghost use Rattle.mvt_geometry.specs.Shapes.{Point as PlainPoint, Geometry as PlainGeometry, kind_number, least_points, IsPlaced};
 ghost use Rattle.mvt_geometry.specs.Integers.{last_from, closing_of, HasGeometry};
-ghost use Rattle.mvt_geometry.specs.Walks.{Begins, IsDrawn};
+ghost use Rattle.mvt_geometry.specs.Walks.{BeginsWithPart, IsDrawn};
 ghost use Rattle.mvt_geometry.specs.Stands.{geometry_with};
 
 use crate::faults::GeometryError;
@@ -61,8 +61,8 @@ fn dots(alloc: Global, numbers: &[u32]) -> Result<Vec<Part>, GeometryError>
 /// Lines, or the rings of areas.
 fn paths(alloc: Global, kind: Kind, numbers: &[u32]) -> Result<Vec<Part>, GeometryError>
     requires { IsDrawn kind }
-    ensures found { IfOk result (λ parts. HasGeometry (number_of kind) numbers.now (geometry_with kind parts.items)) }
-    ensures bad { IsErrOf result GeometryError.BadGeometry → (g : PlainGeometry) → HasGeometry (number_of kind) numbers.now g → ⊥ }
+    ensures found { IfOk result (λ parts. HasGeometry (kind_number kind) numbers.now (geometry_with kind parts.items)) }
+    ensures bad { IsErrOf result GeometryError.BadGeometry → (g : PlainGeometry) → HasGeometry (kind_number kind) numbers.now g → ⊥ }
 {
     if numbers.is_empty() {
         return Err(GeometryError::BadGeometry);
@@ -94,9 +94,9 @@ fn part_at_front(
 ) -> Result<Front<'_>, GeometryError>
     requires drawn { IsDrawn kind }
     requires placed { IsPlaced from }
-    ensures found { IfOk result (λ front. Begins (least_points kind) (closing_of kind) from numbers.now front.points.items front.rest.now) }
+    ensures found { IfOk result (λ front. BeginsWithPart (least_points kind) (closing_of kind) from numbers.now front.points.items front.rest.now) }
     ensures last { IfOk result (λ front. front.last ≡ last_from from front.points.items) }
-    ensures bad { IsErrOf result GeometryError.BadGeometry → (points : List PlainPoint) (rest : List ℕ) → Begins (least_points kind) (closing_of kind) from numbers.now points rest → ⊥ }
+    ensures bad { IsErrOf result GeometryError.BadGeometry → (points : List PlainPoint) (rest : List ℕ) → BeginsWithPart (least_points kind) (closing_of kind) from numbers.now points rest → ⊥ }
 {
     match kind {
         Kind::Dots | Kind::Lines => path_at_front(alloc, kind.least_points(), from, numbers),
@@ -107,9 +107,9 @@ fn part_at_front(
 /// The ring that the numbers begin with: a path, and a ClosePath behind it.
 fn ring_at_front(alloc: Global, from: Point, numbers: &[u32]) -> Result<Front<'_>, GeometryError>
     requires { IsPlaced from }
-    ensures found { IfOk result (λ front. Begins 3 (15 ∷ []) from numbers.now front.points.items front.rest.now) }
+    ensures found { IfOk result (λ front. BeginsWithPart 3 (15 ∷ []) from numbers.now front.points.items front.rest.now) }
     ensures last { IfOk result (λ front. front.last ≡ last_from from front.points.items) }
-    ensures bad { IsErrOf result GeometryError.BadGeometry → (points : List PlainPoint) (rest : List ℕ) → Begins 3 (15 ∷ []) from numbers.now points rest → ⊥ }
+    ensures bad { IsErrOf result GeometryError.BadGeometry → (points : List PlainPoint) (rest : List ℕ) → BeginsWithPart 3 (15 ∷ []) from numbers.now points rest → ⊥ }
 {
     let Front { points, last, rest } = path_at_front(
         alloc,

@@ -1,7 +1,7 @@
 //! Points, parts and kinds of geometries.
 
 ghost use Rattle.std.specs.Prelude.{◌≡◌, IfSome, IfNone};
-ghost use Rattle.mvt_geometry.specs.Shapes.{number_of, least_points};
+ghost use Rattle.mvt_geometry.specs.Shapes.{kind_number, least_points};
 
 use mvt_document::Items;
 
@@ -42,7 +42,7 @@ const AREAS: u64 = 3;
 impl Kind {
     /// The number of the kind in a feature.
     pub fn number(self) -> u64
-        ensures { result ≡ number_of self }
+        ensures { result ≡ kind_number self }
     {
         match self {
             Kind::Dots => DOTS,
@@ -53,8 +53,8 @@ impl Kind {
 
     /// The kind with this number. UNKNOWN, which is 0, is no kind.
     pub fn from_number(number: u64) -> Option<Kind>
-        ensures found { IfSome result (λ kind. number_of kind ≡ number) }
-        ensures none { IfNone result ((kind : Self) → number_of kind ≡ number → ⊥) }
+        ensures found { IfSome result (λ kind. kind_number kind ≡ number) }
+        ensures none { IfNone result ((kind : Self) → kind_number kind ≡ number → ⊥) }
     {
         match number {
             DOTS => Some(Kind::Dots),

@@ -6,7 +6,7 @@ use Rattle.std.proofs.lemmas.Bool.{cases_Bool}
 use Rattle.std.proofs.lemmas.Bool.Decides.{nat_tests}
 use Rattle.mvt_history.specs.Marks.{Mark, has_name, point_of, bound, unbound}
 use Rattle.mvt_history.specs.History.{History, at_point, with_marks, marked, unmarked, gone_back}
-use Rattle.mvt_history.specs.Moves.{walk_in, moved, IsWay}
+use Rattle.mvt_history.specs.Moves.{walk_in, moved_along, LeadsAlong}
 use Rattle.mvt_history.specs.Standing.{Standing, IsReady}
 use Rattle.mvt_history.specs.Held.{IsReached, IsHeld}
 use Rattle.mvt_history.specs.Session.{StandsFor, Answers, IsOnTheWay, StopsAt, AnswersBack}
@@ -190,33 +190,33 @@ goes_back name point session history closed found stands =
     rw (none, there) refl
 
 -- the way from the present point, counted from 0
-way_counted : (direction : Direction) (floor count from to point : ℕ) → IsWay direction count from to → floor + from ≡ point → IsWay direction count point (floor + to)
+way_counted : (direction : Direction) (floor count from to point : ℕ) → LeadsAlong direction count from to → floor + from ≡ point → LeadsAlong direction count point (floor + to)
 way_counted Undo floor count from to point way is = omega (arith, way, is)
 way_counted Redo floor count from to point way is = omega (arith, way, is)
 
 -- a part of a way
-part_of_way : (direction : Direction) (taken count from to : ℕ) → taken < count → IsWay direction count from to → (at : ℕ) × IsWay direction taken from at × IsOnTheWay from to taken at
+part_of_way : (direction : Direction) (taken count from to : ℕ) → taken < count → LeadsAlong direction count from to → (at : ℕ) × LeadsAlong direction taken from at × IsOnTheWay from to taken at
 part_of_way Undo taken count from to less way = (from - taken, omega (arith, way, less), inl (omega (arith, way, less), omega (arith, way, less)))
 part_of_way Redo taken count from to less way = (from + taken, refl, inr (refl, omega (arith, way, less)))
 
 -- as many changes lie ahead as the way to a mark has steps
-way_within : (direction : Direction) (count to : ℕ) (session : Standing) → IsWay direction count (length session.undo) to → to ≤ length session.undo + length session.redo → count ≤ length (walk_in direction session).ahead
+way_within : (direction : Direction) (count to : ℕ) (session : Standing) → LeadsAlong direction count (length session.undo) to → to ≤ length session.undo + length session.redo → count ≤ length (walk_in direction session).ahead
 way_within Undo count to session way within = omega (arith, way)
 way_within Redo count to session way within = omega (arith, way, within)
 
 -- so many steps in a direction lead to the point of a mark, and as many changes lie ahead
 pub record IsWayToMark (name : List ℕ) (point : ℕ) (direction : Direction) (count : ℕ) (session : Standing) : Type 0 where
   pub found : point_of name session.marks ≡ Some point
-  pub way : IsWay direction count (length session.undo) point
+  pub way : LeadsAlong direction count (length session.undo) point
   pub enough : count ≤ length (walk_in direction session).ahead
 
-pub way_to_mark : (undo_room redo_room : ℕ) (name : List ℕ) (point : ℕ) (direction : Direction) (count : ℕ) (session seen : Standing) → session ≡ seen → point_of name session.marks ≡ Some point → IsWay direction count (length session.undo) point → IsHeld undo_room redo_room session → IsWayToMark name point direction count seen
+pub way_to_mark : (undo_room redo_room : ℕ) (name : List ℕ) (point : ℕ) (direction : Direction) (count : ℕ) (session seen : Standing) → session ≡ seen → point_of name session.marks ≡ Some point → LeadsAlong direction count (length session.undo) point → IsHeld undo_room redo_room session → IsWayToMark name point direction count seen
 way_to_mark undo_room redo_room name point direction count session seen same found way held =
     let here : IsWayToMark name point direction count session = record { found = found; way = way; enough = way_within direction count point session way (point_reached undo_room redo_room name point session found held) } in
     subst (IsWayToMark name point direction count) same here
 
 -- what is answered after a walk that ended, or was stopped
-pub back_answers : (name : List ℕ) (direction : Direction) (point count : ℕ) (session new : Standing) (history : History) (ended : Result (Unit {0}) ℕ) (answer : Result (Unit {0}) HistoryError) → MatchResult ended (λ done. answer ≡ Ok done) (λ taken. answer ≡ Err (Stopped taken)) → session.pending ≡ None → IsReady session → IsWayToMark name point direction count session → OnOk ended (new ≡ moved direction count session) → IfErr ended (λ taken. (taken < count) × (new ≡ moved direction taken session)) → StandsFor session history → AnswersBack name history answer new
+pub back_answers : (name : List ℕ) (direction : Direction) (point count : ℕ) (session new : Standing) (history : History) (ended : Result (Unit {0}) ℕ) (answer : Result (Unit {0}) HistoryError) → MatchResult ended (λ done. answer ≡ Ok done) (λ taken. answer ≡ Err (Stopped taken)) → session.pending ≡ None → IsReady session → IsWayToMark name point direction count session → OnOk ended (new ≡ moved_along direction count session) → IfErr ended (λ taken. (taken < count) × (new ≡ moved_along direction taken session)) → StandsFor session history → AnswersBack name history answer new
 back_answers name direction point count session new history (Ok done) answer is closed ready mark ok err stands =
     let whole = way_counted direction history.floor count (length session.undo) point history.present mark.way stands.undo_reaches in
     let there = walked_stands direction count (history.floor + point) session history closed ready mark.enough whole stands in

@@ -14,7 +14,7 @@ use Rattle.mvt_change.specs.declared.change.Change.{Change as HeldChange}
 use Rattle.mvt_change.specs.Joining.{FitAlong}
 use Rattle.mvt_change.proofs.Turning.{change_makes, turned_back, turned_fits}
 use Rattle.mvt_history.specs.History.{History, begun, after_all, after_steps, document_at, commands_in, at_point, with_group, opened}
-use Rattle.mvt_history.specs.Moves.{Walk, stepped, walked, walk_in, with_walk, moved, IsWay, gone}
+use Rattle.mvt_history.specs.Moves.{Track, stepped, walked, walk_in, with_walk, moved_along, LeadsAlong, gone}
 use Rattle.mvt_history.specs.Reached.{Leads, LeadBack, LeadOn, LeadOut, all_taken_by, all_put_by, step_allowance}
 use Rattle.mvt_history.specs.declared.steps.Direction.{Direction}
 use Rattle.mvt_history.specs.declared.steps.Direction.TheVariants.{Undo, Redo}
@@ -36,7 +36,7 @@ stepped_count : (document : Document) (ahead behind : List Change) → 1 ≤ len
 stepped_count document [] behind some = absurd (omega (arith, some))
 stepped_count document (change ∷ ahead) behind some = (omega arith, omega arith)
 
-pub walked_count : (count : ℕ) (walk : Walk) → count ≤ length walk.ahead → (length (walked count walk).ahead + count ≡ length walk.ahead) × (length (walked count walk).behind ≡ length walk.behind + count)
+pub walked_count : (count : ℕ) (walk : Track) → count ≤ length walk.ahead → (length (walked count walk).ahead + count ≡ length walk.ahead) × (length (walked count walk).behind ≡ length walk.behind + count)
 walked_count zero walk enough = (omega arith, omega arith)
 walked_count (suc count) walk enough =
     let before = walked count walk in
@@ -61,7 +61,7 @@ stepped_ready document (change ∷ ahead) behind ready =
       behind_fit = (turned_fits change document ready.valid fits, subst (FitAlong behind) (sym (turned_back change document fits)) ready.behind_fit);
     }
 
-walked_ready : (count : ℕ) (walk : Walk) → IsReadyWalk walk.document walk.ahead walk.behind → IsReadyWalk (walked count walk).document (walked count walk).ahead (walked count walk).behind
+walked_ready : (count : ℕ) (walk : Track) → IsReadyWalk walk.document walk.ahead walk.behind → IsReadyWalk (walked count walk).document (walked count walk).ahead (walked count walk).behind
 walked_ready zero walk ready = ready
 walked_ready (suc count) walk ready =
     let before = walked count walk in stepped_ready before.document before.ahead before.behind (walked_ready count walk ready)
@@ -79,7 +79,7 @@ opposite Undo = Redo
 opposite Redo = Undo
 
 -- the document is that of the point, and from there the changes lead along, ahead and behind
-record StandsAt (steps : List (List Command)) (start : Document) (direction : Direction) (point : ℕ) (walk : Walk) : Type 0 where
+record StandsAt (steps : List (List Command)) (start : Document) (direction : Direction) (point : ℕ) (walk : Track) : Type 0 where
   valid : IsDocument walk.document
   here : walk.document ≡ after_steps (take point steps) start
   ahead : LeadAlong direction steps start point walk.ahead
@@ -113,7 +113,7 @@ one_on steps start point document (change ∷ ahead) behind inside some stands =
       behind = (subst (λ d. Leads (turn change document) after d (all_taken_by step before) (all_put_by step before) (step_allowance step before)) stands.here (turned_leads change document after (all_put_by step before) (all_taken_by step before) (step_allowance step before) stands.valid leads), stands.behind);
     }
 
-some_along : (direction : Direction) (steps : List (List Command)) (start : Document) (count from to : ℕ) (walk : Walk) → IsWay direction count from to → from ≤ length steps → to ≤ length steps → count ≤ length walk.ahead → StandsAt steps start direction from walk → StandsAt steps start direction to (walked count walk)
+some_along : (direction : Direction) (steps : List (List Command)) (start : Document) (count from to : ℕ) (walk : Track) → LeadsAlong direction count from to → from ≤ length steps → to ≤ length steps → count ≤ length walk.ahead → StandsAt steps start direction from walk → StandsAt steps start direction to (walked count walk)
 some_along Undo steps start zero from to walk way low high enough stands =
     let same : from ≡ to = omega (arith, way) in subst (λ point. StandsAt steps start Undo point walk) same stands
 some_along Redo steps start zero from to walk way low high enough stands =
@@ -168,7 +168,7 @@ moved_held undo_room redo_room session document undo redo closed valid undo_fit 
   reached = subst (λ n. AllByRecursion (IsReached n) session.marks) all held.reached;
 }
 
-pub walked_held : (direction : Direction) (undo_room redo_room count : ℕ) (session : Standing) → session.pending ≡ None → count ≤ length (walk_in direction session).ahead → IsHeld undo_room redo_room session → IsHeld undo_room redo_room (moved direction count session)
+pub walked_held : (direction : Direction) (undo_room redo_room count : ℕ) (session : Standing) → session.pending ≡ None → count ≤ length (walk_in direction session).ahead → IsHeld undo_room redo_room session → IsHeld undo_room redo_room (moved_along direction count session)
 walked_held Undo undo_room redo_room count session closed enough held =
     let walk = walked count (walk_in Undo session) in
     let fit = closed_fits session closed held.ready in
@@ -190,7 +190,7 @@ pub enough_here : (given direction : Direction) (count : ℕ) (session seen : St
 enough_here given direction count session seen is same enough = subst (λ direction. count ≤ length (walk_in direction session).ahead) is (subst (λ session. count ≤ length (walk_in given session).ahead) (sym same) enough)
 
 -- wherever a walk ended the session is held, and has come so many steps
-pub ended_held : (direction : Direction) (undo_room redo_room count : ℕ) (session : Standing) (walk : Walk) (ended : Result (Unit {0}) ℕ) → session.pending ≡ None → count ≤ length (walk_in direction session).ahead → OnOk ended (walk ≡ walked count (walk_in direction session)) → IfErr ended (λ taken. (taken < count) × (walk ≡ walked taken (walk_in direction session))) → IsHeld undo_room redo_room session → IsHeld undo_room redo_room (with_walk direction walk session)
+pub ended_held : (direction : Direction) (undo_room redo_room count : ℕ) (session : Standing) (walk : Track) (ended : Result (Unit {0}) ℕ) → session.pending ≡ None → count ≤ length (walk_in direction session).ahead → OnOk ended (walk ≡ walked count (walk_in direction session)) → IfErr ended (λ taken. (taken < count) × (walk ≡ walked taken (walk_in direction session))) → IsHeld undo_room redo_room session → IsHeld undo_room redo_room (with_walk direction walk session)
 ended_held direction undo_room redo_room count session walk (Ok done) closed enough ok err held =
     subst (λ walk. IsHeld undo_room redo_room (with_walk direction walk session)) (sym ok) (walked_held direction undo_room redo_room count session closed enough held)
 ended_held direction undo_room redo_room count session walk (Err taken) closed enough ok err held =
@@ -213,7 +213,7 @@ placed point session history document undo redo closed stands here leads_back le
       marks = stands.marks;
     }
 
-pub walked_stands : (direction : Direction) (count to : ℕ) (session : Standing) (history : History) → session.pending ≡ None → IsReady session → count ≤ length (walk_in direction session).ahead → IsWay direction count history.present to → StandsFor session history → StandsFor (moved direction count session) (at_point to history)
+pub walked_stands : (direction : Direction) (count to : ℕ) (session : Standing) (history : History) → session.pending ≡ None → IsReady session → count ≤ length (walk_in direction session).ahead → LeadsAlong direction count history.present to → StandsFor session history → StandsFor (moved_along direction count session) (at_point to history)
 walked_stands Undo count to session history closed ready enough way stands =
     let walk = walked count (walk_in Undo session) in
     let back = stands.undo_reaches in
@@ -235,11 +235,11 @@ walked_stands Redo count to session history closed ready enough way stands =
 
 -- ---- what one undo or redo answers
 
-not_moved : (direction : Direction) (session : Standing) → moved direction 0 session ≡ session
+not_moved : (direction : Direction) (session : Standing) → moved_along direction 0 session ≡ session
 not_moved Undo session = refl
 not_moved Redo session = refl
 
-step_goes : (direction : Direction) (session : Standing) (history : History) → session.pending ≡ None → IsReady session → 1 ≤ length (walk_in direction session).ahead → StandsFor session history → (after : History) × (gone direction history ≡ Ok after) × StandsFor (moved direction 1 session) after
+step_goes : (direction : Direction) (session : Standing) (history : History) → session.pending ≡ None → IsReady session → 1 ≤ length (walk_in direction session).ahead → StandsFor session history → (after : History) × (gone direction history ≡ Ok after) × StandsFor (moved_along direction 1 session) after
 step_goes Undo session history closed ready some stands =
     let back = stands.undo_reaches in
     let none = is_closed session history closed stands in
@@ -260,14 +260,14 @@ some_ahead direction session changes is some =
     omega (arith, long, more)
 
 -- what is answered after one step that was made, or was not
-pub step_answers : (direction : Direction) (session new : Standing) (history : History) (ended : Result (Unit {0}) ℕ) → session.pending ≡ None → IsReady session → 1 ≤ length (walk_in direction session).ahead → OnOk ended (new ≡ moved direction 1 session) → IfErr ended (λ taken. (taken < 1) × (new ≡ moved direction taken session)) → StandsFor session history → AnswersWithMemory (gone direction history) history (result_or ended (Err NoMemory)) new
+pub step_answers : (direction : Direction) (session new : Standing) (history : History) (ended : Result (Unit {0}) ℕ) → session.pending ≡ None → IsReady session → 1 ≤ length (walk_in direction session).ahead → OnOk ended (new ≡ moved_along direction 1 session) → IfErr ended (λ taken. (taken < 1) × (new ≡ moved_along direction taken session)) → StandsFor session history → AnswersWithMemory (gone direction history) history (result_or ended (Err NoMemory)) new
 step_answers direction session new history (Ok done) closed ready some ok err stands =
     let made = step_goes direction session history closed ready some stands in
     (made.0, made.1, subst (λ new. StandsFor new made.0) (sym ok) made.2)
 step_answers direction session new history (Err taken) closed ready some ok err stands =
     let none : taken ≡ 0 = omega (arith, err.0) in
     let made = step_goes direction session history closed ready some stands in
-    let same : new ≡ session = err.1 ∙ ap (λ n. moved direction n session) none ∙ not_moved direction session in
+    let same : new ≡ session = err.1 ∙ ap (λ n. moved_along direction n session) none ∙ not_moved direction session in
     (inl (refl, subst IsOk (sym made.1) refl), subst (λ new. StandsFor new history) (sym same) stands)
 
 -- ---- a step that is opened

@@ -11,7 +11,7 @@ use Rattle.mvt_change.specs.ChangeStands.{change_of}
 use Rattle.mvt_change.specs.Joining.{FitAlong, go_along}
 use Rattle.mvt_change.specs.declared.change.Change.{Change}
 use Rattle.mvt_history.specs.Held.{from_last}
-use Rattle.mvt_history.specs.Moves.{Walk, step_over, stepped, walked}
+use Rattle.mvt_history.specs.Moves.{Track, step_over, stepped, walked}
 
 -- ---- the last item of a list
 
@@ -79,7 +79,7 @@ same_put_back changes change other is same =
 
 -- ---- a step
 
-abbrev pub walk_of : Document → List plain.Change → List plain.Change → Walk
+abbrev pub walk_of : Document → List plain.Change → List plain.Change → Track
 walk_of document ahead behind = record { document = document; ahead = ahead; behind = behind }
 
 pub same_walk : (d e : Document) (a b p q : List plain.Change) → d ≡ e → a ≡ b → p ≡ q → walk_of d a p ≡ walk_of e b q
@@ -104,19 +104,19 @@ on_refusal (Err error) accepted refused err = refl
 -- ---- steps
 
 -- after so many steps the changes ahead fit, and as many have come behind
-pub record IsOnTheWay (before : Walk) (taken : ℕ) (now : Walk) : Type 0 where
+pub record IsOnTheWay (before : Track) (taken : ℕ) (now : Track) : Type 0 where
   pub is : now ≡ walked taken before
   pub fit : FitAlong now.ahead now.document
   pub ahead : length now.ahead + taken ≡ length before.ahead
   pub behind : length now.behind ≡ length before.behind + taken
 
-over_stays : (ahead behind : List plain.Change) (document : Document) → FitAlong ahead document → 0 < length ahead → (next : Walk) → next ≡ step_over ahead (walk_of document ahead behind) → FitAlong next.ahead next.document × (length next.ahead + 1 ≡ length ahead) × (length next.behind ≡ length behind + 1)
+over_stays : (ahead behind : List plain.Change) (document : Document) → FitAlong ahead document → 0 < length ahead → (next : Track) → next ≡ step_over ahead (walk_of document ahead behind) → FitAlong next.ahead next.document × (length next.ahead + 1 ≡ length ahead) × (length next.behind ≡ length behind + 1)
 over_stays [] behind document fit some next is = absurd (omega (arith, some))
 over_stays (change ∷ ahead) behind document fit some next is =
     let made = walk_of (go change document) ahead (turn change document ∷ behind) in
-    subst (λ (w : Walk). FitAlong w.ahead w.document × (length w.ahead + 1 ≡ suc (length ahead)) × (length w.behind ≡ length behind + 1)) (sym is) (fit.1, omega arith, omega arith)
+    subst (λ (w : Track). FitAlong w.ahead w.document × (length w.ahead + 1 ≡ suc (length ahead)) × (length w.behind ≡ length behind + 1)) (sym is) (fit.1, omega arith, omega arith)
 
-pub further : (before now next : Walk) (taken : ℕ) → IsOnTheWay before taken now → taken < length before.ahead → next ≡ stepped now → IsOnTheWay before (taken + 1) next
+pub further : (before now next : Track) (taken : ℕ) → IsOnTheWay before taken now → taken < length before.ahead → next ≡ stepped now → IsOnTheWay before (taken + 1) next
 further before now next taken way left is =
     let stays = over_stays now.ahead now.behind now.document way.fit (omega (arith, way.ahead, left)) next is in
     let one : taken + 1 ≡ suc taken = omega arith in

@@ -9,7 +9,7 @@ ghost use Rattle.mvt_command.specs.CommandStands.{command_of};
 ghost use Rattle.mvt_history.specs.declared.TheConstants.{MAX_DEPTH};
 ghost use Rattle.mvt_history.specs.Marks.{point_of};
 ghost use Rattle.mvt_history.specs.History.{History, begun, closed, marked, opened, redone, standing_document, undone, unmarked};
-ghost use Rattle.mvt_history.specs.Moves.{gone, moved, walk_in};
+ghost use Rattle.mvt_history.specs.Moves.{gone, moved_along, walk_in};
 ghost use Rattle.mvt_history.specs.Session.{Answers, AnswersBack, AnswersCancel, AnswersCommand, AnswersWithMemory, IsStop, NotStarted, SeesMark, StandsFor};
 
 use crate::MAX_MARKS;
@@ -201,8 +201,8 @@ impl Session {
     fn walk(&mut self, direction: Direction, count: usize) -> Result<(), usize>
         requires closed { self.old.pending ≡ None }
         requires enough { count ≤ length (walk_in direction self.old).ahead }
-        ensures ok { OnOk result (self.new ≡ moved direction count self.old) }
-        ensures err { IfErr result (λ taken. (taken < count) × (self.new ≡ moved direction taken self.old)) }
+        ensures ok { OnOk result (self.new ≡ moved_along direction count self.old) }
+        ensures err { IfErr result (λ taken. (taken < count) × (self.new ≡ moved_along direction taken self.old)) }
     {
         match direction {
             Direction::Undo => walk(

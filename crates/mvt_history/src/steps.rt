@@ -9,7 +9,7 @@ ghost use Rattle.mvt_change.specs.Joining.{FitAlong, go_along};
 ghost use Rattle.mvt_history.specs.declared.TheConstants.{MAX_DEPTH};
 ghost use Rattle.mvt_history.specs.Held.{from_last, mark_of};
 ghost use Rattle.mvt_history.specs.Marks.{between, counted_from};
-ghost use Rattle.mvt_history.specs.Moves.{IsWay, Walk, stepped, taken_of, walked};
+ghost use Rattle.mvt_history.specs.Moves.{LeadsAlong, Track, stepped, taken_of, walked};
 
 use crate::marks::{Mark, keep_between};
 use circular_buffer::HeapCircularBuffer;
@@ -26,7 +26,7 @@ pub(crate) enum Direction {
 
 /// In which direction one point lies from another, and by how many steps.
 pub(crate) fn way(from: usize, to: usize) -> (Direction, usize)
-    ensures { IsWay result.0 result.1 from to }
+    ensures { LeadsAlong result.0 result.1 from to }
 {
     if to < from {
         (Direction::Undo, from - to)
@@ -68,8 +68,8 @@ pub(crate) fn step(
     requires fits { FitAlong (from_last from.old.items) (document_of document.old) }
     requires room { length to.old.items < to.old.capacity }
     ensures capacities { (from.new.capacity ≡ from.old.capacity) × (to.new.capacity ≡ to.old.capacity) }
-    ensures walk { let before : Walk = record { document = document_of document.old; ahead = from_last from.old.items; behind = from_last to.old.items } in
-        let after : Walk = record { document = document_of document.new; ahead = from_last from.new.items; behind = from_last to.new.items } in
+    ensures walk { let before : Track = record { document = document_of document.old; ahead = from_last from.old.items; behind = from_last to.old.items } in
+        let after : Track = record { document = document_of document.new; ahead = from_last from.new.items; behind = from_last to.new.items } in
         after ≡ (if is_ok result then stepped before else before) }
 {
     let count = from.len();
@@ -97,11 +97,11 @@ pub(crate) fn walk(
     requires enough { count ≤ length from.old.items }
     requires room { length to.old.items + count ≤ to.old.capacity }
     ensures capacities { (from.new.capacity ≡ from.old.capacity) × (to.new.capacity ≡ to.old.capacity) }
-    ensures ok { let before : Walk = record { document = document_of document.old; ahead = from_last from.old.items; behind = from_last to.old.items } in
-        let after : Walk = record { document = document_of document.new; ahead = from_last from.new.items; behind = from_last to.new.items } in
+    ensures ok { let before : Track = record { document = document_of document.old; ahead = from_last from.old.items; behind = from_last to.old.items } in
+        let after : Track = record { document = document_of document.new; ahead = from_last from.new.items; behind = from_last to.new.items } in
         OnOk result (after ≡ walked count before) }
-    ensures err { let before : Walk = record { document = document_of document.old; ahead = from_last from.old.items; behind = from_last to.old.items } in
-        let after : Walk = record { document = document_of document.new; ahead = from_last from.new.items; behind = from_last to.new.items } in
+    ensures err { let before : Track = record { document = document_of document.old; ahead = from_last from.old.items; behind = from_last to.old.items } in
+        let after : Track = record { document = document_of document.new; ahead = from_last from.new.items; behind = from_last to.new.items } in
         IfErr result (λ taken. (taken < count) × (after ≡ walked taken before)) }
 {
     for taken in 0..count {

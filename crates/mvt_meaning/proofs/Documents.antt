@@ -10,7 +10,7 @@ use Rattle.mvt_document.specs.Shape.{IsTag}
 use Rattle.mvt_document.specs.Places.{in_feature, in_layer}
 use Rattle.mvt_document.specs.Wire.{bytes_of}
 use Rattle.mvt_document.proofs.Spelling.{minimal_spelling}
-use Rattle.mvt_geometry.specs.Shapes.{Geometry, number_of}
+use Rattle.mvt_geometry.specs.Shapes.{Geometry, kind_number}
 use Rattle.mvt_geometry.specs.declared.Kind.{Kind}
 use Rattle.mvt_geometry.specs.declared.Kind.TheVariants.{Dots, Lines, Areas}
 use Rattle.mvt_geometry.specs.Integers.{encoded}
@@ -75,7 +75,7 @@ new_id id fits = number_field 8 id (omega arith) (record { numbered = omega arit
 
 -- ---- a new feature
 
-kind_short : (kind : Kind) → number_of kind < 2 ^ 64
+kind_short : (kind : Kind) → kind_number kind < 2 ^ 64
 kind_short Dots = omega arith
 kind_short Lines = omega arith
 kind_short Areas = omega arith
@@ -86,7 +86,7 @@ new_feature_valid geometry = record {
   tag = refl;
   width = record { some = omega arith; short = omega arith };
   fields = (
-    number_field 24 (number_of geometry.kind) (omega arith) (record { numbered = omega arith; short = omega arith; typed = refl }) (kind_short geometry.kind),
+    number_field 24 (kind_number geometry.kind) (omega arith) (record { numbered = omega arith; short = omega arith; typed = refl }) (kind_short geometry.kind),
     (content_field 34 (encoded geometry) (omega arith) (record { numbered = omega arith; short = omega arith; typed = refl }), tt),
   );
 }

@@ -3,7 +3,7 @@ use Rattle.std.proofs.Common.{◌≡◌, ℕ, ◌+◌, true, Option, Some, None,
 use Rattle.std.proofs.lemmas.List.{append-nil}
 use Rattle.mvt_document.specs.Plain.{Feature}
 use Rattle.mvt_document.specs.Wire.{spelling}
-use Rattle.mvt_geometry.specs.Shapes.{Geometry, IsGeometry, number_of}
+use Rattle.mvt_geometry.specs.Shapes.{Geometry, IsGeometry, kind_number}
 use Rattle.mvt_geometry.specs.Integers.{IsInRange, encoded, integers}
 use Rattle.mvt_geometry.specs.Laws as geometry_laws
 use Rattle.mvt_geometry.proofs.Checks.{in_range-Decides}
@@ -21,7 +21,7 @@ abbrev pub drawn_feature : Geometry → Feature
 drawn_feature geometry = record {
   tag = minimal 18;
   width = 1;
-  fields = new_number 24 (number_of geometry.kind) ∷ new_content 34 (encoded geometry) ∷ [];
+  fields = new_number 24 (kind_number geometry.kind) ∷ new_content 34 (encoded geometry) ∷ [];
 }
 
 -- ---- its numbers

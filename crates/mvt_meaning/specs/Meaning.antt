@@ -8,7 +8,7 @@ use Rattle.std.specs.Result.{result_unwrap_or}
 use Rattle.mvt_document.specs.declared.TheConstants.{MAX_FILE}
 use Rattle.mvt_document.specs.Plain.{Number, Body, Spelled, Eight, Four, Delimited, Group, Field, LayerItem, OfFeature, PlainInLayer, TileItem, OfLayer, PlainInTile, Document}
 use Rattle.mvt_document.specs.Wire.{bytes_of, minimal_width}
-use Rattle.mvt_geometry.specs.Shapes.{Geometry, number_of}
+use Rattle.mvt_geometry.specs.Shapes.{Geometry, kind_number}
 use Rattle.mvt_geometry.specs.Integers.{encoded}
 use Rattle.mvt_geometry.specs.Checks.{is_in_range}
 use Rattle.mvt_geometry.specs.declared.faults.EncodeError.{EncodeError}
@@ -111,7 +111,7 @@ abbrev pub new_feature : Geometry → LayerItem
 new_feature geometry = OfFeature (record {
   tag = minimal 18;
   width = 1;
-  fields = new_number 24 (number_of geometry.kind) ∷ new_content 34 (encoded geometry) ∷ [];
+  fields = new_number 24 (kind_number geometry.kind) ∷ new_content 34 (encoded geometry) ∷ [];
 })
 
 -- ---- places in a document

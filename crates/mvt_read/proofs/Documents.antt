@@ -7,7 +7,7 @@ use Rattle.mvt_document.specs.Plain.{TileItem, Document}
 use Rattle.mvt_document.specs.Wire.{field_bytes}
 use Rattle.mvt_document.specs.Opens.{IsTileItem, StoresTileItem, OpensAs, IsPlace}
 use Rattle.mvt_document.specs.Parts.{tile_item_field, IsWholeField, IsWholeTileItem, MakesTileItem}
-use Rattle.mvt_read.specs.Stops.{StopsAt, IsStop}
+use Rattle.mvt_read.specs.Stops.{EndsAt, IsReadError}
 use Rattle.mvt_read.specs.declared.faults.ReadError.{ReadError}
 use Rattle.mvt_read.specs.declared.faults.ReadError.TheVariants.{BadWire, FileTooLarge, NoMemory}
 use Rattle.mvt_document.proofs.Wholes.{all_by, all_of_map, tile_items-bytes, tile_items_whole, tile_items_are_fields, tile_items_made, tile_items-bytes_as_fields}
@@ -31,11 +31,11 @@ as_fields file document o =
     (tile_items_are_fields document whole, tile_items_made document whole, sym o.spelled ∙ sym (tile_items-bytes_as_fields document))
 
 abbrev pub StopsInFile : {T : Type 0} → (T → TileItem) → List ℕ → ℕ → Type 0
-StopsInFile f file place = StopsAt (λ i. tile_item_field (f i)) (λ i. IsWholeTileItem (f i)) MakesTileItem file place
+StopsInFile f file place = EndsAt (λ i. tile_item_field (f i)) (λ i. IsWholeTileItem (f i)) MakesTileItem file place
 
 -- the place that a refusal names
-pub stop_named : (stops : ℕ → Type 0) (r : ReadError) (place : ℕ) → IsStop stops r → r ≡ BadWire place → stops place
-stop_named stops r place s e = subst (λ (x : ReadError). IsStop stops x) e s
+pub stop_named : (stops : ℕ → Type 0) (r : ReadError) (place : ℕ) → IsReadError stops r → r ≡ BadWire place → stops place
+stop_named stops r place s e = subst (λ (x : ReadError). IsReadError stops x) e s
 
 pub stop_is_place : {T : Type 0} (f : T → TileItem) (file : List ℕ) (place : ℕ) → length file ≤ MAX_FILE → StopsInFile f file place → IsPlace file place
 stop_is_place f file place within s =
@@ -55,7 +55,7 @@ stop_is_broken f file place s document o =
     s.longest (length file) (map tile_item_field document) s.before (omega arith) fields.0 fields.1 (all ∙ fields.2)
 
 -- a file that opens is refused as out of memory alone
-pub only_memory : (stops : ℕ → Type 0) (r : ReadError) → ((place : ℕ) → stops place → ⊥) → IsStop stops r → r ≡ NoMemory
+pub only_memory : (stops : ℕ → Type 0) (r : ReadError) → ((place : ℕ) → stops place → ⊥) → IsReadError stops r → r ≡ NoMemory
 only_memory stops (BadWire place) broken s = absurd (broken place s)
 only_memory stops FileTooLarge broken s = absurd s
 only_memory stops NoMemory broken s = refl

@@ -8,7 +8,7 @@ use Rattle.std.proofs.Math.Seq.{take-add}
 use Rattle.mvt_document.specs.Plain.{Field}
 use Rattle.mvt_document.specs.Wire.{field_bytes}
 use Rattle.mvt_document.specs.Parts.{IsWholeField}
-use Rattle.mvt_read.specs.Stops.{StopsAt}
+use Rattle.mvt_read.specs.Stops.{EndsAt}
 use Rattle.mvt_document.proofs.Prefixes.{one_field, length-field, fields_begin}
 use Rattle.mvt_read.proofs.Begins.{from}
 
@@ -80,7 +80,7 @@ nothing_more makes rest k (field ∷ fields) none some enough p m e =
     (sym (take-append-drop k rest) ∙ ap (λ (b : List ℕ). b ++ drop k rest) e ∙ append_assoc (field_bytes field) (flat_map field_bytes fields) (drop k rest))
 
 pub stops_at : {T : Type 0} (f : T → Field) (w : T → Type 0) (makes : Field → Type 0) (content : List ℕ) (place : ℕ) (items : List T)
-    → Reaches f w content place items → place < length content → NoneAt makes (from place content) → StopsAt f w makes content place
+    → Reaches f w content place items → place < length content → NoneAt makes (from place content) → EndsAt f w makes content place
 stops_at f w makes content place items r before none =
     record {
       before = before;

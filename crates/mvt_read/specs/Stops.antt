@@ -9,7 +9,7 @@ use Rattle.mvt_read.specs.declared.faults.ReadError.TheVariants.{BadWire, FileTo
 
 -- a proper prefix of this length is the bytes of whole items, and no longer prefix is the bytes of whole fields each of
 -- which makes an item
-pub record StopsAt {T : Type 0} (as_field : T → Field) (is_whole : T → Type 0) (makes : Field → Type 0) (content : List ℕ) (place : ℕ) : Type 0 where
+pub record EndsAt {T : Type 0} (as_field : T → Field) (is_whole : T → Type 0) (makes : Field → Type 0) (content : List ℕ) (place : ℕ) : Type 0 where
   pub before : place < length content
   pub items : List T
   pub whole : AllByRecursion is_whole items
@@ -17,7 +17,7 @@ pub record StopsAt {T : Type 0} (as_field : T → Field) (is_whole : T → Type 
   pub longest : (n : ℕ) (fields : List Field) → place < n → n ≤ length content → AllByRecursion IsWholeField fields → AllByRecursion makes fields → take n content ≡ flat_map field_bytes fields → ⊥
 
 -- the error of a reader of items: the wire is bad at a place for which `stops` holds, or memory ran out
-abbrev pub IsStop : (ℕ → Type 0) → ReadError → Type 0
-IsStop stops (BadWire place) = stops place
-IsStop stops FileTooLarge = ⊥
-IsStop stops NoMemory = Unit {0}
+abbrev pub IsReadError : (ℕ → Type 0) → ReadError → Type 0
+IsReadError stops (BadWire place) = stops place
+IsReadError stops FileTooLarge = ⊥
+IsReadError stops NoMemory = Unit {0}

@@ -5,7 +5,7 @@ ghost use Rattle.std.specs.List.{flat_map, AllByRecursion};
 ghost use Rattle.mvt_document.specs.Plain.{Field as PlainField};
 ghost use Rattle.mvt_document.specs.Wire.{field_bytes};
 ghost use Rattle.mvt_document.specs.Parts.{IsWholeField, IsWholeLayerItem, IsWholeTileItem, layer_item_field, tile_item_field, MakesLayerItem, MakesTileItem};
-ghost use Rattle.mvt_read.specs.Stops.{StopsAt, IsStop};
+ghost use Rattle.mvt_read.specs.Stops.{EndsAt, IsReadError};
 ghost use Rattle.mvt_read.specs.Fronts.{front_of};
 ghost use Rattle.mvt_read.specs.declared.decode.Fault.TheVariants as faults;
 ghost use Rattle.mvt_document.specs.declared.document.LayerItem.TheVariants as in_layer;
@@ -66,7 +66,7 @@ pub(crate) trait Decode: Measured + Drop + Sized {
 pub(crate) fn decode_all<T: Decode>(alloc: Global, content: &[u8]) -> Result<Vec<T>, ReadError>
     ensures spelled { IfOk result (λ items. content.now ≡ flat_map (λ i. field_bytes (T.as_field i)) items.items) }
     ensures whole { IfOk result (λ items. AllByRecursion T.is_whole items.items) }
-    ensures stops { IfErr result (IsStop (StopsAt T.as_field T.is_whole T.makes content.now)) }
+    ensures stops { IfErr result (IsReadError (EndsAt T.as_field T.is_whole T.makes content.now)) }
 {
     let most = content.len() / SHORTEST_FIELD;
     let mut items = Vec::with_capacity(alloc, most.min(FIRST_ROOM))?;

@@ -20,8 +20,8 @@ abbrev pub spliced_length : {T : Type 0} → Splice T → ℕ → ℕ
 spliced_length s n = n - s.taken + length s.put.items
 
 -- the items that are taken out find room where those that are put were, without growing
-abbrev pub HasRoom : {T : Type 0} → Splice T → Type 0
-HasRoom s = s.taken ≤ length s.put.items + s.put.room
+abbrev pub FindsRoom : {T : Type 0} → Splice T → Type 0
+FindsRoom s = s.taken ≤ length s.put.items + s.put.room
 
 -- `t` is the same splice as `s`, with at least as much room
 pub record IsRoomier {T : Type 0} (s t : Splice T) : Type 0 where

@@ -3,7 +3,7 @@
 
 ghost use Rattle.std.specs.Prelude.{◌≡◌, ℕ, ◌+◌, ◌≤◌, length, List, is_ok, if◌then◌else◌, OnOk, IfSome, vec_len, vec_capacity};
 ghost use Rattle.std.specs.List.{AllByRecursion, AllZip, flat_map};
-ghost use Rattle.mvt_splices.specs.Splices.{HasRoom, FitAll, after_all, longest, turned_all, put_bytes};
+ghost use Rattle.mvt_splices.specs.Splices.{FindsRoom, FitAll, after_all, longest, turned_all, put_bytes};
 
 use crate::gap::Gap;
 use crate::splices::Splices;
@@ -88,7 +88,7 @@ fn greatest_length<T, S: Splices<T>>(length: usize, steps: &[S]) -> Option<usize
 
 fn reserve_all<T, S: Splices<T>>(steps: &mut [S]) -> Result<(), AllocError>
     ensures same { AllZip S.roomier steps.old steps.new }
-    ensures ok { OnOk result (AllByRecursion (λ s. HasRoom (S.splice_of s)) steps.new) }
+    ensures ok { OnOk result (AllByRecursion (λ s. FindsRoom (S.splice_of s)) steps.new) }
 {
     for step in steps.iter_mut() {
         step.reserve()?;
@@ -99,7 +99,7 @@ fn reserve_all<T, S: Splices<T>>(steps: &mut [S]) -> Result<(), AllocError>
 fn exchange_all<T, S: Splices<T>>(gap: &mut Gap<T>, steps: &mut [S])
     requires fit { FitAll S.splice_of steps.old (length gap.old.items) }
     requires room { longest S.splice_of steps.old (length gap.old.items) ≤ length gap.old.items + gap.old.room }
-    requires put_room { AllByRecursion (λ s. HasRoom (S.splice_of s)) steps.old }
+    requires put_room { AllByRecursion (λ s. FindsRoom (S.splice_of s)) steps.old }
     ensures items { gap.new.items ≡ after_all S.splice_of steps.old gap.old.items }
     ensures room { length gap.new.items + gap.new.room ≡ length gap.old.items + gap.old.room }
     ensures steps { steps.new ≡ turned_all S.splice_of S.turned steps.old gap.old.items }

@@ -2,7 +2,7 @@
 
 ghost use Rattle.std.specs.Prelude.{◌≡◌, ◌+◌, ◌≤◌, List, length, OnOk};
 ghost use Rattle.mvt_document.specs.Splicing.{part};
-ghost use Rattle.mvt_splices.specs.Splices.{Splice, IsRoomier, HasRoom, spliced};
+ghost use Rattle.mvt_splices.specs.Splices.{Splice, IsRoomier, FindsRoom, spliced};
 
 use crate::gap::Gap;
 use std::alloc::AllocError;
@@ -28,13 +28,13 @@ pub trait Splices<T> {
     /// Makes room for the items that it takes out.
     fn reserve(&mut self) -> Result<(), AllocError>
         ensures same { roomier self.old self.new }
-        ensures ok { OnOk result (HasRoom (splice_of self.new)) };
+        ensures ok { OnOk result (FindsRoom (splice_of self.new)) };
 
     /// Carries the step out, and makes it the step that leads back.
     fn exchange(&mut self, gap: &mut Gap<T>)
         requires there { (splice_of self.old).index + (splice_of self.old).taken ≤ length gap.old.items }
         requires room { length (splice_of self.old).put.items ≤ gap.old.room + (splice_of self.old).taken }
-        requires put_room { HasRoom (splice_of self.old) }
+        requires put_room { FindsRoom (splice_of self.old) }
         ensures items { gap.new.items ≡ spliced (splice_of self.old) gap.old.items }
         ensures room { length gap.new.items + gap.new.room ≡ length gap.old.items + gap.old.room }
         ensures turned { self.new ≡ turned self.old gap.old.items };

@@ -10,7 +10,7 @@ use Rattle.std.specs.Int.{from_bool}
 use Rattle.mvt_document.specs.Signed.{zigzag}
 use Rattle.mvt_value.specs.Values.{Value, OfText, OfFloat, OfDouble, OfInt, OfUint, OfSint, OfBool}
 use Rattle.mvt_value.specs.Signed.{twos_complement}
-use Rattle.mvt_value.specs.Messages.{BodyHas, HasValue, shortest, encoded, IsInRange}
+use Rattle.mvt_value.specs.Messages.{BodyHas, HasValue, shortest, encoded_value, IsWritable}
 
 -- a field whose tag is one byte
 abbrev short_field : ℕ → Body → Field
@@ -35,7 +35,7 @@ number_message : (tag value : ℕ) (v : Value) → tag < 128 → IsTag tag 0 →
 number_message tag value v low is_tag fits has =
     message tag (Spelled (short_number value)) (shortest value) v low is_tag (minimal_spelling value fits) tt refl has
 
-text_message : (text : List ℕ) → length text < 2 ^ 64 → HasValue (encoded (OfText text)) (OfText text)
+text_message : (text : List ℕ) → length text < 2 ^ 64 → HasValue (encoded_value (OfText text)) (OfText text)
 text_message text fits =
     let n : ℕ = length text in
     let width : max (minimal_width (length text)) (minimal_width (length text)) ≡ minimal_width (length text) = omega arith in
@@ -59,7 +59,7 @@ shortest-low value low =
     let byte : value % 128 ≡ value = omega arith in
     ap (λ (w : ℕ). spell value w) (width_within-low 9 value low) ∙ spell-one value ∙ ap (λ (b : ℕ). b ∷ []) byte
 
-pub truth-bytes : (truth : Bool) → 56 ∷ (shortest (from_bool truth) ++ []) ≡ encoded (OfBool truth)
+pub truth-bytes : (truth : Bool) → 56 ∷ (shortest (from_bool truth) ++ []) ≡ encoded_value (OfBool truth)
 truth-bytes false = ap (λ (x : List ℕ). 56 ∷ (x ++ [])) (shortest-low 0 (omega arith))
 truth-bytes true = ap (λ (x : List ℕ). 56 ∷ (x ++ [])) (shortest-low 1 (omega arith))
 
@@ -67,7 +67,7 @@ truth_message : (n : ℕ) (truth : Bool) → n < 128 → shortest n ≡ n ∷ []
 truth_message n truth low bytes has =
     message 56 (Spelled (short_number n)) (n ∷ []) (OfBool truth) (omega arith) (record { numbered = omega arith; short = omega arith; typed = refl }) (minimal_spelling n (omega arith)) tt bytes has
 
-pub encoded_has : (v : Value) → IsInRange v → HasValue (encoded v) v
+pub encoded_has : (v : Value) → IsWritable v → HasValue (encoded_value v) v
 encoded_has (OfText text) p = text_message text p
 encoded_has (OfFloat float) p =
     message 21 (Four float) float (OfFloat float) (omega arith) (record { numbered = omega arith; short = omega arith; typed = refl }) p tt refl (refl, refl)
@@ -83,10 +83,10 @@ encoded_has (OfBool false) p = truth_message 0 false (omega arith) (shortest-low
 encoded_has (OfBool true) p = truth_message 1 true (omega arith) (shortest-low 1 (omega arith)) (refl, refl)
 
 -- bytes that are those of a value in range have it
-pub written : (bytes : List ℕ) (v : Value) → IsInRange v → bytes ≡ encoded v → HasValue bytes v
+pub written : (bytes : List ℕ) (v : Value) → IsWritable v → bytes ≡ encoded_value v → HasValue bytes v
 written bytes v p e = subst (λ (b : List ℕ). HasValue b v) (sym e) (encoded_has v p)
 
-pub number_written : (bytes : List ℕ) (tag n : ℕ) (v : Value) → IsInRange v → encoded v ≡ tag ∷ shortest n → bytes ≡ tag ∷ (shortest n ++ []) → HasValue bytes v
+pub number_written : (bytes : List ℕ) (tag n : ℕ) (v : Value) → IsWritable v → encoded_value v ≡ tag ∷ shortest n → bytes ≡ tag ∷ (shortest n ++ []) → HasValue bytes v
 number_written bytes tag n v p is e = written bytes v p (e ∙ ap (λ (x : List ℕ). tag ∷ x) (append-nil (shortest n)) ∙ sym is)
 
 pub cast-twos_complement : (z : ℤ) → of_z w64 z ≡ twos_complement z

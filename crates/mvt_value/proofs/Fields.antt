@@ -15,7 +15,7 @@ use Rattle.mvt_value.specs.Values.{Value, OfText, OfFloat, OfDouble, OfInt, OfUi
 use Rattle.mvt_value.specs.Signed.{twos_complement}
 use Rattle.mvt_value.specs.Stands.{shown_by}
 use Rattle.mvt_value.specs.declared.value.Value as program
-use Rattle.mvt_value.specs.Messages.{BodyHas, FieldHas, HasValue, IsInRange}
+use Rattle.mvt_value.specs.Messages.{BodyHas, FieldHas, HasValue, IsWritable}
 
 -- ---- signed numbers
 
@@ -105,7 +105,7 @@ one_field_alone fields value all h =
 
 -- ---- what is read is in range
 
-in_range : (number : ℕ) (body : Body) (v : Value) → IsBodyWith IsGroup number body → StoresBody body → (other : ℕ) → BodyHas other body v → IsInRange v
+in_range : (number : ℕ) (body : Body) (v : Value) → IsBodyWith IsGroup number body → StoresBody body → (other : ℕ) → BodyHas other body v → IsWritable v
 in_range number (Delimited width bytes) (OfText text) valid stored other p = subst (λ (b : List ℕ). length b < 2 ^ 64) p.1 stored.fits
 in_range number (Four bytes) (OfFloat float) valid stored other p = ap length (sym p.1) ∙ valid
 in_range number (Eight bytes) (OfDouble double) valid stored other p = ap length (sym p.1) ∙ valid
@@ -115,5 +115,5 @@ in_range number (Spelled n) (OfSint sint) valid stored other p = zigzag_fits sin
 in_range number (Spelled n) (OfBool truth) valid stored other p = tt
 in_range number body v valid stored other p = absurd p
 
-pub read_in_range : (bytes : List ℕ) (v : Value) → HasValue bytes v → IsInRange v
+pub read_in_range : (bytes : List ℕ) (v : Value) → HasValue bytes v → IsWritable v
 read_in_range bytes v h = in_range _ h.field.body v h.valid.body h.stored _ h.has

@@ -5,12 +5,12 @@ use Rattle.mvt_document.specs.Plain.{Field}
 use Rattle.mvt_document.specs.Wire.{field_bytes}
 use Rattle.mvt_document.specs.Groups.{IsWholeFieldWith, IsGroup}
 use Rattle.mvt_value.specs.Values.{Value}
-use Rattle.mvt_value.specs.Messages.{FieldHas, HasValue, encoded, IsInRange}
+use Rattle.mvt_value.specs.Messages.{FieldHas, HasValue, encoded_value, IsWritable}
 use Rattle.mvt_value.specs.Found.{value_in}
 
 -- the bytes of a value in range have that value
 abbrev pub EncodedIsRead : Type 0
-EncodedIsRead = (value : Value) → IsInRange value → HasValue (encoded value) value
+EncodedIsRead = (value : Value) → IsWritable value → HasValue (encoded_value value) value
 
 -- bytes have at most one value
 abbrev pub OneValue : Type 0
@@ -18,7 +18,7 @@ OneValue = (bytes : List ℕ) (v w : Value) → HasValue bytes v → HasValue by
 
 -- a value that bytes have is in range, so it can be written
 abbrev pub ReadIsInRange : Type 0
-ReadIsInRange = (bytes : List ℕ) (value : Value) → HasValue bytes value → IsInRange value
+ReadIsInRange = (bytes : List ℕ) (value : Value) → HasValue bytes value → IsWritable value
 
 -- valid fields, with each length in its stored width, whose bytes have a value are a single field, and it has that
 -- value

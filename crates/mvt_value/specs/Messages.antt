@@ -45,22 +45,22 @@ shortest value = spell value (minimal_width value)
 -- the bytes of a new value: the tag, which is 8 times the field's number and the wire type, then a number in its
 -- shortest spelling, or a length in its shortest spelling and a text, or the bytes of a float
 -- (tiles 4.1; guide, Message Structure)
-abbrev pub encoded : Value → List ℕ
-encoded (OfText text) = (8 * 1 + 2) ∷ (shortest (length text) ++ text)
-encoded (OfFloat float) = (8 * 2 + 5) ∷ float
-encoded (OfDouble double) = (8 * 3 + 1) ∷ double
-encoded (OfInt int) = (8 * 4 + 0) ∷ shortest (twos_complement int)
-encoded (OfUint uint) = (8 * 5 + 0) ∷ shortest uint
-encoded (OfSint sint) = (8 * 6 + 0) ∷ shortest (zigzag sint)
-encoded (OfBool false) = (8 * 7 + 0) ∷ 0 ∷ []
-encoded (OfBool true) = (8 * 7 + 0) ∷ 1 ∷ []
+abbrev pub encoded_value : Value → List ℕ
+encoded_value (OfText text) = (8 * 1 + 2) ∷ (shortest (length text) ++ text)
+encoded_value (OfFloat float) = (8 * 2 + 5) ∷ float
+encoded_value (OfDouble double) = (8 * 3 + 1) ∷ double
+encoded_value (OfInt int) = (8 * 4 + 0) ∷ shortest (twos_complement int)
+encoded_value (OfUint uint) = (8 * 5 + 0) ∷ shortest uint
+encoded_value (OfSint sint) = (8 * 6 + 0) ∷ shortest (zigzag sint)
+encoded_value (OfBool false) = (8 * 7 + 0) ∷ 0 ∷ []
+encoded_value (OfBool true) = (8 * 7 + 0) ∷ 1 ∷ []
 
 -- the value can be written: a float has 4 or 8 bytes, numbers have 64 bits, and the length of a text is below 2 ^ 64
-abbrev pub IsInRange : Value → Type 0
-IsInRange (OfText text) = length text < 2 ^ 64
-IsInRange (OfFloat float) = length float ≡ 4
-IsInRange (OfDouble double) = length double ≡ 8
-IsInRange (OfInt int) = FitsSigned w64 int
-IsInRange (OfUint uint) = uint < 2 ^ 64
-IsInRange (OfSint sint) = FitsSigned w64 sint
-IsInRange (OfBool truth) = Unit {0}
+abbrev pub IsWritable : Value → Type 0
+IsWritable (OfText text) = length text < 2 ^ 64
+IsWritable (OfFloat float) = length float ≡ 4
+IsWritable (OfDouble double) = length double ≡ 8
+IsWritable (OfInt int) = FitsSigned w64 int
+IsWritable (OfUint uint) = uint < 2 ^ 64
+IsWritable (OfSint sint) = FitsSigned w64 sint
+IsWritable (OfBool truth) = Unit {0}

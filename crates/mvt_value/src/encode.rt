@@ -1,7 +1,7 @@
 //! `encode_value`: the bytes of a new value.
 
 ghost use Rattle.std.specs.Prelude.{◌≡◌, ◌++◌, ◌∷◌, [], IfOk};
-ghost use Rattle.mvt_value.specs.Messages.{HasValue, shortest, encoded};
+ghost use Rattle.mvt_value.specs.Messages.{HasValue, shortest, encoded_value};
 ghost use Rattle.mvt_value.specs.Stands.{new_value_of};
 
 use crate::tags::{BOOL_TAG, DOUBLE_TAG, FLOAT_TAG, INT_TAG, SINT_TAG, STRING_TAG, UINT_TAG};
@@ -12,7 +12,7 @@ use std::alloc::{AllocError, Global};
 /// The bytes of the value, each number in its shortest spelling.
 #[tactic(auto, using(crate::proofs::Encoded::written))]
 pub fn encode_value(alloc: Global, value: &NewValue) -> Result<Items<u8>, AllocError>
-    ensures bytes { IfOk result (λ message. message.items ≡ encoded (new_value_of value.now)) }
+    ensures bytes { IfOk result (λ message. message.items ≡ encoded_value (new_value_of value.now)) }
     ensures value { IfOk result (λ message. HasValue message.items (new_value_of value.now)) }
 {
     match value {

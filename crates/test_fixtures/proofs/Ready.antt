@@ -6,9 +6,9 @@ use Rattle.mvt_change.specs.Changes.{Change, Fits, go, turn}
 use Rattle.mvt_change.proofs.Turning.{change_makes, fits_joined, go_joined, turned_fits}
 use Rattle.mvt_command.specs.Command.{Command}
 use Rattle.mvt_meaning.specs.Meaning.{applied}
-use Rattle.test_fixtures.specs.Edits.{Edit, IsReady, Series, IsSeries}
+use Rattle.test_fixtures.specs.Edits.{Edit, CanFlip, Series, IsSeries}
 
-pub flipped : (done : Bool) (edit : Edit) → IsReady edit → IsReady (record { document = if done then go edit.change edit.document else edit.document; change = if done then turn edit.change edit.document else edit.change })
+pub flipped : (done : Bool) (edit : Edit) → CanFlip edit → CanFlip (record { document = if done then go edit.change edit.document else edit.document; change = if done then turn edit.change edit.document else edit.change })
 flipped true edit ready = record { valid = change_makes edit.change edit.document ready.valid ready.fits; fits = turned_fits edit.change edit.document ready.valid ready.fits }
 flipped false edit ready = record { valid = ready.valid; fits = ready.fits }
 

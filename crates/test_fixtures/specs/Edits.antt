@@ -10,7 +10,7 @@ pub record Edit : Type 0 where
   pub change : Change
 
 -- the document is valid, and the change fits it
-pub record IsReady (edit : Edit) : Type 0 where
+pub record CanFlip (edit : Edit) : Type 0 where
   pub valid : IsDocument edit.document
   pub fits : Fits edit.change edit.document
 
@@ -21,5 +21,5 @@ pub record Series : Type 0 where
 
 -- the document is valid, the change fits it and makes the other document
 pub record IsSeries (series : Series) : Type 0 where
-  pub ready : IsReady series.edit
+  pub ready : CanFlip series.edit
   pub made : go series.edit.change series.edit.document ≡ series.made

@@ -26,23 +26,23 @@ pub struct Seen {
 impl Model for Edit {
     ghost use Rattle.mvt_wire.specs.Stands.{document_of};
     ghost use Rattle.mvt_change.specs.ChangeStands.{change_of};
-    ghost use Rattle.test_fixtures.specs.Edits.{Edit as PlainEdit, IsReady};
+    ghost use Rattle.test_fixtures.specs.Edits.{Edit as PlainEdit, CanFlip};
 
     ghost Value = { PlainEdit };
 
     ghost view = { λ e. record { document = document_of e.document; change = change_of e.change } };
 
-    ghost invariant = { λ e. IsReady (record { document = document_of e.document; change = change_of e.change }) };
+    ghost invariant = { λ e. CanFlip (record { document = document_of e.document; change = change_of e.change }) };
 }
 
 impl Edit {
     ghost use Rattle.mvt_wire.specs.Stands.{document_of};
     ghost use Rattle.mvt_change.specs.ChangeStands.{change_of};
-    ghost use Rattle.test_fixtures.specs.Edits.{IsReady};
+    ghost use Rattle.test_fixtures.specs.Edits.{CanFlip};
 
     /// A document, and a change that is known to fit it.
     pub(crate) fn of(document: Document, change: Change) -> Edit
-        requires { IsReady (record { document = document_of document; change = change_of change }) }
+        requires { CanFlip (record { document = document_of document; change = change_of change }) }
     {
         Edit { document, change }
     }

@@ -36,8 +36,8 @@ IsRefused request history reason = (NeedsMemory request history × (refusal_numb
 
 -- these lines are printed, and the session holds the history after the request; or the request is refused, and the
 -- session holds the history before; or it was stopped, and the session holds the history at which it was
-abbrev pub Answers : Request → History → Result (Held ℕ) Refused → Standing → Type 0
-Answers request history (Ok lines) new = (after : History) × (carried_out request history ≡ Ok (record { lines = lines.items; history = after })) × StandsFor new after
-Answers request history (Err reason) new =
+abbrev pub IsAnswered : Request → History → Result (Held ℕ) Refused → Standing → Type 0
+IsAnswered request history (Ok lines) new = (after : History) × (carried_out request history ≡ Ok (record { lines = lines.items; history = after })) × StandsFor new after
+IsAnswered request history (Err reason) new =
     (IsRefused request history reason × StandsFor new history)
     ⊎ ((taken : ℕ) × (between : History) × (reason ≡ refused.History (Stopped taken)) × MayStop request history taken between × StandsFor new between)

@@ -5,7 +5,7 @@ ghost use Rattle.mvt_history.specs.History.{History};
 ghost use Rattle.mvt_history.specs.Session.{StandsFor};
 ghost use Rattle.tile_request.specs.RequestStands.{request_of};
 ghost use Rattle.tile_reply.specs.Replies.{refusal_number};
-ghost use Rattle.tile_answer.specs.Answers.{Answers};
+ghost use Rattle.tile_answer.specs.Answers.{IsAnswered};
 
 use crate::told::{history_lines, mark_lines, size_line};
 use mvt_document::Items;
@@ -22,7 +22,7 @@ pub fn carry_out(
     request: &Request,
 ) -> Result<Items<u8>, Refused>
     ensures answer { (history : History) → StandsFor session.old history →
-        Answers (request_of request.now) history result session.new }
+        IsAnswered (request_of request.now) history result session.new }
     ensures err { IfErr result (λ reason. (session.new ≡ session.old) ⊎ (refusal_number reason ≡ 54)) }
 {
     match request {

@@ -6,7 +6,7 @@ use Rattle.std.proofs.lemmas.Bool.{cases_Bool, ltb-true, lt-ltb}
 use Rattle.std.proofs.lemmas.List.{append-nil, map-append, map_push}
 use Rattle.std.proofs.lemmas.List.Sums.{fold_push}
 use Rattle.tile_lines.specs.Lines.{is_line_feed, last_line, whole_lines, lines_of}
-use Rattle.tile_lines.specs.Cutting.{Cut, Whole, TooLong, cut_of, Holding, nothing_held, line_to_join, joined, pushed, complete_line, some_bytes, rest_of, after_pushes, cuts}
+use Rattle.tile_lines.specs.Cutting.{Cut, Whole, TooLong, cut_of, Holding, nothing_held, line_to_join, with_byte, pushed, complete_line, some_bytes, rest_of, after_pushes, cuts}
 use Rattle.tile_lines.specs.declared.TheConstants.{LINE_LIMIT}
 use Rattle.tile_lines.proofs.WholeLines.{open_line, whole_lines-line_feed, whole_lines-other, open_line-line_feed, open_line-other, lines_of-open}
 pub use Rattle.tile_lines.proofs.WholeLines.{whole_lines-front, lines-front}
@@ -15,10 +15,10 @@ pub after_pushes-snoc : (held : Holding) (bytes : List ℕ) (byte : ℕ) → aft
 after_pushes-snoc held bytes byte = fold_push pushed held bytes byte
 
 -- a line that is cut at first, and then with one more byte, is cut as the longer line
-joined_cut : (line : List ℕ) (byte : ℕ) → joined (cut_of line) byte ≡ cut_of (line ++ byte ∷ [])
+joined_cut : (line : List ℕ) (byte : ℕ) → with_byte (cut_of line) byte ≡ cut_of (line ++ byte ∷ [])
 joined_cut line byte = by_length (ltb LINE_LIMIT (length line)) refl
   where
-    by_length : (b : Bool) → ltb LINE_LIMIT (length line) ≡ b → joined (cond b TooLong (Whole line)) byte ≡ cut_of (line ++ byte ∷ [])
+    by_length : (b : Bool) → ltb LINE_LIMIT (length line) ≡ b → with_byte (cond b TooLong (Whole line)) byte ≡ cut_of (line ++ byte ∷ [])
     by_length true long =
         let longer : ltb LINE_LIMIT (length (line ++ byte ∷ [])) ≡ true = lt-ltb LINE_LIMIT (length (line ++ byte ∷ [])) (omega (arith, ltb-true LINE_LIMIT (length line) long, length-append line (byte ∷ []))) in
         rw longer refl

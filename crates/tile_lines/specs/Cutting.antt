@@ -27,16 +27,16 @@ abbrev pub line_to_join : Holding → Cut
 line_to_join held = if held.is_complete then Whole [] else held.cut
 
 -- a line with one more byte; one that is too long stays so
-abbrev pub joined : Cut → ℕ → Cut
-joined (Whole line) byte = cut_of (line ++ byte ∷ [])
-joined TooLong byte = TooLong
+abbrev pub with_byte : Cut → ℕ → Cut
+with_byte (Whole line) byte = cut_of (line ++ byte ∷ [])
+with_byte TooLong byte = TooLong
 
 -- what is held after one more byte: a line feed completes the line, and any other byte joins it; behind a complete line
 -- a new one begins
 unfoldable pub pushed : Holding → ℕ → Holding
 pushed held byte =
     if is_line_feed byte then record { cut = line_to_join held; is_complete = true }
-    else record { cut = joined (line_to_join held) byte; is_complete = false }
+    else record { cut = with_byte (line_to_join held) byte; is_complete = false }
 
 -- the line held, where it is complete
 abbrev pub complete_line : Holding → Option Cut

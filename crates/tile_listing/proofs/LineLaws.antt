@@ -8,7 +8,7 @@ use Rattle.mvt_document.specs.Plain.{Document, Feature, Layer}
 use Rattle.mvt_value.specs.Values.{Value}
 use Rattle.mvt_value.proofs.Fields.{read_in_range}
 use Rattle.mvt_numbers.specs.Numbers.{numbers}
-use Rattle.mvt_geometry.specs.Shapes.{Geometry, IsGeometry, number_of}
+use Rattle.mvt_geometry.specs.Shapes.{Geometry, IsGeometry, kind_number}
 use Rattle.mvt_geometry.specs.declared.shapes.Kind.{Kind}
 use Rattle.mvt_view.specs.Views.{extent_of, features, id_of, keys, kind_of, layers, name_of, values, version_of}
 use Rattle.mvt_view.specs.Attributes.{attributes, values_in}
@@ -70,7 +70,7 @@ found_kind_uncut (Some kind) other h = kind_feedless kind
 kind_uncut : (kind : ℕ) → HasNoLineFeed (kind_form kind)
 kind_uncut kind =
     either_uncut (kind == 0) (codes "unknown") _ (tested (codes "unknown") refl)
-    (found_kind_uncut (find (λ k. number_of k == kind) kinds) _ (spaced_uncut (codes "kind" ∷ decimal kind ∷ []) (tested (codes "kind") refl, (decimal_uncut kind, tt))))
+    (found_kind_uncut (find (λ k. kind_number k == kind) kinds) _ (spaced_uncut (codes "kind" ∷ decimal kind ∷ []) (tested (codes "kind") refl, (decimal_uncut kind, tt))))
 
 found_is_geometry : (kind : ℕ) (read : Option (List ℕ)) (geometry : Geometry) → option_and_then (geometry_in kind) read ≡ Some geometry → IsGeometry geometry
 found_is_geometry kind None geometry e = absurd cc

@@ -5,7 +5,7 @@ use Rattle.std.specs.Option.{ok_or, option_and_then, option_map_or}
 use Rattle.mvt_document.specs.Held.{Held}
 use Rattle.mvt_document.specs.Plain.{Document, Feature, Layer}
 use Rattle.mvt_numbers.specs.Numbers.{numbers}
-use Rattle.mvt_geometry.specs.Shapes.{Geometry, number_of}
+use Rattle.mvt_geometry.specs.Shapes.{Geometry, kind_number}
 use Rattle.mvt_command.specs.Command.{FeatureChoice, LayerChoice}
 use Rattle.mvt_view.specs.Views.{extent_of, features, id_of, keys, kind_of, layers, name_of, values, version_of}
 use Rattle.mvt_view.specs.Attributes.{attributes, values_in}
@@ -75,7 +75,7 @@ id_word id = option_map_or decimal id absent
 abbrev pub kind_form : ℕ → List ℕ
 kind_form number =
     if number == 0 then codes "unknown"
-    else option_map_or kind_word (find (λ kind. number_of kind == number) kinds) (spaced (codes "kind" ∷ decimal number ∷ []))
+    else option_map_or kind_word (find (λ kind. kind_number kind == number) kinds) (spaced (codes "kind" ∷ decimal number ∷ []))
 
 -- the line of a feature: its ordinal, its id and its kind
 abbrev pub feature_line : ℕ → Feature → List ℕ

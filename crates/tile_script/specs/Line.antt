@@ -29,8 +29,8 @@ name_of (name ∷ []) = text_of name
 name_of words = Err BadArguments
 
 -- the request on the mark whose name the single argument says; else BadArguments
-abbrev pub mark_of : (List ℕ → Request) → List Word → Result Request ParseError
-mark_of request arguments = name_of arguments >>= λ name. Ok (request name)
+abbrev pub mark_request : (List ℕ → Request) → List Word → Result Request ParseError
+mark_request request arguments = name_of arguments >>= λ name. Ok (request name)
 
 -- the listing of these arguments: none, a layer, or a layer and one of its features; or the first refusal
 unfoldable pub list_of : List Word → Result Request ParseError
@@ -47,7 +47,7 @@ list_of (layer ∷ feature ∷ more ∷ others) = Err BadArguments
 -- the requests that are no commands, each with its word and how its arguments are read
 abbrev pub requests : List (List ℕ × (List Word → Result Request ParseError))
 requests =
-    map (λ word. (word.0, mark_of word.1)) requests_by_name
+    map (λ word. (word.0, mark_request word.1)) requests_by_name
     ++ map (λ word. (word.0, alone_of word.1)) requests_alone
     ++ (codes "list", list_of) ∷ []
 

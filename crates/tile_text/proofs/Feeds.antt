@@ -10,14 +10,14 @@ use Rattle.std.proofs.lemmas.Bool.Decides.{nat_tests}
 use Rattle.std.proofs.lemmas.List.Elements.{All-from_recursion, All-contains}
 use Rattle.hex.specs.Hex.{encode_lower}
 use Rattle.mvt_value.specs.Values.{Value, OfText, OfFloat, OfDouble, OfInt, OfUint, OfSint, OfBool}
-use Rattle.mvt_value.specs.Messages.{IsInRange}
+use Rattle.mvt_value.specs.Messages.{IsWritable}
 use Rattle.mvt_geometry.specs.Shapes.{Geometry, IsGeometry, IsPart, IsPlaced}
 use Rattle.mvt_geometry.specs.declared.shapes.Point.{Point}
 use Rattle.mvt_geometry.specs.declared.shapes.Kind.{Kind}
 use Rattle.mvt_geometry.specs.declared.shapes.Kind.TheVariants.{Dots, Lines, Areas}
 use Rattle.tile_arguments.specs.Arguments.{kind_word}
 use Rattle.tile_text.specs.Texts.{is_mark, quoted_byte, quoted, text_form, truth_form, value_form, raw_form, point_form, part_words, geometry_form}
-use Rattle.tile_text.specs.TextStands.{spaced}
+use Rattle.tile_text.specs.TextStands.{with_leading_spaces}
 use Rattle.tile_text.proofs.Digits.{hex_digit_fails, hex_all, decimal_all, signed_all}
 use Rattle.tile_text.proofs.Lists.{all_append, all_weaker, none_passes, words_all}
 use Rattle.tile_text.proofs.Spelled.{mark_is}
@@ -84,7 +84,7 @@ truth_feedless false = tested (codes "false") refl
 both : (name bytes : List ℕ) → list_all (λ b. not (is_feed b)) name ≡ true → IsFeedless bytes → IsFeedless (name ++ 32 ∷ bytes)
 both name bytes e h = joined name (32 ∷ bytes) (tested name e) (refl, h)
 
-pub value_form_feedless : (value : Value) → IsInRange value → IsFeedless (value_form value)
+pub value_form_feedless : (value : Value) → IsWritable value → IsFeedless (value_form value)
 value_form_feedless (OfText text) fits = both (codes "string") (text_form text) refl (text_form_feedless text)
 value_form_feedless (OfFloat bytes) fits = both (codes "float") (encode_lower bytes) refl (hex_feedless bytes)
 value_form_feedless (OfDouble bytes) fits = both (codes "double") (encode_lower bytes) refl (hex_feedless bytes)
@@ -114,12 +114,12 @@ kind_feedless Dots = tested (codes "point") refl
 kind_feedless Lines = tested (codes "line") refl
 kind_feedless Areas = tested (codes "polygon") refl
 
-spaced_feedless : (words : List (List ℕ)) → AllByRecursion IsFeedless words → IsFeedless (spaced words)
+spaced_feedless : (words : List (List ℕ)) → AllByRecursion IsFeedless words → IsFeedless (with_leading_spaces words)
 spaced_feedless [] h = tt
-spaced_feedless (word ∷ words) h = joined (codes " " ++ word) (spaced words) (refl, h.0) (spaced_feedless words h.1)
+spaced_feedless (word ∷ words) h = joined (codes " " ++ word) (with_leading_spaces words) (refl, h.0) (spaced_feedless words h.1)
 
 pub geometry_form_feedless : (g : Geometry) → IsGeometry g → IsFeedless (geometry_form g)
 geometry_form_feedless g valid =
     let points : AllByRecursion (AllByRecursion (λ p. IsFeedless (point_form p))) g.parts =
     all_weaker (IsPart g.kind) (AllByRecursion (λ p. IsFeedless (point_form p))) (λ part h. all_weaker IsPlaced (λ p. IsFeedless (point_form p)) point_feedless part h.placed) g.parts valid.parts in
-    joined (kind_word g.kind) (spaced (part_words g.parts)) (kind_feedless g.kind) (spaced_feedless (part_words g.parts) (words_all IsFeedless (tested (codes "/") refl) g.parts points))
+    joined (kind_word g.kind) (with_leading_spaces (part_words g.parts)) (kind_feedless g.kind) (spaced_feedless (part_words g.parts) (words_all IsFeedless (tested (codes "/") refl) g.parts points))

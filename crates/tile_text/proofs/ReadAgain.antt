@@ -14,7 +14,7 @@ use Rattle.hex.specs.Hex.{encode_lower, lower_digits, IsBytes}
 use Rattle.hex.specs.declared.error.FromHexError.{FromHexError}
 use Rattle.hex.proofs.HexLemmas.{decode_of-encode_lower, decode_sized-encode_lower, length-encode_with}
 use Rattle.mvt_value.specs.Values.{Value, OfText, OfFloat, OfDouble, OfInt, OfUint, OfSint, OfBool}
-use Rattle.mvt_value.specs.Messages.{IsInRange}
+use Rattle.mvt_value.specs.Messages.{IsWritable}
 use Rattle.tile_words.specs.Words.{Word, Bare, Quoted, ends_bare}
 use Rattle.tile_words.specs.Spelling.{SpellsWord, SpellsWords}
 use Rattle.tile_words.specs.declared.parse_error.ParseError.TheVariants.{BadArguments, BadValue}
@@ -149,7 +149,7 @@ reads_as value name argument e lt bare spelled read =
     let first : SpellsWord (value_words value).0 (Bare name) = rw e (bare_spelled name lt bare) in
     record { name = Bare name; argument = argument; name_spelled = first; argument_spelled = spelled; line = two_words _ _ (Bare name) argument first spelled; read = read }
 
-pub value_read_back : (value : Value) → IsInRange value → HoldsBytes value → IsReadAsValue value
+pub value_read_back : (value : Value) → IsWritable value → HoldsBytes value → IsReadAsValue value
 value_read_back (OfText text) fits h =
     let says = text_says text h in
     reads_as (OfText text) (codes "string") says.word refl (omega arith) refl says.spelled (text_value says.word text says.read)

@@ -22,7 +22,7 @@ use Rattle.tile_words.specs.declared.parse_error.ParseError.TheVariants.{BadGeom
 use Rattle.mvt_geometry.proofs.Checks.{counted-Decides}
 use Rattle.tile_arguments.specs.Arguments.{way_of, each, point_at, point_in, point_of, part_of, is_bar, parts_of, kind_word, kind_of, shaped, geometry_of}
 use Rattle.tile_text.specs.Texts.{point_form, part_words, geometry_words}
-use Rattle.tile_text.specs.TextStands.{spaced}
+use Rattle.tile_text.specs.TextStands.{with_leading_spaces}
 use Rattle.tile_text.specs.ReadBack.{IsNear, IsReadAsGeometry}
 use Rattle.tile_text.proofs.Digits.{signed_all}
 use Rattle.tile_text.proofs.Lists.{all_append, all_map, all_weaker, words_all}
@@ -164,13 +164,13 @@ geometry_reads g valid near =
 
 -- ---- words on a line
 
-ends : (words : List (List ℕ)) → ends_word (spaced words) ≡ true
+ends : (words : List (List ℕ)) → ends_word (with_leading_spaces words) ≡ true
 ends [] = refl
 ends (word ∷ words) = refl
 
-spaced_spelled : (words : List (List ℕ)) → AllByRecursion (λ form. SpellsWord form (Bare form)) words → SpellsWords (spaced words) (map Bare words)
+spaced_spelled : (words : List (List ℕ)) → AllByRecursion (λ form. SpellsWord form (Bare form)) words → SpellsWords (with_leading_spaces words) (map Bare words)
 spaced_spelled [] h = tt
-spaced_spelled (word ∷ words) h = (32 ∷ [], word, spaced words, refl, (refl, tt), h.0, ends words, spaced_spelled words h.1)
+spaced_spelled (word ∷ words) h = (32 ∷ [], word, with_leading_spaces words, refl, (refl, tt), h.0, ends words, spaced_spelled words h.1)
 
 kind_spelled : (kind : Kind) → SpellsWord (kind_word kind) (Bare (kind_word kind))
 kind_spelled Dots = bare_spelled (codes "point") (omega arith) refl
@@ -194,6 +194,6 @@ geometry_read_back g valid near =
     let behind = parts_spelled g.parts near in
     record {
       spelled = (kind_spelled g.kind, behind);
-      line = ([], kind_word g.kind, spaced (part_words g.parts), refl, tt, kind_spelled g.kind, ends (part_words g.parts), spaced_spelled (part_words g.parts) behind);
+      line = ([], kind_word g.kind, with_leading_spaces (part_words g.parts), refl, tt, kind_spelled g.kind, ends (part_words g.parts), spaced_spelled (part_words g.parts) behind);
       read = geometry_reads g valid near;
     }

@@ -9,7 +9,7 @@ use Rattle.std.proofs.lemmas.List.Concat.{flat_map-append}
 use Rattle.hex.specs.Hex.{encode_with, encode_lower, lower_digits}
 use Rattle.tile_text.specs.Extends.{Extends}
 use Rattle.tile_text.specs.Texts.{is_mark, is_escaped, quoted_byte, raw_form, point_form, part_words}
-use Rattle.tile_text.specs.TextStands.{raw_word, spaced, other_part}
+use Rattle.tile_text.specs.TextStands.{raw_word, with_leading_spaces, other_part}
 use Rattle.mvt_geometry.specs.Stands.{points_of}
 use Rattle.mvt_geometry.specs.declared.shapes.Part.{Part}
 use Rattle.mvt_geometry.specs.declared.shapes.Point.{Point}
@@ -108,25 +108,25 @@ raw_whole (b ∷ bytes) = refl
 
 -- ---- the parts of a geometry
 
-others_form : (others : List Part) → spaced (flat_map (λ points. codes "/" ∷ [] ++ map point_form points) (map points_of others)) ≡ flat_map (λ part. other_part (points_of part)) others
+others_form : (others : List Part) → with_leading_spaces (flat_map (λ points. codes "/" ∷ [] ++ map point_form points) (map points_of others)) ≡ flat_map (λ part. other_part (points_of part)) others
 others_form [] = refl
 others_form (part ∷ others) =
     flat_map-append (λ word. codes " " ++ word) (codes "/" ∷ [] ++ map point_form (points_of part)) (flat_map (λ points. codes "/" ∷ [] ++ map point_form points) (map points_of others))
     ∙ ap (λ (xs : List ℕ). other_part (points_of part) ++ xs) (others_form others)
 
-parts_form : (part : Part) (others : List Part) → spaced (part_words (map points_of (part ∷ others))) ≡ spaced (map point_form (points_of part)) ++ flat_map (λ part. other_part (points_of part)) others
+parts_form : (part : Part) (others : List Part) → with_leading_spaces (part_words (map points_of (part ∷ others))) ≡ with_leading_spaces (map point_form (points_of part)) ++ flat_map (λ part. other_part (points_of part)) others
 parts_form part others =
     flat_map-append (λ word. codes " " ++ word) (map point_form (points_of part)) (flat_map (λ points. codes "/" ∷ [] ++ map point_form points) (map points_of others))
-    ∙ ap (λ (xs : List ℕ). spaced (map point_form (points_of part)) ++ xs) (others_form others)
+    ∙ ap (λ (xs : List ℕ). with_leading_spaces (map point_form (points_of part)) ++ xs) (others_form others)
 
 pub parts_written : (line first new : List ℕ) (parts : List Part) (part : Part) (points : List Point) → 1 ≤ length parts → part ≡ get_or parts 0 part → points ≡ points_of part
-    → first ≡ line ++ spaced (map point_form points) → new ≡ first ++ flat_map (λ part. other_part (points_of part)) (take (length parts - 1) (drop 1 parts))
-    → new ≡ line ++ spaced (part_words (map points_of parts))
+    → first ≡ line ++ with_leading_spaces (map point_form points) → new ≡ first ++ flat_map (λ part. other_part (points_of part)) (take (length parts - 1) (drop 1 parts))
+    → new ≡ line ++ with_leading_spaces (part_words (map points_of parts))
 parts_written line first new parts part points some is points_are written behind =
     let others : List Part = take (length parts - 1) (drop 1 parts) in
     let rest : List ℕ = flat_map (λ part. other_part (points_of part)) others in
     let whole : parts ≡ part ∷ others = first_and_rest parts part some ∙ ap (λ (p : Part). p ∷ others) (sym is) in
-    behind ∙ ap (λ (xs : List ℕ). xs ++ rest) (written ∙ ap (λ (ps : List Point). line ++ spaced (map point_form ps)) points_are)
-    ∙ append_assoc line (spaced (map point_form (points_of part))) rest
+    behind ∙ ap (λ (xs : List ℕ). xs ++ rest) (written ∙ ap (λ (ps : List Point). line ++ with_leading_spaces (map point_form ps)) points_are)
+    ∙ append_assoc line (with_leading_spaces (map point_form (points_of part))) rest
     ∙ ap (λ (xs : List ℕ). line ++ xs) (sym (parts_form part others))
-    ∙ ap (λ (ps : List Part). line ++ spaced (part_words (map points_of ps))) (sym whole)
+    ∙ ap (λ (ps : List Part). line ++ with_leading_spaces (part_words (map points_of ps))) (sym whole)

@@ -2,7 +2,7 @@
 use Rattle.std.specs.Prelude.{ℕ, List}
 use Rattle.std.specs.List.{AllByRecursion, Contains}
 use Rattle.mvt_value.specs.Values.{Value}
-use Rattle.mvt_value.specs.Messages.{IsInRange}
+use Rattle.mvt_value.specs.Messages.{IsWritable}
 use Rattle.mvt_geometry.specs.Shapes.{Geometry, IsGeometry}
 use Rattle.tile_text.specs.Texts.{text_form, value_form, raw_form, geometry_form}
 use Rattle.tile_text.specs.ReadBack.{AreBytes, HoldsBytes, IsNear, IsReadAsText, IsReadAsValue, IsReadAsGeometry}
@@ -13,7 +13,7 @@ TextsReadBack = (bytes : List ℕ) → AreBytes bytes → IsReadAsText bytes
 
 -- the form of a value in range is read as that value
 abbrev pub ValuesReadBack : Type 0
-ValuesReadBack = (value : Value) → IsInRange value → HoldsBytes value → IsReadAsValue value
+ValuesReadBack = (value : Value) → IsWritable value → HoldsBytes value → IsReadAsValue value
 
 -- the form of a valid geometry whose points are near is read as that geometry
 abbrev pub GeometriesReadBack : Type 0
@@ -29,7 +29,7 @@ TextsStandOnALine = (bytes : List ℕ) → StandsOnALine (text_form bytes)
 
 -- the form of a value in range holds no line feed
 abbrev pub ValuesStandOnALine : Type 0
-ValuesStandOnALine = (value : Value) → IsInRange value → StandsOnALine (value_form value)
+ValuesStandOnALine = (value : Value) → IsWritable value → StandsOnALine (value_form value)
 
 -- the form of bytes that are no value holds no line feed
 abbrev pub RawStandsOnALine : Type 0

@@ -35,9 +35,9 @@ type_word (shown.Bool truth) = codes "bool "
 type_word (shown.Raw bytes) = raw_word bytes.now
 
 -- the words, each with a space before it
-abbrev pub spaced : List (List ℕ) → List ℕ
-spaced words = flat_map (λ word. codes " " ++ word) words
+abbrev pub with_leading_spaces : List (List ℕ) → List ℕ
+with_leading_spaces words = flat_map (λ word. codes " " ++ word) words
 
 -- the form of a part that follows another one
 abbrev pub other_part : List Point → List ℕ
-other_part points = codes " /" ++ spaced (map point_form points)
+other_part points = codes " /" ++ with_leading_spaces (map point_form points)

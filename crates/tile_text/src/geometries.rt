@@ -5,7 +5,7 @@ ghost use Rattle.std.specs.List.{flat_map};
 ghost use Rattle.mvt_geometry.specs.Stands.{points_of};
 ghost use Rattle.tile_text.specs.Extends.{Extends};
 ghost use Rattle.tile_text.specs.Texts.{point_form, part_words, geometry_form};
-ghost use Rattle.tile_text.specs.TextStands.{spaced, other_part};
+ghost use Rattle.tile_text.specs.TextStands.{with_leading_spaces, other_part};
 
 use crate::numbers::put_signed_decimal;
 use mvt_geometry::{Geometry, Part, Point};
@@ -23,7 +23,7 @@ pub fn put_geometry(line: &mut Vec<u8>, geometry: &Geometry) -> Result<(), Alloc
 
 /// Adds the points of all parts, and what separates the parts.
 fn put_parts(line: &mut Vec<u8>, parts: &[Part]) -> Result<(), AllocError>
-    ensures ok { OnOk result (line.new.items ≡ line.old.items ++ spaced (part_words (map points_of parts.now))) }
+    ensures ok { OnOk result (line.new.items ≡ line.old.items ++ with_leading_spaces (part_words (map points_of parts.now))) }
     ensures kept { Extends line.old.items line.new.items }
 {
     match parts {
@@ -56,7 +56,7 @@ fn put_other_part(line: &mut Vec<u8>, part: &Part) -> Result<(), AllocError>
 
 /// Adds a space before each point, and the point.
 fn put_points(line: &mut Vec<u8>, points: &[Point]) -> Result<(), AllocError>
-    ensures ok { OnOk result (line.new.items ≡ line.old.items ++ spaced (map point_form points.now)) }
+    ensures ok { OnOk result (line.new.items ≡ line.old.items ++ with_leading_spaces (map point_form points.now)) }
     ensures kept { Extends line.old.items line.new.items }
 {
     for point in points {

@@ -7,7 +7,7 @@ use Rattle.std.proofs.Math.Seq.{take-append_seam, drop-append_seam}
 use Rattle.std.proofs.lemmas.Bool.{lt-ltb}
 use Rattle.std.proofs.lemmas.Bool.Decides.{nat_tests}
 use Rattle.std.proofs.lemmas.List.{append-nil}
-use Rattle.tile_words.specs.Words.{Word, Bare, Quoted, is_blank, ends_bare, after_blanks, ends_word, onto, taken, hex_byte, hex_at, escape_at, byte_at, text_at, closed, quoted_at, bare_at, first_word, word_at, all_found, words_of}
+use Rattle.tile_words.specs.Words.{Word, Bare, Quoted, is_blank, ends_bare, after_blanks, ends_word, onto, taken, hex_byte, hex_at, escape_at, byte_at, text_at, closed_word, quoted_at, bare_at, first_word, word_at, all_found, words_of}
 use Rattle.tile_words.specs.Spelling.{SpellsByte, SpellsText, SpellsWord, AreBlanks, SpellsWords}
 use Rattle.tile_words.proofs.Repeats.{taken_some, taken_none}
 use Rattle.tile_words.proofs.Short.{byte_short, word_short}
@@ -55,12 +55,12 @@ no_byte_at_quote : (rest : List ℕ) → byte_at (34 ∷ rest) ≡ None
 unfolding byte_at
 no_byte_at_quote rest = refl
 
-closed_again : (text rest : List ℕ) → ends_word rest ≡ true → closed text (34 ∷ rest) ≡ Some (Quoted text, rest)
+closed_again : (text rest : List ℕ) → ends_word rest ≡ true → closed_word text (34 ∷ rest) ≡ Some (Quoted text, rest)
 closed_again text rest e = rw e refl
 
 quoted_again : (inner text rest : List ℕ) → SpellsText inner text → ends_word rest ≡ true → quoted_at (inner ++ (34 ∷ rest)) ≡ Some (Quoted text, rest)
 quoted_again inner text rest s e =
-    ap (λ (found : List ℕ × List ℕ). closed found.0 found.1) (text_again inner text (34 ∷ rest) s (no_byte_at_quote rest)) ∙ closed_again text rest e
+    ap (λ (found : List ℕ × List ℕ). closed_word found.0 found.1) (text_again inner text (34 ∷ rest) s (no_byte_at_quote rest)) ∙ closed_again text rest e
 
 -- the place where a test passes first, behind bytes that do not pass it
 stops_at : (p : ℕ → Bool) (front rest : List ℕ) → AllByRecursion (λ b. p b ≡ false) front → position_or_len p rest ≡ 0 → position_or_len p (front ++ rest) ≡ length front

@@ -9,7 +9,7 @@ use Rattle.std.proofs.lemmas.Bool.Decides.{nat_tests}
 use Rattle.std.proofs.lemmas.List.{append-nil, nil_from_length, take-append-drop}
 use Rattle.std.proofs.lemmas.List.Folds.{length-prefix_len}
 use Rattle.std.proofs.lemmas.Option.{some_pair_parts, cond_some}
-use Rattle.tile_words.specs.Words.{Word, Bare, Quoted, is_blank, ends_bare, after_blanks, ends_word, onto, repeated, taken, hex_at, escape_at, byte_at, text_at, closed, quoted_at, bare_at, first_word, word_at, words_of}
+use Rattle.tile_words.specs.Words.{Word, Bare, Quoted, is_blank, ends_bare, after_blanks, ends_word, onto, repeated, taken, hex_at, escape_at, byte_at, text_at, closed_word, quoted_at, bare_at, first_word, word_at, words_of}
 use Rattle.tile_words.specs.Spelling.{SpellsByte, SpellsText, SpellsWord, AreBlanks, SpellsWords}
 use Rattle.tile_words.proofs.Short.{head_behind, bare_long}
 
@@ -90,7 +90,7 @@ text_spelled (suc n) bytes = stepped (byte_at bytes) refl (text_spelled n)
     stepped None read others = ([], refl, refl)
     stepped (Some x) read others = one_more bytes x.0 x.1 (repeated byte_at n x.1) (byte_spelled bytes x.0 x.1 read) (others x.1)
 
-closed_parts : (text rest : List ℕ) (word : Word) (more : List ℕ) → closed text rest ≡ Some (word, more) → (rest ≡ 34 ∷ more) × (Quoted text ≡ word) × (ends_word more ≡ true)
+closed_parts : (text rest : List ℕ) (word : Word) (more : List ℕ) → closed_word text rest ≡ Some (word, more) → (rest ≡ 34 ∷ more) × (Quoted text ≡ word) × (ends_word more ≡ true)
 closed_parts text [] word more read = absurd cc
 closed_parts text (b ∷ rest) word more read = tested (eqb b 34 && ends_word rest) refl read
   where

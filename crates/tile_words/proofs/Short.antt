@@ -4,7 +4,7 @@ use Rattle.std.specs.Prelude.{IfSome, ◌&&◌, option_map}
 use Rattle.std.specs.List.{position_or_len, before_first}
 use Rattle.std.proofs.lemmas.List.{length-drop, get_or-drop}
 use Rattle.std.proofs.lemmas.List.Sums.{prefix_len_stops}
-use Rattle.tile_words.specs.Words.{Bare, Quoted, is_blank, ends_bare, after_blanks, ends_word, hex_byte, hex_at, escape_at, byte_at, text_at, closed, quoted_at, bare_at, first_word, word_at}
+use Rattle.tile_words.specs.Words.{Bare, Quoted, is_blank, ends_bare, after_blanks, ends_word, hex_byte, hex_at, escape_at, byte_at, text_at, closed_word, quoted_at, bare_at, first_word, word_at}
 use Rattle.tile_words.proofs.Repeats.{Shortens, rest_le}
 
 -- a fact of both branches
@@ -34,7 +34,7 @@ byte_short (b ∷ more) =
     if_cond (eqb b 92) (escape_at more) (cond (eqb b 34) None (Some (b, more))) (λ found. length found.1 < length (b ∷ more)) (escape_short more (length (b ∷ more)) (omega arith))
     (if_cond (eqb b 34) None (Some (b, more)) (λ found. length found.1 < length (b ∷ more)) tt (omega arith))
 
-closed_short : (text rest : List ℕ) (n : ℕ) → length rest ≤ n → IfSome (closed text rest) (λ found. length found.1 < n)
+closed_short : (text rest : List ℕ) (n : ℕ) → length rest ≤ n → IfSome (closed_word text rest) (λ found. length found.1 < n)
 closed_short text [] n le = tt
 closed_short text (b ∷ more) n le = if_cond (eqb b 34 && ends_word more) (Some (Quoted text, more)) None (λ found. length found.1 < n) (omega arith) tt
 

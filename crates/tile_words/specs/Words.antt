@@ -64,13 +64,13 @@ abbrev pub text_at : List ℕ → List ℕ × List ℕ
 text_at bytes = taken byte_at bytes
 
 -- a quoted word of this text, where the closing quote follows and a word may end behind it; and what follows that
-abbrev pub closed : List ℕ → List ℕ → Option (Word × List ℕ)
-closed text [] = None
-closed text (b ∷ more) = if b == 34 && ends_word more then Some (Quoted text, more) else None
+abbrev pub closed_word : List ℕ → List ℕ → Option (Word × List ℕ)
+closed_word text [] = None
+closed_word text (b ∷ more) = if b == 34 && ends_word more then Some (Quoted text, more) else None
 
 -- the quoted word behind its opening quote, and what follows it
 abbrev pub quoted_at : List ℕ → Option (Word × List ℕ)
-quoted_at bytes = closed (text_at bytes).0 (text_at bytes).1
+quoted_at bytes = closed_word (text_at bytes).0 (text_at bytes).1
 
 -- a bare word of these bytes, where a word may end before the rest
 abbrev pub bare_before : List ℕ → List ℕ → Option (Word × List ℕ)

@@ -10,7 +10,7 @@ use Rattle.mvt_change.specs.ChangeStands.{step_of}
 use Rattle.mvt_change.specs.Changes.{turn}
 use Rattle.mvt_change.specs.Room.{KeepsField, KeepsDocument}
 use Rattle.mvt_change.specs.HeldChanges.{go_held, AreTurned}
-use Rattle.mvt_change.specs.Runs.{feature_splice, turned_in_feature, LeadsBack}
+use Rattle.mvt_change.specs.Runs.{feature_splice, turned_in_feature, GoesBack}
 use Rattle.mvt_change.specs.LayerRuns.{AreMade, PassesOver, exchanged_all}
 use Rattle.mvt_change.proofs.Changed.{apply_cond}
 use Rattle.mvt_change.proofs.Keeping.{document_order}
@@ -74,7 +74,7 @@ returns-clause-back c =
     let document = c.args.document.now in
     let new = c.change_fields.new.beside in
     let after = c.change_fields.new.self in
-    on_ok c.change_fields.result (LeadsBack (reverse new) document after) (λ done.
+    on_ok c.change_fields.result (GoesBack (reverse new) document after) (λ done.
     all_lead_back steps document new after c.requires.fits (are_turned c done) (subst (λ b. KeepsDocument (cond b (go_held steps document) document) after) done (kept_all c)))
 
 pub returns-clause-same : goal.returns-clause-same

@@ -3,7 +3,7 @@ use Rattle.mvt_document.specs.Stands.{document_of}
 use Rattle.mvt_change.specs.ChangeStands.{step_of}
 use Rattle.mvt_change.specs.Changes.{turn}
 use Rattle.mvt_change.specs.HeldChanges.{IsTurned}
-use Rattle.mvt_change.specs.Runs.{LeadsBack}
+use Rattle.mvt_change.specs.Runs.{GoesBack}
 use Rattle.mvt_change.proofs.TileRuns.{on_ok, from_ok}
 use Rattle.mvt_change.proofs.TurnedRuns.{one_goes, one_turned, one_leads_back}
 use Rattle.mvt_change.proofs.RunPieces.{move_is_alone}
@@ -29,7 +29,7 @@ pub returns-then-steps-eq1-clause-back : goal.returns-then-steps-eq1-clause-back
 returns-then-steps-eq1-clause-back c =
     let steps = c.args.steps.now in
     let one : length steps ≡ 1 = omega arith in
-    on_ok c.flip_step.result (LeadsBack (reverse (slice_set steps 0 c.flip_step.new.step)) c.args.document.now c.flip_step.new.document) (λ done.
+    on_ok c.flip_step.result (GoesBack (reverse (slice_set steps 0 c.flip_step.new.step)) c.args.document.now c.flip_step.new.document) (λ done.
     one_leads_back steps c.index-steps-0.result c.flip_step.new.step c.args.document.now c.flip_step.new.document one c.requires.fits (is_turned c done) (rw done at c.flip_step.ensures.kept))
 
 pub unreachable-requires : goal.unreachable-requires

@@ -5,7 +5,7 @@ use Rattle.mvt_splices.proofs.Runs.{roomy_after, roomy_fit, roomy_longest}
 use Rattle.mvt_change.specs.ChangeStands.{step_of}
 use Rattle.mvt_change.specs.Changes.{turn}
 use Rattle.mvt_change.specs.Room.{capacity, KeepsDocument}
-use Rattle.mvt_change.specs.Runs.{tile_splice, turned_in_tile, IsRoomierStep, LeadsBack}
+use Rattle.mvt_change.specs.Runs.{tile_splice, turned_in_tile, IsRoomierStep, GoesBack}
 use Rattle.mvt_change.specs.RunLaws.{roomy_tile}
 use Rattle.mvt_change.proofs.Changed.{apply_cond}
 use Rattle.mvt_change.proofs.TileRuns.{fit_all, goes, turns, roomier_stand, roomier_in_tile, same_items, kept, leads, on_ok, on_err, from_ok}
@@ -50,14 +50,14 @@ returns-clause-back c =
     let fit = roomy_fit tile_splice IsRoomierStep roomy_tile steps roomy (length items) made.1 (fit_all steps items c.requires.tile c.requires.fits) in
     let count = length items in
     let long = c.splice_message.ensures.longest in
-    on_ok c.splice_message.result (LeadsBack (reverse new) document (record { items = list })) (λ done.
+    on_ok c.splice_message.result (GoesBack (reverse new) document (record { items = list })) (λ done.
     let is : new ≡ turned = subst (λ b. new ≡ cond b turned roomy) done made.2 in
     let same : list.items ≡ after_all tile_splice roomy items =
     subst (λ b. list.items ≡ cond b (after_all tile_splice steps items) items) done c.splice_message.ensures.items
     ∙ sym (roomy_after tile_splice IsRoomierStep roomy_tile steps roomy items made.1) in
     let far : longest tile_splice steps count ≤ capacity list = from_ok c.splice_message.result (longest tile_splice steps count ≤ capacity list) long done in
     let within : longest tile_splice roomy count ≤ capacity list = omega (arith, far, roomy_longest tile_splice IsRoomierStep roomy_tile steps roomy count made.1) in
-    subst (λ back. LeadsBack (reverse back) document (record { items = list })) (sym is)
+    subst (λ back. GoesBack (reverse back) document (record { items = list })) (sym is)
     (leads roomy document (record { items = list }) tile fit (kept roomy document list tile fit same c.splice_message.ensures.room within)))
 
 pub returns-clause-same : goal.returns-clause-same

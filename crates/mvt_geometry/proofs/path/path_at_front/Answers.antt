@@ -1,7 +1,7 @@
 use Rattle.std.proofs.Common.{◌≡◌, ℕ, ◌+◌, ◌*◌, ◌/◌, ◌^◌, ◌<◌, ◌≤◌, List, [], ◌∷◌, ◌++◌, length, take, drop, get_or, sym, ap, subst, arith, rules, length-append}
 use Rattle.std.proofs.lemmas.List.{take_rest, take-append-drop}
 use Rattle.std.proofs.lemmas.Result.{err_from_is_err_and}
-use Rattle.mvt_geometry.specs.Walks.{Begins, GoesOn}
+use Rattle.mvt_geometry.specs.Walks.{BeginsWithPart, GoesOn}
 use Rattle.mvt_geometry.proofs.Fronts.{begins_with_four, goes_on_from, begins_from, first_four, length-parameters}
 use Rattle.mvt_geometry.proofs.path.path_at_front.Goals as goal
 use Rattle.mvt_geometry.proofs.path.path_at_front.Goals.{then-command-ne-LINE_TO-via-then-command-ne-LINE_TO, then-command-ne-LINE_TO-via-else-command-ne-LINE_TO+then-count-least, then-command-ne-LINE_TO-via-else-command-ne-LINE_TO+else-count-least+then-behind-count}
@@ -40,4 +40,4 @@ returns-clause-found c =
     let begins = begins_from c.args.least c.args.from (get_or numbers 1 0) (get_or numbers 2 0) count (take (2 * count) (drop 4 numbers)) (drop 4 numbers) rest c.in-Some.first points c.in-Some.ensures.found led long enough few whole in
     let front = first_four numbers (omega (arith, c.in-9.len_at_least)) in
     let same : 9 ∷ get_or numbers 1 0 ∷ get_or numbers 2 0 ∷ (2 + 8 * count) ∷ drop 4 numbers ≡ numbers = cc (front, first, line) in
-    subst (λ (s : List ℕ). Begins c.args.least [] c.args.from s points rest) same begins
+    subst (λ (s : List ℕ). BeginsWithPart c.args.least [] c.args.from s points rest) same begins

@@ -1,7 +1,7 @@
 use Rattle.std.proofs.Common.{◌+◌, take, drop, refl, sym, ◌∙◌, ap, subst, arith}
 use Rattle.std.specs.List.{AllByRecursion}
 use Rattle.std.proofs.lemmas.List.{drop-set-lt, drop-drop, take_more_set}
-use Rattle.mvt_splices.specs.Splices.{HasRoom}
+use Rattle.mvt_splices.specs.Splices.{FindsRoom}
 use Rattle.mvt_splices.proofs.Runs.{zip_same, zip_set, same_at, all_push}
 use Rattle.mvt_splices.proofs.run.reserve_all.Goals as goal
 
@@ -35,6 +35,6 @@ loop-step-preserved g c =
           ∙ ap (drop 1) c.loop-step.invariant.rest
           ∙ drop-drop 1 i c.args.steps.now;
       ready =
-          subst (AllByRecursion (λ s. HasRoom (g.S.Splices.splice_of s))) (sym (take_more_set steps i new (omega arith)))
-          (all_push (λ s. HasRoom (g.S.Splices.splice_of s)) (take i steps) new c.loop-step.invariant.ready c.in_ok-reserve.ensures.ok);
+          subst (AllByRecursion (λ s. FindsRoom (g.S.Splices.splice_of s))) (sym (take_more_set steps i new (omega arith)))
+          (all_push (λ s. FindsRoom (g.S.Splices.splice_of s)) (take i steps) new c.loop-step.invariant.ready c.in_ok-reserve.ensures.ok);
     }

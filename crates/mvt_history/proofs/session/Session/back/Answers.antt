@@ -1,6 +1,6 @@
 use Rattle.std.proofs.Common.{map, refl, ap, ◌∙◌, subst, sym, inl, rules}
 use Rattle.mvt_history.specs.Marks.{point_of}
-use Rattle.mvt_history.specs.Moves.{IsWay}
+use Rattle.mvt_history.specs.Moves.{LeadsAlong}
 use Rattle.mvt_history.specs.Held.{mark_of}
 use Rattle.mvt_history.specs.Standing.{IsReady}
 use Rattle.mvt_history.specs.Inside.{seen_in}
@@ -24,7 +24,7 @@ walk-requires-clause-enough c =
     let s = c.self.inside in
     let session = seen_in s in
     let found = sym (c.in-Some.ensures ∙ ap (λ marks. point_of c.args.name.now (map mark_of marks)) c.as_slice.ensures.value) in
-    let way = subst (λ n. IsWay c.way-direction.result.0 c.way-direction.result.1 n c.in-Some.point) (c.len.ensures.len ∙ sym (length_from_last s.undo.items)) c.way-direction.ensures in
+    let way = subst (λ n. LeadsAlong c.way-direction.result.0 c.way-direction.result.1 n c.in-Some.point) (c.len.ensures.len ∙ sym (length_from_last s.undo.items)) c.way-direction.ensures in
     (way_to_mark s.undo.capacity s.redo.capacity c.args.name.now c.in-Some.point c.way-direction.result.0 c.way-direction.result.1 session c.args.self.now c.self.view_is found way c.self.invariant).enough
 
 pub returns-clause-answer : goal.returns-clause-answer
@@ -32,7 +32,7 @@ returns-clause-answer c = λ history stands.
     let s = c.self.inside in
     let session = seen_in s in
     let found = sym (c.in-Some.ensures ∙ ap (λ marks. point_of c.args.name.now (map mark_of marks)) c.as_slice.ensures.value) in
-    let way = subst (λ n. IsWay c.way-direction.result.0 c.way-direction.result.1 n c.in-Some.point) (c.len.ensures.len ∙ sym (length_from_last s.undo.items)) c.way-direction.ensures in
+    let way = subst (λ n. LeadsAlong c.way-direction.result.0 c.way-direction.result.1 n c.in-Some.point) (c.len.ensures.len ∙ sym (length_from_last s.undo.items)) c.way-direction.ensures in
     let mark = way_to_mark s.undo.capacity s.redo.capacity c.args.name.now c.in-Some.point c.way-direction.result.0 c.way-direction.result.1 session c.args.self.now c.self.view_is found way c.self.invariant in
     let ready = subst IsReady c.self.view_is c.self.invariant.ready in
     let closed = seen_closed c.args.self.now c.args.self.now c.in_ok-ensure_closed.field-0 refl c.in_ok-ensure_closed.ensures in
