@@ -24,6 +24,14 @@ minimal_width value = width_within 9 value
 abbrev pub spelling : Number → List ℕ
 spelling n = spell n.value n.width
 
+-- a number in its shortest spelling (guide, Base 128 Varints)
+abbrev pub minimal : ℕ → Number
+minimal value = record { value = value; width = minimal_width value }
+
+-- the bytes of a number in its shortest spelling (guide, Base 128 Varints)
+abbrev pub shortest : ℕ → List ℕ
+shortest value = spell value (minimal_width value)
+
 -- the length of the bytes, in the stored width or in its least width where that is greater, and then the bytes
 -- (guide, Length-Delimited Records)
 abbrev pub delimited : ℕ → List ℕ → List ℕ

@@ -4,7 +4,8 @@ use Rattle.std.specs.List.{AllByRecursion}
 use Rattle.std.proofs.lemmas.List.{append-nil}
 use Rattle.std.proofs.lemmas.List.Concat.{flat_map-append}
 use Rattle.mvt_geometry.specs.Shapes.{Point, Kind, Dots, Lines, Areas, IsPartCount, IsPart}
-use Rattle.mvt_geometry.specs.Integers.{ways, parameters, last_from, path, paths, closing_of, all_points, origin, integers_of, IsWay, IsRepeated, IsInRange, shortest, packed}
+use Rattle.mvt_document.specs.Wire.{shortest}
+use Rattle.mvt_geometry.specs.Integers.{ways, parameters, last_from, path, paths, closing_of, all_points, origin, integers_of, IsWay, IsRepeated, IsInRange, packed}
 use Rattle.mvt_geometry.specs.Walks.{integers_of_part, integers_from, AreInRange}
 use Rattle.mvt_geometry.proofs.Parts.{ways_apart, ways_together, with}
 

@@ -2,14 +2,14 @@
 use Rattle.std.proofs.Common.{ℕ, ◌+◌, ◌*◌, ◌^◌, ◌<◌, ℤ, pos, negsuc, List, [], ◌∷◌, ◌++◌, length, map, sym, subst, arith}
 use Rattle.std.specs.List.{AllByRecursion}
 use Rattle.std.proofs.lemmas.List.Folds.{flat_map-map}
-use Rattle.mvt_document.specs.Wire.{spelling}
+use Rattle.mvt_document.specs.Wire.{spelling, minimal}
 use Rattle.mvt_document.specs.Groups.{IsNumber}
 use Rattle.mvt_document.proofs.Spelling.{minimal_spelling}
 use Rattle.mvt_document.specs.Signed.{zigzag}
 use Rattle.mvt_geometry.specs.Shapes.{Point, Kind, Dots, Lines, Areas, Geometry, IsGeometry}
 use Rattle.mvt_geometry.specs.Integers.{ways, parameters, last_from, path, origin, integers, IsWay, IsInRange}
 use Rattle.mvt_geometry.specs.Walks.{integers_of_part, integers_from, IsPartInRange, AreInRange}
-use Rattle.mvt_geometry.specs.Laws.{minimal, PacksIntegers}
+use Rattle.mvt_geometry.specs.Laws.{PacksIntegers}
 use Rattle.mvt_geometry.proofs.Packs.{integers-from, parts_in_range}
 
 abbrev IsSmall : ℕ → Type 0

@@ -1,7 +1,7 @@
 -- The integers of a geometry, and their bytes.
 use Rattle.std.specs.Prelude.{◌≡◌, ℕ, ◌+◌, ◌-◌, ◌*◌, ◌^◌, ◌<◌, ℤ, pos, ◌-ℤ◌, unsigned_abs, List, [], ◌∷◌, ◌++◌, length, map}
 use Rattle.std.specs.List.{AllByRecursion, flat_map}
-use Rattle.mvt_document.specs.Wire.{spell, minimal_width}
+use Rattle.mvt_document.specs.Wire.{shortest}
 use Rattle.mvt_document.specs.Signed.{zigzag}
 use Rattle.mvt_geometry.specs.Shapes.{Point, Kind, Dots, Lines, Areas, kind_number, Geometry, IsGeometry}
 
@@ -91,10 +91,6 @@ pub record HasGeometry (kind : ℕ) (numbers : List ℕ) (g : Geometry) : Type 0
   pub spelled : numbers ≡ integers g
 
 -- ---- bytes
-
--- the bytes of a number in its shortest spelling (guide, Base 128 Varints)
-abbrev pub shortest : ℕ → List ℕ
-shortest value = spell value (minimal_width value)
 
 -- the shortest spellings of integers, one after the other (guide, Packed Repeated Fields)
 abbrev pub packed : List ℕ → List ℕ

@@ -2,7 +2,7 @@
 use Rattle.std.specs.Prelude.{◌≡◌, ◌↔◌, ℕ, ◌^◌, ◌<◌, List, Some, map}
 use Rattle.std.specs.List.{flat_map, AllByRecursion}
 use Rattle.mvt_document.specs.Plain.{Number}
-use Rattle.mvt_document.specs.Wire.{minimal_width, spelling}
+use Rattle.mvt_document.specs.Wire.{minimal, spelling}
 use Rattle.mvt_document.specs.Groups.{IsNumber}
 use Rattle.mvt_geometry.specs.Shapes.{Geometry, kind_number, IsGeometry}
 use Rattle.mvt_geometry.specs.Integers.{integers, IsInRange, HasGeometry, encoded}
@@ -20,10 +20,6 @@ pub record HasItself (g : Geometry) : Type 0 where
 -- the integers of a valid geometry in range have it, and no other of its kind
 abbrev pub IntegersHaveTheirs : Type 0
 IntegersHaveTheirs = (g : Geometry) → IsGeometry g → IsInRange g → HasItself g
-
--- a number in its shortest spelling (guide, Base 128 Varints)
-abbrev pub minimal : ℕ → Number
-minimal value = record { value = value; width = minimal_width value }
 
 -- the bytes of a geometry are the shortest spellings of its integers, each of which is a number of 32 bits
 pub record PacksIntegers (g : Geometry) : Type 0 where

@@ -3,7 +3,8 @@
 ghost use Rattle.std.specs.Prelude.{◌≡◌, ◌+◌, ◌*◌, ◌^◌, ◌<◌, ◌≤◌, ◌-ℤ◌, [], ◌∷◌, ◌++◌, length, IfOk, OnOk, IsErrOf};
 ghost use Rattle.std.specs.List.{AllByRecursion};
 ghost use Rattle.mvt_document.specs.Signed.{zigzag};
-ghost use Rattle.mvt_geometry.specs.Integers.{ways, parameters, last_from, IsWay, IsInRange, shortest, packed, encoded};
+ghost use Rattle.mvt_document.specs.Wire.{shortest};
+ghost use Rattle.mvt_geometry.specs.Integers.{ways, parameters, last_from, IsWay, IsInRange, packed, encoded};
 ghost use Rattle.mvt_geometry.specs.Walks.{integers_of_part, IsPartInRange};
 
 use crate::faults::EncodeError;

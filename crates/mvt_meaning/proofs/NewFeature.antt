@@ -2,18 +2,18 @@
 use Rattle.std.proofs.Common.{◌≡◌, ℕ, ◌+◌, true, Option, Some, None, option_map, List, [], ◌∷◌, ◌++◌, length, map, refl, ap, ◌∙◌}
 use Rattle.std.proofs.lemmas.List.{append-nil}
 use Rattle.mvt_document.specs.Plain.{Feature}
-use Rattle.mvt_document.specs.Wire.{spelling}
+use Rattle.mvt_document.specs.Wire.{spelling, minimal}
 use Rattle.mvt_geometry.specs.Shapes.{Geometry, IsGeometry, kind_number}
 use Rattle.mvt_geometry.specs.Integers.{IsInRange, encoded, integers}
 use Rattle.mvt_geometry.specs.Laws as geometry_laws
 use Rattle.mvt_geometry.proofs.Checks.{in_range-Decides}
 use Rattle.mvt_geometry.proofs.Small.{packs_integers}
-use Rattle.mvt_numbers.specs.Numbers.{Placed, all_good, and_more, numbers, packed, pieces, through_bad}
+use Rattle.mvt_numbers.specs.Numbers.{Placed, all_good, and_more, numbers, unpacked, pieces, through_bad}
 use Rattle.mvt_numbers.specs.Laws.{in_a_row}
 use Rattle.mvt_numbers.proofs.Pieces.{row-packed}
 use Rattle.mvt_view.specs.Attributes.{values_in}
 use Rattle.mvt_geometry.specs.Checks.{is_in_range}
-use Rattle.mvt_meaning.specs.Meaning.{minimal, new_content, new_number}
+use Rattle.mvt_meaning.specs.Meaning.{new_content, new_number}
 use Rattle.mvt_meaning.specs.FeatureLaws.{IsNew}
 
 -- the feature that new_feature has
@@ -41,10 +41,10 @@ values_in_row field place (value ∷ list) =
 numbers_drawn : (geometry : Geometry) → IsGeometry geometry → IsInRange geometry → values_in (numbers 4 (drawn_feature geometry).fields) ≡ Some (integers geometry)
 numbers_drawn geometry valid range =
     let packs = packs_integers geometry valid range in
-    let found : numbers 4 (drawn_feature geometry).fields ≡ through_bad (packed 1 0 (pieces (encoded geometry)) ++ []) = refl in
-    let body : packed 1 0 (pieces (encoded geometry)) ++ [] ≡ in_a_row 1 0 (map geometry_laws.minimal (integers geometry)) =
-    append-nil (packed 1 0 (pieces (encoded geometry)))
-    ∙ ap (λ (bytes : List ℕ). packed 1 0 (pieces bytes)) packs.spelled
+    let found : numbers 4 (drawn_feature geometry).fields ≡ through_bad (unpacked 1 0 (pieces (encoded geometry)) ++ []) = refl in
+    let body : unpacked 1 0 (pieces (encoded geometry)) ++ [] ≡ in_a_row 1 0 (map geometry_laws.minimal (integers geometry)) =
+    append-nil (unpacked 1 0 (pieces (encoded geometry)))
+    ∙ ap (λ (bytes : List ℕ). unpacked 1 0 (pieces bytes)) packs.spelled
     ∙ row-packed 1 0 (map geometry_laws.minimal (integers geometry)) packs.valid in
     ap values_in (found ∙ ap through_bad body) ∙ values_in_row 1 0 (integers geometry)
 

@@ -7,7 +7,7 @@ use Rattle.std.specs.Option.{option_map_or}
 use Rattle.std.specs.Result.{result_unwrap_or}
 use Rattle.mvt_document.specs.declared.TheConstants.{MAX_FILE}
 use Rattle.mvt_document.specs.Plain.{Number, Body, Spelled, Eight, Four, Delimited, Group, Field, LayerItem, OfFeature, PlainInLayer, TileItem, OfLayer, PlainInTile, Document}
-use Rattle.mvt_document.specs.Wire.{bytes_of, minimal_width}
+use Rattle.mvt_document.specs.Wire.{bytes_of, minimal}
 use Rattle.mvt_geometry.specs.Shapes.{Geometry, kind_number}
 use Rattle.mvt_geometry.specs.Integers.{encoded}
 use Rattle.mvt_geometry.specs.Checks.{is_in_range}
@@ -28,10 +28,6 @@ abbrev pub ◌>>=◌ : {A B : Type 0} → Result A Refusal → (A → Result B R
 (Err e) >>= f = Err e
 
 -- ---- numbers and fields
-
--- a number in its shortest spelling (guide, Base 128 Varints)
-abbrev pub minimal : ℕ → Number
-minimal value = record { value = value; width = minimal_width value }
 
 -- the old number as it is spelled, where it has this value; else this value in its shortest spelling
 abbrev pub with_number : ℕ → Number → Number

@@ -10,7 +10,7 @@ use Rattle.mvt_document.specs.Wire.{spell, spelling}
 use Rattle.mvt_document.specs.Shape.{IsSpelling}
 use Rattle.mvt_document.specs.Groups.{IsNumber}
 use Rattle.mvt_document.proofs.Spelling.{pow_more, rest_below, spelling_from, spelling_some, spelling_below, length-spell}
-use Rattle.mvt_numbers.specs.Numbers.{Placed, with_first, pieces, unspelled, is_spelled, number_in, chunk_at, packed, all_good, and_more, before_bad}
+use Rattle.mvt_numbers.specs.Numbers.{Placed, with_first, pieces, unspelled, is_spelled, number_in, chunk_at, unpacked, all_good, and_more, before_bad}
 use Rattle.mvt_numbers.specs.Laws.{spellings, AreNumbers, SpelledIsRead, ReadIsSpelled, EndsBadly, BadIsNoNumber}
 
 -- ---- the cut
@@ -102,33 +102,33 @@ pieces-spelling number rest s =
     let P : ℕ → Type 0 = λ w. pieces (spell number.value w ++ rest) ≡ spell number.value w ∷ pieces rest in
     subst P (sym more.1) (pieces-spell number.value more.0 rest)
 
-pub packed-spelling : (field place : ℕ) (number : Number) (rest : List ℕ) → IsNumber number → packed field place (pieces (spelling number ++ rest)) ≡ Ok (record { number = number; field = field; place = place }) ∷ packed field (place + number.width) (pieces rest)
+pub packed-spelling : (field place : ℕ) (number : Number) (rest : List ℕ) → IsNumber number → unpacked field place (pieces (spelling number ++ rest)) ≡ Ok (record { number = number; field = field; place = place }) ∷ unpacked field (place + number.width) (pieces rest)
 packed-spelling field place number rest s =
-    ap (packed field place) (pieces-spelling number rest s)
-    ∙ ap (λ (n : Option Number). chunk_at field place n ∷ packed field (place + length (spelling number)) (pieces rest)) (number_in-spell number.value number.width s)
-    ∙ ap (λ (w : ℕ). Ok (record { number = number; field = field; place = place }) ∷ packed field (place + w) (pieces rest)) (length-spell number.value number.width)
+    ap (unpacked field place) (pieces-spelling number rest s)
+    ∙ ap (λ (n : Option Number). chunk_at field place n ∷ unpacked field (place + length (spelling number)) (pieces rest)) (number_in-spell number.value number.width s)
+    ∙ ap (λ (w : ℕ). Ok (record { number = number; field = field; place = place }) ∷ unpacked field (place + w) (pieces rest)) (length-spell number.value number.width)
 
 cases_of : (field place : ℕ) (piece : List ℕ) (rest : List (Result Placed ℕ)) → ((n : Number) → number_in piece ≡ Some n → ⊥) → (found : Option Number) → number_in piece ≡ found → (more : List (Result Placed ℕ)) × (chunk_at field place found ∷ rest ≡ Err field ∷ more)
 cases_of field place piece rest none None e = (rest, refl)
 cases_of field place piece rest none (Some n) e = absurd (none n e)
 
-bad_piece : (field place : ℕ) (body : List ℕ) (list : List (List ℕ)) → flat_map (λ (piece : List ℕ). piece) list ≡ body → 0 < length body → ((number : Number) (rest : List ℕ) → IsNumber number → body ≡ spelling number ++ rest → ⊥) → (more : List (Result Placed ℕ)) × (packed field place list ≡ Err field ∷ more)
+bad_piece : (field place : ℕ) (body : List ℕ) (list : List (List ℕ)) → flat_map (λ (piece : List ℕ). piece) list ≡ body → 0 < length body → ((number : Number) (rest : List ℕ) → IsNumber number → body ≡ spelling number ++ rest → ⊥) → (more : List (Result Placed ℕ)) × (unpacked field place list ≡ Err field ∷ more)
 bad_piece field place body [] e some none = absurd (omega (arith, ap length e))
 bad_piece field place body (piece ∷ more) e some none =
-    let rest = packed field (place + length piece) more in
+    let rest = unpacked field (place + length piece) more in
     let tail : List ℕ = flat_map (λ (p : List ℕ). p) more in
     cases_of field place piece rest (λ n is.
     let s = spelling_of_piece piece n is in
     none n tail s.0 (sym e ∙ ap (λ (b : List ℕ). b ++ tail) (sym s.1))) (number_in piece) refl
 
 -- a number at the front is the first that is packed
-pub packed-front : (field place : ℕ) (body : List ℕ) (number : Number) → IsNumber number → take number.width body ≡ spelling number → packed field place (pieces body) ≡ Ok (record { number = number; field = field; place = place }) ∷ packed field (place + number.width) (pieces (drop number.width body))
+pub packed-front : (field place : ℕ) (body : List ℕ) (number : Number) → IsNumber number → take number.width body ≡ spelling number → unpacked field place (pieces body) ≡ Ok (record { number = number; field = field; place = place }) ∷ unpacked field (place + number.width) (pieces (drop number.width body))
 packed-front field place body number s e =
-    ap (λ (b : List ℕ). packed field place (pieces b)) (sym (take-append-drop number.width body) ∙ ap (λ (b : List ℕ). b ++ drop number.width body) e)
+    ap (λ (b : List ℕ). unpacked field place (pieces b)) (sym (take-append-drop number.width body) ∙ ap (λ (b : List ℕ). b ++ drop number.width body) e)
     ∙ packed-spelling field place number (drop number.width body) s
 
 -- where no number is at the front the first chunk is bad
-pub packed-bad : (field place : ℕ) (body : List ℕ) → 0 < length body → ((number : Number) (rest : List ℕ) → IsNumber number → body ≡ spelling number ++ rest → ⊥) → (more : List (Result Placed ℕ)) × (packed field place (pieces body) ≡ Err field ∷ more)
+pub packed-bad : (field place : ℕ) (body : List ℕ) → 0 < length body → ((number : Number) (rest : List ℕ) → IsNumber number → body ≡ spelling number ++ rest → ⊥) → (more : List (Result Placed ℕ)) × (unpacked field place (pieces body) ≡ Err field ∷ more)
 packed-bad field place body some none = bad_piece field place body (pieces body) (pieces-joined body) some none
 
 -- ---- laws
@@ -137,7 +137,7 @@ pub row-packed : SpelledIsRead
 row-packed field place [] p = refl
 row-packed field place (number ∷ more) p =
     packed-spelling field place number (flat_map spelling more) p.0
-    ∙ ap (λ (w : ℕ). Ok (record { number = number; field = field; place = place }) ∷ packed field (place + w) (pieces (flat_map spelling more))) (sym (length-spell number.value number.width))
+    ∙ ap (λ (w : ℕ). Ok (record { number = number; field = field; place = place }) ∷ unpacked field (place + w) (pieces (flat_map spelling more))) (sym (length-spell number.value number.width))
     ∙ ap (λ (list : List (Result Placed ℕ)). Ok (record { number = number; field = field; place = place }) ∷ list) (row-packed field (place + length (spelling number)) more p.1)
 
 good_more : {A : Type 0} (item : A) (others : Option (List A)) (found : List A) → and_more item others ≡ Some found → (rest : List A) × (others ≡ Some rest) × (item ∷ rest ≡ found)
@@ -152,11 +152,11 @@ bad_more item (Some rest) e = absurd (cc)
 abbrev IsFound : List (List ℕ) → List Placed → Type 0
 IsFound list found = (flat_map (λ (piece : List ℕ). piece) list ≡ spellings found) × AreNumbers found
 
-found_more : (field place : ℕ) (piece : List ℕ) (more : List (List ℕ)) (found : List Placed) → ((rest : List Placed) → all_good (packed field (place + length piece) more) ≡ Some rest → IsFound more rest) → (n : Option Number) → number_in piece ≡ n → all_good (chunk_at field place n ∷ packed field (place + length piece) more) ≡ Some found → IsFound (piece ∷ more) found
+found_more : (field place : ℕ) (piece : List ℕ) (more : List (List ℕ)) (found : List Placed) → ((rest : List Placed) → all_good (unpacked field (place + length piece) more) ≡ Some rest → IsFound more rest) → (n : Option Number) → number_in piece ≡ n → all_good (chunk_at field place n ∷ unpacked field (place + length piece) more) ≡ Some found → IsFound (piece ∷ more) found
 found_more field place piece more found others None is e = absurd (cc)
 found_more field place piece more found others (Some n) is e =
     let placed : Placed = record { number = n; field = field; place = place } in
-    let r = good_more placed (all_good (packed field (place + length piece) more)) found e in
+    let r = good_more placed (all_good (unpacked field (place + length piece) more)) found e in
     let s = spelling_of_piece piece n is in
     let o = others r.0 r.1 in
     let front : piece ≡ spelling n = sym s.1 in
@@ -164,7 +164,7 @@ found_more field place piece more found others (Some n) is e =
     let both : IsFound (piece ∷ more) (placed ∷ r.0) = (cc, (s.0, o.1)) in
     subst (IsFound (piece ∷ more)) r.2 both
 
-found_in_pieces : (field place : ℕ) (list : List (List ℕ)) (found : List Placed) → all_good (packed field place list) ≡ Some found → IsFound list found
+found_in_pieces : (field place : ℕ) (list : List (List ℕ)) (found : List Placed) → all_good (unpacked field place list) ≡ Some found → IsFound list found
 found_in_pieces field place [] found e =
     let none : [] ≡ found = cc in subst (IsFound []) none (refl, tt)
 found_in_pieces field place (piece ∷ more) found e =
@@ -193,9 +193,9 @@ pieces-tail (byte ∷ body) piece more e =
     (λ _ f. tail_of_high byte (pieces body) piece more (λ first others is. pieces-tail body first others is) f) e
 
 bad_at : (field place : ℕ) (piece : List ℕ) (more : List (List ℕ)) → pieces (flat_map (λ (p : List ℕ). p) (piece ∷ more)) ≡ piece ∷ more
-    → (all_good (packed field (place + length piece) more) ≡ None → EndsBadly (flat_map (λ (p : List ℕ). p) more) (before_bad (packed field (place + length piece) more)))
-    → (n : Option Number) → number_in piece ≡ n → all_good (chunk_at field place n ∷ packed field (place + length piece) more) ≡ None
-    → EndsBadly (flat_map (λ (p : List ℕ). p) (piece ∷ more)) (before_bad (chunk_at field place n ∷ packed field (place + length piece) more))
+    → (all_good (unpacked field (place + length piece) more) ≡ None → EndsBadly (flat_map (λ (p : List ℕ). p) more) (before_bad (unpacked field (place + length piece) more)))
+    → (n : Option Number) → number_in piece ≡ n → all_good (chunk_at field place n ∷ unpacked field (place + length piece) more) ≡ None
+    → EndsBadly (flat_map (λ (p : List ℕ). p) (piece ∷ more)) (before_bad (chunk_at field place n ∷ unpacked field (place + length piece) more))
 bad_at field place piece more cut others None is e =
     record {
       numbers = tt;
@@ -212,7 +212,7 @@ bad_at field place piece more cut others None is e =
     }
 bad_at field place piece more cut others (Some n) is e =
     let placed : Placed = record { number = n; field = field; place = place } in
-    let r = others (bad_more placed (all_good (packed field (place + length piece) more)) e) in
+    let r = others (bad_more placed (all_good (unpacked field (place + length piece) more)) e) in
     let s = spelling_of_piece piece n is in
     record {
       numbers = (s.0, r.numbers);
@@ -220,17 +220,17 @@ bad_at field place piece more cut others (Some n) is e =
       spelled =
           ap (λ (b : List ℕ). b ++ flat_map (λ (p : List ℕ). p) more) (sym s.1)
           ∙ ap (λ (b : List ℕ). spelling n ++ b) r.spelled
-          ∙ sym (append_assoc (spelling n) (spellings (before_bad (packed field (place + length piece) more))) r.rest);
+          ∙ sym (append_assoc (spelling n) (spellings (before_bad (unpacked field (place + length piece) more))) r.rest);
       some = r.some;
       none = r.none;
     }
 
-bad_in_pieces : (field place : ℕ) (list : List (List ℕ)) → pieces (flat_map (λ (p : List ℕ). p) list) ≡ list → all_good (packed field place list) ≡ None → EndsBadly (flat_map (λ (p : List ℕ). p) list) (before_bad (packed field place list))
+bad_in_pieces : (field place : ℕ) (list : List (List ℕ)) → pieces (flat_map (λ (p : List ℕ). p) list) ≡ list → all_good (unpacked field place list) ≡ None → EndsBadly (flat_map (λ (p : List ℕ). p) list) (before_bad (unpacked field place list))
 bad_in_pieces field place [] cut e = absurd (cc)
 bad_in_pieces field place (piece ∷ more) cut e =
     bad_at field place piece more cut (λ f. bad_in_pieces field (place + length piece) more (pieces-tail (flat_map (λ (p : List ℕ). p) (piece ∷ more)) piece more cut) f) (number_in piece) refl e
 
 pub bad_no_number : BadIsNoNumber
 bad_no_number field place body e =
-    subst (λ (b : List ℕ). EndsBadly b (before_bad (packed field place (pieces body)))) (pieces-joined body)
+    subst (λ (b : List ℕ). EndsBadly b (before_bad (unpacked field place (pieces body)))) (pieces-joined body)
     (bad_in_pieces field place (pieces body) (ap pieces (pieces-joined body)) e)

@@ -2,11 +2,11 @@
 use Rattle.std.specs.Prelude.{ℕ, List, ◌++◌, Result, drop}
 use Rattle.std.specs.List.{flat_map, enumerate_from}
 use Rattle.mvt_document.specs.Plain.{Field}
-use Rattle.mvt_numbers.specs.Numbers.{Placed, pieces, packed, numbers_in, through_bad}
+use Rattle.mvt_numbers.specs.Numbers.{Placed, pieces, unpacked, numbers_in, through_bad}
 
 -- what a packed body spells from this place
 abbrev pub packed_from : ℕ → ℕ → List ℕ → List (Result Placed ℕ)
-packed_from field place body = packed field place (pieces (drop place body))
+packed_from field place body = unpacked field place (pieces (drop place body))
 
 -- the numbers in the fields from this position
 abbrev pub numbers_from : ℕ → ℕ → List Field → List (Result Placed ℕ)

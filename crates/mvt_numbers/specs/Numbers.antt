@@ -47,9 +47,9 @@ chunk_at field place (Some number) = Ok (record { number = number; field = field
 
 -- what the pieces of a packed body spell, each with its field and place, the first piece at this place
 -- (guide, Packed Repeated Fields)
-abbrev pub packed : ℕ → ℕ → List (List ℕ) → List (Result Placed ℕ)
-packed field place [] = []
-packed field place (piece ∷ more) = chunk_at field place (number_in piece) ∷ packed field (place + length piece) more
+abbrev pub unpacked : ℕ → ℕ → List (List ℕ) → List (Result Placed ℕ)
+unpacked field place [] = []
+unpacked field place (piece ∷ more) = chunk_at field place (number_in piece) ∷ unpacked field (place + length piece) more
 
 -- ---- a message: "Repeated Elements"
 
@@ -57,7 +57,7 @@ packed field place (piece ∷ more) = chunk_at field place (number_in piece) ∷
 -- another (guide, Repeated Elements)
 abbrev pub numbers_of : ℕ → Body → List (Result Placed ℕ)
 numbers_of position (Spelled number) = Ok (record { number = number; field = position; place = 0 }) ∷ []
-numbers_of position (Delimited width bytes) = packed position 0 (pieces bytes)
+numbers_of position (Delimited width bytes) = unpacked position 0 (pieces bytes)
 numbers_of position body = []
 
 -- the numbers in a field, given with its position, where it has this number; else none (guide, Repeated Elements)

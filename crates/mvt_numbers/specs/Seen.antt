@@ -1,7 +1,7 @@
 -- Which plain values the values of the program stand for.
 use Rattle.std.specs.Prelude.{ℕ, ◌<◌, List, [], ◌∷◌, Result, Ok, Err, length}
 use Rattle.mvt_document.specs.Stands.{number_of}
-use Rattle.mvt_numbers.specs.Numbers.{Placed, pieces, packed}
+use Rattle.mvt_numbers.specs.Numbers.{Placed, pieces, unpacked}
 use Rattle.mvt_numbers.specs.Left.{packed_from}
 use Rattle.mvt_numbers.specs.declared.number.Number.{Number}
 use Rattle.mvt_numbers.specs.declared.number.BadChunk.{BadChunk}
@@ -21,7 +21,7 @@ number_seen (Err bad) = Err bad.field
 -- the numbers that what was found in a field at this position stands for: one number, or a packed body
 abbrev pub elements_seen : ℕ → Elements → List (Result Placed ℕ)
 elements_seen position (elements.One varint) = Ok (record { number = number_of varint; field = position; place = 0 }) ∷ []
-elements_seen position (elements.Packed bytes) = packed position 0 (pieces bytes.now)
+elements_seen position (elements.Packed bytes) = unpacked position 0 (pieces bytes.now)
 
 -- there is a number, or a packed body that is not empty
 abbrev pub HasNumbers : Elements → Type 0

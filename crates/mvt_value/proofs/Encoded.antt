@@ -2,7 +2,7 @@
 use Rattle.std.proofs.Common.{◌≡◌, ℕ, ◌<◌, ◌^◌, ◌/◌, ◌%◌, max, ℤ, pos, negsuc, Bool, true, false, List, [], ◌∷◌, ◌++◌, length, refl, sym, subst, ap, ◌∙◌, arith, SFits, w64, of_z, append-nil}
 use Rattle.mvt_document.specs.Plain.{Number, Body, Spelled, Eight, Four, Delimited, Field}
 use Rattle.mvt_document.specs.Shape.{IsTag}
-use Rattle.mvt_document.specs.Wire.{spell, minimal_width, body_bytes}
+use Rattle.mvt_document.specs.Wire.{spell, minimal_width, body_bytes, shortest}
 use Rattle.mvt_document.specs.Groups.{wire_type, IsBodyWith, IsGroup, StoresBody}
 use Rattle.mvt_document.proofs.Spelling.{minimal_spelling, minimal_width_some, minimal_width_short, spell-one}
 use Rattle.mvt_document.proofs.Steps.{first_spelling, width_within-low}
@@ -10,7 +10,7 @@ use Rattle.std.specs.Int.{from_bool}
 use Rattle.mvt_document.specs.Signed.{zigzag}
 use Rattle.mvt_value.specs.Values.{Value, OfText, OfFloat, OfDouble, OfInt, OfUint, OfSint, OfBool}
 use Rattle.mvt_value.specs.Signed.{twos_complement}
-use Rattle.mvt_value.specs.Messages.{BodyHas, HasValue, shortest, encoded_value, IsWritable}
+use Rattle.mvt_value.specs.Messages.{BodyHas, HasValue, encoded_value, IsWritable}
 
 -- a field whose tag is one byte
 abbrev short_field : ℕ → Body → Field

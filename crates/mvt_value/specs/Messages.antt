@@ -2,7 +2,7 @@
 use Rattle.std.specs.Prelude.{◌≡◌, ℕ, ◌+◌, ◌*◌, ◌/◌, ◌^◌, ◌<◌, true, false, not, ◌==◌, FitsSigned, List, [], ◌∷◌, ◌++◌, length}
 use Rattle.std.specs.Int.{w64}
 use Rattle.mvt_document.specs.Plain.{Body, Spelled, Eight, Four, Delimited, Field}
-use Rattle.mvt_document.specs.Wire.{spell, minimal_width, field_bytes}
+use Rattle.mvt_document.specs.Wire.{field_bytes, shortest}
 use Rattle.mvt_document.specs.Groups.{StoresField}
 use Rattle.mvt_document.specs.Opens.{IsField}
 use Rattle.mvt_document.specs.Signed.{zigzag}
@@ -37,10 +37,6 @@ pub record HasValue (bytes : List ℕ) (value : Value) : Type 0 where
   pub has : FieldHas field value
 
 -- ---- what is written
-
--- the bytes of a number in its shortest spelling (guide, Base 128 Varints)
-abbrev pub shortest : ℕ → List ℕ
-shortest value = spell value (minimal_width value)
 
 -- the bytes of a new value: the tag, which is 8 times the field's number and the wire type, then a number in its
 -- shortest spelling, or a length in its shortest spelling and a text, or the bytes of a float

@@ -1,7 +1,8 @@
 //! `encode_value`: the bytes of a new value.
 
 ghost use Rattle.std.specs.Prelude.{◌≡◌, ◌++◌, ◌∷◌, [], IfOk};
-ghost use Rattle.mvt_value.specs.Messages.{HasValue, shortest, encoded_value};
+ghost use Rattle.mvt_document.specs.Wire.{shortest};
+ghost use Rattle.mvt_value.specs.Messages.{HasValue, encoded_value};
 ghost use Rattle.mvt_value.specs.Stands.{new_value_of};
 
 use crate::tags::{BOOL_TAG, DOUBLE_TAG, FLOAT_TAG, INT_TAG, SINT_TAG, STRING_TAG, UINT_TAG};

@@ -18,7 +18,7 @@ use Rattle.tile_words.specs.Answers.{◌>>=◌}
 use Rattle.tile_words.specs.declared.parse_error.ParseError.{ParseError}
 use Rattle.tile_words.specs.declared.parse_error.ParseError.TheVariants.{BadArguments, BadNumber, BadValue, BadGeometryText}
 
--- what stands behind_mark a mark, where the bytes begin with it
+-- what stands behind a mark, where the bytes begin with it
 abbrev pub behind_mark : List ℕ → List ℕ → Option (List ℕ)
 behind_mark mark bytes = if starts_with nat_eq bytes mark then Some (drop (length mark) bytes) else None
 
@@ -45,7 +45,7 @@ number_in (Quoted text) = Err BadNumber
 unfoldable pub number_up_to : ℕ → List ℕ → Option ℕ
 number_up_to most bytes = if are_digits bytes && nat_le (digits_value 10 bytes) most then Some (digits_value 10 bytes) else None
 
--- the number below 0 of the digits behind_mark a minus sign, or the number of all bytes where there is no sign
+-- the number below 0 of the digits behind a minus sign, or the number of all bytes where there is no sign
 abbrev pub signed_by : ℕ → ℕ → Option (List ℕ) → List ℕ → Option ℤ
 signed_by least greatest (Some digits) bytes = option_map (λ n. neg_ℤ (pos n)) (number_up_to least digits)
 signed_by least greatest None bytes = option_map pos (number_up_to greatest bytes)
@@ -78,7 +78,7 @@ bare_in (Quoted text) = None
 unfoldable pub bytes_in : List ℕ → Option (List ℕ)
 bytes_in digits = result_ok (decode_of digits)
 
--- the text that a word says: that of a quoted word, or the bytes that the digits behind_mark `x:` write
+-- the text that a word says: that of a quoted word, or the bytes that the digits behind `x:` write
 unfoldable pub text_in : Word → Option (List ℕ)
 text_in (Quoted text) = Some text
 text_in (Bare bytes) = option_and_then bytes_in (behind_mark (codes "x:") bytes)
@@ -103,7 +103,7 @@ texts_of words = each text_of words
 
 -- ---- layers and features
 
--- the layer of the ordinal behind_mark a mark, or, where there is no mark, of the name that the word says
+-- the layer of the ordinal behind a mark, or, where there is no mark, of the name that the word says
 abbrev pub layer_by : Option (List ℕ) → Word → Result LayerChoice ParseError
 layer_by (Some digits) word = number_of digits >>= λ n. Ok (AtOrdinal n)
 layer_by None word = text_of word >>= λ name. Ok (Named name)
@@ -113,7 +113,7 @@ unfoldable pub layer_of : Word → Result LayerChoice ParseError
 layer_of (Quoted text) = layer_by None (Quoted text)
 layer_of (Bare bytes) = layer_by (behind_mark (codes "#") bytes) (Bare bytes)
 
--- the feature of the id behind_mark a mark, or, where there is no mark, of the ordinal that the bytes write
+-- the feature of the id behind a mark, or, where there is no mark, of the ordinal that the bytes write
 abbrev pub feature_by : Option (List ℕ) → List ℕ → Result FeatureChoice ParseError
 feature_by (Some digits) bytes = number_of digits >>= λ id. Ok (WithId id)
 feature_by None bytes = number_of bytes >>= λ n. Ok (FeatureAtOrdinal n)
@@ -214,7 +214,7 @@ geometry_of (Bare name ∷ words) = do
   shaped kind parts
 geometry_of words = Err BadGeometryText
 
--- the words name a kind, and behind_mark it are points and bars alone
+-- the words name a kind, and behind it are points and bars alone
 abbrev pub DrawsPoints : List Word → Type 0
 DrawsPoints [] = ⊥
 DrawsPoints (Quoted text ∷ words) = ⊥

@@ -1,9 +1,9 @@
-//! What stands behind_mark a mark with which a bare word begins.
+//! What stands behind a mark with which a bare word begins.
 
 ghost use Rattle.std.specs.Prelude.{◌≡◌, option_copied};
 ghost use Rattle.tile_arguments.specs.Arguments.{behind_mark};
 
-/// What stands behind_mark the mark, where the bytes begin with it.
+/// What stands behind the mark, where the bytes begin with it.
 pub(crate) fn behind_mark<'a>(mark: &[u8], bytes: &'a [u8]) -> Option<&'a [u8]>
     ensures { option_copied result ≡ behind_mark mark.now bytes.now }
 {

@@ -1,7 +1,7 @@
 use Rattle.std.proofs.Common.{◌-ℤ◌, rules, SFits, w64, to_z-of_z}
 use Rattle.std.proofs.lemmas.Result.{on_ok_weaker}
 use Rattle.mvt_document.specs.Signed.{zigzag}
-use Rattle.mvt_geometry.specs.Integers.{shortest}
+use Rattle.mvt_document.specs.Wire.{shortest}
 use Rattle.mvt_geometry.proofs.Packs.{two_put}
 use Rattle.mvt_geometry.proofs.encode.put_move.Goals as goal
 

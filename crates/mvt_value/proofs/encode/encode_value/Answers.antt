@@ -2,7 +2,7 @@ use Rattle.std.proofs.Common.{◌≡◌, ℕ, ◌<◌, ◌^◌, ◌∷◌, [], �
 use Rattle.std.proofs.lemmas.Result.{IfOk-weaker}
 use Rattle.mvt_value.specs.Values.{OfInt, OfUint, OfSint, OfBool}
 use Rattle.mvt_document.specs.Signed.{zigzag}
-use Rattle.mvt_value.specs.Messages.{shortest}
+use Rattle.mvt_document.specs.Wire.{shortest}
 use Rattle.mvt_value.proofs.Encoded.{truth-bytes, written, number_written, cast-twos_complement}
 use Rattle.mvt_value.proofs.encode.encode_value.Goals as goal
 

@@ -2,7 +2,7 @@ use Rattle.std.proofs.Common.{◌≡◌, List, ℕ, ◌+◌, ◌∷◌, Ok, drop
 use Rattle.std.proofs.lemmas.List.{length-drop, drop-drop, take_rest}
 use Rattle.mvt_document.specs.Stands.{number_of}
 use Rattle.mvt_document.specs.Wire.{spelling}
-use Rattle.mvt_numbers.specs.Numbers.{pieces, packed}
+use Rattle.mvt_numbers.specs.Numbers.{pieces, unpacked}
 use Rattle.mvt_numbers.proofs.Pieces.{packed-front, packed-bad}
 use Rattle.mvt_numbers.proofs.packed.Packed.first.Goals as goal
 
@@ -18,5 +18,5 @@ returns c =
     let found : take n.width (drop p.place p.bytes.now) ≡ spelling n =
     ap (take n.width) (sym (take_rest p.bytes.now p.place)) ∙ c.in-Some.ensures.found in
     packed-front p.field p.place (drop p.place p.bytes.now) n c.in-Some.varint.spelled found
-    ∙ ap (λ (b : List ℕ). Ok (record { number = n; field = p.field; place = p.place }) ∷ packed p.field (p.place + n.width) (pieces b)) (drop-drop n.width p.place p.bytes.now)
-    ∙ ap (λ (w : ℕ). Ok (record { number = n; field = p.field; place = p.place }) ∷ packed p.field (p.place + w) (pieces (drop (p.place + w) p.bytes.now))) (sym c.from.ensures)
+    ∙ ap (λ (b : List ℕ). Ok (record { number = n; field = p.field; place = p.place }) ∷ unpacked p.field (p.place + n.width) (pieces b)) (drop-drop n.width p.place p.bytes.now)
+    ∙ ap (λ (w : ℕ). Ok (record { number = n; field = p.field; place = p.place }) ∷ unpacked p.field (p.place + w) (pieces (drop (p.place + w) p.bytes.now))) (sym c.from.ensures)
