@@ -5,7 +5,7 @@ ghost use Rattle.std.specs.Option.{SomeIff};
 ghost use Rattle.tile_words.specs.WordStands.{word_of};
 ghost use Rattle.tile_arguments.specs.Arguments.{number_of, number_in, number_up_to, signed_of, way_of, distance_of};
 
-use crate::marks::behind;
+use crate::marks::behind_mark;
 use tile_words::{ParseError, Word};
 
 /// How far points move or lie at most.
@@ -67,7 +67,7 @@ pub(crate) fn signed(least: u64, greatest: u64, bytes: &[u8]) -> Option<i64>
     requires greatest { greatest < 2 ^ 63 }
     ensures { result ≡ signed_of least greatest bytes.now }
 {
-    match behind(b"-", bytes) {
+    match behind_mark(b"-", bytes) {
         Some(digits) => Some(below_zero(number_up_to(least, digits)?)),
         None => Some(number_up_to(greatest, bytes)? as i64),
     }
