@@ -18,7 +18,8 @@ use Rattle.mvt_command.specs.Command.{Command, IsCommand, RenameLayer, MoveLayer
 use Rattle.mvt_view.specs.Views.{layers}
 use Rattle.mvt_meaning.specs.Ordinals.{change_nth, without, move_nth, insert_nth}
 use Rattle.mvt_meaning.specs.Selection.{is_feature, is_layer, selected, selected_in}
-use Rattle.mvt_meaning.specs.Meaning.{applied, refuse_if, layer_count, feature_count, is_id, is_in_range, is_kept, is_name, is_taken, within_limit, change_layer, change_feature, identified, named_items, new_content, new_feature, new_number, with_content, with_id, with_number, with_text, with_value, without_id}
+use Rattle.mvt_geometry.specs.Checks.{is_in_range}
+use Rattle.mvt_meaning.specs.Meaning.{applied, refuse_if, layer_count, feature_count, is_id, is_kept, is_name, is_taken, within_limit, change_layer, change_feature, identified, named_items, new_content, new_feature, new_number, with_content, with_id, with_number, with_text, with_value, without_id}
 use Rattle.mvt_meaning.specs.declared.refusal.Refusal.TheVariants.{BadPlace, NameTaken, NoLayer, OutOfRange, TooLarge}
 use Rattle.mvt_meaning.specs.DocumentLaws.{CommandMakesDocument}
 use Rattle.mvt_meaning.proofs.Accepted.{ok_so, then_so}

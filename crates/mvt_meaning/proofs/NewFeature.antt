@@ -5,7 +5,6 @@ use Rattle.mvt_document.specs.Plain.{Feature}
 use Rattle.mvt_document.specs.Wire.{spelling, minimal}
 use Rattle.mvt_geometry.specs.Shapes.{Geometry, IsGeometry, kind_number}
 use Rattle.mvt_geometry.specs.Integers.{IsInRange, encoded, integers}
-use Rattle.mvt_geometry.specs.Laws as geometry_laws
 use Rattle.mvt_geometry.proofs.Checks.{in_range-Decides}
 use Rattle.mvt_geometry.proofs.Small.{packs_integers}
 use Rattle.mvt_numbers.specs.Numbers.{Placed, all_good, and_more, numbers, unpacked, pieces, through_bad}
@@ -30,22 +29,22 @@ more_values : (placed : Placed) (others : Option (List Placed)) → option_map (
 more_values placed None = refl
 more_values placed (Some others) = refl
 
-values_in_row : (field place : ℕ) (list : List ℕ) → values_in (through_bad (in_a_row field place (map geometry_laws.minimal list))) ≡ Some list
+values_in_row : (field place : ℕ) (list : List ℕ) → values_in (through_bad (in_a_row field place (map minimal list))) ≡ Some list
 values_in_row field place [] = refl
 values_in_row field place (value ∷ list) =
-    let number = geometry_laws.minimal value in
+    let number = minimal value in
     let next = place + length (spelling number) in
-    more_values (record { number = number; field = field; place = place }) (all_good (through_bad (in_a_row field next (map geometry_laws.minimal list))))
+    more_values (record { number = number; field = field; place = place }) (all_good (through_bad (in_a_row field next (map minimal list))))
     ∙ ap (and_more value) (values_in_row field next list)
 
 numbers_drawn : (geometry : Geometry) → IsGeometry geometry → IsInRange geometry → values_in (numbers 4 (drawn_feature geometry).fields) ≡ Some (integers geometry)
 numbers_drawn geometry valid range =
     let packs = packs_integers geometry valid range in
     let found : numbers 4 (drawn_feature geometry).fields ≡ through_bad (unpacked 1 0 (pieces (encoded geometry)) ++ []) = refl in
-    let body : unpacked 1 0 (pieces (encoded geometry)) ++ [] ≡ in_a_row 1 0 (map geometry_laws.minimal (integers geometry)) =
+    let body : unpacked 1 0 (pieces (encoded geometry)) ++ [] ≡ in_a_row 1 0 (map minimal (integers geometry)) =
     append-nil (unpacked 1 0 (pieces (encoded geometry)))
     ∙ ap (λ (bytes : List ℕ). unpacked 1 0 (pieces bytes)) packs.spelled
-    ∙ row-packed 1 0 (map geometry_laws.minimal (integers geometry)) packs.valid in
+    ∙ row-packed 1 0 (map minimal (integers geometry)) packs.valid in
     ap values_in (found ∙ ap through_bad body) ∙ values_in_row 1 0 (integers geometry)
 
 pub is_new : (geometry : Geometry) → IsGeometry geometry → is_in_range geometry ≡ true → IsNew geometry (drawn_feature geometry)

@@ -4,7 +4,7 @@ use Rattle.mvt_document.specs.declared.TheConstants.{MAX_FILE}
 use Rattle.mvt_document.specs.Plain.{Document}
 use Rattle.mvt_document.specs.Opens.{IsDocument}
 use Rattle.mvt_document.specs.Wire.{bytes_of}
-use Rattle.mvt_command.specs.Command.{Command, RenameLayer, MoveLayer, DropLayer, KeepLayers, InsertFeature, MoveFeature, DropFeature, SetId, ClearId}
+use Rattle.mvt_command.specs.Command.{Command, RenameLayer, InsertFeature, SetId}
 use Rattle.mvt_meaning.specs.Meaning.{applied}
 
 -- the kinds of command that may make a tile longer: a rename, an insertion, and a new id

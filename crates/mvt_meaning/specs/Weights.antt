@@ -5,7 +5,7 @@ use Rattle.std.specs.Option.{option_map_or}
 use Rattle.mvt_document.specs.Plain.{Field, Document}
 use Rattle.mvt_document.specs.Wire.{field_bytes, layer_item_bytes, tile_item_bytes}
 use Rattle.mvt_document.specs.Places.{fields_in}
-use Rattle.mvt_command.specs.Command.{LayerChoice, FeatureChoice, Command, RenameLayer, MoveLayer, DropLayer, KeepLayers, InsertFeature, MoveFeature, DropFeature, SetId, ClearId}
+use Rattle.mvt_command.specs.Command.{LayerChoice, FeatureChoice, Command, RenameLayer, DropLayer, KeepLayers, InsertFeature, DropFeature, SetId, ClearId}
 use Rattle.mvt_meaning.specs.Selection.{is_feature, is_layer, selected, selected_in}
 use Rattle.mvt_meaning.specs.Meaning.{after, is_id, is_kept, is_name, items_of, new_feature}
 use Rattle.mvt_meaning.specs.declared.refusal.Refusal.{Refusal}
