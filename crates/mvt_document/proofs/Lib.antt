@@ -1,3 +1,4 @@
+pub mod Options
 pub mod Beside
 pub mod Prefixes
 pub mod SameBytes

@@ -16,6 +16,7 @@ use Rattle.mvt_document.specs.declared.document.Document.{Document}
 use Rattle.mvt_document.specs.declared.document.Field.{Field}
 use Rattle.mvt_document.specs.Lists.{change_at}
 use Rattle.mvt_document.specs.HeldPlaces.{held_items_in, held_items_at, held_fields_in_at, held_fields_at, in_held_layer, in_held_feature, change_held_at, change_held_items, change_held_fields}
+use Rattle.mvt_document.proofs.Options.{some_each}
 use Rattle.mvt_document.specs.Made.{Makes, MakesThere}
 
 -- ---- what differs in nothing but the facts that it keeps is the same
@@ -62,15 +63,15 @@ items_made f zero (in_tile.Layer layer ∷ items) list is =
 items_made f zero (in_tile.Plain field ∷ items) list is = refl
 items_made f (suc layer) (item ∷ items) list is = ap (λ rest. item ∷ rest) (items_made f layer items list is)
 
-pub some_each : {X : Type 0} (o : Option X) (P Q : X → Type 0) → ((x : X) → P x → Q x) → IsSomeAnd o P → IsSomeAnd o Q
-some_each None P Q each there = absurd there
-some_each (Some x) P Q each there = each x there
+-- ---- what a closure takes and made there
 
--- ---- what a closure made there
+-- what is so of the list and the values is so of any `&mut` to them
+pub takes_there : {L W : Type 0} (o : Option L) (beside : W) (P : L → W → Type 0) → IsSomeAnd o (λ list. P list beside) → IsSomeAnd o (λ list. (x : MutBor L) (y : MutBor W) → x.now ≡ list → y.now ≡ beside → P x.now y.now)
+takes_there o beside P there = some_each o _ _ (λ list holds x y is given. subst (λ l. P l y.now) (sym is) (subst (P list) (sym given) holds)) there
 
 module _ {F L W R : Type 0} (g : Once F (MutBor L × (MutBor W × Unit {0})) (R × (MutBor L × (MutBor W × Unit {0})))) (change : F) where
   -- what is known of each call is known of the one that made this
-  pub made_as : (list : L) (beside : W) (r : R) (made : L) (left : W) → Makes g change list beside r made left → (P : L → W → R → L → W → Type 0)
+  made_as : (list : L) (beside : W) (r : R) (made : L) (left : W) → Makes g change list beside r made left → (P : L → W → R → L → W → Type 0)
       → ((x : MutBor L) (y : MutBor W) (r : R) (v : MutBor L) (w : MutBor W) → g.post change (x, (y, tt)) (r, (v, (w, tt))) → P x.now y.now r v.now w.now) → P list beside r made left
   made_as list beside r made left makes P each =
       let met = each makes.shown makes.given r makes.ended makes.passed makes.met in
@@ -78,6 +79,10 @@ module _ {F L W R : Type 0} (g : Once F (MutBor L × (MutBor W × Unit {0})) (R 
       subst (λ b. P makes.shown.now b r made left) makes.shows.1 (
       subst (λ m. P makes.shown.now makes.given.now r m left) makes.leaves.0 (
       subst (λ n. P makes.shown.now makes.given.now r makes.ended.now n) makes.leaves.1 met)))
+
+  pub made_there : (o : Option L) (beside : W) (r : R) (left : W) (holds : L → Type 0) → MakesThere g change o beside r left holds → (P : L → W → R → L → W → Type 0)
+      → ((x : MutBor L) (y : MutBor W) (r : R) (v : MutBor L) (w : MutBor W) → g.post change (x, (y, tt)) (r, (v, (w, tt))) → P x.now y.now r v.now w.now) → IsSomeAnd o (λ list. (made : L) × P list beside r made left × holds made)
+  made_there o beside r left holds there P each = some_each o _ _ (λ list met. (met.0, made_as list beside r met.0 left met.1 P each, met.2)) there
 
   pub makes_more : (o p : Option L) (beside : W) (r : R) (left : W) (P Q : L → Type 0) → o ≡ p → ((made : L) → P made → Q made) → MakesThere g change o beside r left P → MakesThere g change p beside r left Q
   makes_more None p beside r left P Q is each there = absurd there

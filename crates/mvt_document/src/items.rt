@@ -29,14 +29,16 @@ impl<T> Items<T> {
 
     /// The list of a vector's items, in the vector's own memory.
     pub fn from_vec(inner: Vec<T>) -> Self
-        ensures { result.items ≡ inner.items }
+        ensures items { result.items ≡ inner.items }
+        ensures room { length result.items + result.room ≡ vec_capacity inner }
     {
         Items { inner }
     }
 
     /// The items in a vector, in the list's own memory.
     pub fn into_vec(self) -> Vec<T>
-        ensures { result.items ≡ self.items }
+        ensures items { result.items ≡ self.items }
+        ensures room { vec_capacity result ≡ length self.items + self.room }
     {
         let Items { inner } = self;
         inner
@@ -72,9 +74,11 @@ impl<T> Items<T> {
         self.inner.reserve_exact(more)
     }
 
-    /// Adds an item at the end. An `Err` changes nothing.
+    /// Adds an item at the end. An `Err` changes nothing; it comes only where the list has to grow.
     pub fn push(&mut self, item: T) -> Result<(), AllocFailed<T>>
         ensures items { self.new.items ≡ (if is_ok result then self.old.items ++ item ∷ [] else self.old.items) }
+        ensures room { length self.old.items + self.old.room ≤ length self.new.items + self.new.room }
+        ensures succeeds { 0 < self.old.room → IsOk result }
     {
         self.inner.push(item)
     }

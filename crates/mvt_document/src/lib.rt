@@ -20,6 +20,9 @@
 //! - A list makes room for a number of items and for no more, or lends the vector that it is in,
 //!   and ends as what that does (`writes_back`): `reserve_exact` and `as_vec_mut` of `Items`, and
 //!   `as_vec_mut`, `known_size` and `know_size` of `Message`, whose size is given back with it.
+//! - A list that is made of a vector has the room of that vector and gives it back, and none is lost
+//!   as an item comes, which a list with room never refuses: `from_vec`, `into_vec` and `push` of
+//!   `Items` (`room`, `succeeds`).
 //! - The bytes of a group are fields, groups among them, and then an end tag of its own number,
 //!   with at most 100 groups open at one place (`IsGroup`); the type of a field keeps that
 //!   (`is_group`).

@@ -1,0 +1,24 @@
+-- What holds of what an option has, and of what is made of it.
+use Rattle.std.proofs.Common.{Option, Some, None, option_map}
+use Rattle.std.specs.Option.{IfSome, IsSomeAnd}
+
+module _ {X : Type 0} where
+  pub some_each : (o : Option X) (P Q : X → Type 0) → ((x : X) → P x → Q x) → IsSomeAnd o P → IsSomeAnd o Q
+  some_each None P Q each there = absurd there
+  some_each (Some x) P Q each there = each x there
+
+  pub if_each : (o : Option X) (P Q : X → Type 0) → ((x : X) → P x → Q x) → IsSomeAnd o P → IfSome o Q
+  if_each None P Q each there = tt
+  if_each (Some x) P Q each there = each x there
+
+  pub if_both : (o : Option X) (P Q R : X → Type 0) → ((x : X) → P x → Q x → R x) → IfSome o P → IsSomeAnd o Q → IfSome o R
+  if_both None P Q R each good there = tt
+  if_both (Some x) P Q R each good there = each x good there
+
+  pub some_mapped : {Y : Type 0} (f : X → Y) (o : Option X) (P : X → Type 0) (Q : Y → Type 0) → ((x : X) → P x → Q (f x)) → IsSomeAnd o P → IsSomeAnd (option_map f o) Q
+  some_mapped f None P Q each there = absurd there
+  some_mapped f (Some x) P Q each there = each x there
+
+  pub mapped_some : {Y : Type 0} (f : X → Y) (o : Option X) (P : X → Type 0) (Q : Y → Type 0) → ((x : X) → Q (f x) → P x) → IsSomeAnd (option_map f o) Q → IsSomeAnd o P
+  mapped_some f None P Q each there = absurd there
+  mapped_some f (Some x) P Q each there = each x there
