@@ -6,7 +6,7 @@ from functools import cache
 from specs import CRATES, Imports, words_of
 
 # A function that takes nothing and does nothing: its contract is the law.
-LAW = re.compile(r"^((?:///.*\n)*)pub fn (\w+)\(\)\n((?: +.*\n)+)\{\}$", re.MULTILINE)
+LAW = re.compile(r"^((?:///.*\n)*)(?:#\[.*\]\n)*pub fn (\w+)\(\)\n((?: +.*\n)+)\{\}$", re.MULTILINE)
 CLAUSE = re.compile(r"^    ensures (\w* ?)\{ (.*(?:\n     +.*)*) \}$", re.MULTILINE)
 STARTS_CLAUSE = re.compile(r"\n +(?:ensures|requires) (\w*)")
 

@@ -1,7 +1,7 @@
 -- How many bytes a list takes of which a part is exchanged, an item is changed, or an item moves; and a message around it.
-use Rattle.std.proofs.Common.{◌≡◌, ℕ, zero, suc, ◌+◌, ◌<◌, ◌≤◌, max, not, ltb, Option, Some, None, is_some, List, [], ◌∷◌, ◌++◌, length, length-append, get_or, slice_get, take, map, refl, sym, ap, ◌∙◌, inl, inr, arith}
+use Rattle.std.proofs.Common.{◌≡◌, ℕ, zero, suc, ◌+◌, ◌<◌, ◌≤◌, max, not, ltb, Option, Some, None, is_some, List, [], ◌∷◌, ◌++◌, length, length-append, get_or, take, map, refl, sym, ap, ◌∙◌, inl, inr, arith}
 use Rattle.std.specs.List.{flat_map}
-use Rattle.std.specs.Option.{SomeIff, IsSomeAnd, option_and_then}
+use Rattle.std.specs.Option.{SomeIff}
 use Rattle.std.proofs.lemmas.Bool.{cases_lt, lt-ltb, le-ltb}
 use Rattle.std.proofs.lemmas.List.Folds.{flat_map-map}
 use Rattle.mvt_document.specs.Plain.{Field, LayerItem, OfFeature, PlainInLayer, TileItem, OfLayer, PlainInTile, Document}
@@ -12,7 +12,7 @@ use Rattle.mvt_document.proofs.Beside.{spliced_size, moved_size}
 use Rattle.mvt_document.proofs.Sizes.{length-message}
 use Rattle.mvt_document.specs.Lists.{change_at}
 use Rattle.mvt_document.specs.Places.{in_layer, in_feature}
-use Rattle.mvt_change.specs.Changes.{Place, OfTheTile, OfTheLayer, OfTheFeature, move_at}
+use Rattle.mvt_change.specs.Changes.{Place, OfTheTile, OfTheLayer, OfTheFeature, change_list}
 use Rattle.mvt_change.proofs.Changed.{map-splice}
 
 pub fits_so : (limit : ℕ) (told : Option ℕ) (n : ℕ) → SomeIff told (n ≤ limit) n → is_some told ≡ not (ltb limit n)
@@ -45,12 +45,6 @@ changed_size bytes g change (suc at) (y ∷ items) x inside is =
     let rest = changed_size bytes g change at items x (omega arith) is in
     omega (arith, rest, length-append (bytes (g y)) (flat_map bytes (change_at change at (map g items))), length-append (bytes (g y)) (flat_map (λ a. bytes (g a)) (take at items)))
 
--- what is found through an item at a position is found within the list
-pub below_found : {A B X Y : Type 0} (find : B → Option X) (deeper : X → Option Y) (g : A → B) (at : ℕ) (items : List A) (P : Y → Type 0) → IsSomeAnd (option_and_then deeper (option_and_then find (slice_get (map g items) at))) P → at < length items
-below_found find deeper g at [] P there = absurd there
-below_found find deeper g zero (x ∷ items) P there = omega arith
-below_found find deeper g (suc at) (x ∷ items) P there = let below = below_found find deeper g at items P there in omega arith
-
 same_at : {A : Type 0} (bytes : A → List ℕ) (change : A → A) → ((x : A) → length (bytes (change x)) ≡ length (bytes x)) → (at : ℕ) (items : List A) → length (flat_map bytes (change_at change at items)) ≡ length (flat_map bytes items)
 same_at bytes change same at [] = refl
 same_at bytes change same zero (x ∷ items) =
@@ -80,7 +74,7 @@ in_feature_same change same (PlainInLayer field) = refl
 
 -- ---- a move keeps the size
 
-pub moved_same : (place : Place) (from to : ℕ) (document : Document) → length (bytes_of document) ≡ length (bytes_of (move_at place from to document))
+pub moved_same : (place : Place) (from to : ℕ) (document : Document) → length (bytes_of document) ≡ length (bytes_of (change_list place (moved from to) document))
 moved_same OfTheTile from to document = sym (moved_size tile_item_bytes from to document)
 moved_same (OfTheLayer layer) from to document =
     let items = in_layer_same (moved from to) (λ xs. moved_size layer_item_bytes from to xs) in

@@ -56,27 +56,19 @@ length-without from items there = omega (arith, length-splice from 1 [] items (o
 
 pub length-moved : {A : Type 0} (from to : ℕ) (items : List A) → CanMove from to items → length (moved from to items) ≡ length items
 length-moved from to items can =
-    let there : from < length items = can.there in
-    let within : to < length items = can.within in
-    let rest = length-without from items there in
-    omega (arith, length-splice to 0 (part from 1 items) (without from items) (omega arith), length-part from 1 items (omega arith))
+    let rest = length-without from items can.there in
+    omega (arith, rest, length-splice to 0 (part from 1 items) (without from items) (omega (arith, rest, can.within)), length-part from 1 items (omega (arith, can.there)))
 
 part-moved : {A : Type 0} (from to : ℕ) (items : List A) → CanMove from to items → part to 1 (moved from to items) ≡ part from 1 items
 part-moved from to items can =
-    let there : from < length items = can.there in
-    let within : to < length items = can.within in
-    let rest = length-without from items there in
-    let one : length (part from 1 items) ≡ 1 = length-part from 1 items (omega arith) in
-    ap (λ n. part to n (moved from to items)) (sym one) ∙ part-splice to 0 (part from 1 items) (without from items) (omega arith)
+    let one : length (part from 1 items) ≡ 1 = length-part from 1 items (omega (arith, can.there)) in
+    ap (λ n. part to n (moved from to items)) (sym one) ∙ part-splice to 0 (part from 1 items) (without from items) (omega (arith, length-without from items can.there, can.within))
 
 without-moved : {A : Type 0} (from to : ℕ) (items : List A) → CanMove from to items → without to (moved from to items) ≡ without from items
 without-moved from to items can =
-    let there : from < length items = can.there in
-    let within : to < length items = can.within in
-    let rest = length-without from items there in
-    let one : length (part from 1 items) ≡ 1 = length-part from 1 items (omega arith) in
+    let one : length (part from 1 items) ≡ 1 = length-part from 1 items (omega (arith, can.there)) in
     ap (λ n. splice to n [] (moved from to items)) (sym one)
-    ∙ splice-back to 0 (part from 1 items) (without from items) (omega arith)
+    ∙ splice-back to 0 (part from 1 items) (without from items) (omega (arith, length-without from items can.there, can.within))
 
 pub moved-back : {A : Type 0} (from to : ℕ) (items : List A) → CanMove from to items → moved to from (moved from to items) ≡ items
 moved-back from to items can =
@@ -116,11 +108,9 @@ all_moved P from to items all =
 
 pub can_splice_back : {A : Type 0} (P : A → Type 0) (index taken : ℕ) (put items : List A) → AllByRecursion P items → CanSplice P index taken put items → CanSplice P index (length put) (part index taken items) (splice index taken put items)
 can_splice_back P index taken put items all can =
-    let within : index + taken ≤ length items = can.within in
-    record { within = omega (arith, length-splice index taken put items within); valid_put = all_part P index taken items all }
+    record { within = omega (arith, length-splice index taken put items can.within); valid_put = all_part P index taken items all }
 
 pub can_move_back : {A : Type 0} (from to : ℕ) (items : List A) → CanMove from to items → CanMove to from (moved from to items)
 can_move_back from to items can =
-    let there : from < length items = can.there in
-    let within : to < length items = can.within in
-    record { there = omega (arith, length-moved from to items can); within = omega (arith, length-moved from to items can) }
+    let long = length-moved from to items can in
+    record { there = omega (arith, long, can.within); within = omega (arith, long, can.there) }

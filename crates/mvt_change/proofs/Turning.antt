@@ -1,59 +1,70 @@
 -- What leads back from a change fits, leads back, and turned again is the change.
-use Rattle.std.proofs.Common.{◌≡◌, ℕ, [], ◌∷◌, ◌++◌, length, append_assoc, refl, sym, ap, ◌∙◌, subst}
+use Rattle.std.proofs.Common.{◌≡◌, ℕ, List, [], ◌∷◌, ◌++◌, length, Option, Some, None, option_map, append_assoc, refl, sym, ap, ◌∙◌, subst, arith}
+use Rattle.std.specs.List.{AllByRecursion}
+use Rattle.std.specs.Option.{IfSome, IsSomeAnd}
 use Rattle.std.proofs.lemmas.List.{append-nil}
+use Rattle.std.proofs.lemmas.Option.{IfSome_then}
 use Rattle.mvt_document.specs.Plain.{Document}
 use Rattle.mvt_document.specs.Opens.{IsDocument}
-use Rattle.mvt_document.specs.Splicing.{part, splice}
-use Rattle.mvt_document.specs.Places.{items_at, fields_at, change_items, change_fields}
-use Rattle.mvt_change.specs.Changes.{Place, OfTheTile, OfTheLayer, OfTheFeature, Step, TileStep, LayerStep, FeatureStep, MoveStep, Change, move_at, go_step, go, FitsMove, FitsStep, Fits, turn_step, turn, taken_out}
+use Rattle.mvt_document.specs.Splicing.{splice, moved}
+use Rattle.mvt_document.specs.Lists.{CanSplice, CanMove}
+use Rattle.mvt_change.specs.Changes.{Step, SpliceStep, MoveStep, Change, list_at, change_list, IsItemAt, go_step, go, FitsStep, Fits, turn_step, turn, taken_out}
 use Rattle.mvt_change.specs.Laws.{ChangeMakesDocument, TurnedFits, TurnedLeadsBack, TurnedTwice, JoinedGo, JoinedFit}
-use Rattle.mvt_change.proofs.Lenses.{tile_lens, layer_lens, feature_lens, step_back, step_fits, step_put, step_count, step_valid, move_back, move_fits, move_valid}
+use Rattle.mvt_document.proofs.Options.{if_each, if_both, some_mapped}
+use Rattle.mvt_change.proofs.Splicing.{length-part, part-splice, splice-back, moved-back, all_splice, all_moved, can_splice_back, can_move_back}
+use Rattle.mvt_change.proofs.Lenses.{goes_back, found_there, list_part, list_sound}
+
+-- ---- a splice of the list that there is
+
+module _ {Y : Type 0} (P : Y → Type 0) (index taken : ℕ) (put : List Y) where
+  spliced_back : (o : Option (List Y)) → IsSomeAnd o (CanSplice P index taken put) → IfSome o (λ x. splice index (length put) (taken_out index taken o) (splice index taken put x) ≡ x)
+  spliced_back None can = tt
+  spliced_back (Some x) can = let within = can.within in splice-back index taken put x (omega (arith, within))
+
+  spliced_fits : (o : Option (List Y)) → IfSome o (AllByRecursion P) → IsSomeAnd o (CanSplice P index taken put) → IsSomeAnd (option_map (splice index taken put) o) (CanSplice P index (length put) (taken_out index taken o))
+  spliced_fits None all can = can
+  spliced_fits (Some x) all can = can_splice_back P index taken put x all can
+
+  spliced_put : (o : Option (List Y)) → IsSomeAnd o (CanSplice P index taken put) → taken_out index (length put) (option_map (splice index taken put) o) ≡ put
+  spliced_put None can = absurd can
+  spliced_put (Some x) can = let within = can.within in part-splice index taken put x (omega (arith, within))
+
+  spliced_count : (o : Option (List Y)) → IsSomeAnd o (CanSplice P index taken put) → length (taken_out index taken o) ≡ taken
+  spliced_count None can = absurd can
+  spliced_count (Some x) can = length-part index taken x can.within
 
 -- ---- one step
 
-pub move_valid_at : (place : Place) (from to : ℕ) (document : Document) → IsDocument document → IsDocument (move_at place from to document)
-move_valid_at OfTheTile from to document valid = move_valid tile_lens from to document valid
-move_valid_at (OfTheLayer layer) from to document valid = move_valid (layer_lens layer) from to document valid
-move_valid_at (OfTheFeature layer item) from to document valid = move_valid (feature_lens layer item) from to document valid
-
 pub step_makes : (step : Step) (document : Document) → IsDocument document → FitsStep step document → IsDocument (go_step step document)
-step_makes (TileStep index taken put) document valid fits = step_valid tile_lens index taken put document valid fits
-step_makes (LayerStep layer index taken put) document valid fits = step_valid (layer_lens layer) index taken put document valid fits
-step_makes (FeatureStep layer item index taken put) document valid fits = step_valid (feature_lens layer item) index taken put document valid fits
-step_makes (MoveStep place from to) document valid fits = move_valid_at place from to document valid
-
-move_fits_at : (place : Place) (from to : ℕ) (document : Document) → FitsMove place from to document → FitsMove place to from (move_at place from to document)
-move_fits_at OfTheTile from to document fits = move_fits tile_lens from to document fits
-move_fits_at (OfTheLayer layer) from to document fits = move_fits (layer_lens layer) from to document fits
-move_fits_at (OfTheFeature layer item) from to document fits = move_fits (feature_lens layer item) from to document fits
+step_makes (SpliceStep place index taken put) document valid fits =
+    let sound = list_sound place document in
+    sound.kept (splice index taken put) valid
+    (if_both (list_at place document) _ _ _ (λ x all can. all_splice (IsItemAt place) index taken put x can.valid_put all) (sound.part_good valid) fits)
+step_makes (MoveStep place from to) document valid fits =
+    let sound = list_sound place document in
+    sound.kept (moved from to) valid (IfSome_then (list_at place document) (sound.part_good valid) (λ x all. all_moved (IsItemAt place) from to x all))
 
 pub turned_step_fits : (step : Step) (document : Document) → IsDocument document → FitsStep step document → FitsStep (turn_step step document) (go_step step document)
-turned_step_fits (TileStep index taken put) document valid fits = step_fits tile_lens index taken put document valid fits
-turned_step_fits (LayerStep layer index taken put) document valid fits = step_fits (layer_lens layer) index taken put document valid fits
-turned_step_fits (FeatureStep layer item index taken put) document valid fits = step_fits (feature_lens layer item) index taken put document valid fits
-turned_step_fits (MoveStep place from to) document valid fits = move_fits_at place from to document fits
-
-move_back_at : (place : Place) (from to : ℕ) (document : Document) → FitsMove place from to document → move_at place to from (move_at place from to document) ≡ document
-move_back_at OfTheTile from to document fits = move_back tile_lens from to document fits
-move_back_at (OfTheLayer layer) from to document fits = move_back (layer_lens layer) from to document fits
-move_back_at (OfTheFeature layer item) from to document fits = move_back (feature_lens layer item) from to document fits
+turned_step_fits (SpliceStep place index taken put) document valid fits =
+    found_there (list_part place document) (splice index taken put) (CanSplice (IsItemAt place) index (length put) (taken_out index taken (list_at place document)))
+    (spliced_fits (IsItemAt place) index taken put (list_at place document) ((list_sound place document).part_good valid) fits)
+turned_step_fits (MoveStep place from to) document valid fits =
+    found_there (list_part place document) (moved from to) (CanMove to from)
+    (some_mapped (moved from to) (list_at place document) (CanMove from to) (CanMove to from) (can_move_back from to) fits)
 
 pub turned_step_back : (step : Step) (document : Document) → FitsStep step document → go_step (turn_step step document) (go_step step document) ≡ document
-turned_step_back (TileStep index taken put) document fits = step_back tile_lens index taken put document fits
-turned_step_back (LayerStep layer index taken put) document fits = step_back (layer_lens layer) index taken put document fits
-turned_step_back (FeatureStep layer item index taken put) document fits = step_back (feature_lens layer item) index taken put document fits
-turned_step_back (MoveStep place from to) document fits = move_back_at place from to document fits
+turned_step_back (SpliceStep place index taken put) document fits =
+    goes_back (list_part place document) (splice index taken put) (splice index (length put) (taken_out index taken (list_at place document)))
+    (spliced_back (IsItemAt place) index taken put (list_at place document) fits)
+turned_step_back (MoveStep place from to) document fits =
+    goes_back (list_part place document) (moved from to) (moved to from) (if_each (list_at place document) _ _ (moved-back from to) fits)
 
 pub turned_step_twice : (step : Step) (document : Document) → FitsStep step document → turn_step (turn_step step document) (go_step step document) ≡ step
-turned_step_twice (TileStep index taken put) document fits =
-    ap (λ n. TileStep index n (part index (length put) (splice index taken put document))) (step_count tile_lens index taken put document fits)
-    ∙ ap (TileStep index taken) (step_put tile_lens index taken put document fits)
-turned_step_twice (LayerStep layer index taken put) document fits =
-    ap (λ n. LayerStep layer index n (taken_out index (length put) (items_at layer (change_items (splice index taken put) layer document)))) (step_count (layer_lens layer) index taken put document fits)
-    ∙ ap (LayerStep layer index taken) (step_put (layer_lens layer) index taken put document fits)
-turned_step_twice (FeatureStep layer item index taken put) document fits =
-    ap (λ n. FeatureStep layer item index n (taken_out index (length put) (fields_at layer item (change_fields (splice index taken put) layer item document)))) (step_count (feature_lens layer item) index taken put document fits)
-    ∙ ap (FeatureStep layer item index taken) (step_put (feature_lens layer item) index taken put document fits)
+turned_step_twice (SpliceStep place index taken put) document fits =
+    let found = list_at place document in
+    ap (λ n. SpliceStep place index n (taken_out index (length put) (list_at place (change_list place (splice index taken put) document)))) (spliced_count (IsItemAt place) index taken put found fits)
+    ∙ ap (λ o. SpliceStep place index taken (taken_out index (length put) o)) ((list_part place document).found (splice index taken put))
+    ∙ ap (SpliceStep place index taken) (spliced_put (IsItemAt place) index taken put found fits)
 turned_step_twice (MoveStep place from to) document fits = refl
 
 -- ---- joined changes

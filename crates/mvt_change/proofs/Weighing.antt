@@ -6,13 +6,11 @@ use Rattle.std.proofs.lemmas.List.{length-map, take-map, get_or-map}
 use Rattle.std.proofs.lemmas.List.Sums.{sum_by-cons, sum_by_more, sum_by-take-le}
 use Rattle.mvt_document.specs.declared.TheConstants.{MAX_GROUPS}
 use Rattle.mvt_document.specs.Plain.{Number, Body, Spelled, Eight, Four, Delimited, Group, OfFeature, PlainInLayer, OfLayer, PlainInTile, Document}
-use Rattle.mvt_document.specs.Wire.{spell, minimal_width, spelling, delimited, body_bytes, field_bytes, layer_item_bytes, tile_item_bytes}
+use Rattle.mvt_document.specs.Wire.{spell, minimal_width, spelling, delimited, body_bytes, field_bytes, layer_item_bytes}
 use Rattle.mvt_document.specs.Groups.{IsNumber, IsBodyWith, IsGroupWithin, IsGroup}
-use Rattle.mvt_document.specs.Opens.{IsField, IsLayerItem, IsTileItem}
 use Rattle.mvt_document.proofs.Spelling.{length-spell, spelling_some, minimal_width_some}
 use Rattle.mvt_document.specs.Lists.{CanSplice}
-use Rattle.mvt_document.specs.Places.{items_at, fields_at}
-use Rattle.mvt_change.specs.Changes.{Step, TileStep, LayerStep, FeatureStep, MoveStep, go_step, FitsStep, step_weight, put_count}
+use Rattle.mvt_change.specs.Changes.{Place, OfTheTile, OfTheLayer, OfTheFeature, ItemAt, Step, SpliceStep, MoveStep, list_at, IsItemAt, item_bytes, go_step, FitsStep, step_weight, put_count}
 use Rattle.mvt_change.specs.Laws.{FieldWeighs, LayerItemWeighs, TileItemWeighs, NothingPut}
 
 number_weighs : (n : Number) → IsNumber n → 1 ≤ length (spelling n)
@@ -66,12 +64,14 @@ valid_of : {A : Type 0} (P : A → Type 0) (index taken : ℕ) (put : List A) (o
 valid_of P index taken put None can = absurd can
 valid_of P index taken put (Some items) can = can.valid_put
 
+item_weighs : (place : Place) (item : ItemAt place) → IsItemAt place item → 2 ≤ length (item_bytes place item)
+item_weighs OfTheTile item valid = tile_item_weighs item valid
+item_weighs (OfTheLayer layer) item valid = layer_item_weighs item valid
+item_weighs (OfTheFeature layer at) field valid = field_weighs field valid
+
 step_puts_nothing : (step : Step) (document : Document) → FitsStep step document → step_weight step ≡ 0 → put_count step ≡ 0
-step_puts_nothing (TileStep index taken put) document fits nothing = none_put tile_item_bytes IsTileItem tile_item_weighs put fits.valid_put nothing
-step_puts_nothing (LayerStep layer index taken put) document fits nothing =
-    none_put layer_item_bytes IsLayerItem layer_item_weighs put (valid_of IsLayerItem index taken put (items_at layer document) fits) nothing
-step_puts_nothing (FeatureStep layer item index taken put) document fits nothing =
-    none_put field_bytes IsField field_weighs put (valid_of IsField index taken put (fields_at layer item document) fits) nothing
+step_puts_nothing (SpliceStep place index taken put) document fits nothing =
+    none_put (item_bytes place) (IsItemAt place) (item_weighs place) put (valid_of (IsItemAt place) index taken put (list_at place document) fits) nothing
 step_puts_nothing (MoveStep place from to) document fits nothing = refl
 
 pub nothing_put : NothingPut

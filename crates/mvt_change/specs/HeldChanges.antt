@@ -1,19 +1,14 @@
 -- What steps make of a document of the program, with the room of its lists, and when no list has to grow.
-use Rattle.std.specs.Prelude.{◌≡◌, ℕ, ◌+◌, ◌-◌, ◌≤◌, Bool, List, [], ◌∷◌, length, Option, Some, IsTrue, if◌then◌else◌, slice_index_or}
+use Rattle.std.specs.Prelude.{◌≡◌, ℕ, ◌+◌, ◌-◌, ◌≤◌, Bool, true, false, List, [], ◌∷◌, length, map, Option, Some, IsTrue, if◌then◌else◌, slice_index_or}
 use Rattle.std.specs.Option.{IsSomeAnd, option_map_or}
 use Rattle.mvt_document.specs.Held.{Held}
 use Rattle.mvt_document.specs.Splicing.{part, splice, moved}
-use Rattle.mvt_document.specs.declared.document.Field.{Field}
-use Rattle.mvt_document.specs.declared.document.LayerItem.{LayerItem}
-use Rattle.mvt_document.specs.declared.document.TileItem.{TileItem}
-use Rattle.mvt_document.specs.declared.document.Document.{Document}
-use Rattle.mvt_change.specs.declared.change.Place.{Place}
-use Rattle.mvt_change.specs.declared.change.Place.TheVariants.{Tile, Layer, Feature}
-use Rattle.mvt_change.specs.declared.change.Step.{Step}
-use Rattle.mvt_change.specs.declared.change.Step.TheVariants.{InTile, InLayer, InFeature, Move}
 use Rattle.mvt_document.specs.Lists.{CanMove}
-use Rattle.mvt_document.specs.HeldPlaces.{held_items_at, held_fields_at, change_held_tile, change_held_items, change_held_fields}
-use Rattle.mvt_change.specs.Room.{capacity, KeepsList}
+use Rattle.mvt_document.specs.declared.document.Document.{Document}
+use Rattle.mvt_change.specs.declared.change.Step.{Step}
+use Rattle.mvt_change.specs.ChangeStands.{Action, SpliceAt, MoveAt, action_of, step_of}
+use Rattle.mvt_change.specs.HeldLists.{HeldItemAt, held_list_at, change_held_list}
+use Rattle.mvt_change.specs.Room.{capacity, KeepsList, KeepsDocument}
 
 -- ---- one list
 
@@ -59,41 +54,34 @@ pub record ExchangesFirst {T : Type 0} (Keeps : T → T → Type 0) (index taken
 
 -- ---- a document
 
--- the document with an item of that list moved
-abbrev pub move_held_at : Place → ℕ → ℕ → Document → Document
-move_held_at Tile from to document = change_held_tile (held_moved from to) document
-move_held_at (Layer layer) from to document = change_held_items (held_moved from to) layer document
-move_held_at (Feature layer item) from to document = change_held_fields (held_moved from to) layer item document
+-- the document after an action, with the room of its lists
+abbrev pub go_action : Action → Document → Document
+go_action (SpliceAt place index taken put) document = change_held_list place (exchanged index taken put) document
+go_action (MoveAt place from to) document = change_held_list place (held_moved from to) document
 
 -- the document after a step, with the room of its lists
 abbrev pub go_held_step : Step → Document → Document
-go_held_step (InTile index taken put) document = change_held_tile (exchanged index taken put) document
-go_held_step (InLayer layer index taken put) document = change_held_items (exchanged index taken put) layer document
-go_held_step (InFeature layer item index taken put) document = change_held_fields (exchanged index taken put) layer item document
-go_held_step (Move place from to) document = move_held_at place from to document
-
--- the list is there, and both positions are positions of its items
-abbrev pub CanMoveAt : Place → ℕ → ℕ → Document → Type 0
-CanMoveAt Tile from to document = CanMoveHeld from to document.items
-CanMoveAt (Layer layer) from to document = IsSomeAnd (held_items_at layer document) (CanMoveHeld from to)
-CanMoveAt (Feature layer item) from to document = IsSomeAnd (held_fields_at layer item document) (CanMoveHeld from to)
-
--- the step can be carried out, and no list has to grow
-abbrev pub StepHasRoom : Step → Document → Type 0
-StepHasRoom (InTile index taken put) document = HasRoom index taken put document.items
-StepHasRoom (InLayer layer index taken put) document = IsSomeAnd (held_items_at layer document) (HasRoom index taken put)
-StepHasRoom (InFeature layer item index taken put) document = IsSomeAnd (held_fields_at layer item document) (HasRoom index taken put)
-StepHasRoom (Move place from to) document = CanMoveAt place from to document
-
--- each step can be carried out on what those before it made, and no list has to grow
-abbrev pub HaveRoom : List Step → Document → Type 0
-HaveRoom [] document = Unit {0}
-HaveRoom (step ∷ steps) document = StepHasRoom step document × HaveRoom steps (go_held_step step document)
+go_held_step step document = go_action (action_of step) document
 
 -- the document after steps, one after the other
 abbrev pub go_held : List Step → Document → Document
 go_held [] document = document
 go_held (step ∷ steps) document = go_held steps (go_held_step step document)
+
+-- the list is there, and so are the items that are taken out or move, and the position that one moves to
+abbrev pub FindsAction : Action → Document → Type 0
+FindsAction (SpliceAt place index taken put) document = IsSomeAnd (held_list_at place document) (HasHeldPart index taken)
+FindsAction (MoveAt place from to) document = IsSomeAnd (held_list_at place document) (CanMoveHeld from to)
+
+-- the action can be carried out, and no list has to grow
+abbrev pub ActionHasRoom : Action → Document → Type 0
+ActionHasRoom (SpliceAt place index taken put) document = IsSomeAnd (held_list_at place document) (HasRoom index taken put)
+ActionHasRoom (MoveAt place from to) document = IsSomeAnd (held_list_at place document) (CanMoveHeld from to)
+
+-- each step can be carried out on what those before it made, and no list has to grow
+abbrev pub HaveRoom : List Step → Document → Type 0
+HaveRoom [] document = Unit {0}
+HaveRoom (step ∷ steps) document = ActionHasRoom (action_of step) document × HaveRoom steps (go_held_step step document)
 
 -- ---- what leads back
 
@@ -103,19 +91,23 @@ pub record IsBack {T : Type 0} (index taken : ℕ) (put back : Held T) (list : O
   pub items : back.items ≡ held_taken_out index taken list
   pub room : capacity put ≤ capacity back
 
+-- `turned` is the action that leads back from what the first one makes of the document
+abbrev pub IsTurnedAction : Action → Document → Action → Type 0
+IsTurnedAction (SpliceAt place index taken put) document turned =
+    (back : Held (HeldItemAt place)) × (turned ≡ SpliceAt place index (length put.items) back) × IsBack index taken put back (held_list_at place document)
+IsTurnedAction (MoveAt place from to) document turned = turned ≡ MoveAt place to from
+
 -- `turned` is the step that leads back from what the first one makes of the document
 abbrev pub IsTurned : Step → Document → Step → Type 0
-IsTurned (InTile index taken put) document turned =
-    (back : Held TileItem) × (turned ≡ InTile index (length put.items) back) × IsBack index taken put back (Some document.items)
-IsTurned (InLayer layer index taken put) document turned =
-    (back : Held LayerItem) × (turned ≡ InLayer layer index (length put.items) back) × IsBack index taken put back (held_items_at layer document)
-IsTurned (InFeature layer item index taken put) document turned =
-    (back : Held Field) × (turned ≡ InFeature layer item index (length put.items) back) × IsBack index taken put back (held_fields_at layer item document)
-IsTurned (Move place from to) document turned = turned ≡ Move place to from
+IsTurned step document turned = IsTurnedAction (action_of step) document (action_of turned)
 
 -- each step turned on the document that it meets, in the same order
 abbrev pub AreTurned : List Step → Document → List Step → Type 0
 AreTurned [] document [] = Unit {0}
-AreTurned [] document (next ∷ turned) = ⊥
-AreTurned (step ∷ steps) document [] = ⊥
 AreTurned (step ∷ steps) document (next ∷ turned) = IsTurned step document next × AreTurned steps (go_held_step step document) turned
+AreTurned steps document turned = ⊥
+
+-- the steps were carried out, and each is turned; or all is as it was, and no list has less room
+abbrev pub AreFlipped : Bool → List Step → List Step → Document → Document → Type 0
+AreFlipped true steps new document after = KeepsDocument (go_held steps document) after × AreTurned steps document new
+AreFlipped false steps new document after = KeepsDocument document after × (map step_of new ≡ map step_of steps)

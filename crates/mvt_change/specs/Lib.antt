@@ -1,10 +1,10 @@
 pub mod Changes
-pub mod Joining
+pub mod Codes
+pub mod HeldLists
 pub mod ChangeStands
+pub mod Joining
 pub mod Laws
 pub mod Room
 pub mod HeldChanges
 pub mod Runs
 pub mod RunLaws
-pub mod LayerRuns
-pub mod FeatureRuns

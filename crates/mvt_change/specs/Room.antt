@@ -3,10 +3,8 @@ use Rattle.std.specs.Prelude.{◌≡◌, ℕ, ◌+◌, ◌≤◌, length}
 use Rattle.std.specs.List.{AllZip}
 use Rattle.mvt_document.specs.Held.{Held}
 use Rattle.mvt_document.specs.declared.document.Field.{Field}
-use Rattle.mvt_document.specs.declared.document.Feature.{Feature}
 use Rattle.mvt_document.specs.declared.document.LayerItem.{LayerItem}
 use Rattle.mvt_document.specs.declared.document.LayerItem.TheVariants as in_layer
-use Rattle.mvt_document.specs.declared.document.Layer.{Layer}
 use Rattle.mvt_document.specs.declared.document.TileItem.{TileItem}
 use Rattle.mvt_document.specs.declared.document.TileItem.TheVariants as in_tile
 use Rattle.mvt_document.specs.declared.document.Document.{Document}
@@ -24,31 +22,23 @@ pub record KeepsList {T : Type 0} (Keeps : T → T → Type 0) (old new : Held T
 abbrev pub KeepsField : Field → Field → Type 0
 KeepsField old new = old ≡ new
 
--- the same feature, with no less room
-pub record KeepsFeature (old new : Feature) : Type 0 where
-  pub tag : old.tag ≡ new.tag
-  pub width : old.width ≡ new.width
-  pub fields : KeepsList KeepsField old.fields new.fields
+-- the same tag, length width and list of a message, with no less room
+pub record KeepsMessage {N T : Type 0} (Keeps : T → T → Type 0) (old_tag new_tag : N) (old_width new_width : ℕ) (old new : Held T) : Type 0 where
+  pub tag : old_tag ≡ new_tag
+  pub width : old_width ≡ new_width
+  pub list : KeepsList Keeps old new
 
 -- the same item of a layer, with no less room
 abbrev pub KeepsLayerItem : LayerItem → LayerItem → Type 0
-KeepsLayerItem (in_layer.Feature old) (in_layer.Feature new) = KeepsFeature old new
+KeepsLayerItem (in_layer.Feature old) (in_layer.Feature new) = KeepsMessage KeepsField old.tag new.tag old.width new.width old.fields new.fields
 KeepsLayerItem (in_layer.Plain old) (in_layer.Plain new) = KeepsField old new
-KeepsLayerItem (in_layer.Feature old) (in_layer.Plain new) = ⊥
-KeepsLayerItem (in_layer.Plain old) (in_layer.Feature new) = ⊥
-
--- the same layer, with no less room in any of its lists
-pub record KeepsLayer (old new : Layer) : Type 0 where
-  pub tag : old.tag ≡ new.tag
-  pub width : old.width ≡ new.width
-  pub items : KeepsList KeepsLayerItem old.items new.items
+KeepsLayerItem old new = ⊥
 
 -- the same item of a tile, with no less room in any of its lists
 abbrev pub KeepsTileItem : TileItem → TileItem → Type 0
-KeepsTileItem (in_tile.Layer old) (in_tile.Layer new) = KeepsLayer old new
+KeepsTileItem (in_tile.Layer old) (in_tile.Layer new) = KeepsMessage KeepsLayerItem old.tag new.tag old.width new.width old.items new.items
 KeepsTileItem (in_tile.Plain old) (in_tile.Plain new) = KeepsField old new
-KeepsTileItem (in_tile.Layer old) (in_tile.Plain new) = ⊥
-KeepsTileItem (in_tile.Plain old) (in_tile.Layer new) = ⊥
+KeepsTileItem old new = ⊥
 
 -- the same document, with no less room in any of its lists
 abbrev pub KeepsDocument : Document → Document → Type 0

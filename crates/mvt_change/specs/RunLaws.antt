@@ -30,43 +30,34 @@ nothing_roomy = record { index = refl; taken = refl; items = refl; room = omega 
 pub roomy_tile : (s t : Step) → IsRoomierStep s t → IsRoomier (tile_splice s) (tile_splice t)
 roomy_tile (InTile index taken put) t roomy =
     subst (λ u. IsRoomier (tile_splice (InTile index taken put)) (tile_splice u)) (sym roomy.2) (record { index = refl; taken = refl; items = roomy.1.items; room = roomy.1.room })
-roomy_tile (InLayer layer index taken put) t roomy = subst (λ u. IsRoomier no_splice (tile_splice u)) (sym roomy.2) nothing_roomy
-roomy_tile (InFeature layer item index taken put) t roomy = subst (λ u. IsRoomier no_splice (tile_splice u)) (sym roomy.2) nothing_roomy
 roomy_tile (Move place from to) t roomy = subst (λ u. IsRoomier no_splice (tile_splice u)) (sym roomy) nothing_roomy
+roomy_tile s t roomy = subst (λ u. IsRoomier no_splice (tile_splice u)) (sym roomy.2) nothing_roomy
 
 -- the step that leads back on the list of the tile puts the part that was taken out
 pub turned_tile_put : (s : Step) (items : List TileItem) → (tile_splice (turned_in_tile s items)).put.items ≡ part (tile_splice s).index (tile_splice s).taken items
 turned_tile_put (InTile index taken put) items = refl
-turned_tile_put (InLayer layer index taken put) items = refl
-turned_tile_put (InFeature layer item index taken put) items = refl
-turned_tile_put (Move place from to) items = refl
+turned_tile_put other items = refl
 
 -- steps that are the same but for room are the same splice of the list of a layer, with no less room
 pub roomy_layer : (s t : Step) → IsRoomierStep s t → IsRoomier (layer_splice s) (layer_splice t)
-roomy_layer (InTile index taken put) t roomy = subst (λ u. IsRoomier no_splice (layer_splice u)) (sym roomy.2) nothing_roomy
 roomy_layer (InLayer layer index taken put) t roomy =
     subst (λ u. IsRoomier (layer_splice (InLayer layer index taken put)) (layer_splice u)) (sym roomy.2) (record { index = refl; taken = refl; items = roomy.1.items; room = roomy.1.room })
-roomy_layer (InFeature layer item index taken put) t roomy = subst (λ u. IsRoomier no_splice (layer_splice u)) (sym roomy.2) nothing_roomy
 roomy_layer (Move place from to) t roomy = subst (λ u. IsRoomier no_splice (layer_splice u)) (sym roomy) nothing_roomy
+roomy_layer s t roomy = subst (λ u. IsRoomier no_splice (layer_splice u)) (sym roomy.2) nothing_roomy
 
 -- the step that leads back on the list of a layer puts the part that was taken out
 pub turned_layer_put : (s : Step) (items : List LayerItem) → (layer_splice (turned_in_layer s items)).put.items ≡ part (layer_splice s).index (layer_splice s).taken items
-turned_layer_put (InTile index taken put) items = refl
 turned_layer_put (InLayer layer index taken put) items = refl
-turned_layer_put (InFeature layer item index taken put) items = refl
-turned_layer_put (Move place from to) items = refl
+turned_layer_put other items = refl
 
 -- steps that are the same but for room are the same splice of the list of a feature, with no less room
 pub roomy_feature : (s t : Step) → IsRoomierStep s t → IsRoomier (feature_splice s) (feature_splice t)
-roomy_feature (InTile index taken put) t roomy = subst (λ u. IsRoomier no_splice (feature_splice u)) (sym roomy.2) nothing_roomy
-roomy_feature (InLayer layer index taken put) t roomy = subst (λ u. IsRoomier no_splice (feature_splice u)) (sym roomy.2) nothing_roomy
 roomy_feature (InFeature layer item index taken put) t roomy =
     subst (λ u. IsRoomier (feature_splice (InFeature layer item index taken put)) (feature_splice u)) (sym roomy.2) (record { index = refl; taken = refl; items = roomy.1.items; room = roomy.1.room })
 roomy_feature (Move place from to) t roomy = subst (λ u. IsRoomier no_splice (feature_splice u)) (sym roomy) nothing_roomy
+roomy_feature s t roomy = subst (λ u. IsRoomier no_splice (feature_splice u)) (sym roomy.2) nothing_roomy
 
 -- the step that leads back on the list of a feature puts the part that was taken out
 pub turned_feature_put : (s : Step) (items : List Field) → (feature_splice (turned_in_feature s items)).put.items ≡ part (feature_splice s).index (feature_splice s).taken items
-turned_feature_put (InTile index taken put) items = refl
-turned_feature_put (InLayer layer index taken put) items = refl
 turned_feature_put (InFeature layer item index taken put) items = refl
-turned_feature_put (Move place from to) items = refl
+turned_feature_put other items = refl

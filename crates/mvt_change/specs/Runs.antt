@@ -1,17 +1,19 @@
 -- Steps as splices of the list that they are on.
-use Rattle.std.specs.Prelude.{◌≡◌, ℕ, ◌-◌, ◌≤◌, List, [], ◌∷◌, length}
-use Rattle.std.specs.List.{AllByRecursion}
+use Rattle.std.specs.Prelude.{◌≡◌, ℕ, ◌-◌, ◌≤◌, Bool, List, [], ◌∷◌, length, Some, if◌then◌else◌}
+use Rattle.std.specs.List.{AllByRecursion, AllZip}
+use Rattle.std.specs.Option.{IsSomeAnd}
 use Rattle.mvt_document.specs.Held.{Held}
 use Rattle.mvt_document.specs.Splicing.{part}
-use Rattle.mvt_splices.specs.Splices.{Splice}
+use Rattle.mvt_splices.specs.Splices.{Splice, turned_all}
 use Rattle.mvt_document.specs.declared.document.Field.{Field}
 use Rattle.mvt_document.specs.declared.document.LayerItem.{LayerItem}
 use Rattle.mvt_document.specs.declared.document.TileItem.{TileItem}
-use Rattle.mvt_document.specs.declared.document.Document.{Document}
 use Rattle.mvt_change.specs.declared.change.Step.{Step}
 use Rattle.mvt_change.specs.declared.change.Step.TheVariants.{InTile, InLayer, InFeature, Move}
-use Rattle.mvt_change.specs.Room.{capacity, KeepsDocument}
-use Rattle.mvt_change.specs.HeldChanges.{go_held, HaveRoom}
+use Rattle.mvt_change.specs.ChangeStands.{action_of, spliced_place}
+use Rattle.mvt_change.specs.Changes.{Place}
+use Rattle.mvt_change.specs.Room.{capacity, KeepsList}
+use Rattle.mvt_change.specs.HeldChanges.{exchanged}
 
 -- the splice that takes nothing and puts nothing
 abbrev pub no_splice : {T : Type 0} → Splice T
@@ -22,23 +24,17 @@ no_splice = record { index = 0; taken = 0; put = record { items = []; room = 0 }
 -- the splice that a step is on the list of the tile; none where it is on another list, or moves an item
 abbrev pub tile_splice : Step → Splice TileItem
 tile_splice (InTile index taken put) = record { index = index; taken = taken; put = put }
-tile_splice (InLayer layer index taken put) = no_splice
-tile_splice (InFeature layer item index taken put) = no_splice
-tile_splice (Move place from to) = no_splice
+tile_splice other = no_splice
 
 -- the splice that a step is on the list of a layer; none where it is on another list, or moves an item
 abbrev pub layer_splice : Step → Splice LayerItem
-layer_splice (InTile index taken put) = no_splice
 layer_splice (InLayer layer index taken put) = record { index = index; taken = taken; put = put }
-layer_splice (InFeature layer item index taken put) = no_splice
-layer_splice (Move place from to) = no_splice
+layer_splice other = no_splice
 
 -- the splice that a step is on the list of a feature; none where it is on another list, or moves an item
 abbrev pub feature_splice : Step → Splice Field
-feature_splice (InTile index taken put) = no_splice
-feature_splice (InLayer layer index taken put) = no_splice
 feature_splice (InFeature layer item index taken put) = record { index = index; taken = taken; put = put }
-feature_splice (Move place from to) = no_splice
+feature_splice other = no_splice
 
 -- ---- the step that leads back from what this one makes of a list; its own list has the items that are taken out
 
@@ -49,23 +45,17 @@ held_part index taken put items = record { items = part index taken items; room 
 -- the step that leads back from what a step on the list of the tile makes of these items; another step as it is
 abbrev pub turned_in_tile : Step → List TileItem → Step
 turned_in_tile (InTile index taken put) items = InTile index (length put.items) (held_part index taken put items)
-turned_in_tile (InLayer layer index taken put) items = InLayer layer index taken put
-turned_in_tile (InFeature layer item index taken put) items = InFeature layer item index taken put
-turned_in_tile (Move place from to) items = Move place from to
+turned_in_tile other items = other
 
 -- the step that leads back from what a step on the list of a layer makes of these items; another step as it is
 abbrev pub turned_in_layer : Step → List LayerItem → Step
-turned_in_layer (InTile index taken put) items = InTile index taken put
 turned_in_layer (InLayer layer index taken put) items = InLayer layer index (length put.items) (held_part index taken put items)
-turned_in_layer (InFeature layer item index taken put) items = InFeature layer item index taken put
-turned_in_layer (Move place from to) items = Move place from to
+turned_in_layer other items = other
 
 -- the step that leads back from what a step on the list of a feature makes of these items; another step as it is
 abbrev pub turned_in_feature : Step → List Field → Step
-turned_in_feature (InTile index taken put) items = InTile index taken put
-turned_in_feature (InLayer layer index taken put) items = InLayer layer index taken put
 turned_in_feature (InFeature layer item index taken put) items = InFeature layer item index (length put.items) (held_part index taken put items)
-turned_in_feature (Move place from to) items = Move place from to
+turned_in_feature other items = other
 
 -- ---- the same step, with no less room for the items that it puts
 
@@ -81,39 +71,31 @@ IsRoomierStep (InLayer layer index taken put) step = (more : Held LayerItem) × 
 IsRoomierStep (InFeature layer item index taken put) step = (more : Held Field) × IsRoomierList put more × (step ≡ InFeature layer item index taken more)
 IsRoomierStep (Move place from to) step = step ≡ Move place from to
 
--- ---- steps on the tile's own list, one after the other
-
--- a step on the list of the tile, which moves nothing
-abbrev pub IsInTile : Step → Type 0
-IsInTile (InTile index taken put) = Unit {0}
-IsInTile (InLayer layer index taken put) = ⊥
-IsInTile (InFeature layer item index taken put) = ⊥
-IsInTile (Move place from to) = ⊥
-
 -- ---- steps on one list, one after the other
 
--- both steps exchange items of the same list
+-- the step is a splice of the list at this place
+abbrev pub IsOn : Place → Step → Type 0
+IsOn place step = spliced_place (action_of step) ≡ Some place
+
+-- both steps are splices of the same list
 abbrev pub SharesList : Step → Step → Type 0
-SharesList (InTile index taken put) (InTile i t p) = Unit {0}
-SharesList (InTile index taken put) (InLayer l i t p) = ⊥
-SharesList (InTile index taken put) (InFeature l n i t p) = ⊥
-SharesList (InTile index taken put) (Move place from to) = ⊥
-SharesList (InLayer layer index taken put) (InTile i t p) = ⊥
-SharesList (InLayer layer index taken put) (InLayer l i t p) = l ≡ layer
-SharesList (InLayer layer index taken put) (InFeature l n i t p) = ⊥
-SharesList (InLayer layer index taken put) (Move place from to) = ⊥
-SharesList (InFeature layer item index taken put) (InTile i t p) = ⊥
-SharesList (InFeature layer item index taken put) (InLayer l i t p) = ⊥
-SharesList (InFeature layer item index taken put) (InFeature l n i t p) = (l ≡ layer) × (n ≡ item)
-SharesList (InFeature layer item index taken put) (Move place from to) = ⊥
-SharesList (Move place from to) other = ⊥
+SharesList first other = IsSomeAnd (spliced_place (action_of first)) (λ place. IsOn place other)
 
 -- there is a first step, and all others are on the list of that
 abbrev pub IsRun : List Step → Type 0
 IsRun [] = ⊥
 IsRun (first ∷ steps) = AllByRecursion (SharesList first) steps
 
--- the steps can be carried out on `after` with no growth, and lead back to the document, with no less room
-pub record GoesBack (steps : List Step) (document after : Document) : Type 0 where
-  pub room : HaveRoom steps after
-  pub back : KeepsDocument document (go_held steps after)
+-- the list after the splices of all steps, with its room
+abbrev pub exchanged_all : {T : Type 0} → (Step → Splice T) → List Step → Held T → Held T
+exchanged_all splice_of [] list = list
+exchanged_all splice_of (step ∷ steps) list = exchanged_all splice_of steps (exchanged (splice_of step).index (splice_of step).taken (splice_of step).put list)
+
+-- the steps have at least as much room as before, and where they were carried out on a list each is turned
+abbrev pub AreMade : {T : Type 0} → (Step → Splice T) → (Step → List T → Step) → Bool → List Step → List Step → List T → Type 0
+AreMade splice_of turned done steps new items = (roomy : List Step) × AllZip IsRoomierStep steps roomy × (new ≡ (if done then turned_all splice_of turned roomy items else roomy))
+
+-- the steps were carried out on the list, which has no less room then, and are made; or the list is kept
+pub record PassesOver {T : Type 0} (Keeps : T → T → Type 0) (splice_of : Step → Splice T) (turned : Step → List T → Step) (done : Bool) (list made : Held T) (steps left : List Step) : Type 0 where
+  pub kept : KeepsList Keeps (if done then exchanged_all splice_of steps list else list) made
+  pub are_made : AreMade splice_of turned done steps left list.items

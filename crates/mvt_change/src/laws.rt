@@ -4,6 +4,7 @@ ghost use Rattle.mvt_change.specs.Laws.{ChangeMakesDocument, TurnedFits, TurnedL
 
 /// What a change that fits makes of a valid document is a valid document (`makes`), and the turned
 /// change fits that one (`fits`).
+#[tactic(auto, using(crate::proofs::Turning::change_makes, crate::proofs::Turning::turned_fits))]
 pub fn turned_fits()
     ensures makes { ChangeMakesDocument }
     ensures fits { TurnedFits }
@@ -11,6 +12,7 @@ pub fn turned_fits()
 
 /// After a change that fits, the turned change leads back to the document (`back`), and turned
 /// again it is the change (`twice`).
+#[tactic(auto, using(crate::proofs::Turning::turned_back, crate::proofs::Turning::turned_twice))]
 pub fn turned_leads_back()
     ensures back { TurnedLeadsBack }
     ensures twice { TurnedTwice }
@@ -18,6 +20,7 @@ pub fn turned_leads_back()
 
 /// Two changes joined are carried out one after the other (`made`), and fit exactly where each of
 /// them does (`fit`).
+#[tactic(auto, using(crate::proofs::Turning::go_joined, crate::proofs::Turning::fit_joined))]
 pub fn joined()
     ensures made { JoinedGo }
     ensures fit { JoinedFit }
@@ -25,6 +28,7 @@ pub fn joined()
 
 /// A joined list of changes is carried out one change after the other (`made`), and fits exactly
 /// where each fits what those before it made (`fit`).
+#[tactic(auto, using(crate::proofs::JoinedChanges::go_joined_list, crate::proofs::JoinedChanges::fit_joined_list))]
 pub fn joined_list()
     ensures made { JoinedListGoes }
     ensures fit { JoinedListFits }
@@ -32,6 +36,7 @@ pub fn joined_list()
 
 /// Valid fields, items of a layer and items of a tile have at least two bytes (`fields`,
 /// `layer_items`, `tile_items`), so a change that fits and weighs nothing puts no item (`nothing`).
+#[tactic(auto, using(crate::proofs::Weighing::field_weighs, crate::proofs::Weighing::layer_item_weighs, crate::proofs::Weighing::tile_item_weighs, crate::proofs::Weighing::nothing_put))]
 pub fn items_weigh()
     ensures fields { FieldWeighs }
     ensures layer_items { LayerItemWeighs }

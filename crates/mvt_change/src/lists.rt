@@ -1,19 +1,18 @@
 //! The list at a place of a document: an item of it moves, some change places with those of a step,
 //! or steps are carried out in one pass.
 
-ghost use Rattle.std.specs.Prelude.{◌≡◌, ◌<◌, length, map, reverse, is_ok, if◌then◌else◌, OnOk, OnErr};
+ghost use Rattle.std.specs.Prelude.{◌<◌, length, map, is_ok, if◌then◌else◌};
 ghost use Rattle.std.specs.List.{AllByRecursion};
 ghost use Rattle.std.specs.Option.{IsSomeAnd};
 ghost use Rattle.mvt_document.specs.Stands.{document_of};
-ghost use Rattle.mvt_splices.specs.Splices.{FitAll};
-ghost use Rattle.mvt_change.specs.ChangeStands.{step_of};
-ghost use Rattle.mvt_change.specs.Changes.{Fits, go, turn};
 ghost use Rattle.mvt_document.specs.HeldPlaces.{change_held_fields, change_held_items, held_fields_at, held_items_at};
+ghost use Rattle.mvt_splices.specs.Splices.{FitAll};
+ghost use Rattle.mvt_change.specs.Changes.{Fits, OfTheFeature, OfTheLayer};
+ghost use Rattle.mvt_change.specs.ChangeStands.{place_of, step_of};
 ghost use Rattle.mvt_change.specs.Room.{KeepsDocument, KeepsField, KeepsLayerItem, KeepsList};
-ghost use Rattle.mvt_change.specs.HeldChanges.{CanMoveAt, CanMoveHeld, ExchangesFirst, HasHeldPart, TakesOut, exchanged, held_moved, move_held_at};
-ghost use Rattle.mvt_change.specs.LayerRuns.{IsInLayer, PassesOver};
-ghost use Rattle.mvt_change.specs.FeatureRuns.{IsInFeature};
-ghost use Rattle.mvt_change.specs.Runs.{GoesBack, feature_splice, layer_splice, turned_in_feature, turned_in_layer};
+ghost use Rattle.mvt_change.specs.HeldLists.{change_held_list, held_list_at};
+ghost use Rattle.mvt_change.specs.HeldChanges.{AreFlipped, CanMoveHeld, ExchangesFirst, HasHeldPart, TakesOut, exchanged, held_moved};
+ghost use Rattle.mvt_change.specs.Runs.{IsOn, PassesOver, feature_splice, layer_splice, turned_in_feature, turned_in_layer};
 
 use crate::change::{Place, Step};
 use mvt_document::{Document, Field, Items, LayerItem};
@@ -23,8 +22,8 @@ use std::slice;
 
 /// Moves an item of the list at this place.
 pub(crate) fn move_at(document: &mut Document, place: Place, from: usize, to: usize)
-    requires { CanMoveAt place from to document.old }
-    ensures { KeepsDocument (move_held_at place from to document.old) document.new }
+    requires { IsSomeAnd (held_list_at (place_of place) document.old) (CanMoveHeld from to) }
+    ensures { KeepsDocument (change_held_list (place_of place) (held_moved from to) document.old) document.new }
 {
     match place {
         Place::Tile => document.items.move_item(from, to),
@@ -125,15 +124,9 @@ pub(crate) fn run_in_layer(
     steps: &mut [Step],
 ) -> Result<(), AllocError>
     requires some { 0 < length steps.old }
-    requires layer { AllByRecursion (IsInLayer layer) steps.old }
+    requires layer { AllByRecursion (IsOn (OfTheLayer layer)) steps.old }
     requires fits { Fits (map step_of steps.old) (document_of document.old) }
-    ensures document { document_of document.new ≡ (if is_ok result
-        then go (map step_of steps.old) (document_of document.old)
-        else document_of document.old) }
-    ensures turned { OnOk result (map step_of (reverse steps.new) ≡ turn (map step_of steps.old) (document_of document.old)) }
-    ensures back { OnOk result (GoesBack (reverse steps.new) document.old document.new) }
-    ensures same { OnErr result (map step_of steps.new ≡ map step_of steps.old) }
-    ensures kept { OnErr result (KeepsDocument document.old document.new) }
+    ensures { AreFlipped (is_ok result) steps.old steps.new document.old document.new }
 {
     document.change_items(
         layer,
@@ -155,15 +148,9 @@ pub(crate) fn run_in_feature(
     steps: &mut [Step],
 ) -> Result<(), AllocError>
     requires some { 0 < length steps.old }
-    requires feature { AllByRecursion (IsInFeature layer item) steps.old }
+    requires feature { AllByRecursion (IsOn (OfTheFeature layer item)) steps.old }
     requires fits { Fits (map step_of steps.old) (document_of document.old) }
-    ensures document { document_of document.new ≡ (if is_ok result
-        then go (map step_of steps.old) (document_of document.old)
-        else document_of document.old) }
-    ensures turned { OnOk result (map step_of (reverse steps.new) ≡ turn (map step_of steps.old) (document_of document.old)) }
-    ensures back { OnOk result (GoesBack (reverse steps.new) document.old document.new) }
-    ensures same { OnErr result (map step_of steps.new ≡ map step_of steps.old) }
-    ensures kept { OnErr result (KeepsDocument document.old document.new) }
+    ensures { AreFlipped (is_ok result) steps.old steps.new document.old document.new }
 {
     document.change_fields(
         layer,

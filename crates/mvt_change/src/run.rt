@@ -1,13 +1,13 @@
 //! Steps that follow each other on one list: as splices of their list, and those on the list of the
 //! tile in one pass.
 
-ghost use Rattle.std.specs.Prelude.{◌≡◌, ◌<◌, ◌≤◌, length, map, reverse, slice_range, is_ok, if◌then◌else◌, IsTrue, OnOk, OnErr};
+ghost use Rattle.std.specs.Prelude.{◌<◌, ◌≤◌, length, map, slice_range, is_ok, IsTrue};
 ghost use Rattle.std.specs.List.{AllByRecursion};
 ghost use Rattle.mvt_document.specs.Stands.{document_of};
+ghost use Rattle.mvt_change.specs.Changes.{Fits, OfTheTile};
 ghost use Rattle.mvt_change.specs.ChangeStands.{step_of};
-ghost use Rattle.mvt_change.specs.Changes.{Fits, go, turn};
-ghost use Rattle.mvt_change.specs.Room.{KeepsDocument};
-ghost use Rattle.mvt_change.specs.Runs.{IsInTile, IsRun, GoesBack, SharesList};
+ghost use Rattle.mvt_change.specs.HeldChanges.{AreFlipped};
+ghost use Rattle.mvt_change.specs.Runs.{IsOn, IsRun, SharesList};
 
 use crate::change::Step;
 use crate::lists::{run_in_feature, run_in_layer};
@@ -208,13 +208,7 @@ pub(crate) fn flip_run(
 ) -> Result<(), AllocError>
     requires run { IsRun steps.old }
     requires fits { Fits (map step_of steps.old) (document_of document.old) }
-    ensures document { document_of document.new ≡ (if is_ok result
-        then go (map step_of steps.old) (document_of document.old)
-        else document_of document.old) }
-    ensures turned { OnOk result (map step_of (reverse steps.new) ≡ turn (map step_of steps.old) (document_of document.old)) }
-    ensures back { OnOk result (GoesBack (reverse steps.new) document.old document.new) }
-    ensures same { OnErr result (map step_of steps.new ≡ map step_of steps.old) }
-    ensures kept { OnErr result (KeepsDocument document.old document.new) }
+    ensures { AreFlipped (is_ok result) steps.old steps.new document.old document.new }
 {
     if steps.len() == 1 {
         return flip_step(document, &mut steps[0]);
@@ -234,15 +228,10 @@ pub(crate) fn run_in_tile(
     document: &mut Document,
     steps: &mut [Step],
 ) -> Result<(), AllocError>
-    requires tile { AllByRecursion IsInTile steps.old }
+    requires some { 0 < length steps.old }
+    requires tile { AllByRecursion (IsOn OfTheTile) steps.old }
     requires fits { Fits (map step_of steps.old) (document_of document.old) }
-    ensures document { document_of document.new ≡ (if is_ok result
-        then go (map step_of steps.old) (document_of document.old)
-        else document_of document.old) }
-    ensures turned { OnOk result (map step_of (reverse steps.new) ≡ turn (map step_of steps.old) (document_of document.old)) }
-    ensures back { OnOk result (GoesBack (reverse steps.new) document.old document.new) }
-    ensures same { OnErr result (map step_of steps.new ≡ map step_of steps.old) }
-    ensures kept { OnErr result (KeepsDocument document.old document.new) }
+    ensures { AreFlipped (is_ok result) steps.old steps.new document.old document.new }
 {
     splice_message(alloc, &mut document.items, steps)
 }

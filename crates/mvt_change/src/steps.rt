@@ -1,11 +1,9 @@
 //! A step carried out in place, and turned into the step that leads back.
 
 ghost use Rattle.std.specs.Prelude.{◌≡◌, is_ok, if◌then◌else◌, IsOk, OnErr, OnOk};
-ghost use Rattle.mvt_document.specs.Stands.{document_of};
-ghost use Rattle.mvt_change.specs.ChangeStands.{step_of};
-ghost use Rattle.mvt_change.specs.Changes.{Finds};
+ghost use Rattle.mvt_change.specs.ChangeStands.{action_of, step_of};
 ghost use Rattle.mvt_change.specs.Room.{KeepsDocument};
-ghost use Rattle.mvt_change.specs.HeldChanges.{IsTurned, StepHasRoom, go_held_step};
+ghost use Rattle.mvt_change.specs.HeldChanges.{ActionHasRoom, FindsAction, IsTurned, go_held_step};
 
 use crate::change::Step;
 use crate::lists::{exchange_in_feature, exchange_in_layer, move_at};
@@ -17,11 +15,11 @@ use std::mem;
 /// document, and it has the ones that they took the places of. Where lists do not grow nothing has
 /// changed.
 pub(crate) fn flip_step(document: &mut Document, step: &mut Step) -> Result<(), AllocError>
-    requires { Finds (step_of step.old) (document_of document.old) }
+    requires { FindsAction (action_of step.old) document.old }
     ensures kept { KeepsDocument (if is_ok result then go_held_step step.old document.old else document.old) document.new }
     ensures turned { OnOk result (IsTurned step.old document.old step.new) }
     ensures same { OnErr result (step_of step.new ≡ step_of step.old) }
-    ensures succeeds { StepHasRoom step.old document.old → IsOk result }
+    ensures succeeds { ActionHasRoom (action_of step.old) document.old → IsOk result }
 {
     match step {
         Step::InTile { index, take, put } => {

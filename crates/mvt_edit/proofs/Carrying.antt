@@ -10,8 +10,8 @@ use Rattle.mvt_document.specs.Opens.{IsField, IsLayerItem, IsTileItem}
 use Rattle.mvt_document.specs.Splicing.{part, splice}
 use Rattle.mvt_document.specs.Lists.{CanSplice}
 use Rattle.mvt_document.specs.Places.{items_at, fields_at, change_items, change_fields}
-use Rattle.mvt_change.specs.Changes.{Step, TileStep, LayerStep, FeatureStep, Change, go_step, go, FitsStep, Fits, turn_step, turn, taken_out, step_weight, weight}
-use Rattle.mvt_change.proofs.Lenses.{layer_lens, feature_lens}
+use Rattle.mvt_change.specs.Changes.{OfTheLayer, OfTheFeature, Step, TileStep, LayerStep, FeatureStep, Change, go_step, go, FitsStep, Fits, turn_step, turn, taken_out, step_weight, weight}
+use Rattle.mvt_change.proofs.Lenses.{list_part}
 use Rattle.mvt_edit.specs.Fates.{Splice}
 use Rattle.mvt_edit.proofs.CarriedOut.{spliced_all, taken_all, put_all, AreThere}
 use Rattle.mvt_edit.proofs.ListPlaces.{Changing, of_the_tile, of_the_layer, of_the_feature}
@@ -46,7 +46,7 @@ in_the_tile = record {
 
 pub in_the_layer : (layer : ℕ) → Sits (in_layer_at layer) IsLayerItem (items_at layer) (λ f document. change_items f layer document) layer_item_bytes
 in_the_layer layer = record {
-  found = (layer_lens layer).found;
+  found = λ f document. (list_part (OfTheLayer layer) document).found f;
   changing = of_the_layer layer;
   goes = λ s document. refl;
   fits = λ s document can. can;
@@ -56,7 +56,7 @@ in_the_layer layer = record {
 
 pub in_the_feature : (layer item : ℕ) → Sits (in_feature_at layer item) IsField (fields_at layer item) (λ f document. change_fields f layer item document) field_bytes
 in_the_feature layer item = record {
-  found = (feature_lens layer item).found;
+  found = λ f document. (list_part (OfTheFeature layer item) document).found f;
   changing = of_the_feature layer item;
   goes = λ s document. refl;
   fits = λ s document can. can;

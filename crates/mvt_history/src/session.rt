@@ -40,9 +40,13 @@ pub struct Session {
 }
 
 impl Model for Session {
+    ghost use Rattle.std.specs.Coded.{codes};
+    ghost use Rattle.mvt_change.specs.Codes.{coded_item};
     ghost use Rattle.mvt_history.specs.Standing.{Standing};
 
     ghost Value = { Standing };
+
+    ghost coded = { Prim.hlevel (codes, coded_item) };
 
     ghost use Rattle.mvt_history.specs.Inside.{IsHeldIn, seen_in};
 

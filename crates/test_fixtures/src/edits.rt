@@ -24,11 +24,15 @@ pub struct Seen {
 }
 
 impl Model for Edit {
+    ghost use Rattle.std.specs.Coded.{codes};
     ghost use Rattle.mvt_wire.specs.Stands.{document_of};
     ghost use Rattle.mvt_change.specs.ChangeStands.{change_of};
+    ghost use Rattle.mvt_change.specs.Codes.{coded_item};
     ghost use Rattle.test_fixtures.specs.Edits.{Edit as PlainEdit, CanFlip};
 
     ghost Value = { PlainEdit };
+
+    ghost coded = { Prim.hlevel (codes, coded_item) };
 
     ghost view = { λ e. record { document = document_of e.document; change = change_of e.change } };
 

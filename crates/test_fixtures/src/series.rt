@@ -19,11 +19,15 @@ pub struct Series {
 }
 
 impl Model for Series {
+    ghost use Rattle.std.specs.Coded.{codes};
     ghost use Rattle.mvt_wire.specs.Stands.{document_of};
     ghost use Rattle.mvt_change.specs.ChangeStands.{change_of};
+    ghost use Rattle.mvt_change.specs.Codes.{coded_item};
     ghost use Rattle.test_fixtures.specs.Edits.{Series as PlainSeries, IsSeries};
 
     ghost Value = { PlainSeries };
+
+    ghost coded = { Prim.hlevel (codes, coded_item) };
 
     ghost view = { λ s. record { edit = record { document = document_of s.document; change = change_of s.change }; made = document_of s.made } };
 

@@ -1,36 +1,31 @@
-use Rattle.std.proofs.Common.{◌≡◌, true, is_ok, length, map, reverse, slice_index_or, slice_set, arith}
-use Rattle.mvt_document.specs.Stands.{document_of}
-use Rattle.mvt_change.specs.ChangeStands.{step_of}
-use Rattle.mvt_change.specs.Changes.{turn}
-use Rattle.mvt_change.specs.HeldChanges.{IsTurned}
-use Rattle.mvt_change.specs.Runs.{GoesBack}
-use Rattle.mvt_change.proofs.TileRuns.{on_ok, from_ok}
-use Rattle.mvt_change.proofs.TurnedRuns.{one_goes, one_turned, one_leads_back}
-use Rattle.mvt_change.proofs.RunPieces.{move_is_alone}
+use Rattle.std.proofs.Common.{◌≡◌, length, ap, arith}
+use Rattle.mvt_change.specs.Changes.{OfTheTile, OfTheLayer, OfTheFeature}
+use Rattle.mvt_change.specs.ChangeStands.{action_of, spliced_place}
+use Rattle.mvt_change.proofs.ListRuns.{only_fits, run_is_on, move_is_alone, one_flipped}
 use Rattle.mvt_change.proofs.run.flip_run.Goals as goal
 
-pub returns-then-steps-eq1-clause-document : goal.returns-then-steps-eq1-clause-document
-returns-then-steps-eq1-clause-document c =
+pub flip_step-requires : goal.flip_step-requires
+flip_step-requires c =
     let one : length c.args.steps.now ≡ 1 = omega arith in
-    one_goes (is_ok c.flip_step.result) c.args.steps.now c.index-steps-0.result c.args.document.now c.flip_step.new.document one c.flip_step.ensures.kept
+    only_fits c.args.steps.now c.index-steps-0.result c.args.document.now one c.requires.fits
 
--- the step that there is, turned
-is_turned : (c : goal.After-flip_step) → is_ok c.flip_step.result ≡ true → IsTurned (slice_index_or c.args.steps.now 0 c.index-steps-0.result) c.args.document.now c.flip_step.new.step
-is_turned c done = from_ok c.flip_step.result (IsTurned (slice_index_or c.args.steps.now 0 c.index-steps-0.result) c.args.document.now c.flip_step.new.step) c.flip_step.ensures.turned done
+pub run_in_tile-requires-clause-tile : goal.run_in_tile-requires-clause-tile
+run_in_tile-requires-clause-tile c =
+    run_is_on OfTheTile c.args.steps.now _ (ap (λ step. spliced_place (action_of step)) c.in-InTile.is) c.requires.run
 
-pub returns-then-steps-eq1-clause-turned : goal.returns-then-steps-eq1-clause-turned
-returns-then-steps-eq1-clause-turned c =
-    let steps = c.args.steps.now in
-    let one : length steps ≡ 1 = omega arith in
-    on_ok c.flip_step.result (map step_of (reverse (slice_set steps 0 c.flip_step.new.step)) ≡ turn (map step_of steps) (document_of c.args.document.now)) (λ done.
-    one_turned steps c.index-steps-0.result c.flip_step.new.step c.args.document.now one (is_turned c done))
+pub run_in_layer-requires-clause-layer : goal.run_in_layer-requires-clause-layer
+run_in_layer-requires-clause-layer c =
+    run_is_on (OfTheLayer c.in-InLayer.layer) c.args.steps.now _ (ap (λ step. spliced_place (action_of step)) c.in-InLayer.is) c.requires.run
 
-pub returns-then-steps-eq1-clause-back : goal.returns-then-steps-eq1-clause-back
-returns-then-steps-eq1-clause-back c =
-    let steps = c.args.steps.now in
-    let one : length steps ≡ 1 = omega arith in
-    on_ok c.flip_step.result (GoesBack (reverse (slice_set steps 0 c.flip_step.new.step)) c.args.document.now c.flip_step.new.document) (λ done.
-    one_leads_back steps c.index-steps-0.result c.flip_step.new.step c.args.document.now c.flip_step.new.document one c.requires.fits (is_turned c done) (rw done at c.flip_step.ensures.kept))
+pub run_in_feature-requires-clause-feature : goal.run_in_feature-requires-clause-feature
+run_in_feature-requires-clause-feature c =
+    run_is_on (OfTheFeature c.in-InFeature.layer c.in-InFeature.item) c.args.steps.now _ (ap (λ step. spliced_place (action_of step)) c.in-InFeature.is) c.requires.run
+
+pub returns-then-steps-eq1 : goal.returns-then-steps-eq1
+returns-then-steps-eq1 c =
+    let one : length c.args.steps.now ≡ 1 = omega arith in
+    let met = c.flip_step.ensures in
+    one_flipped c.flip_step.result c.args.steps.now c.index-steps-0.result c.flip_step.new.step c.args.document.now c.flip_step.new.document one met.kept met.turned met.same
 
 pub unreachable-requires : goal.unreachable-requires
 unreachable-requires c = move_is_alone c.args.steps.now _ c.in-Move.place c.in-Move.from c.in-Move.to c.in-Move.is c.if-steps-eq1.false c.requires.run

@@ -1,5 +1,5 @@
 use Rattle.std.proofs.Common.{◌<◌, length, arith}
-use Rattle.mvt_change.proofs.RunPieces.{run_more}
+use Rattle.mvt_change.proofs.ListRuns.{run_more}
 use Rattle.mvt_change.proofs.run.run_end.Goals as goal
 
 pub loop-end-preserved : goal.loop-end-preserved

@@ -1,18 +1,8 @@
 use Rattle.std.proofs.Common.{◌≡◌, true, false, Result, Ok, Err, is_ok, IsErr, length, refl}
-use Rattle.mvt_change.specs.declared.change.Step.TheVariants.{InTile, InLayer, InFeature}
-use Rattle.mvt_change.proofs.Keeping.{tile_item_order}
-use Rattle.mvt_change.proofs.HeldSteps.{items_part, fields_part, fits_held_move}
-use Rattle.mvt_change.proofs.HeldChanged.{exchanged_or_kept}
+use Rattle.mvt_change.specs.Changes.{OfTheTile, OfTheLayer, OfTheFeature}
+use Rattle.mvt_change.specs.ChangeStands.{SpliceAt}
+use Rattle.mvt_change.proofs.Keeping.{tile_item_order, exchanged_or_kept}
 use Rattle.mvt_change.proofs.steps.flip_step.Goals as goal
-
-pub exchange_in_layer-requires : goal.exchange_in_layer-requires
-exchange_in_layer-requires c = items_part c.in-InLayer.layer c.in-InLayer.index c.in-InLayer.take c.args.document.now (rw c.in-InLayer.is at c.requires)
-
-pub exchange_in_feature-requires : goal.exchange_in_feature-requires
-exchange_in_feature-requires c = fields_part c.in-InFeature.layer c.in-InFeature.item c.in-InFeature.index c.in-InFeature.take c.args.document.now (rw c.in-InFeature.is at c.requires)
-
-pub move_at-requires : goal.move_at-requires
-move_at-requires c = fits_held_move c.in-Move.place c.in-Move.from c.in-Move.to c.args.document.now (rw c.in-Move.is at c.requires)
 
 -- ---- what is kept, and what leads back
 
@@ -34,14 +24,14 @@ returns-in_ok-exchange-in-InTile-clause-kept c =
 pub returns-in_ok-exchange-in-InTile-clause-turned : goal.returns-in_ok-exchange-in-InTile-clause-turned
 returns-in_ok-exchange-in-InTile-clause-turned c =
     let done = c.in_ok-exchange-in-InTile.ensures in
-    rw (c.in-InTile.is, c.len-given.ensures) (c.exchange.new.put, refl {a = InTile c.in-InTile.index (length c.in-InTile.put.items) c.exchange.new.put}, record { items = done.put; room = done.put_room })
+    rw (c.in-InTile.is, c.len-given.ensures) (c.exchange.new.put, refl {a = SpliceAt OfTheTile c.in-InTile.index (length c.in-InTile.put.items) c.exchange.new.put}, record { items = done.put; room = done.put_room })
 
 pub returns-in_ok-exchange_in_layer-in-InLayer-clause-turned : goal.returns-in_ok-exchange_in_layer-in-InLayer-clause-turned
 returns-in_ok-exchange_in_layer-in-InLayer-clause-turned c =
     let given = c.in_ok-exchange_in_layer-in-InLayer.ensures.given in
-    rw (c.in-InLayer.is, c.len-given-in-InLayer.ensures) (c.exchange_in_layer.new.put, refl {a = InLayer c.in-InLayer.layer c.in-InLayer.index (length c.in-InLayer.put.items) c.exchange_in_layer.new.put}, record { items = given.items; room = given.room })
+    rw (c.in-InLayer.is, c.len-given-in-InLayer.ensures) (c.exchange_in_layer.new.put, refl {a = SpliceAt (OfTheLayer c.in-InLayer.layer) c.in-InLayer.index (length c.in-InLayer.put.items) c.exchange_in_layer.new.put}, record { items = given.items; room = given.room })
 
 pub returns-in_ok-exchange_in_feature-in-InFeature-clause-turned : goal.returns-in_ok-exchange_in_feature-in-InFeature-clause-turned
 returns-in_ok-exchange_in_feature-in-InFeature-clause-turned c =
     let given = c.in_ok-exchange_in_feature-in-InFeature.ensures.given in
-    rw (c.in-InFeature.is, c.len-given-in-InFeature.ensures) (c.exchange_in_feature.new.put, refl {a = InFeature c.in-InFeature.layer c.in-InFeature.item c.in-InFeature.index (length c.in-InFeature.put.items) c.exchange_in_feature.new.put}, record { items = given.items; room = given.room })
+    rw (c.in-InFeature.is, c.len-given-in-InFeature.ensures) (c.exchange_in_feature.new.put, refl {a = SpliceAt (OfTheFeature c.in-InFeature.layer c.in-InFeature.item) c.in-InFeature.index (length c.in-InFeature.put.items) c.exchange_in_feature.new.put}, record { items = given.items; room = given.room })

@@ -28,7 +28,7 @@ returns-clause-bytes c =
     let none = ap (map points_of) (drop_all c.loop-part.part-index c.parts-part-items.result.now (omega (arith, c.loop-part-test.false))) in
     let whole = subst (λ (s : List (List Point)). PuttingParts kind g.parts c.loop-part.from s c.loop-part.bytes.items) none c.loop-part.invariant in
     let all = put_parts_all kind g.parts c.loop-part.from c.loop-part.bytes.items whole in
-    c.from_vec.ensures ∙ all.0 ∙ ap (λ (k : Kind). packed (integers_from k origin g.parts)) c.kind-kind.ensures ∙ ap packed (integers-from g.kind g.parts c.parts-part-items.ensures.valid.counted)
+    c.from_vec.ensures.items ∙ all.0 ∙ ap (λ (k : Kind). packed (integers_from k origin g.parts)) c.kind-kind.ensures ∙ ap packed (integers-from g.kind g.parts c.parts-part-items.ensures.valid.counted)
 
 pub returns-clause-in_range : goal.returns-clause-in_range
 returns-clause-in_range c =

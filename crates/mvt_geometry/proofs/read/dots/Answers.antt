@@ -48,4 +48,4 @@ returns-clause-found c =
     let has = dots_have (get_or numbers 1 0) (get_or numbers 2 0) count (drop 3 numbers) c.in-Some.first points c.in-Some.ensures.found led long few in
     let front = first_three numbers (omega (arith, c.in-len3-up.len_at_least)) in
     let same : (1 + 8 * count) ∷ get_or numbers 1 0 ∷ get_or numbers 2 0 ∷ drop 3 numbers ≡ numbers = cc (front, line) in
-    rw (c.in_ok-push.ensures.items, c.in_ok-parts.ensures.items, c.from_vec.ensures) (subst (λ (s : List ℕ). HasGeometry 1 s (record { kind = Dots; parts = points ∷ [] })) same has)
+    rw (c.in_ok-push.ensures.items, c.in_ok-parts.ensures.items, c.from_vec.ensures.items) (subst (λ (s : List ℕ). HasGeometry 1 s (record { kind = Dots; parts = points ∷ [] })) same has)

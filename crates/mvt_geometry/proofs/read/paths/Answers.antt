@@ -25,7 +25,7 @@ loop-rest-preserved c =
     let front = c.in_ok-points.field-0 in
     let read = map points_of c.loop-rest.parts.items in
     let more = parts_more (least_points kind) (closing_of kind) origin c.args.numbers.now c.loop-rest.from c.loop-rest.rest.now read front.points.items front.rest.now (least_some kind) c.in_ok-points.ensures.found c.loop-rest.invariant in
-    let pushed : map points_of c.push.new.self.items ≡ read ++ front.points.items ∷ [] = rw (c.in_ok-push.ensures.items, map_push, c.from_vec.ensures) refl in
+    let pushed : map points_of c.push.new.self.items ≡ read ++ front.points.items ∷ [] = rw (c.in_ok-push.ensures.items, map_push, c.from_vec.ensures.items) refl in
     rw (c.in_ok-points.ensures.last, pushed) more
 
 no_length : (s : List ℕ) → length s ≡ 0 → s ≡ []

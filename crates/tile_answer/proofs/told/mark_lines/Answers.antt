@@ -13,6 +13,6 @@ pub returns-clause-lines : goal.returns-clause-lines
 returns-clause-lines c history stands =
     let session = c.args.session.now in
     elim c.loop-index-test.branch [
-      | else-loop-index-test w ↦ c.from_vec.ensures ∙ c.loop-index.invariant ∙ all_told (length session.undo) session.marks c.loop-index.index (omega (arith, w.loop-index-test.false, c.mark_count-index-end.ensures)) ∙ sym (lines_of_marks session history stands)
+      | else-loop-index-test w ↦ c.from_vec.ensures.items ∙ c.loop-index.invariant ∙ all_told (length session.undo) session.marks c.loop-index.index (omega (arith, w.loop-index-test.false, c.mark_count-index-end.ensures)) ∙ sym (lines_of_marks session history stands)
       | then-loop-index-test+in_default w ↦ absurd (none_behind (length session.undo) session.marks c.loop-index.index _ refl w.in_default.ensures (omega (arith, w.loop-index-test.true, c.mark_count-index-end.ensures)))
     ]

@@ -25,4 +25,4 @@ unfolding part_of
 returns c =
     each-map point_of word_of c.args.words.now
     ∙ onto_all read c.args.words.now c.loop-word.word-index c.loop-word.points.items c.loop-word-test.false c.loop-word.invariant
-    ∙ ap (λ (points : List Point). Ok points) (sym c.from_vec.ensures)
+    ∙ ap (λ (points : List Point). Ok points) (sym c.from_vec.ensures.items)

@@ -57,7 +57,7 @@ returns-clause-answer c =
     let last = YieldsList-end chain c.loop-group.yielded _ c.loop-group.yielded_by _ _ c.in-None.is c.next.ensures.steps in
     plain_groups c.args.words.now
     ∙ onto_all read (groups c.args.words.now) (length c.loop-group.yielded) (map points_of c.loop-group.parts.items) (not_more (length c.loop-group.yielded) (length (groups c.args.words.now)) last.1) c.loop-group.invariant
-    ∙ ap (λ (parts : List Part). Ok (map points_of parts)) (sym c.from_vec.ensures)
+    ∙ ap (λ (parts : List Part). Ok (map points_of parts)) (sym c.from_vec.ensures.items)
 
 pub returns-then-not-are_points-clause-answer : goal.returns-then-not-are_points-clause-answer
 returns-then-not-are_points-clause-answer c =

@@ -31,7 +31,7 @@ unfolding texts_of
 returns-clause-answer c =
     each-map text_of word_of c.args.words.now
     ∙ onto_all read c.args.words.now c.loop-word.word-index (map (λ text. text.items) c.loop-word.texts.items) c.loop-word-test.false c.loop-word.invariant
-    ∙ ap (λ texts. Ok (map (λ text. text.items) texts)) (sym c.from_vec.ensures)
+    ∙ ap (λ texts. Ok (map (λ text. text.items) texts)) (sym c.from_vec.ensures.items)
 
 pub returns-then-not-are_texts-clause-answer : goal.returns-then-not-are_texts-clause-answer
 returns-then-not-are_texts-clause-answer c =

@@ -34,12 +34,12 @@ returns c =
     let made = c.from_vec.result.items in
     elim c.match-what.branch [
       | in-Whole+in_ok-put_tile-in-Whole w ↦
-          rw w.in-Whole.is (put_listed Whole document (lines_of_tile document) c.new-text.result.items w.put_tile.new.text.items made refl c.new-text.ensures.items w.in_ok-put_tile-in-Whole.ensures (c.from_vec.ensures ∙ rw w.text-is refl))
+          rw w.in-Whole.is (put_listed Whole document (lines_of_tile document) c.new-text.result.items w.put_tile.new.text.items made refl c.new-text.ensures.items w.in_ok-put_tile-in-Whole.ensures (c.from_vec.ensures.items ∙ rw w.text-is refl))
       | in-OneLayer+in_ok-found-in-OneLayer+in_ok-put_layer-in-OneLayer w ↦
           let layer = w.in_ok-found-in-OneLayer in
-          rw w.in-OneLayer.is (put_listed _ document _ c.new-text.result.items w.put_layer.new.text.items made (layer_shown (layer_choice_of w.in-OneLayer.choice) document _ (sym layer.ensures)) c.new-text.ensures.items (w.in_ok-put_layer-in-OneLayer.ensures ∙ ap (λ seen. c.new-text.result.items ++ joined_lines (lines_of_layer w.in_ok-found-in-OneLayer.found.ordinal seen)) w.view.ensures) (c.from_vec.ensures ∙ rw w.text-is refl))
+          rw w.in-OneLayer.is (put_listed _ document _ c.new-text.result.items w.put_layer.new.text.items made (layer_shown (layer_choice_of w.in-OneLayer.choice) document _ (sym layer.ensures)) c.new-text.ensures.items (w.in_ok-put_layer-in-OneLayer.ensures ∙ ap (λ seen. c.new-text.result.items ++ joined_lines (lines_of_layer w.in_ok-found-in-OneLayer.found.ordinal seen)) w.view.ensures) (c.from_vec.ensures.items ∙ rw w.text-is refl))
       | in-OneFeature+in_ok-holder-in-OneFeature+in_ok-found-in-OneFeature+in_ok-put_feature-in-OneFeature w ↦
           let layer = w.in_ok-holder-in-OneFeature in
           let feature = w.in_ok-found-in-OneFeature in
-          rw w.in-OneFeature.is (put_listed _ document _ c.new-text.result.items w.put_feature.new.text.items made (feature_shown (layer_choice_of w.in-OneFeature.layer_choice) (feature_choice_of w.in-OneFeature.choice) document (layer.holder.ordinal, layer_of layer.holder.layer.now) _ (sym layer.ensures) (sym feature.ensures)) c.new-text.ensures.items (w.in_ok-put_feature-in-OneFeature.ensures ∙ ap (λ seen. c.new-text.result.items ++ joined_lines (lines_of_feature seen w.in_ok-found-in-OneFeature.found.ordinal (feature_seen w.view-in-OneFeature-2.result))) w.view-in-OneFeature.ensures ∙ ap (λ seen. c.new-text.result.items ++ joined_lines (lines_of_feature (layer_of w.in_ok-holder-in-OneFeature.holder.layer.now) w.in_ok-found-in-OneFeature.found.ordinal seen)) w.view-in-OneFeature-2.ensures) (c.from_vec.ensures ∙ rw w.text-is refl))
+          rw w.in-OneFeature.is (put_listed _ document _ c.new-text.result.items w.put_feature.new.text.items made (feature_shown (layer_choice_of w.in-OneFeature.layer_choice) (feature_choice_of w.in-OneFeature.choice) document (layer.holder.ordinal, layer_of layer.holder.layer.now) _ (sym layer.ensures) (sym feature.ensures)) c.new-text.ensures.items (w.in_ok-put_feature-in-OneFeature.ensures ∙ ap (λ seen. c.new-text.result.items ++ joined_lines (lines_of_feature seen w.in_ok-found-in-OneFeature.found.ordinal (feature_seen w.view-in-OneFeature-2.result))) w.view-in-OneFeature.ensures ∙ ap (λ seen. c.new-text.result.items ++ joined_lines (lines_of_feature (layer_of w.in_ok-holder-in-OneFeature.holder.layer.now) w.in_ok-found-in-OneFeature.found.ordinal seen)) w.view-in-OneFeature-2.ensures) (c.from_vec.ensures.items ∙ rw w.text-is refl))
     ]

@@ -1,6 +1,5 @@
 use Rattle.std.proofs.Common.{is_ok}
-use Rattle.mvt_change.proofs.Keeping.{field_order}
-use Rattle.mvt_change.proofs.HeldChanged.{exchanges_first}
+use Rattle.mvt_change.proofs.Keeping.{field_order, exchanges_first}
 use Rattle.mvt_change.proofs.lists.fn.exchange_in_feature.change_fields.Goals as goal
 
 pub returns : goal.returns

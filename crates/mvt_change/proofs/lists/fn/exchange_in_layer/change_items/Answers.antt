@@ -1,6 +1,5 @@
 use Rattle.std.proofs.Common.{is_ok}
-use Rattle.mvt_change.proofs.Keeping.{layer_item_order}
-use Rattle.mvt_change.proofs.HeldChanged.{exchanges_first}
+use Rattle.mvt_change.proofs.Keeping.{layer_item_order, exchanges_first}
 use Rattle.mvt_change.proofs.lists.fn.exchange_in_layer.change_items.Goals as goal
 
 pub returns : goal.returns

@@ -1,5 +1,4 @@
-use Rattle.mvt_change.proofs.Keeping.{field_order}
-use Rattle.mvt_change.proofs.HeldChanged.{moved_kept}
+use Rattle.mvt_change.proofs.Keeping.{field_order, moved_kept}
 use Rattle.mvt_change.proofs.lists.fn.move_in_feature.change_fields.Goals as goal
 
 pub returns : goal.returns

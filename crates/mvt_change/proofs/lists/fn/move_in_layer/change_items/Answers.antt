@@ -1,5 +1,4 @@
-use Rattle.mvt_change.proofs.Keeping.{layer_item_order}
-use Rattle.mvt_change.proofs.HeldChanged.{moved_kept}
+use Rattle.mvt_change.proofs.Keeping.{layer_item_order, moved_kept}
 use Rattle.mvt_change.proofs.lists.fn.move_in_layer.change_items.Goals as goal
 
 pub returns : goal.returns

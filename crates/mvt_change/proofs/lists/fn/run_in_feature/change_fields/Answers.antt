@@ -1,6 +1,6 @@
 use Rattle.mvt_change.specs.Runs.{feature_splice}
 use Rattle.mvt_change.proofs.Keeping.{field_order}
-use Rattle.mvt_change.proofs.LayerRuns.{list_kept_or_same}
+use Rattle.mvt_change.proofs.ListRuns.{list_kept_or_same}
 use Rattle.mvt_change.proofs.lists.fn.run_in_feature.change_fields.Goals as goal
 
 pub returns : goal.returns
