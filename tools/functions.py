@@ -8,6 +8,7 @@ from dataclasses import dataclass
 from pathlib import Path
 
 HEAD = re.compile(r"( *)(?:pub(?:\([^)]*\))? )?(?:const )?(?:unsafe )?(fn|impl|trait|mod)\b(.*)")
+TYPE = re.compile(r"^(?:pub(?:\([^)]*\))? )?(?:struct|enum) (\w+)", re.MULTILINE)
 
 
 @dataclass(frozen=True)
@@ -35,7 +36,7 @@ def words_of(text):
 
 
 def name_of_impl(header):
-    """Returns what the prover calls an impl: its type, and right behind it the trait with its parameters."""
+    """Returns what the prover calls an impl: its type, and right behind it the trait with its parameters, where it has one."""
     header = header.replace("->", "")
     if header.startswith("<"):
         depth = 0
@@ -64,8 +65,11 @@ def last_line(lines, number, indent):
     return number
 
 
-def functions_in(text, file, above):
-    """Returns the functions with a body in one file, whose own path is `above`. A trait's own are proved at each impl alone."""
+def functions_in(text, file, above, homes):
+    """Returns the functions with a body in one file, whose own path is `above`. A trait's own are proved at each impl alone.
+
+    A method without a trait has the path of the file that its type is in, which `homes` tells.
+    """
     lines, found, inside = text.split("\n"), [], []
     for number, line in enumerate(lines, 1):
         inside = [it for it in inside if number <= it[0]]
@@ -80,19 +84,22 @@ def functions_in(text, file, above):
                 first = number
                 while lines[first - 2].startswith(indent + "#["):
                     first -= 1
-                found.append(Function("::".join([*above, *owners, re.match(r"\s*(\w+)", rest)[1]]), file, first, last))
+                path = homes.get(owners[0], above) if len(owners) == 1 else above
+                found.append(Function("::".join([*path, *owners, re.match(r"\s*(\w+)", rest)[1]]), file, first, last))
         elif last > number:
             header = " ".join([rest.strip(), *(it.strip() for it in lines[number:last])]).partition("{")[0].strip()
             inside.append((last, {"impl": name_of_impl, "trait": lambda _: None, "mod": str}[kind](header)))
     return found
 
 
+def path_of(file):
+    """Returns the path of the module that a file below `src` is."""
+    parts = list(file.with_suffix("").parts[1:])
+    return parts[:-1] if parts[-1] in ("lib", "main", "mod") else parts
+
+
 def functions_of(folder):
     """Returns the functions of the crate in the folder."""
-    found = []
-    for path in sorted(Path(folder, "src").rglob("*.rt")):
-        file = path.relative_to(folder)
-        parts = list(file.with_suffix("").parts[1:])
-        above = parts[:-1] if parts[-1] in ("lib", "main", "mod") else parts
-        found += functions_in(path.read_text(), str(file), above)
-    return found
+    texts = {path.relative_to(folder): path.read_text() for path in sorted(Path(folder, "src").rglob("*.rt"))}
+    homes = {name: path_of(file) for file, text in texts.items() for name in TYPE.findall(text)}
+    return [it for file, text in texts.items() for it in functions_in(text, str(file), path_of(file), homes)]
