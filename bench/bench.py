@@ -11,7 +11,7 @@ from measure import (COUNTED_MILLISECONDS, RUNS, RUNS_OF_LARGE, Program, costlie
                      measure_alone, run_once, script_of)
 from report import Kept, Listed, Result, comparison, endings, growth, instructions, memory, put_section, shown, table, time
 from sessions import sessions, stepped
-from targets import IDS, JOB, KEPT, MANY, OURS, session_targets, targets, verdicts
+from targets import EMPTY, IDS, JOB, KEPT, MANY, OURS, UNTAGGED, session_targets, targets, verdicts
 from tiles import LARGE, MEBIBYTE, alternating_layers, generated_tiles, real_tiles, smallest_map, smallest_maps
 
 RESULTS = peers.HERE / "RESULTS.md"
@@ -20,17 +20,21 @@ RENAME = 'rename-layer "{layer}" "renamed"\n'
 
 # Each job is a script. New jobs come here, where the peers can do them.
 JOBS = {
-    "empty script": "",
+    EMPTY: "",
     JOB: RENAME,
     MANY: (RENAME + "undo\n") * 1000,
     KEPT: 'keep "{layer}"\n',
     "one layer dropped": 'drop-layer "{layer}"\n',
     IDS: "".join(f'set-id "{{layer}}" {turn % 100} {10**9 + turn}\n' for turn in range(1000)),
+    UNTAGGED: "exclude-all *\n",
 }
 
 # Jobs that are left out on a large tile, and jobs of the smallest map alone.
 LONG_JOBS = [MANY, IDS]
 SMALL_JOBS = [IDS]
+
+# The jobs of tiles of one kind, which have no others.
+JOBS_OF_KIND = {"empty tags": [EMPTY, UNTAGGED]}
 
 # The job `alternating layers`, of tileshell alone: layers of one name in turns with layers of another, of which one
 # kind goes, and comes back. The first script is what it is held against.
@@ -75,6 +79,8 @@ def processor():
 
 def jobs_of(tile):
     """On a large tile the long jobs are left out."""
+    if tile.kind in JOBS_OF_KIND:
+        return JOBS_OF_KIND[tile.kind]
     return [job for job in JOBS
             if not (tile.is_large and job in LONG_JOBS) and (tile.is_smallest_map or job not in SMALL_JOBS)]
 

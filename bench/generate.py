@@ -1,5 +1,5 @@
 #!/usr/bin/env python3
-"""Makes tiles from a seed: 'map', as a basemap has; 'crumbs', of the smallest fields; two kinds of groups; layers of two names in turns."""
+"""Makes tiles from a seed: 'map', as a basemap has; 'crumbs', of the smallest fields; features of empty tags; two kinds of groups; layers of two names in turns."""
 import argparse
 import random
 from pathlib import Path
@@ -107,6 +107,13 @@ def crumbs_tile(draw, size):
     return layer("crumbs", b"".join(draw.choices(crumbs, k=room // 2)), b"")
 
 
+def empty_tags_tile(size):
+    """One layer of features, each of which has a tags field of two bytes and no other field."""
+    feature_bytes = bytes_field(2, bytes_field(2, b""))
+    room = size - len(layer("tags", b"", b"")) - len(varint(size))
+    return layer("tags", room // len(feature_bytes) * feature_bytes, b"")
+
+
 def groups_tile(deep, size):
     """Groups that stand in one another, so deep, again and again; behind them a small layer."""
     groups = deep * GROUP + deep * GROUP_END
@@ -123,6 +130,7 @@ def alternating_tile(size):
 MAKERS = {
     "map": map_tile,
     "crumbs": crumbs_tile,
+    "empty tags": lambda draw, size: empty_tags_tile(size),
     "nested groups": lambda draw, size: groups_tile(MOST_OPEN, size),
     "flat groups": lambda draw, size: groups_tile(1, size),
     "alternating layers": lambda draw, size: alternating_tile(size),

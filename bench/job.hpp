@@ -56,7 +56,8 @@ inline bool is_among(const std::string& name, const std::vector<std::string>& na
 }
 
 // Carries out a script on a tile, and answers each line. A tile has `layer_named`, which gives a layer or none,
-// and `keep_layers`, which keeps those whose name passes; a layer has `name`, `set_name` and `set_id`.
+// `keep_layers`, which keeps those whose name passes, and `exclude` and `exclude_all` over all layers; a layer has
+// `name`, `set_name`, `set_id` and `set_number`, which gives a feature a number as an attribute.
 template <typename Tile>
 class Script {
 public:
@@ -98,6 +99,17 @@ private:
         if (request == "set-id") {
             LayerPointer layer = tile_.layer_named(words.at(1));
             return layer != nullptr && layer->set_id(std::stoul(words.at(2)), std::stoul(words.at(3)));
+        }
+        if (request == "set") {
+            LayerPointer layer = tile_.layer_named(words.at(1));
+            return layer != nullptr && words.at(4) == "uint"
+                && layer->set_number(std::stoul(words.at(2)), words.at(3), std::stoul(words.at(5)));
+        }
+        if (request == "exclude" && words.at(1) == "*") {
+            return tile_.exclude(words.at(2));
+        }
+        if (request == "exclude-all" && words.at(1) == "*") {
+            return tile_.exclude_all();
         }
         return false;
     }

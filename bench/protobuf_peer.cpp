@@ -1,5 +1,5 @@
-// Does the benchmark's jobs with protobuf: the tile is parsed into its messages, layers are
-// renamed, and the messages are serialized.
+// Does the benchmark's jobs with protobuf: the tile is parsed into its messages, layers, ids and
+// attributes change, and the messages are serialized.
 
 #include "job.hpp"
 #include "vector_tile.pb.h"
@@ -25,8 +25,76 @@ public:
         return true;
     }
 
+    // Whether there is such a feature. It gets the number as the value of the key.
+    bool set_number(std::size_t ordinal, const std::string& key, std::uint64_t number) {
+        if (ordinal >= static_cast<std::size_t>(layer_->features_size())) {
+            return false;
+        }
+        const std::uint32_t key_ordinal = key_of(key);
+        const std::uint32_t value_ordinal = value_of(number);
+        auto& tags = *layer_->mutable_features(static_cast<int>(ordinal))->mutable_tags();
+        for (int index = 0; index + 1 < tags.size(); index += 2) {
+            if (tags[index] == key_ordinal) {
+                tags[index + 1] = value_ordinal;
+                return true;
+            }
+        }
+        tags.Add(key_ordinal);
+        tags.Add(value_ordinal);
+        return true;
+    }
+
+    // Takes out the pairs of this key.
+    void exclude(const std::string& key) {
+        std::vector<bool> marked;
+        for (const std::string& other : layer_->keys()) {
+            marked.push_back(other == key);
+        }
+        for (auto& feature : *layer_->mutable_features()) {
+            auto& tags = *feature.mutable_tags();
+            int left = 0;
+            for (int index = 0; index + 1 < tags.size(); index += 2) {
+                if (!marked.at(tags[index])) {
+                    tags[left] = tags[index];
+                    tags[left + 1] = tags[index + 1];
+                    left += 2;
+                }
+            }
+            tags.Truncate(left);
+        }
+    }
+
+    void exclude_all() {
+        for (auto& feature : *layer_->mutable_features()) {
+            feature.clear_tags();
+        }
+    }
+
 private:
     vector_tile::Tile::Layer* layer_;
+
+    // The ordinal of a key, which comes at the end where it is missing.
+    std::uint32_t key_of(const std::string& key) {
+        const auto& keys = layer_->keys();
+        const auto found = std::find(keys.begin(), keys.end(), key);
+        const auto ordinal = static_cast<std::uint32_t>(found - keys.begin());
+        if (found == keys.end()) {
+            layer_->add_keys(key);
+        }
+        return ordinal;
+    }
+
+    // The same of a value that is a number without a sign.
+    std::uint32_t value_of(std::uint64_t number) {
+        const auto& values = layer_->values();
+        const auto is_it = [&](const auto& value) { return value.has_uint_value() && value.uint_value() == number; };
+        const auto found = std::find_if(values.begin(), values.end(), is_it);
+        const auto ordinal = static_cast<std::uint32_t>(found - values.begin());
+        if (found == values.end()) {
+            layer_->add_values()->set_uint_value(number);
+        }
+        return ordinal;
+    }
 };
 
 class Tile {
@@ -53,6 +121,20 @@ public:
         const auto goes = [&](const auto& layer) { return !passes(layer.name()); };
         layers.erase(std::remove_if(layers.begin(), layers.end(), goes), layers.end());
         find_layers();
+    }
+
+    bool exclude(const std::string& key) {
+        for (Layer& layer : layers_) {
+            layer.exclude(key);
+        }
+        return true;
+    }
+
+    bool exclude_all() {
+        for (Layer& layer : layers_) {
+            layer.exclude_all();
+        }
+        return true;
     }
 
     std::string bytes() const {

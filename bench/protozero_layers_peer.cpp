@@ -58,6 +58,10 @@ public:
         return false;
     }
 
+    bool set_number(std::size_t, const std::string&, std::uint64_t) const {
+        return false;
+    }
+
     void drop() {
         is_dropped_ = true;
     }
@@ -109,6 +113,14 @@ struct Tile {
                 layer.drop();
             }
         }
+    }
+
+    bool exclude(const std::string&) const {
+        return false;
+    }
+
+    bool exclude_all() const {
+        return false;
     }
 };
 

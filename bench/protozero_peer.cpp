@@ -1,5 +1,5 @@
 // Does the benchmark's jobs with protozero: every field of the tile, of its layers and of their
-// features becomes a value of its own, layers are renamed, and the values are written in order.
+// features becomes a value of its own, layers, ids and attributes change, and the values are written in order.
 
 #include "job.hpp"
 #include "protozero_peer.hpp"
@@ -9,7 +9,11 @@
 #include <variant>
 
 constexpr pbf_tag_type layer_feature = 2;
+constexpr pbf_tag_type layer_key = 3;
+constexpr pbf_tag_type layer_value = 4;
 constexpr pbf_tag_type feature_id = 1;
+constexpr pbf_tag_type feature_tags = 2;
+constexpr pbf_tag_type value_uint = 5;
 
 // Room for the lengths of messages that are not ended, and for a longer name.
 constexpr std::size_t spare = 64;
@@ -27,8 +31,83 @@ struct Field {
     std::variant<std::uint64_t, Fixed64, Fixed32, std::string> body;
 };
 
+// Calls `see` with the key and the value of each pair of packed tags, and with the pair's bytes.
+template <typename See>
+static void each_pair(const std::string& tags, See see) {
+    const char* at = tags.data();
+    const char* const end = at + tags.size();
+    while (at != end) {
+        const char* const start = at;
+        const std::uint64_t key = protozero::decode_varint(&at, end);
+        const std::uint64_t value = protozero::decode_varint(&at, end);
+        see(key, value, start, at);
+    }
+}
+
 struct Feature {
     std::vector<Field> fields;
+
+    // The packed tags of a field, or none.
+    static std::string* tags_in(Field& field) {
+        return field.tag == feature_tags ? std::get_if<std::string>(&field.body) : nullptr;
+    }
+
+    // Takes out the pairs of the keys that are marked, and the fields that lost all of theirs.
+    void exclude(const std::vector<bool>& marked) {
+        const auto is_emptied = [&](Field& field) {
+            std::string* tags = tags_in(field);
+            if (tags == nullptr) {
+                return false;
+            }
+            std::string left;
+            left.reserve(tags->size());
+            each_pair(*tags, [&](std::uint64_t key, std::uint64_t, const char* start, const char* end) {
+                if (!marked.at(key)) {
+                    left.append(start, end);
+                }
+            });
+            if (left.size() == tags->size()) {
+                return false;
+            }
+            *tags = std::move(left);
+            return tags->empty();
+        };
+        fields.erase(std::remove_if(fields.begin(), fields.end(), is_emptied), fields.end());
+    }
+
+    // Takes out all tags.
+    void exclude_all() {
+        const auto goes = [](Field& field) { return tags_in(field) != nullptr; };
+        fields.erase(std::remove_if(fields.begin(), fields.end(), goes), fields.end());
+    }
+
+    // Gives the key this value, in its one packed field of tags or in a new one.
+    void set_value(std::uint64_t key, std::uint64_t value) {
+        for (Field& field : fields) {
+            std::string* tags = tags_in(field);
+            if (tags == nullptr) {
+                continue;
+            }
+            std::string present;
+            present.reserve(tags->size() + 20);
+            bool is_there = false;
+            each_pair(*tags, [&](std::uint64_t other, std::uint64_t old, const char*, const char*) {
+                protozero::add_varint_to_buffer(&present, other);
+                protozero::add_varint_to_buffer(&present, other == key ? value : old);
+                is_there = is_there || other == key;
+            });
+            if (!is_there) {
+                protozero::add_varint_to_buffer(&present, key);
+                protozero::add_varint_to_buffer(&present, value);
+            }
+            *tags = std::move(present);
+            return;
+        }
+        std::string fresh;
+        protozero::add_varint_to_buffer(&fresh, key);
+        protozero::add_varint_to_buffer(&fresh, value);
+        fields.push_back({feature_tags, std::move(fresh)});
+    }
 
     // Whether it has an id. The last one gets the number.
     bool set_id(std::uint64_t id) {
@@ -64,15 +143,73 @@ struct Layer {
         name_field()->body = name;
     }
 
-    // Whether there is such a feature, and it has an id.
-    bool set_id(std::size_t ordinal, std::uint64_t id) {
+    Feature* feature(std::size_t ordinal) {
         for (auto& item : items) {
             Feature* feature = std::get_if<Feature>(&item);
             if (feature != nullptr && ordinal-- == 0) {
-                return feature->set_id(id);
+                return feature;
             }
         }
-        return false;
+        return nullptr;
+    }
+
+    // Whether there is such a feature, and it has an id.
+    bool set_id(std::size_t ordinal, std::uint64_t id) {
+        Feature* found = feature(ordinal);
+        return found != nullptr && found->set_id(id);
+    }
+
+    // Whether there is such a feature. It gets the number as the value of the key.
+    bool set_number(std::size_t ordinal, const std::string& key, std::uint64_t number) {
+        std::string value;
+        pbf_writer(value).add_uint64(value_uint, number);
+        const std::uint64_t key_ordinal = entry(layer_key, key);
+        const std::uint64_t value_ordinal = entry(layer_value, value);
+        Feature* found = feature(ordinal);
+        if (found == nullptr) {
+            return false;
+        }
+        found->set_value(key_ordinal, value_ordinal);
+        return true;
+    }
+
+    // The ordinal of an entry of a pool, which comes at the end where it is missing.
+    std::uint64_t entry(pbf_tag_type pool, const std::string& bytes) {
+        std::uint64_t ordinal = 0;
+        for (const auto& item : items) {
+            const Field* field = std::get_if<Field>(&item);
+            if (field == nullptr || field->tag != pool) {
+                continue;
+            }
+            if (std::get<std::string>(field->body) == bytes) {
+                return ordinal;
+            }
+            ++ordinal;
+        }
+        items.emplace_back(Field{pool, bytes});
+        return ordinal;
+    }
+
+    template <typename Change>
+    void each_feature(Change change) {
+        for (auto& item : items) {
+            Feature* feature = std::get_if<Feature>(&item);
+            if (feature != nullptr) {
+                change(*feature);
+            }
+        }
+    }
+
+    // Takes out the pairs of this key.
+    void exclude(const std::string& key) {
+        std::vector<bool> marked;
+        for (const auto& item : items) {
+            const Field* field = std::get_if<Field>(&item);
+            if (field != nullptr && field->tag == layer_key) {
+                marked.push_back(std::get<std::string>(field->body) == key);
+            }
+        }
+        each_feature([&](Feature& feature) { feature.exclude(marked); });
     }
 };
 
@@ -96,6 +233,26 @@ struct Tile {
             return layer != nullptr && !passes(layer->name());
         };
         items.erase(std::remove_if(items.begin(), items.end(), goes), items.end());
+    }
+
+    template <typename Change>
+    void each_layer(Change change) {
+        for (auto& item : items) {
+            Layer* layer = std::get_if<Layer>(&item);
+            if (layer != nullptr) {
+                change(*layer);
+            }
+        }
+    }
+
+    bool exclude(const std::string& key) {
+        each_layer([&](Layer& layer) { layer.exclude(key); });
+        return true;
+    }
+
+    bool exclude_all() {
+        each_layer([](Layer& layer) { layer.each_feature([](Feature& feature) { feature.exclude_all(); }); });
+        return true;
     }
 };
 

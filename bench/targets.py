@@ -3,13 +3,18 @@ from report import divided, exponent, grown, peak, shown, table, time
 
 OURS = "tileshell"
 
+EMPTY = "empty script"
 JOB = "one rename"
 MANY = "1,000 renames and undos"
 KEPT = "one layer kept"
 IDS = "1,000 ids set"
+UNTAGGED = "all attributes excluded"
 
 # Two measurements of the same growth differ by less.
 NOISE = 0.05
+
+# More memory is slower memory, so that what is linear in a tile of small parts grows a little faster than it.
+SLOWER = 0.2
 
 
 def session_targets(steps):
@@ -27,8 +32,9 @@ def session_targets(steps):
 
 def targets(results, lists, kept):
     """Each target, what was measured, and the most that it may be."""
-    small, large = ends(results, "map")
-    crumbs = ends(results, "crumbs")[1].tile
+    small, large = ends(results, "map", JOB)
+    crumbs = ends(results, "crumbs", JOB)[1].tile
+    few, many = ends(results, "empty tags", UNTAGGED)
     return [
         (f"{large.tile.name}, {JOB}: time to protozero's", time_to(large, "protozero"), 0.8),
         (f"{large.tile.name}, {JOB}: time to protobuf's", time_to(large, "protobuf"), 0.3),
@@ -42,12 +48,15 @@ def targets(results, lists, kept):
         *((f"{each.tile.name}, its largest layer listed: time to that of reading", each.ratio, 2)
           for each in lists if each.tile == large.tile),
         (f"{crumbs.name}, in any job: peak memory to the tile", highest_peak(results, crumbs), 31),
+        (f"{few.tile.name} to {many.tile.name}, {UNTAGGED}: exponent of time", exponent(few, many, OURS, time), 1 + SLOWER),
+        (f"{large.tile.name}, {UNTAGGED}: time to protozero's",
+         time_to(of_job(results, large.tile, UNTAGGED), "protozero"), 1.2),
     ]
 
 
-def ends(results, kind):
-    """The results of one rename on the smallest and the largest tile of a kind."""
-    group = next(group for group in grown(results) if group[0].tile.kind == kind and group[0].job == JOB)
+def ends(results, kind, job):
+    """The results of a job on the smallest and the largest tile of a kind."""
+    group = next(group for group in grown(results) if group[0].tile.kind == kind and group[0].job == job)
     return group[0], group[-1]
 
 
