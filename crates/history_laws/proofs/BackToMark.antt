@@ -16,7 +16,9 @@ use Rattle.mvt_meaning.specs.declared.refusal.Refusal.{Refusal}
 use Rattle.mvt_change.proofs.Splicing.{all_append}
 use Rattle.mvt_history.specs.Marks.{Mark, compared, has_name, is_before, is_behind, point_of, bound, unbound}
 use Rattle.mvt_history.specs.History.{History, IsSound, after_all, after_steps, document_at, standing_document, commands_in, at_point, with_marks, with_group, with_step, with_command, edited_to, edited, unless_open, undone, redone, marked, unmarked, gone_to, gone_back, opened, ended, closed, cancelled}
-use Rattle.mvt_history.specs.Requests.{Request, Edit, Undo, Redo, SetMark, TakeMark, GoBack, Begin, End, Cancel, SetsOther, or_before, asked, asked_all}
+use Rattle.mvt_command.specs.Requests.{HistoryRequest, Edit, Undo, Redo, SetMark, TakeMark, GoBack, Begin, End, Cancel}
+use Rattle.mvt_history.specs.Requests.{SetsOther, or_before, asked, asked_all}
+use Rattle.mvt_history.proofs.Sound.{or_before_has}
 use Rattle.history_laws.specs.Laws.{StaysSound, BackToTheMark}
 use Rattle.mvt_history.specs.declared.TheConstants.{MAX_MARKS}
 use Rattle.mvt_history_error.specs.declared.HistoryError.{HistoryError}
@@ -148,28 +150,24 @@ module _ (name : List ℕ) (document : Document) where
   keeps_ended (Some []) history sound keeps = keeps
   keeps_ended (Some (command ∷ commands)) history sound keeps = keeps_with_step (command ∷ commands) history sound keeps
 
-  keeps_or_before : {E : Type 0} (before : History) (answer : Result History E) → Keeps before → IfOk answer Keeps → Keeps (or_before before answer)
-  keeps_or_before before (Ok after) keeps kept = kept
-  keeps_or_before before (Err error) keeps kept = keeps
-
-  keeps_asked : (request : Request) (history : History) → IsSound history → SetsOther name request → Keeps history → Keeps (asked request history)
-  keeps_asked (Edit command) history sound other keeps = keeps_or_before history (edited command history) keeps (keeps_edited_to command history (applied command (standing_document history)) sound keeps)
+  keeps_asked : (request : HistoryRequest) (history : History) → IsSound history → SetsOther name request → Keeps history → Keeps (asked request history)
+  keeps_asked (Edit command) history sound other keeps = or_before_has Keeps history (edited command history) keeps (keeps_edited_to command history (applied command (standing_document history)) sound keeps)
   keeps_asked Undo history sound other keeps =
       let after = at_point (history.present - 1) history in
       let at_floor : Bool = history.present == history.floor in
-      keeps_or_before history (undone history) keeps (keeps_unless_open history.group (if at_floor then Err NothingToUndo else Ok after) (keeps_if_not at_floor after NothingToUndo keeps))
+      or_before_has Keeps history (undone history) keeps (keeps_unless_open history.group (if at_floor then Err NothingToUndo else Ok after) (keeps_if_not at_floor after NothingToUndo keeps))
   keeps_asked Redo history sound other keeps =
       let after = at_point (history.present + 1) history in
       let at_end : Bool = history.present == length history.steps in
-      keeps_or_before history (redone history) keeps (keeps_unless_open history.group (if at_end then Err NothingToRedo else Ok after) (keeps_if_not at_end after NothingToRedo keeps))
-  keeps_asked (SetMark named) history sound other keeps = keeps_or_before history (marked named history) keeps (keeps_marked named history other keeps)
-  keeps_asked (TakeMark named) history sound other keeps = keeps_or_before history (unmarked named history) keeps (keeps_unmarked named history keeps)
-  keeps_asked (GoBack named) history sound other keeps = keeps_or_before history (gone_back named history) keeps (keeps_unless_open history.group (gone_to (point_of named history.marks) history) (keeps_gone_to (point_of named history.marks) history keeps))
-  keeps_asked Begin history sound other keeps = keeps_or_before history (opened history) keeps (keeps_unless_open history.group (Ok (with_group (Some []) history)) keeps)
-  keeps_asked End history sound other keeps = keeps_or_before history (closed history) keeps (keeps_ended history.group history sound keeps)
-  keeps_asked Cancel history sound other keeps = keeps_or_before history (cancelled history) keeps (keeps_if (is_some history.group) (with_group None history) NoGroup keeps)
+      or_before_has Keeps history (redone history) keeps (keeps_unless_open history.group (if at_end then Err NothingToRedo else Ok after) (keeps_if_not at_end after NothingToRedo keeps))
+  keeps_asked (SetMark named) history sound other keeps = or_before_has Keeps history (marked named history) keeps (keeps_marked named history other keeps)
+  keeps_asked (TakeMark named) history sound other keeps = or_before_has Keeps history (unmarked named history) keeps (keeps_unmarked named history keeps)
+  keeps_asked (GoBack named) history sound other keeps = or_before_has Keeps history (gone_back named history) keeps (keeps_unless_open history.group (gone_to (point_of named history.marks) history) (keeps_gone_to (point_of named history.marks) history keeps))
+  keeps_asked Begin history sound other keeps = or_before_has Keeps history (opened history) keeps (keeps_unless_open history.group (Ok (with_group (Some []) history)) keeps)
+  keeps_asked End history sound other keeps = or_before_has Keeps history (closed history) keeps (keeps_ended history.group history sound keeps)
+  keeps_asked Cancel history sound other keeps = or_before_has Keeps history (cancelled history) keeps (keeps_if (is_some history.group) (with_group None history) NoGroup keeps)
 
-  keeps_asked_all : StaysSound → (requests : List Request) (history : History) → IsSound history → AllByRecursion (SetsOther name) requests → Keeps history → Keeps (asked_all requests history)
+  keeps_asked_all : StaysSound → (requests : List HistoryRequest) (history : History) → IsSound history → AllByRecursion (SetsOther name) requests → Keeps history → Keeps (asked_all requests history)
   keeps_asked_all stays [] history sound others keeps = keeps
   keeps_asked_all stays (request ∷ requests) history sound others keeps =
       keeps_asked_all stays requests (asked request history) (stays.1 request history sound) others.1 (keeps_asked request history sound others.0 keeps)

@@ -6,7 +6,8 @@ use Rattle.mvt_command.specs.Command.{Command}
 use Rattle.mvt_meaning.specs.Meaning.{applied}
 use Rattle.mvt_meaning.specs.declared.refusal.Refusal.{Refusal}
 use Rattle.mvt_history.specs.History.{History, with_group, standing_document, edited_to, opened}
-use Rattle.mvt_history.specs.Requests.{Request, Edit, Undo, Redo, SetMark, TakeMark, GoBack, Begin, End, Cancel, LeavesOpen, or_before, asked, asked_all}
+use Rattle.mvt_command.specs.Requests.{HistoryRequest, Edit, Undo, Redo, SetMark, TakeMark, GoBack, Begin, End, Cancel}
+use Rattle.mvt_history.specs.Requests.{LeavesOpen, or_before, asked, asked_all}
 use Rattle.history_laws.proofs.UndosRedos.{none_open}
 
 -- nothing but the open step is another
@@ -19,7 +20,7 @@ step_of_answer : (command : Command) (commands : List Command) (history : Histor
 step_of_answer command commands history (Ok document) = (commands ++ command ∷ [], refl)
 step_of_answer command commands history (Err refusal) = (commands, refl)
 
-step_after : (request : Request) (commands : List Command) (history : History) → LeavesOpen request → DiffersInStep history (asked request (with_group (Some commands) history))
+step_after : (request : HistoryRequest) (commands : List Command) (history : History) → LeavesOpen request → DiffersInStep history (asked request (with_group (Some commands) history))
 step_after (Edit command) commands history leave =
     let held = with_group (Some commands) history in
     step_of_answer command commands history (applied command (standing_document held))
@@ -32,7 +33,7 @@ step_after Begin commands history leave = (commands, refl)
 step_after End commands history leave = absurd leave
 step_after Cancel commands history leave = absurd leave
 
-step_after_all : (requests : List Request) (commands : List Command) (history : History) → AllByRecursion LeavesOpen requests → DiffersInStep history (asked_all requests (with_group (Some commands) history))
+step_after_all : (requests : List HistoryRequest) (commands : List Command) (history : History) → AllByRecursion LeavesOpen requests → DiffersInStep history (asked_all requests (with_group (Some commands) history))
 step_after_all [] commands history leave = (commands, refl)
 step_after_all (request ∷ requests) commands history leave =
     let first = step_after request commands history leave.0 in
@@ -40,7 +41,7 @@ step_after_all (request ∷ requests) commands history leave =
     (rest.0, ap (asked_all requests) first.1 ∙ rest.1)
 
 -- no step was open before, and now one is, and all else is as before
-pub within_step : (requests : List Request) (history opening : History) → opened history ≡ Ok opening → AllByRecursion LeavesOpen requests → (history.group ≡ None) × DiffersInStep history (asked_all requests opening)
+pub within_step : (requests : List HistoryRequest) (history opening : History) → opened history ≡ Ok opening → AllByRecursion LeavesOpen requests → (history.group ≡ None) × DiffersInStep history (asked_all requests opening)
 within_step requests history opening open_so leave =
     let closed = none_open history.group (Ok (with_group (Some []) history)) opening open_so in
     let same : with_group (Some []) history ≡ opening = let done = closed.1 in cc in

@@ -15,7 +15,9 @@ use Rattle.mvt_meaning.proofs.Lengths.{command_fits}
 use Rattle.mvt_change.proofs.Splicing.{all_append, all_take}
 use Rattle.mvt_history.specs.Marks.{bound, point_of, unbound}
 use Rattle.mvt_history.specs.History.{History, after_all, after_steps, present_document, standing_document, commands_in, at_point, with_marks, with_group, with_step, with_command, edited_to, edited, unless_open, undone, redone, marked, unmarked, gone_to, gone_back, opened, ended, closed, cancelled}
-use Rattle.mvt_history.specs.Requests.{Request, Edit, Undo, Redo, SetMark, TakeMark, GoBack, Begin, End, Cancel, or_before, asked}
+use Rattle.mvt_command.specs.Requests.{HistoryRequest, Edit, Undo, Redo, SetMark, TakeMark, GoBack, Begin, End, Cancel}
+use Rattle.mvt_history.specs.Requests.{asked}
+use Rattle.mvt_history.proofs.Sound.{or_before_has}
 use Rattle.mvt_history.specs.declared.TheConstants.{MAX_MARKS}
 use Rattle.mvt_history_error.specs.declared.HistoryError.{HistoryError}
 use Rattle.mvt_history_error.specs.declared.HistoryError.TheVariants.{NothingToUndo, NothingToRedo, NoMark, TooManyMarks, NoGroup}
@@ -103,29 +105,25 @@ ended_valid None history pending valid = tt
 ended_valid (Some []) history pending valid = with_group_valid None history tt valid
 ended_valid (Some (command ∷ commands)) history pending valid = with_step_valid (command ∷ commands) history pending valid
 
-or_before_valid : {E : Type 0} (before : History) (answer : Result History E) → HasCommands before → IfOk answer HasCommands → HasCommands (or_before before answer)
-or_before_valid before (Ok after) valid answered = answered
-or_before_valid before (Err error) valid answered = valid
-
-asked_valid : (request : Request) (history : History) → IsRequest request → HasCommands history → HasCommands (asked request history)
-asked_valid (Edit command) history new valid = or_before_valid history (edited command history) valid (edited_valid command history (applied command (standing_document history)) new valid)
+asked_valid : (request : HistoryRequest) (history : History) → IsRequest request → HasCommands history → HasCommands (asked request history)
+asked_valid (Edit command) history new valid = or_before_has HasCommands history (edited command history) valid (edited_valid command history (applied command (standing_document history)) new valid)
 asked_valid Undo history new valid =
-    or_before_valid history (undone history) valid (unless_open_valid history.group _
+    or_before_has HasCommands history (undone history) valid (unless_open_valid history.group _
     (cond_both (history.present == history.floor) (Err NothingToUndo) (Ok (at_point (history.present - 1) history)) (λ answer. IfOk answer HasCommands) (λ _. tt) (λ _. at_point_valid (history.present - 1) history valid)))
 asked_valid Redo history new valid =
-    or_before_valid history (redone history) valid (unless_open_valid history.group _
+    or_before_has HasCommands history (redone history) valid (unless_open_valid history.group _
     (cond_both (history.present == length history.steps) (Err NothingToRedo) (Ok (at_point (history.present + 1) history)) (λ answer. IfOk answer HasCommands) (λ _. tt) (λ _. at_point_valid (history.present + 1) history valid)))
 asked_valid (SetMark name) history new valid =
-    or_before_valid history (marked name history) valid (unless_open_valid history.group _
+    or_before_has HasCommands history (marked name history) valid (unless_open_valid history.group _
     (cond_both (is_some (point_of name history.marks) || nat_lt (length history.marks) MAX_MARKS) (Ok (with_marks (bound name history.present history.marks) history)) (Err TooManyMarks) (λ answer. IfOk answer HasCommands) (λ _. record { steps = valid.steps; group = valid.group }) (λ _. tt)))
 asked_valid (TakeMark name) history new valid =
-    or_before_valid history (unmarked name history) valid (unless_open_valid history.group _
+    or_before_has HasCommands history (unmarked name history) valid (unless_open_valid history.group _
     (cond_both (is_some (point_of name history.marks)) (Ok (with_marks (unbound name history.marks) history)) (Err NoMark) (λ answer. IfOk answer HasCommands) (λ _. record { steps = valid.steps; group = valid.group }) (λ _. tt)))
-asked_valid (GoBack name) history new valid = or_before_valid history (gone_back name history) valid (unless_open_valid history.group (gone_to (point_of name history.marks) history) (gone_valid (point_of name history.marks) history valid))
-asked_valid Begin history new valid = or_before_valid history (opened history) valid (unless_open_valid history.group (Ok (with_group (Some []) history)) (with_group_valid (Some []) history tt valid))
-asked_valid End history new valid = or_before_valid history (closed history) valid (ended_valid history.group history valid.group valid)
+asked_valid (GoBack name) history new valid = or_before_has HasCommands history (gone_back name history) valid (unless_open_valid history.group (gone_to (point_of name history.marks) history) (gone_valid (point_of name history.marks) history valid))
+asked_valid Begin history new valid = or_before_has HasCommands history (opened history) valid (unless_open_valid history.group (Ok (with_group (Some []) history)) (with_group_valid (Some []) history tt valid))
+asked_valid End history new valid = or_before_has HasCommands history (closed history) valid (ended_valid history.group history valid.group valid)
 asked_valid Cancel history new valid =
-    or_before_valid history (cancelled history) valid
+    or_before_has HasCommands history (cancelled history) valid
     (cond_both (is_some history.group) (Ok (with_group None history)) (Err NoGroup) (λ answer. IfOk answer HasCommands) (λ _. with_group_valid None history tt valid) (λ _. tt))
 
 pub stays_valid : StaysValid

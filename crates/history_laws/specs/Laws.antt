@@ -9,7 +9,8 @@ use Rattle.mvt_change.specs.Changes.{weight}
 use Rattle.mvt_change.specs.Joining.{go_along}
 use Rattle.mvt_command.specs.Command.{Command, IsCommand}
 use Rattle.mvt_history.specs.History.{History, IsSound, begun, after_all, document_at, present_document, standing_document, commands_in, edited, undone, redone, marked, gone_back, opened, closed, cancelled}
-use Rattle.mvt_history.specs.Requests.{Request, Edit, SetsOther, LeavesOpen, asked, asked_all, then_times}
+use Rattle.mvt_command.specs.Requests.{HistoryRequest, Edit}
+use Rattle.mvt_history.specs.Requests.{SetsOther, LeavesOpen, asked, asked_all, then_times}
 use Rattle.mvt_history.specs.Reached.{all_taken_by, all_put_by, step_allowance}
 use Rattle.mvt_history.specs.Standing.{Standing, changes_in, closed_document}
 use Rattle.mvt_history.specs.Session.{StandsFor, StopsAt, StopsWithin}
@@ -18,12 +19,12 @@ use Rattle.mvt_history.specs.Session.{StandsFor, StopsAt, StopsWithin}
 abbrev pub StaysSound : Type 0
 StaysSound =
     ((document : Document) (depth : ℕ) → 1 ≤ depth → IsSound (begun document depth))
-    × ((request : Request) (history : History) → IsSound history → IsSound (asked request history))
+    × ((request : HistoryRequest) (history : History) → IsSound history → IsSound (asked request history))
 
 -- ---- documents
 
 -- a valid request: the command that it asks for, where it asks for one, is valid
-abbrev pub IsRequest : Request → Type 0
+abbrev pub IsRequest : HistoryRequest → Type 0
 IsRequest (Edit command) = IsCommand command
 IsRequest request = Unit {0}
 
@@ -36,7 +37,7 @@ pub record HasCommands (history : History) : Type 0 where
 abbrev pub StaysValid : Type 0
 StaysValid =
     ((document : Document) (depth : ℕ) → HasCommands (begun document depth))
-    × ((request : Request) (history : History) → IsRequest request → HasCommands history → HasCommands (asked request history))
+    × ((request : HistoryRequest) (history : History) → IsRequest request → HasCommands history → HasCommands (asked request history))
 
 -- something holds of the document at each point of the history, of each document within the open step, and of the one
 -- that stands
@@ -80,7 +81,7 @@ UndoAfterEnd =
 -- accepted, and so is an undo right after it, and the document is the one that stood when the step was opened
 abbrev pub StepUndoesWhole : Type 0
 StepUndoesWhole =
-    (requests : List Request) (history opening : History) → IsSound history
+    (requests : List HistoryRequest) (history opening : History) → IsSound history
     → opened history ≡ Ok opening
     → AllByRecursion LeavesOpen requests
     → ¬ ((asked_all requests opening).group ≡ Some [])
@@ -93,7 +94,7 @@ StepUndoesWhole =
 -- and leaves the very history before it, with the steps that were undone and the marks
 abbrev pub EmptyStepLeavesNoTrace : Type 0
 EmptyStepLeavesNoTrace =
-    (requests : List Request) (history opening : History)
+    (requests : List HistoryRequest) (history opening : History)
     → opened history ≡ Ok opening
     → AllByRecursion LeavesOpen requests
     → (asked_all requests opening).group ≡ Some []
@@ -117,7 +118,7 @@ UndosUndoRedos =
 -- that stood when it was set
 abbrev pub BackToTheMark : Type 0
 BackToTheMark =
-    (name : List ℕ) (requests : List Request) (history set back : History) → IsSound history
+    (name : List ℕ) (requests : List HistoryRequest) (history set back : History) → IsSound history
     → marked name history ≡ Ok set
     → AllByRecursion (SetsOther name) requests
     → gone_back name (asked_all requests set) ≡ Ok back
@@ -127,7 +128,7 @@ BackToTheMark =
 -- history before it
 abbrev pub CancelLeavesNoTrace : Type 0
 CancelLeavesNoTrace =
-    (requests : List Request) (history opening : History)
+    (requests : List HistoryRequest) (history opening : History)
     → opened history ≡ Ok opening
     → AllByRecursion LeavesOpen requests
     → cancelled (asked_all requests opening) ≡ Ok history

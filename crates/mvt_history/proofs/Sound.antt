@@ -9,7 +9,8 @@ use Rattle.mvt_meaning.specs.Meaning.{applied}
 use Rattle.mvt_meaning.specs.declared.refusal.Refusal.{Refusal}
 use Rattle.mvt_history.specs.Marks.{Mark, InOrder, bound, unbound, has_name, point_of}
 use Rattle.mvt_history.specs.History.{History, IsSound, IsWithin, begun, standing_document, at_point, with_marks, with_group, with_step, with_command, edited_to, edited, unless_open, undone, redone, marked, unmarked, gone_to, gone_back, opened, ended, closed, cancelled}
-use Rattle.mvt_history.specs.Requests.{Request, Edit, Undo, Redo, SetMark, TakeMark, GoBack, Begin, End, Cancel, or_before, asked}
+use Rattle.mvt_command.specs.Requests.{HistoryRequest, Edit, Undo, Redo, SetMark, TakeMark, GoBack, Begin, End, Cancel}
+use Rattle.mvt_history.specs.Requests.{or_before, asked}
 use Rattle.mvt_history.specs.declared.TheConstants.{MAX_MARKS}
 use Rattle.mvt_history_error.specs.declared.HistoryError.{HistoryError}
 use Rattle.mvt_history_error.specs.declared.HistoryError.TheVariants.{NothingToUndo, NothingToRedo, NoMark, TooManyMarks}
@@ -157,18 +158,18 @@ pub sound_cancelled : (history : History) → IsSound history → IfOk (cancelle
 sound_cancelled history sound =
     elim (cases_Bool (is_some history.group)) [ inl there ↦ rw there (sound_with_group None history sound) | inr none ↦ rw none tt ]
 
--- the history that is answered is sound, and so is the one before
-sound_or_before : {E : Type 0} (before : History) (answer : Result History E) → IsSound before → IfOk answer IsSound → IsSound (or_before before answer)
-sound_or_before before (Ok after) sound answered = answered
-sound_or_before before (Err error) sound answered = sound
+-- what holds of the history that is answered, and of the one before, holds after the request
+pub or_before_has : {E : Type 0} (P : History → Type 0) (before : History) (answer : Result History E) → P before → IfOk answer P → P (or_before before answer)
+or_before_has P before (Ok after) holds answered = answered
+or_before_has P before (Err error) holds answered = holds
 
-pub sound_asked : (request : Request) (history : History) → IsSound history → IsSound (asked request history)
-sound_asked (Edit command) history sound = sound_or_before history (edited command history) sound (sound_edited_to command history (applied command (standing_document history)) sound)
-sound_asked Undo history sound = sound_or_before history (undone history) sound (sound_undone history sound)
-sound_asked Redo history sound = sound_or_before history (redone history) sound (sound_redone history sound)
-sound_asked (SetMark name) history sound = sound_or_before history (marked name history) sound (sound_marked name history sound)
-sound_asked (TakeMark name) history sound = sound_or_before history (unmarked name history) sound (sound_unmarked name history sound)
-sound_asked (GoBack name) history sound = sound_or_before history (gone_back name history) sound (sound_gone_back name history sound)
-sound_asked Begin history sound = sound_or_before history (opened history) sound (sound_opened history sound)
-sound_asked End history sound = sound_or_before history (closed history) sound (sound_ended history.group history sound)
-sound_asked Cancel history sound = sound_or_before history (cancelled history) sound (sound_cancelled history sound)
+pub sound_asked : (request : HistoryRequest) (history : History) → IsSound history → IsSound (asked request history)
+sound_asked (Edit command) history sound = or_before_has IsSound history (edited command history) sound (sound_edited_to command history (applied command (standing_document history)) sound)
+sound_asked Undo history sound = or_before_has IsSound history (undone history) sound (sound_undone history sound)
+sound_asked Redo history sound = or_before_has IsSound history (redone history) sound (sound_redone history sound)
+sound_asked (SetMark name) history sound = or_before_has IsSound history (marked name history) sound (sound_marked name history sound)
+sound_asked (TakeMark name) history sound = or_before_has IsSound history (unmarked name history) sound (sound_unmarked name history sound)
+sound_asked (GoBack name) history sound = or_before_has IsSound history (gone_back name history) sound (sound_gone_back name history sound)
+sound_asked Begin history sound = or_before_has IsSound history (opened history) sound (sound_opened history sound)
+sound_asked End history sound = or_before_has IsSound history (closed history) sound (sound_ended history.group history sound)
+sound_asked Cancel history sound = or_before_has IsSound history (cancelled history) sound (sound_cancelled history sound)

@@ -1,21 +1,21 @@
 -- Requests on a history, one after the other.
 use Rattle.std.specs.Prelude.{◌≡◌, ℕ, zero, suc, List, [], ◌∷◌, Result, Ok, Err}
-use Rattle.mvt_command.specs.Command.{Command}
+use Rattle.mvt_command.specs.Requests.{HistoryRequest, Edit, Undo, Redo, SetMark, TakeMark, GoBack, Begin, End, Cancel}
+use Rattle.mvt_meaning.specs.declared.refusal.Refusal.{Refusal}
 use Rattle.mvt_history.specs.History.{History, edited, undone, redone, marked, unmarked, gone_back, opened, closed, cancelled}
 use Rattle.mvt_history_error.specs.declared.HistoryError.{HistoryError}
 
--- a request on a history: a command, an undo or redo, a mark to set, to take away or to go back to, a step to open, to
--- end or to cancel
-pub data Request : Type 0 where
-  Edit : (command : Command) → Request
-  Undo : Request
-  Redo : Request
-  SetMark : (name : List ℕ) → Request
-  TakeMark : (name : List ℕ) → Request
-  GoBack : (name : List ℕ) → Request
-  Begin : Request
-  End : Request
-  Cancel : Request
+-- what is made of the answer to a request: by `edit` where it is a command, else by `other`
+abbrev pub by_answer : {A : Type 0} → (Result History Refusal → A) → (Result History HistoryError → A) → HistoryRequest → History → A
+by_answer edit other (Edit command) history = edit (edited command history)
+by_answer edit other Undo history = other (undone history)
+by_answer edit other Redo history = other (redone history)
+by_answer edit other (SetMark name) history = other (marked name history)
+by_answer edit other (TakeMark name) history = other (unmarked name history)
+by_answer edit other (GoBack name) history = other (gone_back name history)
+by_answer edit other Begin history = other (opened history)
+by_answer edit other End history = other (closed history)
+by_answer edit other Cancel history = other (cancelled history)
 
 -- the history that is answered, or the one before where the request is refused
 abbrev pub or_before : {E : Type 0} → History → Result History E → History
@@ -23,29 +23,21 @@ or_before before (Ok after) = after
 or_before before (Err error) = before
 
 -- the history after a request; a refused request changes nothing
-abbrev pub asked : Request → History → History
-asked (Edit command) history = or_before history (edited command history)
-asked Undo history = or_before history (undone history)
-asked Redo history = or_before history (redone history)
-asked (SetMark name) history = or_before history (marked name history)
-asked (TakeMark name) history = or_before history (unmarked name history)
-asked (GoBack name) history = or_before history (gone_back name history)
-asked Begin history = or_before history (opened history)
-asked End history = or_before history (closed history)
-asked Cancel history = or_before history (cancelled history)
+abbrev pub asked : HistoryRequest → History → History
+asked request history = by_answer (or_before history) (or_before history) request history
 
 -- the history after requests, one after the other
-abbrev pub asked_all : List Request → History → History
+abbrev pub asked_all : List HistoryRequest → History → History
 asked_all [] history = history
 asked_all (request ∷ requests) history = asked_all requests (asked request history)
 
 -- the request does not set the mark of this name
-abbrev pub SetsOther : List ℕ → Request → Type 0
+abbrev pub SetsOther : List ℕ → HistoryRequest → Type 0
 SetsOther name (SetMark other) = ¬ (other ≡ name)
 SetsOther name request = Unit {0}
 
 -- the request neither ends nor cancels the open step
-abbrev pub LeavesOpen : Request → Type 0
+abbrev pub LeavesOpen : HistoryRequest → Type 0
 LeavesOpen End = ⊥
 LeavesOpen Cancel = ⊥
 LeavesOpen request = Unit {0}

@@ -4,10 +4,10 @@ use Rattle.std.proofs.lemmas.Bool.{cases_Bool}
 use Rattle.mvt_document.specs.Plain.{Document}
 use Rattle.mvt_meaning.specs.declared.refusal.Refusal.{Refusal}
 use Rattle.mvt_history.specs.History.{History, IsSound, standing_document, edited, undone, redone, marked, unmarked, gone_back, opened, closed, cancelled}
-use Rattle.mvt_history.specs.Requests as asks
 use Rattle.mvt_history.specs.Requests.{or_before, asked, asked_all}
 use Rattle.history_laws.proofs.HistoryLaws.{stays_sound}
-use Rattle.tile_request.specs.Request.{Request, Edit, Undo, Redo, SetMark, TakeMark, GoBack, Begin, End, Cancel, ListMarks, TellHistory, Size, Lists}
+use Rattle.mvt_command.specs.Requests.{HistoryRequest, Edit, Undo, Redo, SetMark, TakeMark, GoBack, Begin, End, Cancel}
+use Rattle.tile_request.specs.Request.{Request, OnHistory, ListMarks, TellHistory, Size, Lists}
 use Rattle.tile_words.specs.declared.parse_error.ParseError.{ParseError}
 use Rattle.tile_script.specs.Line.{answer_to}
 use Rattle.tile_lines.specs.Lines.{lines_of}
@@ -30,15 +30,15 @@ look_settles p (Ok lines) = refl
 look_settles p (Err refusal) = refl
 
 request_settles : (p : Progress) (request : Request) → (settled_by p (carried_out request p.history)).history ≡ asked_all (asked_of request) p.history
-request_settles p (Edit command) = change_settles refused.Edit p (edited command p.history)
-request_settles p Undo = change_settles refused.History p (undone p.history)
-request_settles p Redo = change_settles refused.History p (redone p.history)
-request_settles p (SetMark name) = change_settles refused.History p (marked name p.history)
-request_settles p (TakeMark name) = change_settles refused.History p (unmarked name p.history)
-request_settles p (GoBack name) = change_settles refused.History p (gone_back name p.history)
-request_settles p Begin = change_settles refused.History p (opened p.history)
-request_settles p End = change_settles refused.History p (closed p.history)
-request_settles p Cancel = change_settles refused.History p (cancelled p.history)
+request_settles p (OnHistory (Edit command)) = change_settles refused.Edit p (edited command p.history)
+request_settles p (OnHistory Undo) = change_settles refused.History p (undone p.history)
+request_settles p (OnHistory Redo) = change_settles refused.History p (redone p.history)
+request_settles p (OnHistory (SetMark name)) = change_settles refused.History p (marked name p.history)
+request_settles p (OnHistory (TakeMark name)) = change_settles refused.History p (unmarked name p.history)
+request_settles p (OnHistory (GoBack name)) = change_settles refused.History p (gone_back name p.history)
+request_settles p (OnHistory Begin) = change_settles refused.History p (opened p.history)
+request_settles p (OnHistory End) = change_settles refused.History p (closed p.history)
+request_settles p (OnHistory Cancel) = change_settles refused.History p (cancelled p.history)
 request_settles p ListMarks = look_settles p (Ok (mark_lines p.history))
 request_settles p TellHistory = look_settles p (Ok (history_lines p.history))
 request_settles p Size = look_settles p (Ok (size_line (standing_document p.history)))
@@ -52,7 +52,7 @@ answer_asks p (Err error) = refl
 line_asks : (p : Progress) (line : List ℕ) → (after_line p line).history ≡ asked_all (asked_in (answer_to line)) p.history
 line_asks p line = answer_asks p (answer_to line)
 
-pub asked_joined : (requests more : List asks.Request) (history : History) → asked_all (requests ++ more) history ≡ asked_all more (asked_all requests history)
+pub asked_joined : (requests more : List HistoryRequest) (history : History) → asked_all (requests ++ more) history ≡ asked_all more (asked_all requests history)
 asked_joined [] more history = refl
 asked_joined (request ∷ requests) more history = asked_joined requests more (asked request history)
 
@@ -65,8 +65,8 @@ lines_are_requests p (line ∷ lines) =
 
 -- ---- what each request keeps
 
-module _ (Holds : History → Type 0) (kept : (request : asks.Request) (history : History) → Holds history → Holds (asked request history)) where
-  kept_by_all : (requests : List asks.Request) (history : History) → Holds history → Holds (asked_all requests history)
+module _ (Holds : History → Type 0) (kept : (request : HistoryRequest) (history : History) → Holds history → Holds (asked request history)) where
+  kept_by_all : (requests : List HistoryRequest) (history : History) → Holds history → Holds (asked_all requests history)
   kept_by_all [] history holds = holds
   kept_by_all (request ∷ requests) history holds = kept_by_all requests (asked request history) (kept request history holds)
 

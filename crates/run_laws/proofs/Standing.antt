@@ -10,7 +10,9 @@ use Rattle.mvt_meaning.specs.Meaning.{applied}
 use Rattle.mvt_meaning.specs.declared.refusal.Refusal.{Refusal}
 use Rattle.mvt_history.specs.Marks.{Mark, point_of, bound, unbound}
 use Rattle.mvt_history.specs.History.{History, IsSound, begun, after_all, after_steps, present_document, commands_in, standing_document, at_point, with_marks, with_group, with_step, with_command, edited_to, edited, unless_open, undone, redone, marked, unmarked, gone_to, gone_back, opened, ended, closed, cancelled}
-use Rattle.mvt_history.specs.Requests.{Request, Edit, Undo, Redo, SetMark, TakeMark, GoBack, Begin, End, Cancel, or_before, asked}
+use Rattle.mvt_command.specs.Requests.{HistoryRequest, Edit, Undo, Redo, SetMark, TakeMark, GoBack, Begin, End, Cancel}
+use Rattle.mvt_history.specs.Requests.{asked}
+use Rattle.mvt_history.proofs.Sound.{or_before_has}
 use Rattle.mvt_history.specs.declared.TheConstants.{MAX_MARKS}
 use Rattle.mvt_history_error.specs.declared.HistoryError.{HistoryError}
 use Rattle.mvt_history_error.specs.declared.HistoryError.TheVariants.{NothingToUndo, NothingToRedo, NoMark, TooManyMarks, NoGroup}
@@ -107,10 +109,6 @@ module _ (document : Document) (depth : ℕ) where
 
   -- ---- requests
 
-  made_or_before : {E : Type 0} (before : History) (answer : Result History E) → IsMade before → IfOk answer IsMade → IsMade (or_before before answer)
-  made_or_before before (Ok after) is_made answered = answered
-  made_or_before before (Err error) is_made answered = is_made
-
   made_unless_open : (group : Option (List Command)) (answer : Result History HistoryError) → (group ≡ None → IfOk answer IsMade) → IfOk (unless_open group answer) IsMade
   made_unless_open None answer answered = answered refl
   made_unless_open (Some commands) answer answered = tt
@@ -163,21 +161,21 @@ module _ (document : Document) (depth : ℕ) where
   made_cancelled : (history : History) → IsMade history → IfOk (cancelled history) IsMade
   made_cancelled history is_made = made_if (is_some history.group) (Ok (with_group None history)) (Err NoGroup) (made_with_group None history is_made refl) tt
 
-  made_asked : (request : Request) (history : History) → IsMade history → IsMade (asked request history)
+  made_asked : (request : HistoryRequest) (history : History) → IsMade history → IsMade (asked request history)
   made_asked (Edit command) history is_made =
-      made_or_before history (edited command history) is_made (made_edited_to command history (applied command (standing_document history)) refl is_made)
-  made_asked Undo history is_made = made_or_before history (undone history) is_made (made_undone history is_made)
-  made_asked Redo history is_made = made_or_before history (redone history) is_made (made_redone history is_made)
+      or_before_has IsMade history (edited command history) is_made (made_edited_to command history (applied command (standing_document history)) refl is_made)
+  made_asked Undo history is_made = or_before_has IsMade history (undone history) is_made (made_undone history is_made)
+  made_asked Redo history is_made = or_before_has IsMade history (redone history) is_made (made_redone history is_made)
   made_asked (SetMark name) history is_made =
       let room = is_some (point_of name history.marks) || nat_lt (length history.marks) MAX_MARKS in
-      made_or_before history (marked name history) is_made (made_marking room TooManyMarks (bound name history.present history.marks) history is_made)
+      or_before_has IsMade history (marked name history) is_made (made_marking room TooManyMarks (bound name history.present history.marks) history is_made)
   made_asked (TakeMark name) history is_made =
       let there = is_some (point_of name history.marks) in
-      made_or_before history (unmarked name history) is_made (made_marking there NoMark (unbound name history.marks) history is_made)
-  made_asked (GoBack name) history is_made = made_or_before history (gone_back name history) is_made (made_gone_back name history is_made)
-  made_asked Begin history is_made = made_or_before history (opened history) is_made (made_opened history is_made)
-  made_asked End history is_made = made_or_before history (closed history) is_made (made_ended history.group history is_made is_made.group)
-  made_asked Cancel history is_made = made_or_before history (cancelled history) is_made (made_cancelled history is_made)
+      or_before_has IsMade history (unmarked name history) is_made (made_marking there NoMark (unbound name history.marks) history is_made)
+  made_asked (GoBack name) history is_made = or_before_has IsMade history (gone_back name history) is_made (made_gone_back name history is_made)
+  made_asked Begin history is_made = or_before_has IsMade history (opened history) is_made (made_opened history is_made)
+  made_asked End history is_made = or_before_has IsMade history (closed history) is_made (made_ended history.group history is_made is_made.group)
+  made_asked Cancel history is_made = or_before_has IsMade history (cancelled history) is_made (made_cancelled history is_made)
 
   made_begun : IsMade (begun document depth)
   made_begun = record { start = refl; keeps_depth = refl; made = document; steps = refl; group = refl }

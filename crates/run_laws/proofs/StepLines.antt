@@ -3,13 +3,13 @@ use Rattle.std.proofs.Common.{◌≡◌, ℕ, false, List, [], ◌∷◌, ◌++�
 use Rattle.std.proofs.lemmas.Grind.{flat_map-append}
 use Rattle.mvt_document.specs.Wire.{bytes_of}
 use Rattle.mvt_history.specs.History.{History, with_group, standing_document, gone_back, opened}
-use Rattle.mvt_history.specs.Requests as asks
 use Rattle.mvt_history.specs.Requests.{or_before, asked, asked_all}
 use Rattle.history_laws.proofs.NoTrace.{cancel_leaves_no_trace}
 use Rattle.history_laws.proofs.HistoryLaws.{step_undoes_whole}
 use Rattle.history_laws.proofs.BackToMark.{back_to_mark}
 use Rattle.history_laws.proofs.HistoryLaws.{stays_sound}
-use Rattle.tile_request.specs.Request.{Request, Begin, End, Cancel, Undo, SetMark, GoBack}
+use Rattle.mvt_command.specs.Requests.{Begin, End, Cancel, Undo, SetMark, GoBack}
+use Rattle.tile_request.specs.Request.{Request, OnHistory}
 use Rattle.tile_script.specs.Line.{answer_to}
 use Rattle.tile_run.specs.Run.{Progress, after_lines}
 use Rattle.run_laws.specs.RunLaws.{asked_of, asked_in, requests_of, CancelInARun, StepUndoneInARun, BackInARun}
@@ -56,29 +56,29 @@ pub cancel_in_a_run : CancelInARun
 cancel_in_a_run p begin cancel lines none asks_begin leave asks_cancel =
     let requests = requests_of lines in
     let opening = with_group (Some []) p.history in
-    let begun : asked asks.Begin p.history ≡ opening = ap (or_before p.history) (opens p.history none) in
+    let begun : asked Begin p.history ≡ opening = ap (or_before p.history) (opens p.history none) in
     let whole = cancel_leaves_no_trace requests p.history opening (opens p.history none) leave in
-    behind_lines p begin Begin lines (cancel ∷ []) asks_begin
-    ∙ last_asks cancel Cancel (asked_all requests (asked asks.Begin p.history)) asks_cancel
-    ∙ ap (λ history. asked asks.Cancel (asked_all requests history)) begun
+    behind_lines p begin (OnHistory Begin) lines (cancel ∷ []) asks_begin
+    ∙ last_asks cancel (OnHistory Cancel) (asked_all requests (asked Begin p.history)) asks_cancel
+    ∙ ap (λ history. asked Cancel (asked_all requests history)) begun
     ∙ ap (or_before (asked_all requests opening)) whole
 
 pub step_undone_in_a_run : StepUndoneInARun
 step_undone_in_a_run p begin end undo lines sound none asks_begin leave some asks_end asks_undo =
     let requests = requests_of lines in
     let opening = with_group (Some []) p.history in
-    let begun : asked asks.Begin p.history ≡ opening = ap (or_before p.history) (opens p.history none) in
-    let within : (after_lines false p (begin ∷ lines)).history ≡ asked_all requests opening = behind_first p begin Begin lines asks_begin ∙ ap (asked_all requests) begun in
+    let begun : asked Begin p.history ≡ opening = ap (or_before p.history) (opens p.history none) in
+    let within : (after_lines false p (begin ∷ lines)).history ≡ asked_all requests opening = behind_first p begin (OnHistory Begin) lines asks_begin ∙ ap (asked_all requests) begun in
     let whole = step_undoes_whole requests p.history opening sound (opens p.history none) leave (λ empty. some (ap (λ (history : History). history.group) within ∙ empty)) in
     let after = whole.0 in
     let back = whole.1 in
-    let ended : asked asks.End (asked_all requests opening) ≡ after = ap (or_before (asked_all requests opening)) whole.2 in
-    let taken_back : asked asks.Undo after ≡ back = ap (or_before after) whole.3 in
+    let ended : asked End (asked_all requests opening) ≡ after = ap (or_before (asked_all requests opening)) whole.2 in
+    let taken_back : asked Undo after ≡ back = ap (or_before after) whole.3 in
     let all : (after_lines false p (begin ∷ lines ++ end ∷ undo ∷ [])).history ≡ back =
-    behind_lines p begin Begin lines (end ∷ undo ∷ []) asks_begin
-    ∙ last_two_ask end undo End Undo (asked_all requests (asked asks.Begin p.history)) asks_end asks_undo
-    ∙ ap (λ history. asked asks.Undo (asked asks.End (asked_all requests history))) begun
-    ∙ ap (asked asks.Undo) ended
+    behind_lines p begin (OnHistory Begin) lines (end ∷ undo ∷ []) asks_begin
+    ∙ last_two_ask end undo (OnHistory End) (OnHistory Undo) (asked_all requests (asked Begin p.history)) asks_end asks_undo
+    ∙ ap (λ history. asked Undo (asked End (asked_all requests history))) begun
+    ∙ ap (asked Undo) ended
     ∙ taken_back in
     ap (λ history. bytes_of (standing_document history)) all ∙ ap bytes_of whole.4
 
@@ -87,12 +87,12 @@ step_undone_in_a_run p begin end undo lines sound none asks_begin leave some ask
 pub back_in_a_run : BackInARun
 back_in_a_run p name mark back lines set gone sound asks_mark sets others asks_back goes =
     let requests = requests_of lines in
-    let marks : asked (asks.SetMark name) p.history ≡ set = ap (or_before p.history) sets in
-    let between : (after_lines false p (mark ∷ lines)).history ≡ asked_all requests set = behind_first p mark (SetMark name) lines asks_mark ∙ ap (asked_all requests) marks in
+    let marks : asked (SetMark name) p.history ≡ set = ap (or_before p.history) sets in
+    let between : (after_lines false p (mark ∷ lines)).history ≡ asked_all requests set = behind_first p mark (OnHistory (SetMark name)) lines asks_mark ∙ ap (asked_all requests) marks in
     let goes_so : gone_back name (asked_all requests set) ≡ Ok gone = ap (gone_back name) (sym between) ∙ goes in
     let all : (after_lines false p (mark ∷ lines ++ back ∷ [])).history ≡ gone =
-    behind_lines p mark (SetMark name) lines (back ∷ []) asks_mark
-    ∙ last_asks back (GoBack name) (asked_all requests (asked (asks.SetMark name) p.history)) asks_back
-    ∙ ap (λ history. asked (asks.GoBack name) (asked_all requests history)) marks
+    behind_lines p mark (OnHistory (SetMark name)) lines (back ∷ []) asks_mark
+    ∙ last_asks back (OnHistory (GoBack name)) (asked_all requests (asked (SetMark name) p.history)) asks_back
+    ∙ ap (λ history. asked (GoBack name) (asked_all requests history)) marks
     ∙ ap (or_before (asked_all requests set)) goes_so in
     ap (λ history. bytes_of (standing_document history)) all ∙ ap bytes_of (back_to_mark stays_sound name requests p.history set gone sound sets others goes_so)

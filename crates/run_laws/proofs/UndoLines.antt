@@ -2,7 +2,8 @@
 use Rattle.std.proofs.Common.{◌≡◌, ℕ, Bool, false, List, [], ◌∷◌, ◌++◌, Some, Ok, refl, ap, ◌∙◌, inl, append_assoc}
 use Rattle.mvt_document.specs.Plain.{Document}
 use Rattle.mvt_document.specs.Wire.{bytes_of}
-use Rattle.tile_request.specs.Request.{Request, Edit, Undo}
+use Rattle.mvt_command.specs.Requests.{Edit, Undo}
+use Rattle.tile_request.specs.Request.{Request, OnHistory}
 use Rattle.tile_script.specs.Line.{answer_to}
 use Rattle.tile_lines.specs.Lines.{lines_of, HasNoLineFeed, with_feed, EndsWithALine}
 use Rattle.mvt_history.specs.History.{History, with_command, edited_to, edited}
@@ -35,8 +36,8 @@ undo_in_a_run strict p line undo command edited_document sound alone on asks mad
     let back = undo_at_once command p.history after sound alone done in
     let one = telling_nothing after in
     let two = telling_nothing back.0 in
-    let first = accepts p line (Edit command) one asks (ap (told_by refused.Edit) done) in
-    let second = accepts (accepted one p) undo Undo two asks_undo (ap (told_by refused.History) back.1) in
+    let first = accepts p line (OnHistory (Edit command)) one asks (ap (told_by refused.Edit) done) in
+    let second = accepts (accepted one p) undo (OnHistory Undo) two asks_undo (ap (told_by refused.History) back.1) in
     let both = two_accepted strict p line undo one two on first second in (
       ap (λ (q : Progress). q.replies) both,
       ap tile_of both ∙ ap bytes_of back.2,

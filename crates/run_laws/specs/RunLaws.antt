@@ -3,13 +3,13 @@ use Rattle.std.specs.Prelude.{◌≡◌, ℕ, ◌+◌, ◌≤◌, Bool, true, fa
 use Rattle.std.specs.List.{AllByRecursion, flat_map}
 use Rattle.mvt_document.specs.Plain.{Document}
 use Rattle.mvt_command.specs.Command.{Command}
-use Rattle.tile_request.specs.Request.{Request, Edit, Undo, Redo, SetMark, TakeMark, GoBack, Begin, End, Cancel, ListMarks, TellHistory, Size, Lists}
+use Rattle.mvt_command.specs.Requests.{HistoryRequest, Edit, Undo, SetMark, GoBack, Begin, End, Cancel}
+use Rattle.tile_request.specs.Request.{Request, OnHistory}
 use Rattle.mvt_meaning.specs.Meaning.{applied}
 use Rattle.tile_script.specs.Line.{answer_to}
 use Rattle.tile_lines.specs.Lines.{lines_of, HasNoLineFeed, with_feed, EndsWithALine}
 use Rattle.mvt_history.specs.History.{History, IsSound, commands_in, standing_document, marked, gone_back}
-use Rattle.mvt_history.specs.Requests as asks
-use Rattle.mvt_history.specs.Requests.{asked_all}
+use Rattle.mvt_history.specs.Requests.{SetsOther, LeavesOpen, asked_all}
 use Rattle.tile_words.specs.declared.parse_error.ParseError.{ParseError}
 use Rattle.tile_answer.specs.Laws.{Looks}
 use Rattle.tile_reply.specs.Replies.{accepted_reply, refused_reply, NoneIsOutOfMemory}
@@ -84,26 +84,18 @@ StandingCommands = (document : Document) (options : Options) (script : List ℕ)
 -- ---- what lines ask of a history
 
 -- what a request asks of a history; a look asks nothing of it
-abbrev pub asked_of : Request → List asks.Request
-asked_of (Edit command) = asks.Edit command ∷ []
-asked_of Undo = asks.Undo ∷ []
-asked_of Redo = asks.Redo ∷ []
-asked_of (SetMark name) = asks.SetMark name ∷ []
-asked_of (TakeMark name) = asks.TakeMark name ∷ []
-asked_of (GoBack name) = asks.GoBack name ∷ []
-asked_of Begin = asks.Begin ∷ []
-asked_of End = asks.End ∷ []
-asked_of Cancel = asks.Cancel ∷ []
+abbrev pub asked_of : Request → List HistoryRequest
+asked_of (OnHistory request) = request ∷ []
 asked_of request = []
 
 -- what a line asks of a history; a line that asks for nothing, or is refused as it is read, asks nothing of it
-abbrev pub asked_in : Result (Option Request) ParseError → List asks.Request
+abbrev pub asked_in : Result (Option Request) ParseError → List HistoryRequest
 asked_in (Ok None) = []
 asked_in (Ok (Some request)) = asked_of request
 asked_in (Err error) = []
 
 -- what the lines ask of a history, one after the other
-abbrev pub requests_of : List (List ℕ) → List asks.Request
+abbrev pub requests_of : List (List ℕ) → List HistoryRequest
 requests_of lines = flat_map (λ line. asked_in (answer_to line)) lines
 
 -- in a run that is not strict, the history after lines is what their requests make of the history before them, so each
@@ -118,8 +110,8 @@ LinesAreRequests = (p : Progress) (lines : List (List ℕ)) → (after_lines fal
 abbrev pub UndoInARun : Type 0
 UndoInARun =
     (strict : Bool) (p : Progress) (line undo : List ℕ) (command : Command) (edited : Document) → IsSound p.history
-    → p.history.group ≡ None → is_over strict p ≡ false → answer_to line ≡ Ok (Some (Edit command))
-    → applied command (standing_document p.history) ≡ Ok edited → answer_to undo ≡ Ok (Some Undo)
+    → p.history.group ≡ None → is_over strict p ≡ false → answer_to line ≡ Ok (Some (OnHistory (Edit command)))
+    → applied command (standing_document p.history) ≡ Ok edited → answer_to undo ≡ Ok (Some (OnHistory Undo))
     → ((after_lines strict p (line ∷ undo ∷ [])).replies ≡ p.replies ++ accepted_reply [] ++ accepted_reply [])
     × (tile_of (after_lines strict p (line ∷ undo ∷ [])) ≡ tile_of p)
 
@@ -130,9 +122,9 @@ UndoInAScript =
     (document : Document) (options : Options) (front line undo : List ℕ) (command : Command) (edited : Document)
     → 1 ≤ options.depth → EndsWithALine front → (ran document options front).history.group ≡ None
     → is_over options.strict (ran document options front) ≡ false → HasNoLineFeed line → HasNoLineFeed undo
-    → answer_to line ≡ Ok (Some (Edit command))
+    → answer_to line ≡ Ok (Some (OnHistory (Edit command)))
     → applied command (standing_document (ran document options front).history) ≡ Ok edited
-    → answer_to undo ≡ Ok (Some Undo)
+    → answer_to undo ≡ Ok (Some (OnHistory Undo))
     → ((ran document options (front ++ with_feed line ++ with_feed undo)).replies ≡ (ran document options front).replies ++ accepted_reply [] ++ accepted_reply [])
     × (tile_of (ran document options (front ++ with_feed line ++ with_feed undo)) ≡ tile_of (ran document options front))
 
@@ -140,14 +132,14 @@ UndoInAScript =
 
 -- none of the lines asks to end or cancel a step
 abbrev pub LeaveOpen : List (List ℕ) → Type 0
-LeaveOpen lines = AllByRecursion asks.LeavesOpen (requests_of lines)
+LeaveOpen lines = AllByRecursion LeavesOpen (requests_of lines)
 
 -- in a run that is not strict, where no step is open: a line that opens one, any lines that neither end nor cancel a
 -- step, and a line that cancels it leave the history as it was
 abbrev pub CancelInARun : Type 0
 CancelInARun =
     (p : Progress) (begin cancel : List ℕ) (lines : List (List ℕ)) → p.history.group ≡ None
-    → answer_to begin ≡ Ok (Some Begin) → LeaveOpen lines → answer_to cancel ≡ Ok (Some Cancel)
+    → answer_to begin ≡ Ok (Some (OnHistory Begin)) → LeaveOpen lines → answer_to cancel ≡ Ok (Some (OnHistory Cancel))
     → (after_lines false p (begin ∷ lines ++ cancel ∷ [])).history ≡ p.history
 
 -- in a run that is not strict, where no step is open: a line that opens one, any lines that neither end nor cancel a
@@ -155,8 +147,8 @@ CancelInARun =
 abbrev pub StepUndoneInARun : Type 0
 StepUndoneInARun =
     (p : Progress) (begin end undo : List ℕ) (lines : List (List ℕ)) → IsSound p.history → p.history.group ≡ None
-    → answer_to begin ≡ Ok (Some Begin) → LeaveOpen lines → ¬ ((after_lines false p (begin ∷ lines)).history.group ≡ Some [])
-    → answer_to end ≡ Ok (Some End) → answer_to undo ≡ Ok (Some Undo)
+    → answer_to begin ≡ Ok (Some (OnHistory Begin)) → LeaveOpen lines → ¬ ((after_lines false p (begin ∷ lines)).history.group ≡ Some [])
+    → answer_to end ≡ Ok (Some (OnHistory End)) → answer_to undo ≡ Ok (Some (OnHistory Undo))
     → tile_of (after_lines false p (begin ∷ lines ++ end ∷ undo ∷ [])) ≡ tile_of p
 
 -- in a run that is not strict, where a line that sets a mark is accepted, and, after any lines that do not set it anew,
@@ -164,9 +156,9 @@ StepUndoneInARun =
 abbrev pub BackInARun : Type 0
 BackInARun =
     (p : Progress) (name mark back : List ℕ) (lines : List (List ℕ)) (set gone : History) → IsSound p.history
-    → answer_to mark ≡ Ok (Some (SetMark name)) → marked name p.history ≡ Ok set
-    → AllByRecursion (asks.SetsOther name) (requests_of lines)
-    → answer_to back ≡ Ok (Some (GoBack name)) → gone_back name (after_lines false p (mark ∷ lines)).history ≡ Ok gone
+    → answer_to mark ≡ Ok (Some (OnHistory (SetMark name))) → marked name p.history ≡ Ok set
+    → AllByRecursion (SetsOther name) (requests_of lines)
+    → answer_to back ≡ Ok (Some (OnHistory (GoBack name))) → gone_back name (after_lines false p (mark ∷ lines)).history ≡ Ok gone
     → tile_of (after_lines false p (mark ∷ lines ++ back ∷ [])) ≡ tile_of p
 
 -- ---- out of memory

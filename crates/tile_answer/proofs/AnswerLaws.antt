@@ -8,6 +8,7 @@ use Rattle.std.specs.List.{flat_map}
 use Rattle.mvt_document.specs.Plain.{Document}
 use Rattle.mvt_document.specs.Wire.{bytes_of}
 use Rattle.mvt_command.specs.Command.{Command}
+use Rattle.mvt_command.specs.Requests.{Edit, Undo, Redo, SetMark, TakeMark, GoBack, Begin, End, Cancel}
 use Rattle.mvt_command.proofs.Others.{Other}
 use Rattle.mvt_meaning.specs.Meaning.{applied}
 use Rattle.mvt_meaning.specs.declared.refusal.Refusal.{Refusal}
@@ -16,7 +17,7 @@ use Rattle.mvt_meaning.proofs.NeverOutOfMemory.{applied_other}
 use Rattle.tile_lines.specs.Lines.{HasNoLineFeed, with_feed}
 use Rattle.tile_text.specs.Texts.{text_form}
 use Rattle.tile_text.proofs.Feeds.{text_form_feedless}
-use Rattle.tile_request.specs.Request.{Edit, Undo, Redo, SetMark, TakeMark, GoBack, Begin, End, Cancel, ListMarks, TellHistory, Size, Lists}
+use Rattle.tile_request.specs.Request.{OnHistory, ListMarks, TellHistory, Size, Lists}
 use Rattle.tile_listing.specs.Listing.{listed}
 use Rattle.tile_listing.specs.Told.{MayBeTold, AreLinesToTell}
 use Rattle.tile_listing.proofs.Telling.{uncut-append, decimal_uncut, none_to_tell, one_to_tell}
@@ -103,15 +104,15 @@ tells_these : (history : History) (lines : List ℕ) (told : Told) → AreLinesT
 tells_these history lines told may e = look_tells history (Ok lines) told (λ others is. let same : lines ≡ others = cc in subst AreLinesToTell same may) e
 
 pub requests_tell_lines : RequestsTellLines
-requests_tell_lines (Edit command) history told e = change_tells refused.Edit (edited command history) told e
-requests_tell_lines Undo history told e = change_tells refused.History (undone history) told e
-requests_tell_lines Redo history told e = change_tells refused.History (redone history) told e
-requests_tell_lines (SetMark name) history told e = change_tells refused.History (marked name history) told e
-requests_tell_lines (TakeMark name) history told e = change_tells refused.History (unmarked name history) told e
-requests_tell_lines (GoBack name) history told e = change_tells refused.History (gone_back name history) told e
-requests_tell_lines Begin history told e = change_tells refused.History (opened history) told e
-requests_tell_lines End history told e = change_tells refused.History (closed history) told e
-requests_tell_lines Cancel history told e = change_tells refused.History (cancelled history) told e
+requests_tell_lines (OnHistory (Edit command)) history told e = change_tells refused.Edit (edited command history) told e
+requests_tell_lines (OnHistory Undo) history told e = change_tells refused.History (undone history) told e
+requests_tell_lines (OnHistory Redo) history told e = change_tells refused.History (redone history) told e
+requests_tell_lines (OnHistory (SetMark name)) history told e = change_tells refused.History (marked name history) told e
+requests_tell_lines (OnHistory (TakeMark name)) history told e = change_tells refused.History (unmarked name history) told e
+requests_tell_lines (OnHistory (GoBack name)) history told e = change_tells refused.History (gone_back name history) told e
+requests_tell_lines (OnHistory Begin) history told e = change_tells refused.History (opened history) told e
+requests_tell_lines (OnHistory End) history told e = change_tells refused.History (closed history) told e
+requests_tell_lines (OnHistory Cancel) history told e = change_tells refused.History (cancelled history) told e
 requests_tell_lines ListMarks history told e = tells_these history (mark_lines history) told (marks_to_tell history.present history.marks) e
 requests_tell_lines TellHistory history told e = tells_these history (history_lines history) told (history_to_tell history) e
 requests_tell_lines Size history told e = tells_these history (size_line (standing_document history)) told (size_to_tell (standing_document history)) e
@@ -195,16 +196,16 @@ look_is_not_out_of_memory history (Err refusal) reason other e =
     let same : refused.Edit refusal ≡ reason = cc in subst (λ (r : Refused). ¬ (IsOutOfMemory r)) same (edit_is_other refusal (λ out_of_memory. other (ap Err out_of_memory)))
 
 pub no_request_is_out_of_memory : NoRequestIsOutOfMemory
-no_request_is_out_of_memory (Edit command) history reason e =
+no_request_is_out_of_memory (OnHistory (Edit command)) history reason e =
     edit_is_not_out_of_memory command history (applied command (standing_document history)) reason (applied_other command (standing_document history)) e
-no_request_is_out_of_memory Undo history reason e = move_is_not_out_of_memory (undone history) reason (unless_open_other history.group _ (other_either _ _ _ nothing_to_undo)) e
-no_request_is_out_of_memory Redo history reason e = move_is_not_out_of_memory (redone history) reason (unless_open_other history.group _ (other_either _ _ _ nothing_to_redo)) e
-no_request_is_out_of_memory (SetMark name) history reason e = move_is_not_out_of_memory (marked name history) reason (unless_open_other history.group _ (either_other _ _ _ too_many_marks)) e
-no_request_is_out_of_memory (TakeMark name) history reason e = move_is_not_out_of_memory (unmarked name history) reason (unless_open_other history.group _ (either_other _ _ _ no_mark)) e
-no_request_is_out_of_memory (GoBack name) history reason e = move_is_not_out_of_memory (gone_back name history) reason (unless_open_other history.group _ (gone_to_other _ history)) e
-no_request_is_out_of_memory Begin history reason e = move_is_not_out_of_memory (opened history) reason (unless_open_other history.group _ tt) e
-no_request_is_out_of_memory End history reason e = move_is_not_out_of_memory (closed history) reason (ended_other history.group history) e
-no_request_is_out_of_memory Cancel history reason e = move_is_not_out_of_memory (cancelled history) reason (either_other _ _ _ no_group) e
+no_request_is_out_of_memory (OnHistory Undo) history reason e = move_is_not_out_of_memory (undone history) reason (unless_open_other history.group _ (other_either _ _ _ nothing_to_undo)) e
+no_request_is_out_of_memory (OnHistory Redo) history reason e = move_is_not_out_of_memory (redone history) reason (unless_open_other history.group _ (other_either _ _ _ nothing_to_redo)) e
+no_request_is_out_of_memory (OnHistory (SetMark name)) history reason e = move_is_not_out_of_memory (marked name history) reason (unless_open_other history.group _ (either_other _ _ _ too_many_marks)) e
+no_request_is_out_of_memory (OnHistory (TakeMark name)) history reason e = move_is_not_out_of_memory (unmarked name history) reason (unless_open_other history.group _ (either_other _ _ _ no_mark)) e
+no_request_is_out_of_memory (OnHistory (GoBack name)) history reason e = move_is_not_out_of_memory (gone_back name history) reason (unless_open_other history.group _ (gone_to_other _ history)) e
+no_request_is_out_of_memory (OnHistory Begin) history reason e = move_is_not_out_of_memory (opened history) reason (unless_open_other history.group _ tt) e
+no_request_is_out_of_memory (OnHistory End) history reason e = move_is_not_out_of_memory (closed history) reason (ended_other history.group history) e
+no_request_is_out_of_memory (OnHistory Cancel) history reason e = move_is_not_out_of_memory (cancelled history) reason (either_other _ _ _ no_group) e
 no_request_is_out_of_memory ListMarks history reason e = absurd cc
 no_request_is_out_of_memory TellHistory history reason e = absurd cc
 no_request_is_out_of_memory Size history reason e = absurd cc
@@ -222,4 +223,4 @@ looks_leave_history ListMarks history told looks e = look_leaves history (Ok (ma
 looks_leave_history TellHistory history told looks e = look_leaves history (Ok (history_lines history)) told e
 looks_leave_history Size history told looks e = look_leaves history (Ok (size_line (standing_document history))) told e
 looks_leave_history (Lists what) history told looks e = look_leaves history (listed what (standing_document history)) told e
-looks_leave_history request history told looks e = absurd looks
+looks_leave_history (OnHistory request) history told looks e = absurd looks

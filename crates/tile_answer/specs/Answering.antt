@@ -1,15 +1,17 @@
 -- What a request prints, and what it makes of a history.
-use Rattle.std.specs.Prelude.{ℕ, ◌-◌, ℤ, pos, ◌-ℤ◌, List, [], ◌++◌, length, Option, Some, None, Result, Ok, Err, codes, decimal, option_map}
+use Rattle.std.specs.Prelude.{ℕ, ◌-◌, ℤ, pos, ◌-ℤ◌, List, [], ◌++◌, length, Option, Some, None, Result, Ok, codes, decimal, option_map}
 use Rattle.std.specs.List.{flat_map}
+use Rattle.std.specs.Result.{result_map_both}
 use Rattle.std.specs.Fmt.{signed_decimal}
 use Rattle.mvt_document.specs.Plain.{Document}
 use Rattle.mvt_document.specs.Wire.{bytes_of}
 use Rattle.mvt_meaning.specs.declared.refusal.Refusal.{Refusal}
 use Rattle.tile_text.specs.Texts.{text_form}
-use Rattle.tile_request.specs.Request.{Request, Edit, Undo, Redo, SetMark, TakeMark, GoBack, Begin, End, Cancel, ListMarks, TellHistory, Size, Lists}
+use Rattle.tile_request.specs.Request.{Request, OnHistory, ListMarks, TellHistory, Size, Lists}
 use Rattle.tile_listing.specs.Listing.{listed}
 use Rattle.mvt_history.specs.Marks.{Mark}
-use Rattle.mvt_history.specs.History.{History, standing_document, edited, undone, redone, marked, unmarked, gone_back, opened, closed, cancelled}
+use Rattle.mvt_history.specs.History.{History, standing_document}
+use Rattle.mvt_history.specs.Requests.{by_answer}
 use Rattle.tile_reply.specs.declared.refused.Refused.{Refused}
 use Rattle.tile_reply.specs.declared.refused.Refused.TheVariants as refused
 
@@ -21,13 +23,11 @@ pub record Told : Type 0 where
 -- what a request that changes the history gives: no lines, and the history after it; or its refusal, which is a
 -- refusal of a line as `refusal` says
 abbrev pub told_by : {E : Type 0} → (E → Refused) → Result History E → Result Told Refused
-told_by refusal (Ok history) = Ok (record { lines = []; history = history })
-told_by refusal (Err error) = Err (refusal error)
+told_by refusal answer = result_map_both (λ history. record { lines = []; history = history }) refusal answer
 
 -- what a look gives: its lines, and the history as it was; or its refusal
 abbrev pub told_by_look : History → Result (List ℕ) Refusal → Result Told Refused
-told_by_look history (Ok lines) = Ok (record { lines = lines; history = history })
-told_by_look history (Err refusal) = Err (refused.Edit refusal)
+told_by_look history shown = result_map_both (λ lines. record { lines = lines; history = history }) refused.Edit shown
 
 -- the line of a mark: its name, and how far its point lies from the present one, below 0 where undo leads there
 abbrev pub offset_line : List ℕ → ℤ → List ℕ
@@ -60,15 +60,7 @@ size_line document = codes "size " ++ decimal (length (bytes_of document)) ++ co
 
 -- what a request prints and makes of a history, or its refusal
 abbrev pub carried_out : Request → History → Result Told Refused
-carried_out (Edit command) history = told_by refused.Edit (edited command history)
-carried_out Undo history = told_by refused.History (undone history)
-carried_out Redo history = told_by refused.History (redone history)
-carried_out (SetMark name) history = told_by refused.History (marked name history)
-carried_out (TakeMark name) history = told_by refused.History (unmarked name history)
-carried_out (GoBack name) history = told_by refused.History (gone_back name history)
-carried_out Begin history = told_by refused.History (opened history)
-carried_out End history = told_by refused.History (closed history)
-carried_out Cancel history = told_by refused.History (cancelled history)
+carried_out (OnHistory request) history = by_answer (told_by refused.Edit) (told_by refused.History) request history
 carried_out ListMarks history = told_by_look history (Ok (mark_lines history))
 carried_out TellHistory history = told_by_look history (Ok (history_lines history))
 carried_out Size history = told_by_look history (Ok (size_line (standing_document history)))

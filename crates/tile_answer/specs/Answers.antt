@@ -1,7 +1,8 @@
 -- How a session answers a request.
 use Rattle.std.specs.Prelude.{◌≡◌, ◌⊎◌, ℕ, Result, Ok, Err, IsOk}
 use Rattle.mvt_document.specs.Held.{Held}
-use Rattle.tile_request.specs.Request.{Request, Edit, TakeMark, GoBack, Begin, Cancel, Lists}
+use Rattle.mvt_command.specs.Requests.{Edit, TakeMark, GoBack, Begin, Cancel}
+use Rattle.tile_request.specs.Request.{Request, OnHistory, Lists}
 use Rattle.mvt_history.specs.History.{History}
 use Rattle.mvt_history.specs.Session.{StandsFor, StopsAt, StopsWithin}
 use Rattle.mvt_history.specs.Standing.{Standing}
@@ -15,19 +16,19 @@ use Rattle.tile_answer.specs.Answering.{carried_out}
 -- step), nor those that are stopped instead (to go back, to cancel); each other, but for a command and a listing, only
 -- where it is accepted with all memory
 abbrev pub NeedsMemory : Request → History → Type 0
-NeedsMemory (Edit command) history = Unit {0}
-NeedsMemory (TakeMark name) history = ⊥
-NeedsMemory (GoBack name) history = ⊥
-NeedsMemory Begin history = ⊥
-NeedsMemory Cancel history = ⊥
+NeedsMemory (OnHistory (Edit command)) history = Unit {0}
+NeedsMemory (OnHistory (TakeMark name)) history = ⊥
+NeedsMemory (OnHistory (GoBack name)) history = ⊥
+NeedsMemory (OnHistory Begin) history = ⊥
+NeedsMemory (OnHistory Cancel) history = ⊥
 NeedsMemory (Lists what) history = Unit {0}
 NeedsMemory request history = IsOk (carried_out request history)
 
 -- the request is to go back or to cancel, and may be stopped with `taken` steps, or commands, taken, where the history
 -- `between` stands
 abbrev pub MayStop : Request → History → ℕ → History → Type 0
-MayStop (GoBack name) history taken between = StopsAt name history taken between
-MayStop Cancel history taken between = StopsWithin history taken between
+MayStop (OnHistory (GoBack name)) history taken between = StopsAt name history taken between
+MayStop (OnHistory Cancel) history taken between = StopsWithin history taken between
 MayStop request history taken between = ⊥
 
 -- the request is refused as it is defined, or with 60 where it may be

@@ -1,6 +1,6 @@
 -- Laws of what requests print.
 use Rattle.std.specs.Prelude.{◌≡◌, Ok, Err}
-use Rattle.tile_request.specs.Request.{Request, ListMarks, TellHistory, Size, Lists}
+use Rattle.tile_request.specs.Request.{Request, OnHistory}
 use Rattle.tile_listing.specs.Told.{AreLinesToTell}
 use Rattle.mvt_history.specs.History.{History}
 use Rattle.tile_reply.specs.Replies.{IsOutOfMemory}
@@ -17,11 +17,8 @@ NoRequestIsOutOfMemory = (request : Request) (history : History) (reason : Refus
 
 -- the request asks for the marks, the history, the size or a listing
 abbrev pub Looks : Request → Type 0
-Looks ListMarks = Unit {0}
-Looks TellHistory = Unit {0}
-Looks Size = Unit {0}
-Looks (Lists what) = Unit {0}
-Looks request = ⊥
+Looks (OnHistory request) = ⊥
+Looks request = Unit {0}
 
 -- a look that is accepted leaves the history as it was, and so the tile and what undo takes back
 abbrev pub LooksLeaveHistory : Type 0

@@ -1,5 +1,5 @@
 -- What contracts see of a device at one moment, and what it gives or takes between two.
-use Rattle.std.specs.Prelude.{◌≡◌, ℕ, ◌+◌, ◌≤◌, List, [], ◌++◌, Bool, false, IsTrue, Result, Ok, Err, Some, None}
+use Rattle.std.specs.Prelude.{◌≡◌, ℕ, ◌+◌, ◌-◌, List, [], ◌++◌, Bool, false, IsTrue, Some, None}
 use Rattle.std.specs.declared.option.Option.{Option}
 use Rattle.std.specs.Io.KnownBytes.{Appends, Consumes, IsAtEnd}
 use Rattle.tile_device.specs.Device.{counted, interruptions_in, failures_in}
@@ -80,13 +80,26 @@ pub record Receives (old new : Seen) (output : Output) : Type 0 where
 abbrev pub IsFront : List ℕ → List ℕ → Type 0
 IsFront front whole = (rest : List ℕ) × (whole ≡ front ++ rest)
 
--- a sink was sent these bytes: it took all of them, or, before a trouble, a prefix of them
-abbrev pub Sends : {A : Type 0} → Seen → Seen → List ℕ → ℕ → Result A Trouble → Type 0
-Sends old new bytes retries (Ok done) = Receives old new (written retries bytes)
-Sends old new bytes retries (Err trouble) = (front : List ℕ) × IsFront front bytes × Receives old new (record { bytes = front; retries = retries; trouble = Some trouble })
+-- ---- with a budget of retries, before some calls and after them
 
--- a budget of retries before and after some calls: no more is left than before, and an interruption ended the calls
--- only where none is left
-pub record Spends (before after : ℕ) (trouble : Option Trouble) : Type 0 where
-  pub within : after ≤ before
+-- the budget paid for so many calls that were made again; an interruption ended the calls only where none is left
+pub record Pays (before after retries : ℕ) (trouble : Option Trouble) : Type 0 where
+  pub spent : after + retries ≡ before
   pub last : trouble ≡ Some Interrupted → after ≡ 0
+
+-- a source gave this intake, and the budget paid for it
+pub record Reads (old new : Seen) (before after : ℕ) (intake : Intake) : Type 0 where
+  pub supplies : Supplies old new intake
+  pub pays : Pays before after intake.retries intake.trouble
+
+-- a sink took this output, and the budget paid for it
+pub record Writes (old new : Seen) (before after : ℕ) (output : Output) : Type 0 where
+  pub receives : Receives old new output
+  pub pays : Pays before after output.retries output.trouble
+
+-- a sink was sent these bytes, and the budget paid for it: the sink took all of them, or, before this trouble, a prefix
+-- of them
+abbrev pub Sends : Seen → Seen → ℕ → ℕ → List ℕ → Option Trouble → Type 0
+Sends old new before after bytes None = Writes old new before after (written (before - after) bytes)
+Sends old new before after bytes (Some trouble) =
+    (front : List ℕ) × IsFront front bytes × Writes old new before after (record { bytes = front; retries = before - after; trouble = Some trouble })

@@ -8,12 +8,13 @@
 //!   budget of retries begins with a number of them, and says how many are left: `Retries::new`,
 //!   `left`.
 //! - A piece is read into a buffer, and is known to be the end only where nothing came and there
-//!   was room: `read_some` (`supplies`). An input is read up to a limit: fewer bytes are all that
-//!   there were, and a fault loses them: `read_to_limit` (`supplies`). Bytes are written, and
-//!   passed on, as a whole, or a prefix of them before a trouble: `write_all` and `write_and_flush`
-//!   (`sends`); the trouble of a write comes before the last byte (`front` of `write_all`).
+//!   was room: `read_some` (`reads`). An input is read up to a limit: fewer bytes are all that
+//!   there were, and a fault loses them: `read_to_limit`. Bytes are written, and passed on, as a
+//!   whole, or a prefix of them before a trouble: `write_all` (`sends`) and `write_and_flush`; the
+//!   trouble of a write comes before the last byte (`front` of `write_all`).
 //! - In all four an interrupted call is made again as long as the budget has a retry left, and
-//!   takes one; an interruption ends the calls only where none is left (`spends`).
+//!   takes one; an interruption ends the calls only where none is left. The same clauses say so
+//!   (`Pays`).
 #![tactic(auto)]
 
 mod counts;

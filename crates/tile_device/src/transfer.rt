@@ -5,8 +5,8 @@
 ghost use Rattle.std.specs.Prelude.{◌≡◌, ℕ, ◌-◌, ◌<◌, ◌≤◌, IfOk, IsTrue, OnErr, length, take};
 ghost use Rattle.std.specs.Io.KnownBytes.{Appends};
 ghost use Rattle.tile_device.specs.Device.{trouble_of};
-ghost use Rattle.tile_device.specs.Seen.{Intake, Sends, Spends, Supplies, sink_at, source_at};
-ghost use Rattle.tile_device.specs.Transfer.{ReadsUpTo, piece_of, read_trouble_of};
+ghost use Rattle.tile_device.specs.Seen.{Intake, Reads, Sends, sink_at, source_at};
+ghost use Rattle.tile_device.specs.Transfer.{ReadsUpTo, piece_of};
 
 use crate::device::{Sink, Source, Trouble};
 use crate::retries::Retries;
@@ -52,9 +52,8 @@ pub fn read_some<S: Source>(
     retries: &mut Retries,
 ) -> Result<usize, Trouble>
     ensures within { IfOk result (λ n. n ≤ length buffer.new) }
-    ensures spends { Spends retries.old retries.new (trouble_of result) }
-    ensures supplies { Supplies (source_at S.Source source.old) (source_at S.Source source.new)
-        (piece_of result buffer.new (retries.old - retries.new)) }
+    ensures reads { Reads (source_at S.Source source.old) (source_at S.Source source.new)
+        retries.old retries.new (piece_of result buffer.new (retries.old - retries.new)) }
 {
     loop {
         match source.read(buffer) {
@@ -72,10 +71,8 @@ pub fn read_to_limit<S: Source>(
     limit: usize,
     retries: &mut Retries,
 ) -> Result<Vec<u8>, ReadFault>
-    ensures spends { Spends retries.old retries.new (read_trouble_of result) }
-    ensures supplies { (intake : Intake)
-        × Supplies (source_at S.Source source.old) (source_at S.Source source.new) intake
-        × (intake.retries ≡ retries.old - retries.new) × ReadsUpTo limit result intake }
+    ensures { (intake : Intake) × ReadsUpTo limit result intake
+        × Reads (source_at S.Source source.old) (source_at S.Source source.new) retries.old retries.new intake }
 {
     let mut bytes = Vec::new(alloc);
     let mut piece = [0; PIECE];
@@ -96,9 +93,8 @@ pub fn read_to_limit<S: Source>(
 
 /// Writes all of the bytes, in as many writes as it takes. An interrupted write is made again.
 pub fn write_all<S: Sink>(sink: &mut S, bytes: &[u8], retries: &mut Retries) -> Result<(), Trouble>
-    ensures spends { Spends retries.old retries.new (trouble_of result) }
-    ensures sends { Sends (sink_at S.Sink sink.old) (sink_at S.Sink sink.new) bytes.now
-        (retries.old - retries.new) result }
+    ensures sends { Sends (sink_at S.Sink sink.old) (sink_at S.Sink sink.new)
+        retries.old retries.new bytes.now (trouble_of result) }
 
     // Trouble comes before the last byte.
     ensures front { IsTrue (S.tells sink.new) → OnErr result ((n : ℕ) × (n < length bytes.now)
@@ -121,9 +117,8 @@ pub fn write_and_flush<S: Sink>(
     bytes: &[u8],
     retries: &mut Retries,
 ) -> Result<(), Trouble>
-    ensures spends { Spends retries.old retries.new (trouble_of result) }
-    ensures sends { Sends (sink_at S.Sink sink.old) (sink_at S.Sink sink.new) bytes.now
-        (retries.old - retries.new) result }
+    ensures { Sends (sink_at S.Sink sink.old) (sink_at S.Sink sink.new)
+        retries.old retries.new bytes.now (trouble_of result) }
 {
     write_all(sink, bytes, retries)?;
     sink.flush()

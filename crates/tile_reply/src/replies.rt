@@ -1,9 +1,9 @@
 //! What is written in reply to a line.
 
-ghost use Rattle.std.specs.Prelude.{◌≡◌, ◌-◌, ◌++◌, codes};
+ghost use Rattle.std.specs.Prelude.{◌++◌, codes};
 ghost use Rattle.std.specs.List.{flat_map};
 ghost use Rattle.tile_device.specs.Device.{trouble_of};
-ghost use Rattle.tile_device.specs.Seen.{Sends, Spends, sink_at};
+ghost use Rattle.tile_device.specs.Seen.{Sends, sink_at};
 ghost use Rattle.tile_reply.specs.Replies.{answer_seen, refused_front, refused_reply, reply_to, stop_told};
 
 use crate::refused::Refused;
@@ -18,9 +18,8 @@ pub fn reply<W: Sink>(
     answer: Result<&[u8], Refused>,
     retries: &mut Retries,
 ) -> Result<(), Trouble>
-    ensures sends { Sends (sink_at W.Sink replies.old) (sink_at W.Sink replies.new)
-        (reply_to line (answer_seen answer.entry)) (retries.old - retries.new) result }
-    ensures spends { Spends retries.old retries.new (trouble_of result) }
+    ensures { Sends (sink_at W.Sink replies.old) (sink_at W.Sink replies.new)
+        retries.old retries.new (reply_to line (answer_seen answer.entry)) (trouble_of result) }
 {
     write_reply(replies, line, answer, retries)?;
     replies.flush()
@@ -32,9 +31,8 @@ fn write_reply<W: Sink>(
     answer: Result<&[u8], Refused>,
     retries: &mut Retries,
 ) -> Result<(), Trouble>
-    ensures sends { Sends (sink_at W.Sink replies.old) (sink_at W.Sink replies.new)
-        (reply_to line (answer_seen answer.entry)) (retries.old - retries.new) result }
-    ensures spends { Spends retries.old retries.new (trouble_of result) }
+    ensures { Sends (sink_at W.Sink replies.old) (sink_at W.Sink replies.new)
+        retries.old retries.new (reply_to line (answer_seen answer.entry)) (trouble_of result) }
 {
     match answer {
         Ok(lines) => write_pieces(replies, &[lines, b"ok\n"], retries),
@@ -49,9 +47,8 @@ fn write_refusal<W: Sink>(
     reason: Refused,
     retries: &mut Retries,
 ) -> Result<(), Trouble>
-    ensures sends { Sends (sink_at W.Sink replies.old) (sink_at W.Sink replies.new)
-        (refused_reply line reason) (retries.old - retries.new) result }
-    ensures spends { Spends retries.old retries.new (trouble_of result) }
+    ensures { Sends (sink_at W.Sink replies.old) (sink_at W.Sink replies.new)
+        retries.old retries.new (refused_reply line reason) (trouble_of result) }
 {
     write_reason(replies, line, reason, retries)?;
     write_end(replies, reason.taken(), retries)
@@ -64,9 +61,8 @@ fn write_reason<W: Sink>(
     reason: Refused,
     retries: &mut Retries,
 ) -> Result<(), Trouble>
-    ensures sends { Sends (sink_at W.Sink replies.old) (sink_at W.Sink replies.new)
-        (refused_front line reason) (retries.old - retries.new) result }
-    ensures spends { Spends retries.old retries.new (trouble_of result) }
+    ensures { Sends (sink_at W.Sink replies.old) (sink_at W.Sink replies.new)
+        retries.old retries.new (refused_front line reason) (trouble_of result) }
 {
     let mut line_digits = Buffer::new();
     let mut number_digits = Buffer::new();
@@ -92,9 +88,8 @@ fn write_end<W: Sink>(
     taken: Option<usize>,
     retries: &mut Retries,
 ) -> Result<(), Trouble>
-    ensures sends { Sends (sink_at W.Sink replies.old) (sink_at W.Sink replies.new)
-        (stop_told taken ++ codes "\n") (retries.old - retries.new) result }
-    ensures spends { Spends retries.old retries.new (trouble_of result) }
+    ensures { Sends (sink_at W.Sink replies.old) (sink_at W.Sink replies.new)
+        retries.old retries.new (stop_told taken ++ codes "\n") (trouble_of result) }
 {
     let Some(taken) = taken else {
         return write_all(replies, b"\n", retries);
@@ -110,9 +105,8 @@ fn write_pieces<W: Sink>(
     pieces: &[&[u8]],
     retries: &mut Retries,
 ) -> Result<(), Trouble>
-    ensures sends { Sends (sink_at W.Sink sink.old) (sink_at W.Sink sink.new)
-        (flat_map (λ piece. piece.now) pieces.now) (retries.old - retries.new) result }
-    ensures spends { Spends retries.old retries.new (trouble_of result) }
+    ensures { Sends (sink_at W.Sink sink.old) (sink_at W.Sink sink.new)
+        retries.old retries.new (flat_map (λ piece. piece.now) pieces.now) (trouble_of result) }
 {
     for piece in pieces {
         write_all(sink, piece, retries)?;

@@ -1,4 +1,5 @@
 -- Which plain request a request of the program stands for.
+use Rattle.mvt_command.specs.Requests as on
 use Rattle.tile_request.specs.Request as plain
 use Rattle.mvt_command.specs.CommandStands.{command_of, layer_choice_of, feature_choice_of}
 use Rattle.tile_request.specs.declared.request.What.{What}
@@ -14,15 +15,15 @@ what_of (what.OneFeature layer feature) = plain.OneFeature (layer_choice_of laye
 
 -- the plain request that a request of the program stands for
 abbrev pub request_of : Request → plain.Request
-request_of (Edit command) = plain.Edit (command_of command)
-request_of Undo = plain.Undo
-request_of Redo = plain.Redo
-request_of (Mark name) = plain.SetMark name.items
-request_of (Unmark name) = plain.TakeMark name.items
-request_of (Back name) = plain.GoBack name.items
-request_of Begin = plain.Begin
-request_of End = plain.End
-request_of Cancel = plain.Cancel
+request_of (Edit command) = plain.OnHistory (on.Edit (command_of command))
+request_of Undo = plain.OnHistory on.Undo
+request_of Redo = plain.OnHistory on.Redo
+request_of (Mark name) = plain.OnHistory (on.SetMark name.items)
+request_of (Unmark name) = plain.OnHistory (on.TakeMark name.items)
+request_of (Back name) = plain.OnHistory (on.GoBack name.items)
+request_of Begin = plain.OnHistory on.Begin
+request_of End = plain.OnHistory on.End
+request_of Cancel = plain.OnHistory on.Cancel
 request_of Marks = plain.ListMarks
 request_of History = plain.TellHistory
 request_of Size = plain.Size

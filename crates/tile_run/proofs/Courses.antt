@@ -7,7 +7,7 @@ use Rattle.mvt_document.specs.Stands.{document_of}
 use Rattle.mvt_document.specs.Wire.{bytes_of}
 use Rattle.mvt_document.specs.Opens.{OpensAs}
 use Rattle.mvt_document.specs.Settle.{settle}
-use Rattle.tile_device.specs.Seen.{Seen, Intake, Output, nothing_read, written}
+use Rattle.tile_device.specs.Seen.{Seen, Intake, Output, Reads, Writes, nothing_read, written}
 use Rattle.tile_device.proofs.Sending.{receives_nothing}
 use Rattle.tile_device.proofs.Supplying.{supplies_nothing}
 use Rattle.tile_run.specs.Course.{Course, Ends, IsWritten, OpensAgain, RepliesToAll, StopsAtTile, start_of}
@@ -15,7 +15,7 @@ use Rattle.tile_run.specs.Headline.{Devices, Runs}
 use Rattle.mvt_history.specs.History.{History, standing_document}
 use Rattle.tile_run.specs.Outcomes.{opening_outcome, script_outcome, writing_outcome}
 use Rattle.mvt_history.specs.Session.{StandsFor}
-use Rattle.tile_run.specs.Steps.{Moment, Reads, Writes, OpensTile, CarriesOutScript, WritesTile}
+use Rattle.tile_run.specs.Steps.{Moment, OpensTile, CarriesOutScript, WritesTile}
 use Rattle.tile_run.specs.declared.editor.Editor.{Editor}
 use Rattle.tile_run.specs.declared.outcome.Options.{Options}
 use Rattle.tile_run.specs.declared.outcome.Outcome.{Outcome}
@@ -56,8 +56,8 @@ runs_at_tile options t0 t1 s r o before after tile outcome all within reads ends
   course = at_tile tile;
   ends = ends;
   patient = record {
-    within = omega (arith, all, reads.spent);
-    tile = λ e. let none = reads.last e in omega (arith, all, reads.spent, none);
+    within = omega (arith, all, reads.pays.spent);
+    tile = λ e. let none = reads.pays.last e in omega (arith, all, reads.pays.spent, none);
     script = λ e. absurd cc;
     replies = λ e. absurd cc;
     out = λ e. absurd cc;
@@ -110,10 +110,10 @@ runs_to_script options t0 t1 o before start end document editor stop outcome all
       course = course;
       ends = subst (λ (t : Outcome). Ends options t course) (sym is) (script_ends options stop t0 t1 before start end document editor opening c);
       patient = record {
-        within = omega (arith, all, reads.spent, c.spent);
+        within = omega (arith, all, reads.pays.spent, c.spent);
         tile = λ e. let no = sym opening.2.untroubled ∙ e in absurd cc;
-        script = λ e. let none = c.last_read e in omega (arith, all, reads.spent, c.spent, none);
-        replies = λ e. let none = c.last_write e in omega (arith, all, reads.spent, c.spent, none);
+        script = λ e. let none = c.last_read e in omega (arith, all, reads.pays.spent, c.spent, none);
+        replies = λ e. let none = c.last_write e in omega (arith, all, reads.pays.spent, c.spent, none);
         out = λ e. absurd cc;
       };
       tile = reads.supplies;
@@ -144,11 +144,11 @@ module _ (options : Options) (t0 t1 o0 o1 : Seen) (before last : ℕ) (start end
     course = course_with out;
     ends = ends;
     patient = record {
-      within = omega (arith, all, opening.3.spent, carried.spent, writes.spent);
+      within = omega (arith, all, opening.3.pays.spent, carried.spent, writes.pays.spent);
       tile = λ e. let no = sym opening.2.untroubled ∙ e in absurd cc;
       script = λ e. let no = sym carried.ends.1.untroubled ∙ e in absurd cc;
       replies = λ e. let no = sym carried.ends.1.replies.untroubled ∙ e in absurd cc;
-      out = λ e. let none = writes.last e in omega (arith, all, opening.3.spent, carried.spent, writes.spent, none);
+      out = λ e. let none = writes.pays.last e in omega (arith, all, opening.3.pays.spent, carried.spent, writes.pays.spent, none);
     };
     tile = opening.3.supplies;
     script = carried.supplies;

@@ -1,5 +1,5 @@
 -- The last line of a script that was read whole.
-use Rattle.std.proofs.Common.{◌≡◌, ℕ, Bool, true, false, List, [], ◌∷◌, ◌++◌, Some, None, refl, sym, ap, subst, ◌∙◌, arith}
+use Rattle.std.proofs.Common.{◌≡◌, ℕ, ◌-◌, Bool, true, false, List, [], ◌∷◌, ◌++◌, Some, None, refl, sym, ap, subst, ◌∙◌, arith}
 use Rattle.std.specs.Prelude.{Result, Ok, Err}
 use Rattle.tile_device.specs.Seen.{Seen, nothing_read, written}
 use Rattle.tile_device.proofs.Sending.{receives_nothing}
@@ -42,12 +42,12 @@ all_done strict start before now replies less editor after cutter whole to =
       script = record { bytes = whole.bytes; is_whole = true; retries = whole.retries; trouble = None };
       within = omega (arith, whole.within);
       supplies = whole.supplies;
-      replies = written c.retries c.progress.replies;
-      receives = c.writes.receives;
-      spent = omega (arith, whole.share, c.writes.spent);
+      replies = written (whole.allowed - less) c.progress.replies;
+      receives = c.sends.receives;
+      spent = omega (arith, whole.share, c.sends.pays.spent);
       last_read = λ e. absurd cc;
       last_write = λ e. absurd cc;
-      ends = (c.progress, record { whole = refl; within = whole.within; untroubled = refl; walk = c.walk; goes_on = c.over; replies = all_replies c.retries c.progress.replies }, to.at);
+      ends = (c.progress, record { whole = refl; within = whole.within; untroubled = refl; walk = c.walk; goes_on = c.over; replies = all_replies (whole.allowed - less) c.progress.replies }, to.at);
     }
 
 -- nothing is left behind the last line feed
@@ -83,12 +83,12 @@ stops_at_last_line strict start before now replies less editor after cutter line
       script = record { bytes = whole.bytes; is_whole = true; retries = whole.retries; trouble = None };
       within = omega (arith, whole.within);
       supplies = whole.supplies;
-      replies = written c.retries c.progress.replies;
-      receives = c.writes.receives;
-      spent = omega (arith, whole.share, c.writes.spent);
+      replies = written (whole.allowed - less) c.progress.replies;
+      receives = c.sends.receives;
+      spent = omega (arith, whole.share, c.sends.pays.spent);
       last_read = λ e. absurd cc;
       last_write = λ e. absurd cc;
-      ends = record { within = λ e. whole.within; untroubled = refl; progress = c.progress; walk = c.walk; over = c.over; replies = all_replies c.retries c.progress.replies };
+      ends = record { within = λ e. whole.within; untroubled = refl; progress = c.progress; walk = c.walk; over = c.over; replies = all_replies (whole.allowed - less) c.progress.replies };
     }
 stops_at_last_line strict start before now replies less editor after cutter line line_stops.Replies whole last step =
     let k = cut_short strict start (whole_lines whole.bytes) (lines_of whole.bytes) [] line (record before { retries = whole.allowed }) now (record now { replies = replies; retries = less }) editor last whole.comes step in
@@ -98,9 +98,9 @@ stops_at_last_line strict start before now replies less editor after cutter line
       supplies = whole.supplies;
       replies = k.0;
       receives = k.2.receives;
-      spent = omega (arith, whole.share, k.2.spent);
+      spent = omega (arith, whole.share, k.2.pays.spent);
       last_read = λ e. absurd cc;
-      last_write = k.2.last;
+      last_write = k.2.pays.last;
       ends = record { untroubled = refl; cut_short = k.1 };
     }
 

@@ -3,7 +3,6 @@ pub mod Fronts
 pub mod ReplyEnds
 pub mod Replying
 pub mod Walks
-pub mod Budgets
 pub mod Running
 pub mod Feeding
 pub mod Reading

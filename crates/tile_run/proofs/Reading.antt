@@ -6,9 +6,10 @@ use Rattle.std.proofs.Math.Seq.{take-append-add}
 use Rattle.std.proofs.lemmas.Bool.{cases_lt}
 use Rattle.std.proofs.lemmas.List.{take_all, take-append-le, take-append-drop}
 use Rattle.mvt_document.specs.Plain.{Document}
-use Rattle.tile_device.specs.Seen.{Seen, Intake, Spends, Supplies, written}
+use Rattle.tile_device.specs.Seen.{Seen, Intake, Reads, Receives, Sends, Supplies, written}
 use Rattle.tile_device.specs.Transfer.{piece_of}
 use Rattle.tile_device.specs.declared.device.Trouble.{Trouble}
+use Rattle.tile_device.proofs.Sending.{sends_nothing}
 use Rattle.tile_device.proofs.Supplying.{part, supplies_nothing, supplies_more}
 use Rattle.tile_lines.specs.Cutting.{Holding, nothing_held}
 use Rattle.tile_lines.specs.Lines.{whole_lines}
@@ -22,7 +23,6 @@ use Rattle.tile_run.specs.declared.outcome.ScriptStop.{ScriptStop}
 use Rattle.tile_run.specs.declared.outcome.ScriptStop.TheVariants as script_stops
 use Rattle.tile_run.specs.Outcomes.{script_stop_of}
 use Rattle.tile_run.specs.declared.runs.TheConstants.{MAX_SCRIPT}
-use Rattle.tile_run.proofs.Budgets.{writes_nothing, writes_with_less}
 
 -- So much of the script was read, and its whole lines were carried out. What reading took of the retries was not
 -- allowed for the replies.
@@ -51,7 +51,7 @@ so_far_none strict document depth now editor cutter empty at = record {
   allowed = now.retries;
   share = omega arith;
   comes = record {
-    comes = record { progress = at_first document depth; walk = refl; over = not_over strict; retries = 0; writes = writes_nothing now.replies now.retries };
+    comes = record { progress = at_first document depth; walk = refl; over = not_over strict; sends = sends_nothing now.replies now.retries };
     at = at;
   };
 }
@@ -69,13 +69,22 @@ pub record Got (strict : Bool) (start : Progress) (before now : Moment) (room : 
   pub share : allowed + retries ≡ before.retries
   pub comes : ComesTo strict start (whole_lines bytes) (record before { retries = allowed }) now editor
 
+-- the same was sent with so many retries less before and after
+sends_with_less : (a b : Seen) (n m i j less : ℕ) (bytes : List ℕ) → i + less ≡ n → j + less ≡ m → Sends a b n m bytes None → Sends a b i j bytes None
+sends_with_less a b n m i j less bytes before after sends =
+    let same : n - m ≡ i - j = omega (arith, before, after) in
+    record {
+      receives = subst (λ (retries : ℕ). Receives a b (written retries bytes)) same sends.receives;
+      pays = record { spent = omega (arith, sends.pays.spent); last = λ e. absurd cc };
+    }
+
 -- with fewer retries allowed before and after, wherever the script stands
 comes_with_less : (strict : Bool) (start : Progress) (lines : List (List ℕ)) (a b : Moment) (first now : Seen) (i j less : ℕ) (editor : Editor) → i + less ≡ a.retries → j + less ≡ b.retries
     → ComesTo strict start lines a b editor → ComesTo strict start lines (record a { script = first; retries = i }) (record b { script = now; retries = j }) editor
 comes_with_less strict start lines a b first now i j less editor before after to =
     let c = to.comes in
     record {
-      comes = record { progress = c.progress; walk = c.walk; over = c.over; retries = c.retries; writes = writes_with_less a.replies b.replies a.retries b.retries i j less c.retries c.progress.replies before after c.writes };
+      comes = record { progress = c.progress; walk = c.walk; over = c.over; sends = sends_with_less a.replies b.replies a.retries b.retries i j less c.progress.replies before after c.sends };
       at = to.at;
     }
 
@@ -92,24 +101,25 @@ less_allowed : (strict : Bool) (start : Progress) (before now : Moment) (script 
     → ComesTo strict start (whole_lines so_far.bytes) (record before { retries = so_far.allowed - (now.retries - less) }) (record now { script = script; retries = less }) editor
 less_allowed strict start before now script less room editor cutter so_far fewer =
     let used = now.retries - less in
-    let spent = so_far.comes.comes.writes.spent in
+    let spent = so_far.comes.comes.sends.pays.spent in
     comes_with_less strict start (whole_lines so_far.bytes) (record before { retries = so_far.allowed }) now before.script script (so_far.allowed - used) less used editor (omega (arith, so_far.share, spent)) (omega arith) so_far.comes
 
 pub got_piece : (strict : Bool) (start : Progress) (before now : Moment) (script : Seen) (less room n : ℕ) (buffer : List ℕ) (editor : Editor) (cutter : Holding)
-    → SoFar strict start before now room editor cutter → less ≤ now.retries → n ≢ 0
-    → Supplies now.script script (piece_of (Ok n) buffer (now.retries - less)) → Got strict start before (record now { script = script; retries = less }) room editor cutter (take n buffer)
-got_piece strict start before now script less room n buffer editor cutter so_far fewer some supplies =
+    → SoFar strict start before now room editor cutter → n ≢ 0
+    → Reads now.script script now.retries less (piece_of (Ok n) buffer (now.retries - less)) → Got strict start before (record now { script = script; retries = less }) room editor cutter (take n buffer)
+got_piece strict start before now script less room n buffer editor cutter so_far some reads =
     let used = now.retries - less in
-    let spent = so_far.comes.comes.writes.spent in
+    let spent = so_far.comes.comes.sends.pays.spent in
     record {
       bytes = so_far.bytes;
       counted = so_far.counted;
       given = so_far.given;
       retries = so_far.retries + used;
-      supplies = supplies_more before.script now.script script so_far.retries so_far.bytes (part used (take n buffer)) so_far.supplies (subst (Supplies now.script script) (some_part n used buffer some) supplies);
+      supplies = supplies_more before.script now.script script so_far.retries (so_far.retries + used) so_far.bytes (part used (take n buffer)) refl so_far.supplies
+          (subst (Supplies now.script script) (some_part n used buffer some) reads.supplies);
       allowed = so_far.allowed - used;
-      share = omega (arith, so_far.share, spent);
-      comes = less_allowed strict start before now script less room editor cutter so_far fewer;
+      share = omega (arith, so_far.share, spent, reads.pays.spent);
+      comes = less_allowed strict start before now script less room editor cutter so_far (omega (arith, reads.pays.spent));
     }
 
 -- what counts of a script is what it may have
@@ -163,9 +173,9 @@ so_far_more strict start before read replies less room more n buffer editor afte
 
 -- the next read met trouble
 pub stops_reading : (strict : Bool) (start : Progress) (before now : Moment) (script : Seen) (less room : ℕ) (editor : Editor) (cutter : Holding) (trouble : Trouble)
-    → SoFar strict start before now room editor cutter → Supplies now.script script (piece_of (Err trouble) [] (now.retries - less)) → Spends now.retries less (Some trouble)
+    → SoFar strict start before now room editor cutter → Reads now.script script now.retries less (piece_of (Err trouble) [] (now.retries - less))
     → CarriesOutScript strict start before (record now { script = script; retries = less }) editor (Err script_stops.Script)
-stops_reading strict start before now script less room editor cutter trouble so_far supplies spends =
+stops_reading strict start before now script less room editor cutter trouble so_far reads =
     let c = so_far.comes.comes in
     let used = now.retries - less in
     let within : length so_far.bytes ≤ MAX_SCRIPT = omega (arith, so_far.counted) in
@@ -173,11 +183,11 @@ stops_reading strict start before now script less room editor cutter trouble so_
     record {
       script = record { bytes = so_far.bytes ++ []; is_whole = false; retries = so_far.retries + used; trouble = Some trouble };
       within = omega (arith, within, length-append so_far.bytes []);
-      supplies = supplies_more before.script now.script script so_far.retries so_far.bytes (record { bytes = []; is_whole = false; retries = used; trouble = Some trouble }) so_far.supplies supplies;
-      replies = written c.retries c.progress.replies;
-      receives = c.writes.receives;
-      spent = omega (arith, so_far.share, c.writes.spent, spends.within);
-      last_read = spends.last;
+      supplies = supplies_more before.script now.script script so_far.retries (so_far.retries + used) so_far.bytes (piece_of (Err trouble) [] used) refl so_far.supplies reads.supplies;
+      replies = written (so_far.allowed - now.retries) c.progress.replies;
+      receives = c.sends.receives;
+      spent = omega (arith, so_far.share, c.sends.pays.spent, reads.pays.spent);
+      last_read = reads.pays.last;
       last_write = λ e. absurd cc;
       ends = record {
         cause = inl refl;
@@ -185,7 +195,7 @@ stops_reading strict start before now script less room editor cutter trouble so_
         progress = c.progress;
         walk = subst (λ (bytes : List ℕ). Walk strict start (whole_lines bytes) c.progress) (sym same) c.walk;
         goes_on = c.over;
-        replies = all_replies c.retries c.progress.replies;
+        replies = all_replies (so_far.allowed - now.retries) c.progress.replies;
       };
     }
 
@@ -201,9 +211,9 @@ stops_too_long strict start before read replies less room n buffer editor after 
       script = part got.retries (got.bytes ++ take n buffer);
       within = omega (arith, got.counted, size);
       supplies = got.supplies;
-      replies = written c.retries c.progress.replies;
-      receives = c.writes.receives;
-      spent = omega (arith, got.share, c.writes.spent);
+      replies = written (got.allowed - less) c.progress.replies;
+      receives = c.sends.receives;
+      spent = omega (arith, got.share, c.sends.pays.spent);
       last_read = λ e. absurd cc;
       last_write = λ e. absurd cc;
       ends = record {
@@ -212,7 +222,7 @@ stops_too_long strict start before read replies less room n buffer editor after 
         progress = c.progress;
         walk = subst (λ (bytes : List ℕ). Walk strict start (whole_lines bytes) c.progress) (counts got.bytes buffer passed room n got.counted within is) c.walk;
         goes_on = c.over;
-        replies = all_replies c.retries c.progress.replies;
+        replies = all_replies (got.allowed - less) c.progress.replies;
       };
     }
 
@@ -225,9 +235,9 @@ stops_at_line strict start before read replies less room n buffer editor after c
   script = part got.retries (got.bytes ++ take n buffer);
   within = omega (arith, got.counted, length-append got.bytes (take n buffer), length-take-le n buffer within);
   supplies = got.supplies;
-  replies = written c.retries c.progress.replies;
-  receives = c.writes.receives;
-  spent = omega (arith, got.share, c.writes.spent);
+  replies = written (got.allowed - less) c.progress.replies;
+  receives = c.sends.receives;
+  spent = omega (arith, got.share, c.sends.pays.spent);
   last_read = λ e. absurd cc;
   last_write = λ e. absurd cc;
   ends = record {
@@ -236,7 +246,7 @@ stops_at_line strict start before read replies less room n buffer editor after c
     progress = c.progress;
     walk = subst (λ (bytes : List ℕ). Walk strict start (whole_lines bytes) c.progress) (counts got.bytes buffer passed room n got.counted within is) c.walk;
     over = c.over;
-    replies = all_replies c.retries c.progress.replies;
+    replies = all_replies (got.allowed - less) c.progress.replies;
   };
 }
 stops_at_line strict start before read replies less room n buffer editor after cutter passed line_stops.Replies got within by_one is (output, short, writes) = record {
@@ -245,9 +255,9 @@ stops_at_line strict start before read replies less room n buffer editor after c
   supplies = got.supplies;
   replies = output;
   receives = writes.receives;
-  spent = omega (arith, got.share, writes.spent);
+  spent = omega (arith, got.share, writes.pays.spent);
   last_read = λ e. absurd cc;
-  last_write = writes.last;
+  last_write = writes.pays.last;
   ends = record {
     untroubled = refl;
     cut_short = subst (λ (bytes : List ℕ). IsCutShort strict start (whole_lines bytes) output) (counts got.bytes buffer passed room n got.counted within is) short;
@@ -260,15 +270,15 @@ stops_as strict start before after editor cutter stop q is carries = subst (Carr
 
 -- there is no more to read
 pub ends_reading : (strict : Bool) (start : Progress) (before now : Moment) (script : Seen) (less room n : ℕ) (buffer : List ℕ) (editor : Editor) (cutter : Holding)
-    → SoFar strict start before now room editor cutter → less ≤ now.retries → n ≡ 0 → 0 < length buffer
-    → Supplies now.script script (piece_of (Ok n) buffer (now.retries - less)) → ReadsWhole strict start before (record now { script = script; retries = less }) editor cutter
-ends_reading strict start before now script less room n buffer editor cutter so_far fewer none some supplies =
+    → SoFar strict start before now room editor cutter → n ≡ 0 → 0 < length buffer
+    → Reads now.script script now.retries less (piece_of (Ok n) buffer (now.retries - less)) → ReadsWhole strict start before (record now { script = script; retries = less }) editor cutter
+ends_reading strict start before now script less room n buffer editor cutter so_far none some reads =
     let used = now.retries - less in
     let all : nat_lt 0 (length buffer) ≡ true = grind (arith, nat_tests) in
     let nothing : Intake = record { bytes = []; is_whole = true; retries = used; trouble = None } in
     let same : piece_of (Ok n) buffer used ≡ nothing =
     ap (λ (k : ℕ). piece_of (Ok k) buffer used) none ∙ ap (λ (whole : Bool). record { bytes = []; is_whole = whole; retries = used; trouble = None }) all in
-    let whole = supplies_more before.script now.script script so_far.retries so_far.bytes nothing so_far.supplies (subst (Supplies now.script script) same supplies) in
+    let whole = supplies_more before.script now.script script so_far.retries (so_far.retries + used) so_far.bytes nothing refl so_far.supplies (subst (Supplies now.script script) same reads.supplies) in
     record {
       bytes = so_far.bytes;
       within = omega (arith, so_far.counted);
@@ -276,6 +286,6 @@ ends_reading strict start before now script less room n buffer editor cutter so_
       retries = so_far.retries + used;
       supplies = subst (λ (bytes : List ℕ). Supplies before.script script (record { bytes = bytes; is_whole = true; retries = so_far.retries + used; trouble = None })) (append-nil so_far.bytes) whole;
       allowed = so_far.allowed - used;
-      share = omega (arith, so_far.share, so_far.comes.comes.writes.spent);
-      comes = less_allowed strict start before now script less room editor cutter so_far fewer;
+      share = omega (arith, so_far.share, so_far.comes.comes.sends.pays.spent, reads.pays.spent);
+      comes = less_allowed strict start before now script less room editor cutter so_far (omega (arith, reads.pays.spent));
     }

@@ -45,35 +45,6 @@ accepted_text lines = sym (append_assoc lines (codes "ok") (10 ∷ []))
 pub accepted_ends : (lines : List ℕ) → EndsWithALine (accepted_reply lines)
 accepted_ends lines = inr (lines ++ codes "ok", accepted_text lines)
 
--- each refusal with the number of out of memory is replied to alike
-pub out_of_memory_reply : (line : ℕ) (reason : Refused) → refusal_number reason ≡ 60 → refused_reply line reason ≡ refused_reply line (refused.Parse parse.NoMemory)
-out_of_memory_reply line (refused.Parse parse.BadUtf8) e = absurd (omega arith)
-out_of_memory_reply line (refused.Parse parse.BadWord) e = absurd (omega arith)
-out_of_memory_reply line (refused.Parse parse.UnknownCommand) e = absurd (omega arith)
-out_of_memory_reply line (refused.Parse parse.BadArguments) e = absurd (omega arith)
-out_of_memory_reply line (refused.Parse parse.BadNumber) e = absurd (omega arith)
-out_of_memory_reply line (refused.Parse parse.BadValue) e = absurd (omega arith)
-out_of_memory_reply line (refused.Parse parse.BadGeometryText) e = absurd (omega arith)
-out_of_memory_reply line (refused.Parse parse.LineTooLong) e = absurd (omega arith)
-out_of_memory_reply line (refused.Parse parse.NoMemory) e = refl
-out_of_memory_reply line (refused.Edit edit.NoLayer) e = absurd (omega arith)
-out_of_memory_reply line (refused.Edit edit.AmbiguousLayer) e = absurd (omega arith)
-out_of_memory_reply line (refused.Edit edit.NoFeature) e = absurd (omega arith)
-out_of_memory_reply line (refused.Edit edit.BadPlace) e = absurd (omega arith)
-out_of_memory_reply line (refused.Edit edit.AmbiguousFeature) e = absurd (omega arith)
-out_of_memory_reply line (refused.Edit edit.NameTaken) e = absurd (omega arith)
-out_of_memory_reply line (refused.Edit edit.OutOfRange) e = absurd (omega arith)
-out_of_memory_reply line (refused.Edit edit.TooLarge) e = absurd (omega arith)
-out_of_memory_reply line (refused.Edit edit.NoMemory) e = refl
-out_of_memory_reply line (refused.History history.NothingToUndo) e = absurd (omega arith)
-out_of_memory_reply line (refused.History history.NothingToRedo) e = absurd (omega arith)
-out_of_memory_reply line (refused.History history.NoMark) e = absurd (omega arith)
-out_of_memory_reply line (refused.History history.TooManyMarks) e = absurd (omega arith)
-out_of_memory_reply line (refused.History (history.Stopped taken)) e = absurd (omega arith)
-out_of_memory_reply line (refused.History history.GroupOpen) e = absurd (omega arith)
-out_of_memory_reply line (refused.History history.NoGroup) e = absurd (omega arith)
-out_of_memory_reply line (refused.History history.NoMemory) e = refl
-
 -- ---- the last bytes of replies
 
 -- the last two bytes of a text that are no digits, where these are those before it
@@ -129,36 +100,45 @@ ends_out_of_memory ends = (ends.1 == 121) || (ends.1 == 32)
 abbrev ends_with_ok : ℕ × ℕ → Bool
 ends_with_ok ends = (ends.0 == 111) && (ends.1 == 107)
 
--- so the text tells whether memory was refused
-ends_tell : (ends : ℕ × ℕ) (reason : Refused) → (ends_out_of_memory (ends_of ends reason) ≡ runs_out (refusal_number reason)) × (ends_with_ok (ends_of ends reason) ≡ false)
-ends_tell ends (refused.Parse parse.BadUtf8) = (refl, refl)
-ends_tell ends (refused.Parse parse.BadWord) = (refl, refl)
-ends_tell ends (refused.Parse parse.UnknownCommand) = (refl, refl)
-ends_tell ends (refused.Parse parse.BadArguments) = (refl, refl)
-ends_tell ends (refused.Parse parse.BadNumber) = (refl, refl)
-ends_tell ends (refused.Parse parse.BadValue) = (refl, refl)
-ends_tell ends (refused.Parse parse.BadGeometryText) = (refl, refl)
-ends_tell ends (refused.Parse parse.LineTooLong) = (refl, refl)
-ends_tell ends (refused.Parse parse.NoMemory) = (refl, refl)
-ends_tell ends (refused.Edit edit.NoLayer) = (refl, refl)
-ends_tell ends (refused.Edit edit.AmbiguousLayer) = (refl, refl)
-ends_tell ends (refused.Edit edit.NoFeature) = (refl, refl)
-ends_tell ends (refused.Edit edit.BadPlace) = (refl, refl)
-ends_tell ends (refused.Edit edit.AmbiguousFeature) = (refl, refl)
-ends_tell ends (refused.Edit edit.NameTaken) = (refl, refl)
-ends_tell ends (refused.Edit edit.OutOfRange) = (refl, refl)
-ends_tell ends (refused.Edit edit.TooLarge) = (refl, refl)
-ends_tell ends (refused.Edit edit.NoMemory) = (refl, refl)
-ends_tell ends (refused.History history.NothingToUndo) = (refl, refl)
-ends_tell ends (refused.History history.NothingToRedo) = (refl, refl)
-ends_tell ends (refused.History history.NoMark) = (refl, refl)
-ends_tell ends (refused.History history.TooManyMarks) = (refl, refl)
-ends_tell ends (refused.History (history.Stopped taken)) =
+-- the reply to a refusal with the number of out of memory is the same for each; and the text tells whether memory was
+-- refused
+record TellsMemory (ends : ℕ × ℕ) (reason : Refused) : Type 0 where
+  alike : refusal_number reason ≡ 60 → (line : ℕ) → refused_reply line reason ≡ refused_reply line (refused.Parse parse.NoMemory)
+  out_of_memory : ends_out_of_memory (ends_of ends reason) ≡ runs_out (refusal_number reason)
+  not_ok : ends_with_ok (ends_of ends reason) ≡ false
+
+tells_memory : (ends : ℕ × ℕ) (reason : Refused) → TellsMemory ends reason
+tells_memory ends (refused.Parse parse.BadUtf8) = record { alike = λ e line. absurd (omega arith); out_of_memory = refl; not_ok = refl }
+tells_memory ends (refused.Parse parse.BadWord) = record { alike = λ e line. absurd (omega arith); out_of_memory = refl; not_ok = refl }
+tells_memory ends (refused.Parse parse.UnknownCommand) = record { alike = λ e line. absurd (omega arith); out_of_memory = refl; not_ok = refl }
+tells_memory ends (refused.Parse parse.BadArguments) = record { alike = λ e line. absurd (omega arith); out_of_memory = refl; not_ok = refl }
+tells_memory ends (refused.Parse parse.BadNumber) = record { alike = λ e line. absurd (omega arith); out_of_memory = refl; not_ok = refl }
+tells_memory ends (refused.Parse parse.BadValue) = record { alike = λ e line. absurd (omega arith); out_of_memory = refl; not_ok = refl }
+tells_memory ends (refused.Parse parse.BadGeometryText) = record { alike = λ e line. absurd (omega arith); out_of_memory = refl; not_ok = refl }
+tells_memory ends (refused.Parse parse.LineTooLong) = record { alike = λ e line. absurd (omega arith); out_of_memory = refl; not_ok = refl }
+tells_memory ends (refused.Parse parse.NoMemory) = record { alike = λ e line. refl; out_of_memory = refl; not_ok = refl }
+tells_memory ends (refused.Edit edit.NoLayer) = record { alike = λ e line. absurd (omega arith); out_of_memory = refl; not_ok = refl }
+tells_memory ends (refused.Edit edit.AmbiguousLayer) = record { alike = λ e line. absurd (omega arith); out_of_memory = refl; not_ok = refl }
+tells_memory ends (refused.Edit edit.NoFeature) = record { alike = λ e line. absurd (omega arith); out_of_memory = refl; not_ok = refl }
+tells_memory ends (refused.Edit edit.BadPlace) = record { alike = λ e line. absurd (omega arith); out_of_memory = refl; not_ok = refl }
+tells_memory ends (refused.Edit edit.AmbiguousFeature) = record { alike = λ e line. absurd (omega arith); out_of_memory = refl; not_ok = refl }
+tells_memory ends (refused.Edit edit.NameTaken) = record { alike = λ e line. absurd (omega arith); out_of_memory = refl; not_ok = refl }
+tells_memory ends (refused.Edit edit.OutOfRange) = record { alike = λ e line. absurd (omega arith); out_of_memory = refl; not_ok = refl }
+tells_memory ends (refused.Edit edit.TooLarge) = record { alike = λ e line. absurd (omega arith); out_of_memory = refl; not_ok = refl }
+tells_memory ends (refused.Edit edit.NoMemory) = record { alike = λ e line. refl; out_of_memory = refl; not_ok = refl }
+tells_memory ends (refused.History history.NothingToUndo) = record { alike = λ e line. absurd (omega arith); out_of_memory = refl; not_ok = refl }
+tells_memory ends (refused.History history.NothingToRedo) = record { alike = λ e line. absurd (omega arith); out_of_memory = refl; not_ok = refl }
+tells_memory ends (refused.History history.NoMark) = record { alike = λ e line. absurd (omega arith); out_of_memory = refl; not_ok = refl }
+tells_memory ends (refused.History history.TooManyMarks) = record { alike = λ e line. absurd (omega arith); out_of_memory = refl; not_ok = refl }
+tells_memory ends (refused.History (history.Stopped taken)) =
     let same = last_two-decimal (110, 32) taken in
-    (ap ends_out_of_memory same, ap ends_with_ok same)
-ends_tell ends (refused.History history.GroupOpen) = (refl, refl)
-ends_tell ends (refused.History history.NoGroup) = (refl, refl)
-ends_tell ends (refused.History history.NoMemory) = (refl, refl)
+    record { alike = λ e line. absurd (omega arith); out_of_memory = ap ends_out_of_memory same; not_ok = ap ends_with_ok same }
+tells_memory ends (refused.History history.GroupOpen) = record { alike = λ e line. absurd (omega arith); out_of_memory = refl; not_ok = refl }
+tells_memory ends (refused.History history.NoGroup) = record { alike = λ e line. absurd (omega arith); out_of_memory = refl; not_ok = refl }
+tells_memory ends (refused.History history.NoMemory) = record { alike = λ e line. refl; out_of_memory = refl; not_ok = refl }
+
+pub out_of_memory_reply : (line : ℕ) (reason : Refused) → refusal_number reason ≡ 60 → refused_reply line reason ≡ refused_reply line (refused.Parse parse.NoMemory)
+out_of_memory_reply line reason e = (tells_memory (0, 0) reason).alike e line
 
 -- the reply to an accepted line is that to no refused one
 pub accepted_is_not_refused : (lines : List ℕ) (line : ℕ) (reason : Refused) → accepted_reply lines ≢ refused_reply line reason
@@ -166,7 +146,7 @@ accepted_is_not_refused lines line reason e =
     let same : lines ++ codes "ok" ≡ refused_text line reason = append_cancel_right (lines ++ codes "ok") (refused_text line reason) (10 ∷ []) (sym (accepted_text lines) ∙ e) in
     let ends : last_two (last_two (0, 0) lines) (codes "ok") ≡ ends_of (last_two (0, 0) (before_name line reason)) reason =
     sym (last_two-append (0, 0) lines (codes "ok")) ∙ ap (last_two (0, 0)) same ∙ refused_last line reason in
-    let no : true ≡ false = ap ends_with_ok ends ∙ (ends_tell (last_two (0, 0) (before_name line reason)) reason).1 in
+    let no : true ≡ false = ap ends_with_ok ends ∙ (tells_memory (last_two (0, 0) (before_name line reason)) reason).not_ok in
     absurd cc
 
 -- ---- out of memory
@@ -195,9 +175,9 @@ runs_out_other reason other =
 -- the text of a refusal that is not out of memory is that of none that is
 pub other_is_not_out_of_memory : (line other_line : ℕ) (reason short_of_memory : Refused) → ¬ (IsOutOfMemory reason) → IsOutOfMemory short_of_memory → refused_text line reason ≢ refused_text other_line short_of_memory
 other_is_not_out_of_memory line other_line reason short_of_memory other out_of_memory e =
-    let first = ends_tell (last_two (0, 0) (before_name line reason)) reason in
-    let second = ends_tell (last_two (0, 0) (before_name other_line short_of_memory)) short_of_memory in
+    let first = tells_memory (last_two (0, 0) (before_name line reason)) reason in
+    let second = tells_memory (last_two (0, 0) (before_name other_line short_of_memory)) short_of_memory in
     let same : runs_out (refusal_number reason) ≡ runs_out (refusal_number short_of_memory) =
-    sym first.0 ∙ ap ends_out_of_memory (sym (refused_last line reason) ∙ ap (last_two (0, 0)) e ∙ refused_last other_line short_of_memory) ∙ second.0 in
+    sym first.out_of_memory ∙ ap ends_out_of_memory (sym (refused_last line reason) ∙ ap (last_two (0, 0)) e ∙ refused_last other_line short_of_memory) ∙ second.out_of_memory in
     let no : false ≡ true = sym (runs_out_other reason other) ∙ same ∙ runs_out_is short_of_memory out_of_memory in
     absurd cc

@@ -4,7 +4,7 @@ use Rattle.std.specs.Prelude.{Result, Ok, Err, is_err}
 use Rattle.std.proofs.Math.Bool.{or-true, or-false}
 use Rattle.mvt_document.specs.Held.{Held}
 use Rattle.tile_device.specs.Device.{trouble_of}
-use Rattle.tile_device.specs.Seen.{Output, Sends, Spends, written}
+use Rattle.tile_device.specs.Seen.{Output, Writes}
 use Rattle.tile_device.specs.declared.device.Trouble.{Trouble}
 use Rattle.mvt_history.specs.History.{History}
 use Rattle.tile_reply.specs.Replies.{reply_to}
@@ -15,7 +15,7 @@ use Rattle.tile_run.specs.Steps.{Moment, Replies, answered, told_in, CarriesOut,
 use Rattle.tile_run.specs.declared.editor.Editor.{Editor}
 use Rattle.tile_reply.specs.declared.refused.Refused.{Refused}
 use Rattle.mvt_history.specs.declared.session.Session.{Session}
-use Rattle.tile_run.proofs.Budgets.{writes_nothing, writes_more, sent_all, sent_front}
+use Rattle.tile_device.proofs.Sending.{sends_more, sends_nothing, writes_more}
 use Rattle.tile_run.proofs.Overs.{walk-append, walk_over_any}
 
 -- ---- one line
@@ -46,24 +46,30 @@ advances_silently m strict p line session editor on carries same strictly lines 
   over = on;
   reply = [];
   replied = sym (append-nil p.replies);
-  retries = 0;
-  writes = writes_nothing m.replies m.retries;
+  sends = sends_nothing m.replies m.retries;
 }
+
+none_met : (r : Result (Unit {0}) Trouble) → is_err r ≡ false → trouble_of r ≡ None
+none_met (Ok done) e = refl
+none_met (Err trouble) e = absurd cc
+
+trouble_met : (r : Result (Unit {0}) Trouble) → is_err r ≡ true → (trouble : Trouble) × (trouble_of r ≡ Some trouble)
+trouble_met (Ok done) e = absurd cc
+trouble_met (Err trouble) e = (trouble, refl)
 
 -- a line that was replied to
 advances : (a b : Moment) (strict over : Bool) (p : Progress) (line : List ℕ) (number : ℕ) (answer : Result (Held ℕ) Refused) (seen : Result (List ℕ) Refused) (session : Session) (editor : Editor) (r : Result (Unit {0}) Trouble)
     → is_over strict p ≡ false → CarriesOut session line (Some answer) p → editor.session ≡ session → editor.strict ≡ strict → editor.lines ≡ number → p.lines + 1 ≡ number
     → editor.any_refused ≡ (p.any_refused || is_err answer) → (strict && is_err answer) ≡ over
-    → is_err r ≡ false → seen ≡ told_in answer → Sends a.replies b.replies (reply_to number seen) (a.retries - b.retries) r → Spends a.retries b.retries (trouble_of r) → Advances a b editor strict line p over
-advances a b strict over p line number answer seen session editor r on carries same strictly lines counted refused ends went shown sends spends = record {
+    → is_err r ≡ false → seen ≡ told_in answer → Replies a b (reply_to number seen) (trouble_of r) → Advances a b editor strict line p over
+advances a b strict over p line number answer seen session editor r on carries same strictly lines counted refused ends went shown sends = record {
   next = answered p carries.history (Some answer);
   follows = carries.follows;
   at = is_at strict p carries.history answer editor (subst (λ (t : Session). StandsFor t carries.history) (sym same) carries.stands) strictly (lines ∙ sym counted) refused;
   over = over_is strict p carries.history answer on ∙ ends;
   reply = reply_to number (told_in answer);
   replied = replies_are p carries.history answer ∙ ap (λ (i : ℕ). p.replies ++ reply_to i (told_in answer)) counted;
-  retries = a.retries - b.retries;
-  writes = sent_all a.replies b.replies a.retries b.retries (reply_to number (told_in answer)) r went (subst (λ (told : Result (List ℕ) Refused). Sends a.replies b.replies (reply_to number told) (a.retries - b.retries) r) shown sends) spends;
+  sends = subst (Replies a b (reply_to number (told_in answer))) (none_met r went) (subst (λ (told : Result (List ℕ) Refused). Replies a b (reply_to number told) (trouble_of r)) shown sends);
 }
 
 and_false : (b : Bool) → (b && false) ≡ false
@@ -78,36 +84,33 @@ and_true false = refl
 pub advances_accepted : (a b : Moment) (strict : Bool) (p : Progress) (line : List ℕ) (number : ℕ) (answer : Result (Held ℕ) Refused) (seen : Result (List ℕ) Refused) (session : Session) (editor : Editor) (r : Result (Unit {0}) Trouble)
     → is_over strict p ≡ false → CarriesOut session line (Some answer) p → editor.session ≡ session → editor.strict ≡ strict → editor.lines ≡ number → p.lines + 1 ≡ number
     → editor.any_refused ≡ p.any_refused → is_err answer ≡ false
-    → is_err r ≡ false → seen ≡ told_in answer → Sends a.replies b.replies (reply_to number seen) (a.retries - b.retries) r → Spends a.retries b.retries (trouble_of r) → Advances a b editor strict line p false
-advances_accepted a b strict p line number answer seen session editor r on carries same strictly lines counted refused good went shown sends spends =
+    → is_err r ≡ false → seen ≡ told_in answer → Replies a b (reply_to number seen) (trouble_of r) → Advances a b editor strict line p false
+advances_accepted a b strict p line number answer seen session editor r on carries same strictly lines counted refused good went shown sends =
     advances a b strict false p line number answer seen session editor r on carries same strictly lines counted
-    (refused ∙ sym (ap (λ (q : Bool). p.any_refused || q) good ∙ or-false p.any_refused)) (ap (λ (q : Bool). strict && q) good ∙ and_false strict) went shown sends spends
+    (refused ∙ sym (ap (λ (q : Bool). p.any_refused || q) good ∙ or-false p.any_refused)) (ap (λ (q : Bool). strict && q) good ∙ and_false strict) went shown sends
 
 -- a line that was refused
 pub advances_refused : (a b : Moment) (strict over : Bool) (p : Progress) (line : List ℕ) (number : ℕ) (answer : Result (Held ℕ) Refused) (seen : Result (List ℕ) Refused) (session : Session) (editor : Editor) (r : Result (Unit {0}) Trouble)
     → is_over strict p ≡ false → CarriesOut session line (Some answer) p → editor.session ≡ session → editor.strict ≡ strict → editor.lines ≡ number → p.lines + 1 ≡ number
     → editor.any_refused ≡ true → is_err answer ≡ true → strict ≡ over
-    → is_err r ≡ false → seen ≡ told_in answer → Sends a.replies b.replies (reply_to number seen) (a.retries - b.retries) r → Spends a.retries b.retries (trouble_of r) → Advances a b editor strict line p over
-advances_refused a b strict over p line number answer seen session editor r on carries same strictly lines counted refused bad ends went shown sends spends =
+    → is_err r ≡ false → seen ≡ told_in answer → Replies a b (reply_to number seen) (trouble_of r) → Advances a b editor strict line p over
+advances_refused a b strict over p line number answer seen session editor r on carries same strictly lines counted refused bad ends went shown sends =
     advances a b strict over p line number answer seen session editor r on carries same strictly lines counted
-    (refused ∙ sym (ap (λ (q : Bool). p.any_refused || q) bad ∙ or-true p.any_refused)) (ap (λ (q : Bool). strict && q) bad ∙ and_true strict ∙ ends) went shown sends spends
+    (refused ∙ sym (ap (λ (q : Bool). p.any_refused || q) bad ∙ or-true p.any_refused)) (ap (λ (q : Bool). strict && q) bad ∙ and_true strict ∙ ends) went shown sends
 
 -- a line whose reply met trouble
 pub falters : (a b : Moment) (p : Progress) (line : List ℕ) (number : ℕ) (answer : Result (Held ℕ) Refused) (seen : Result (List ℕ) Refused) (session : Session) (r : Result (Unit {0}) Trouble)
     → CarriesOut session line (Some answer) p → p.lines + 1 ≡ number
-    → is_err r ≡ true → seen ≡ told_in answer → Sends a.replies b.replies (reply_to number seen) (a.retries - b.retries) r → Spends a.retries b.retries (trouble_of r) → Falters a b line p
-falters a b p line number answer seen session r carries counted went shown sends spends =
-    let sends_told = subst (λ (told : Result (List ℕ) Refused). Sends a.replies b.replies (reply_to number told) (a.retries - b.retries) r) shown sends in
-    let sent = sent_front a.replies b.replies a.retries b.retries (reply_to number (told_in answer)) r went sends_told spends in
+    → is_err r ≡ true → seen ≡ told_in answer → Replies a b (reply_to number seen) (trouble_of r) → Falters a b line p
+falters a b p line number answer seen session r carries counted went shown sends =
+    let met = trouble_met r went in
     record {
       next = answered p carries.history (Some answer);
       follows = carries.follows;
       reply = reply_to number (told_in answer);
       replied = replies_are p carries.history answer ∙ ap (λ (i : ℕ). p.replies ++ reply_to i (told_in answer)) counted;
-      output = sent.0;
-      is_front = sent.1;
-      trouble = sent.2;
-      writes = sent.3;
+      trouble = met.0;
+      sends = subst (Replies a b (reply_to number (told_in answer))) met.1 (subst (λ (told : Result (List ℕ) Refused). Replies a b (reply_to number told) (trouble_of r)) shown sends);
     }
 
 -- ---- several lines
@@ -124,8 +127,7 @@ comes_more strict over start lines all line a b c editor after whole to step =
       progress = step.next;
       walk = subst (λ (ls : List (List ℕ)). Walk strict start ls step.next) (sym whole) (walk-append strict start p step.next lines (line ∷ []) to.comes.walk (one_more strict p step.next line to.comes.over step.follows));
       over = step.over;
-      retries = to.comes.retries + step.retries;
-      writes = subst (λ (bytes : List ℕ). Replies a c (written (to.comes.retries + step.retries) bytes)) (sym step.replied) (writes_more a.replies b.replies c.replies a.retries b.retries c.retries to.comes.retries p.replies (written step.retries step.reply) to.comes.writes step.writes);
+      sends = subst (λ (bytes : List ℕ). Replies a c bytes None) (sym step.replied) (sends_more a.replies b.replies c.replies a.retries b.retries c.retries p.replies step.reply None to.comes.sends step.sends);
     }
 
 pub comes_to_more : (strict : Bool) (start : Progress) (lines all : List (List ℕ)) (line : List ℕ) (a b c : Moment) (editor after : Editor)
@@ -149,17 +151,17 @@ over_behind strict start lines all others a b whole comes = record {
   progress = comes.progress;
   walk = subst (λ (ls : List (List ℕ)). Walk strict start ls comes.progress) (sym whole) (walk-append strict start comes.progress comes.progress lines others comes.walk (walk_over_any strict comes.progress others comes.over));
   over = comes.over;
-  retries = comes.retries;
-  writes = comes.writes;
+  sends = comes.sends;
 }
 
 -- the reply to the next line met trouble
 pub cut_short : (strict : Bool) (start : Progress) (lines all others : List (List ℕ)) (line : List ℕ) (a b c : Moment) (editor : Editor)
     → all ≡ lines ++ line ∷ others → (to : ComesTo strict start lines a b editor) → Falters b c line to.comes.progress
-    → (output : Output) × IsCutShort strict start all output × Replies a c output
+    → (output : Output) × IsCutShort strict start all output × Writes a.replies c.replies a.retries c.retries output
 cut_short strict start lines all others line a b c editor whole to step =
-    let p = to.comes.progress in (
-      record { bytes = p.replies ++ step.output.bytes; retries = to.comes.retries + step.output.retries; trouble = step.output.trouble },
+    let p = to.comes.progress in
+    let output : Output = record { bytes = step.sends.0; retries = b.retries - c.retries; trouble = Some step.trouble } in (
+      record { bytes = p.replies ++ step.sends.0; retries = a.retries - c.retries; trouble = Some step.trouble },
       record {
         first = lines;
         line = line;
@@ -172,10 +174,10 @@ cut_short strict start lines all others line a b c editor whole to step =
         follows = step.follows;
         reply = step.reply;
         replied = step.replied;
-        front = step.output.bytes;
-        is_front = step.is_front;
+        front = step.sends.0;
+        is_front = step.sends.1;
         written = refl;
-        trouble = step.trouble;
+        trouble = refl;
       },
-      writes_more a.replies b.replies c.replies a.retries b.retries c.retries to.comes.retries p.replies step.output to.comes.writes step.writes,
+      writes_more a.replies b.replies c.replies a.retries b.retries c.retries (a.retries - b.retries) p.replies output to.comes.sends step.sends.2,
     )

@@ -3,8 +3,9 @@ use Rattle.std.specs.Prelude.{◌≡◌, ℕ, ◌+◌, ◌≤◌, Bool, true, fa
 use Rattle.mvt_document.specs.declared.Document.{Document}
 use Rattle.mvt_document.specs.Held.{Held}
 use Rattle.mvt_document.specs.Stands.{document_of}
-use Rattle.tile_device.specs.Seen.{Seen, Intake, Output, IsFront, Receives, Supplies, nothing_read, sink_at, written}
+use Rattle.tile_device.specs.Seen.{Seen, Intake, Output, IsFront, Receives, Sends, Supplies, Writes, nothing_read, sink_at}
 use Rattle.tile_device.specs.declared.device.Sink.{Ghosts as SinkMembers}
+use Rattle.tile_device.specs.declared.device.Trouble.{Trouble}
 use Rattle.tile_device.specs.declared.device.Trouble.TheVariants.{Interrupted}
 use Rattle.tile_lines.specs.Cutting.{Holding, after_pushes, nothing_held}
 use Rattle.tile_lines.specs.Lines.{whole_lines}
@@ -24,20 +25,6 @@ use Rattle.tile_run.specs.Course.{IsOpened, IsFaulty, IsWritten, CarriesThrough,
 use Rattle.mvt_history.specs.History.{History}
 use Rattle.tile_run.specs.Run.{Progress, silent, accepted, refused_for, is_over, MayFollow, Walk}
 use Rattle.mvt_history.specs.Session.{StandsFor}
-
--- ---- devices, with the retries that are left before a step and after it
-
--- a source gave this intake, and the budget of retries paid for it
-pub record Reads (old new : Seen) (before after : ℕ) (intake : Intake) : Type 0 where
-  pub supplies : Supplies old new intake
-  pub spent : after + intake.retries ≡ before
-  pub last : intake.trouble ≡ Some Interrupted → after ≡ 0
-
--- a sink took this output, and the budget of retries paid for it
-pub record Writes (old new : Seen) (before after : ℕ) (output : Output) : Type 0 where
-  pub receives : Receives old new output
-  pub spent : after + output.retries ≡ before
-  pub last : output.trouble ≡ Some Interrupted → after ≡ 0
 
 -- ---- the tile
 
@@ -87,9 +74,9 @@ pub record Moment : Type 0 where
 abbrev pub moment_at : {W : Type 0} → SinkMembers W → Seen → W → ℕ → Moment
 moment_at members script replies retries = record { script = script; replies = sink_at members replies; retries = retries }
 
--- between two moments the replies took this output, and the retries paid for it
-abbrev pub Replies : Moment → Moment → Output → Type 0
-Replies before after output = Writes before.replies after.replies before.retries after.retries output
+-- between two moments the replies were sent these bytes, all of them, or, before this trouble, a prefix of them
+abbrev pub Replies : Moment → Moment → List ℕ → Option Trouble → Type 0
+Replies before after bytes trouble = Sends before.replies after.replies before.retries after.retries bytes trouble
 
 -- ---- a line, carried out and replied to
 
@@ -101,8 +88,7 @@ pub record Advances (before after : Moment) (editor : Editor) (strict : Bool) (l
   pub over : is_over strict next ≡ is_last
   pub reply : List ℕ
   pub replied : next.replies ≡ p.replies ++ reply
-  pub retries : ℕ
-  pub writes : Replies before after (written retries reply)
+  pub sends : Replies before after reply None
 
 -- the reply to the line met trouble: a prefix of it was written
 pub record Falters (before after : Moment) (line : List ℕ) (p : Progress) : Type 0 where
@@ -110,10 +96,8 @@ pub record Falters (before after : Moment) (line : List ℕ) (p : Progress) : Ty
   pub follows : MayFollow p line next
   pub reply : List ℕ
   pub replied : next.replies ≡ p.replies ++ reply
-  pub output : Output
-  pub is_front : IsFront output.bytes reply
-  pub trouble : IsSome output.trouble
-  pub writes : Replies before after output
+  pub trouble : Trouble
+  pub sends : Replies before after reply (Some trouble)
 
 -- how carrying out a line ended: it was replied to, it ended a strict run, or its reply met trouble
 abbrev pub AnswersLine : Moment → Moment → Editor → Bool → List ℕ → Progress → Result (Unit {0}) LineStop → Type 0
@@ -128,8 +112,7 @@ pub record Comes (strict : Bool) (start : Progress) (lines : List (List ℕ)) (b
   pub progress : Progress
   pub walk : Walk strict start lines progress
   pub over : is_over strict progress ≡ is_last
-  pub retries : ℕ
-  pub writes : Replies before after (written retries progress.replies)
+  pub sends : Replies before after progress.replies None
 
 -- the lines were carried out and replied to, the run goes on, and the editor has come there
 pub record ComesTo (strict : Bool) (start : Progress) (lines : List (List ℕ)) (before after : Moment) (editor : Editor) : Type 0 where
@@ -140,7 +123,8 @@ pub record ComesTo (strict : Bool) (start : Progress) (lines : List (List ℕ)) 
 abbrev pub CarriesOutLines : Bool → Progress → List (List ℕ) → Moment → Moment → Editor → Result (Unit {0}) LineStop → Type 0
 CarriesOutLines strict start lines before after editor (Ok done) = ComesTo strict start lines before after editor
 CarriesOutLines strict start lines before after editor (Err line_stops.Strict) = Comes strict start lines before after true
-CarriesOutLines strict start lines before after editor (Err line_stops.Replies) = (output : Output) × IsCutShort strict start lines output × Replies before after output
+CarriesOutLines strict start lines before after editor (Err line_stops.Replies) =
+    (output : Output) × IsCutShort strict start lines output × Writes before.replies after.replies before.retries after.retries output
 
 -- the cutter was given these bytes
 abbrev pub WasGiven : Holding → List ℕ → Type 0

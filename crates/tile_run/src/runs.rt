@@ -6,9 +6,9 @@ ghost use Rattle.mvt_document.specs.Settle.{settle};
 ghost use Rattle.mvt_document.specs.Stands.{document_of};
 ghost use Rattle.mvt_document.specs.Wire.{bytes_of};
 ghost use Rattle.mvt_history.specs.declared.TheConstants.{MAX_DEPTH};
-ghost use Rattle.tile_device.specs.Seen.{Intake, Output, source_at, sink_at};
+ghost use Rattle.tile_device.specs.Seen.{Intake, Output, Reads, Writes, source_at, sink_at};
 ghost use Rattle.tile_run.specs.Headline.{Headline, RefusesTile, Runs, WritesATile, LeavesOut, LeavesReplies, devices_at};
-ghost use Rattle.tile_run.specs.Steps.{Reads, Writes, OpensTile, WritesTile};
+ghost use Rattle.tile_run.specs.Steps.{OpensTile, WritesTile};
 
 use crate::editor::Editor;
 use crate::outcome::{Options, Outcome, TileFault, Unopened, Unwritten};

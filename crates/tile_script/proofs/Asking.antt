@@ -1,19 +1,25 @@
 -- A line of the right words asks for a request.
-use Rattle.std.proofs.Common.{◌≡◌, ℕ, true, false, eqb, List, [], ◌∷◌, ◌++◌, Some, Ok, refl, ap, ◌∙◌}
-use Rattle.std.specs.Prelude.{codes}
+use Rattle.std.proofs.Common.{◌≡◌, ℕ, Bool, true, false, eqb, List, [], ◌∷◌, ◌++◌, Some, Ok, refl, ap, ◌∙◌}
+use Rattle.std.specs.Prelude.{◌==◌, slice_get, codes}
+use Rattle.std.specs.Option.{option_map_or}
 use Rattle.std.specs.List.{AllByRecursion}
 use Rattle.std.specs.Str.Parse.{digits_value}
 use Rattle.mvt_command.specs.Command.{Command, AtOrdinal, Named, RenameLayer, FeatureAtOrdinal, WithId}
 use Rattle.tile_arguments.specs.Arguments.{is_number}
 use Rattle.tile_arguments.proofs.Meant.{text_quoted, layer_named, layer_at, feature_at, feature_with_id}
-use Rattle.tile_request.specs.Request.{Request, Edit, Undo, Redo, SetMark, TakeMark, GoBack, Begin, End, Cancel, ListMarks, TellHistory, Size, Lists, Whole, OneLayer, OneFeature}
+use Rattle.mvt_command.specs.Requests.{HistoryRequest, Edit, Undo, Redo, SetMark, TakeMark, GoBack, Begin, End, Cancel}
+use Rattle.tile_request.specs.Request.{Request, OnHistory, ListMarks, TellHistory, Size, Lists, Whole, OneLayer, OneFeature}
 use Rattle.tile_words.specs.Words.{Word, Bare, Quoted, words_of}
 use Rattle.tile_words.specs.Spelling.{SpellsWords}
 use Rattle.tile_words.proofs.Again.{words_only, behind_blanks, no_gap}
-use Rattle.tile_script.specs.Commands.{command_by, rename_layer_of}
-use Rattle.tile_script.specs.Line.{IsAsking, requests_alone, requests_by_name, alone_of, name_of, list_of, request_by, asked_by, is_remark_behind, is_remark, request_in, answer_to, IsReadable}
+use Rattle.tile_script.specs.Commands.{chosen_of, command_by, rename_layer_of}
+use Rattle.tile_script.specs.Line.{IsAsking, requests_alone, requests_by_name, alone_of, name_of, list_of, request_by, asked_by, is_remark, request_in, answer_to, IsReadable}
 use Rattle.tile_script.specs.Shapes.{AsksAlone, AsksByName}
 use Rattle.tile_script.proofs.Silent.{answer_to-words}
+
+-- the first of the bytes, where there is one, is a `#`
+abbrev is_remark_behind : List ℕ → Bool
+is_remark_behind bytes = option_map_or (λ byte. byte == 35) (slice_get bytes 0) true
 
 -- a line is no remark, where its first word is bare and begins with another byte
 no_remark : (line : List ℕ) (b : ℕ) (name : List ℕ) (words : List Word) → SpellsWords line (Bare (b ∷ name) ∷ words) → is_remark line ≡ eqb b 35
@@ -40,19 +46,19 @@ alone b name request other asked = λ line readable s. asks_by line b name [] re
 pub asks_alone : AllByRecursion AsksAlone requests_alone
 unfolding asked_by request_by alone_of
 asks_alone = (
-  alone _ _ Undo refl refl,
+  alone _ _ (OnHistory Undo) refl refl,
   (
-    alone _ _ Redo refl refl,
+    alone _ _ (OnHistory Redo) refl refl,
     (
       alone _ _ ListMarks refl refl,
       (
         alone _ _ TellHistory refl refl,
         (
-          alone _ _ Begin refl refl,
+          alone _ _ (OnHistory Begin) refl refl,
           (
-            alone _ _ End refl refl,
+            alone _ _ (OnHistory End) refl refl,
             (
-              alone _ _ Cancel refl refl,
+              alone _ _ (OnHistory Cancel) refl refl,
               (alone _ _ Size refl refl, tt),
             ),
           ),
@@ -62,8 +68,8 @@ asks_alone = (
   ),
 )
 
-by_name : (b : ℕ) (word : List ℕ) (request : List ℕ → Request) → eqb b 35 ≡ false → ((name : List ℕ) → asked_by (Bare (b ∷ word) ∷ Quoted name ∷ []) ≡ Ok (request name)) → AsksByName (b ∷ word, request)
-by_name b word request other asked = λ line name readable s. asks_by line b word (Quoted name ∷ []) (request name) readable other s (asked name)
+by_name : (b : ℕ) (word : List ℕ) (request : List ℕ → HistoryRequest) → eqb b 35 ≡ false → ((name : List ℕ) → asked_by (Bare (b ∷ word) ∷ Quoted name ∷ []) ≡ Ok (OnHistory (request name))) → AsksByName (b ∷ word, request)
+by_name b word request other asked = λ line name readable s. asks_by line b word (Quoted name ∷ []) (OnHistory (request name)) readable other s (asked name)
 
 pub asks_by_name : AllByRecursion AsksByName requests_by_name
 unfolding asked_by request_by name_of
@@ -77,22 +83,22 @@ asks_by_name = (
 
 -- ---- lines whose first word is `rename-layer`
 
-asks_rename : (line : List ℕ) (arguments : List Word) (command : Command) → IsReadable line → SpellsWords line (Bare (codes "rename-layer") ∷ arguments) → rename_layer_of arguments ≡ Ok command → answer_to line ≡ Ok (Some (Edit command))
+asks_rename : (line : List ℕ) (arguments : List Word) (command : Command) → IsReadable line → SpellsWords line (Bare (codes "rename-layer") ∷ arguments) → rename_layer_of arguments ≡ Ok command → answer_to line ≡ Ok (Some (OnHistory (Edit command)))
 unfolding asked_by request_by command_by
 asks_rename line arguments command readable s e =
-    asks_by line 114 (101 ∷ 110 ∷ 97 ∷ 109 ∷ 101 ∷ 45 ∷ 108 ∷ 97 ∷ 121 ∷ 101 ∷ 114 ∷ []) arguments (Edit command) readable refl s asked
+    asks_by line 114 (101 ∷ 110 ∷ 97 ∷ 109 ∷ 101 ∷ 45 ∷ 108 ∷ 97 ∷ 121 ∷ 101 ∷ 114 ∷ []) arguments (OnHistory (Edit command)) readable refl s asked
   where
-    asked : asked_by (Bare (codes "rename-layer") ∷ arguments) ≡ Ok (Edit command)
+    asked : asked_by (Bare (codes "rename-layer") ∷ arguments) ≡ Ok (OnHistory (Edit command))
     asked = rw e refl
 
-pub asks_rename_named : (line old new : List ℕ) → IsReadable line → SpellsWords line (Bare (codes "rename-layer") ∷ Quoted old ∷ Quoted new ∷ []) → answer_to line ≡ Ok (Some (Edit (RenameLayer (Named old) new)))
+pub asks_rename_named : (line old new : List ℕ) → IsReadable line → SpellsWords line (Bare (codes "rename-layer") ∷ Quoted old ∷ Quoted new ∷ []) → answer_to line ≡ Ok (Some (OnHistory (Edit (RenameLayer (Named old) new))))
 unfolding rename_layer_of
 asks_rename_named line old new readable s = asks_rename line (Quoted old ∷ Quoted new ∷ []) (RenameLayer (Named old) new) readable s asked
   where
     asked : rename_layer_of (Quoted old ∷ Quoted new ∷ []) ≡ Ok (RenameLayer (Named old) new)
     asked = rw (layer_named old, text_quoted new) refl
 
-pub asks_rename_ordinal : (line digits new : List ℕ) → IsReadable line → is_number digits ≡ true → SpellsWords line (Bare (codes "rename-layer") ∷ Bare (codes "#" ++ digits) ∷ Quoted new ∷ []) → answer_to line ≡ Ok (Some (Edit (RenameLayer (AtOrdinal (digits_value 10 digits)) new)))
+pub asks_rename_ordinal : (line digits new : List ℕ) → IsReadable line → is_number digits ≡ true → SpellsWords line (Bare (codes "rename-layer") ∷ Bare (codes "#" ++ digits) ∷ Quoted new ∷ []) → answer_to line ≡ Ok (Some (OnHistory (Edit (RenameLayer (AtOrdinal (digits_value 10 digits)) new))))
 unfolding rename_layer_of
 asks_rename_ordinal line digits new readable number s =
     asks_rename line (Bare (codes "#" ++ digits) ∷ Quoted new ∷ []) (RenameLayer (AtOrdinal (digits_value 10 digits)) new) readable s asked
@@ -118,7 +124,7 @@ asks_list_layer line name readable s = asks_list line (Quoted name ∷ []) (List
     asked = rw (layer_named name) refl
 
 pub asks_list_feature_at : (line layer feature : List ℕ) → IsReadable line → is_number layer ≡ true → is_number feature ≡ true → SpellsWords line (Bare (codes "list") ∷ Bare (codes "#" ++ layer) ∷ Bare feature ∷ []) → answer_to line ≡ Ok (Some (Lists (OneFeature (AtOrdinal (digits_value 10 layer)) (FeatureAtOrdinal (digits_value 10 feature)))))
-unfolding list_of
+unfolding list_of chosen_of
 asks_list_feature_at line layer feature readable at among s =
     asks_list line (Bare (codes "#" ++ layer) ∷ Bare feature ∷ []) (Lists (OneFeature (AtOrdinal (digits_value 10 layer)) (FeatureAtOrdinal (digits_value 10 feature)))) readable s asked
   where
@@ -126,7 +132,7 @@ asks_list_feature_at line layer feature readable at among s =
     asked = rw (layer_at layer at, feature_at feature among) refl
 
 pub asks_list_feature_with_id : (line name id : List ℕ) → IsReadable line → is_number id ≡ true → SpellsWords line (Bare (codes "list") ∷ Quoted name ∷ Bare (codes "@" ++ id) ∷ []) → answer_to line ≡ Ok (Some (Lists (OneFeature (Named name) (WithId (digits_value 10 id)))))
-unfolding list_of
+unfolding list_of chosen_of
 asks_list_feature_with_id line name id readable number s =
     asks_list line (Quoted name ∷ Bare (codes "@" ++ id) ∷ []) (Lists (OneFeature (Named name) (WithId (digits_value 10 id)))) readable s asked
   where

@@ -1,5 +1,5 @@
 -- No line is refused as out of memory by its definition.
-use Rattle.std.proofs.Common.{ℕ, Bool, true, false, not, List, [], ◌∷◌, ◌++◌, length, map, Option, Some, None, Result, Err}
+use Rattle.std.proofs.Common.{ℕ, Bool, true, false, not, List, [], ◌∷◌, ◌++◌, length, map, Option, Some, None, Result, Ok, Err}
 use Rattle.std.specs.Prelude.{codes, nat_lt, ok_or, if◌then◌else◌}
 use Rattle.std.specs.List.{AllByRecursion}
 use Rattle.std.specs.Map.{lookup}
@@ -8,9 +8,11 @@ use Rattle.std.specs.Str.{bytes_eq, is_utf8}
 use Rattle.tile_words.specs.Words.{Word, Bare, Quoted, words_of}
 use Rattle.tile_arguments.specs.Arguments.{text_of, texts_of, number_in, layer_of, feature_of, geometry_of}
 use Rattle.tile_arguments.proofs.Refusals.{then_other, text_other, texts_other, number_in_other, layer_other, feature_other, geometry_other}
-use Rattle.tile_request.specs.Request.{Request}
-use Rattle.tile_script.specs.Line.{is_remark, requests_alone, requests_by_name, alone_of, name_of, mark_request, list_of, requests, request_by, asked_by, request_in, answer_to}
+use Rattle.mvt_command.specs.Requests.{HistoryRequest}
+use Rattle.tile_request.specs.Request.{Request, OnHistory}
+use Rattle.tile_script.specs.Line.{is_remark, requests_alone, requests_by_name, alone_of, name_of, list_of, requests, request_by, asked_by, request_in, answer_to}
 use Rattle.tile_script.specs.Commands.{chosen_of, rename_layer_of, move_layer_of, drop_layer_of, keep_layers_of, insert_feature_of, move_feature_of, drop_feature_of, set_id_of, clear_id_of, commands, read_by, command_by}
+use Rattle.tile_words.specs.Answers.{◌>>=◌}
 use Rattle.tile_words.specs.declared.parse_error.ParseError.{ParseError}
 use Rattle.tile_words.specs.declared.parse_error.ParseError.TheVariants as parse
 use Rattle.mvt_command.proofs.Others.{Other, either}
@@ -124,19 +126,16 @@ name_other [] = λ e. cc
 name_other (name ∷ []) = text_other name
 name_other (name ∷ more ∷ others) = λ e. cc
 
-mark_other : (request : List ℕ → Request) (arguments : List Word) → Other parse.NoMemory (mark_request request arguments)
-mark_other request arguments = then_other (name_of arguments) _ (name_other arguments) (λ name. tt)
-
 list_other : (arguments : List Word) → Other parse.NoMemory (list_of arguments)
 unfolding list_of
 list_other [] = tt
 list_other (layer ∷ []) = then_other (layer_of layer) _ (layer_other layer) (λ choice. tt)
-list_other (layer ∷ feature ∷ []) = then_other (layer_of layer) _ (layer_other layer) (λ choice. then_other (feature_of feature) _ (feature_other feature) (λ chosen. tt))
+list_other (layer ∷ feature ∷ []) = then_other (chosen_of layer feature) _ (chosen_other layer feature) (λ chosen. tt)
 list_other (layer ∷ feature ∷ more ∷ others) = λ e. cc
 
-all_by_name : (arguments : List Word) (words : List (List ℕ × (List ℕ → Request))) (more : List (List ℕ × (List Word → Result Request ParseError))) → AllByRecursion (λ reader. Other parse.NoMemory (reader.1 arguments)) more → AllByRecursion (λ reader. Other parse.NoMemory (reader.1 arguments)) (map (λ word. (word.0, mark_request word.1)) words ++ more)
+all_by_name : (arguments : List Word) (words : List (List ℕ × (List ℕ → HistoryRequest))) (more : List (List ℕ × (List Word → Result Request ParseError))) → AllByRecursion (λ reader. Other parse.NoMemory (reader.1 arguments)) more → AllByRecursion (λ reader. Other parse.NoMemory (reader.1 arguments)) (map (λ word. (word.0, λ arguments. name_of arguments >>= λ name. Ok (OnHistory (word.1 name)))) words ++ more)
 all_by_name arguments [] more others = others
-all_by_name arguments (word ∷ words) more others = (mark_other word.1 arguments, all_by_name arguments words more others)
+all_by_name arguments (word ∷ words) more others = (then_other (name_of arguments) _ (name_other arguments) (λ name. tt), all_by_name arguments words more others)
 
 all_alone : (arguments : List Word) (words : List (List ℕ × Request)) (more : List (List ℕ × (List Word → Result Request ParseError))) → AllByRecursion (λ reader. Other parse.NoMemory (reader.1 arguments)) more → AllByRecursion (λ reader. Other parse.NoMemory (reader.1 arguments)) (map (λ word. (word.0, alone_of word.1)) words ++ more)
 all_alone arguments [] more others = others

@@ -1,21 +1,23 @@
 -- What a line of a script asks for.
-use Rattle.std.specs.Prelude.{◌≡◌, ℕ, ◌≤◌, Bool, true, false, not, List, [], ◌∷◌, ◌++◌, length, map, Option, Some, None, Result, Ok, Err, ◌==◌, nat_lt, if◌then◌else◌, codes, ok_or}
+use Rattle.std.specs.Prelude.{◌≡◌, ℕ, ◌≤◌, Bool, true, false, not, List, [], ◌∷◌, ◌++◌, length, map, Option, Some, None, Result, Ok, Err, ◌==◌, nat_lt, slice_get, if◌then◌else◌, codes, ok_or}
+use Rattle.std.specs.Option.{option_map_or}
 use Rattle.std.specs.Str.{is_utf8, IsUtf8}
-use Rattle.tile_arguments.specs.Arguments.{text_of, layer_of, feature_of}
-use Rattle.tile_request.specs.Request.{Request, Edit, Undo, Redo, SetMark, TakeMark, GoBack, Begin, End, Cancel, ListMarks, TellHistory, Size, Lists, Whole, OneLayer, OneFeature}
-use Rattle.tile_words.specs.Words.{Word, Bare, Quoted, IsLoneWord, after_blanks, words_of}
+use Rattle.tile_arguments.specs.Arguments.{text_of, layer_of}
+use Rattle.mvt_command.specs.Requests.{HistoryRequest, Edit, Undo, Redo, SetMark, TakeMark, GoBack, Begin, End, Cancel}
+use Rattle.tile_request.specs.Request.{Request, OnHistory, ListMarks, TellHistory, Size, Lists, Whole, OneLayer, OneFeature}
+use Rattle.tile_words.specs.Words.{Word, Bare, IsLoneWord, after_blanks, words_of}
 use Rattle.tile_words.specs.Answers.{◌>>=◌}
 use Rattle.tile_lines.specs.declared.TheConstants.{LINE_LIMIT}
-use Rattle.tile_script.specs.Commands.{read_by, command_by}
+use Rattle.tile_script.specs.Commands.{chosen_of, read_by, command_by}
 use Rattle.tile_words.specs.declared.parse_error.ParseError.{ParseError}
 use Rattle.tile_words.specs.declared.parse_error.ParseError.TheVariants.{LineTooLong, BadUtf8, BadWord, UnknownCommand, BadArguments}
 
 -- the words that are a request by themselves, each with the request
 abbrev pub requests_alone : List (List ℕ × Request)
-requests_alone = (codes "undo", Undo) ∷ (codes "redo", Redo) ∷ (codes "marks", ListMarks) ∷ (codes "history", TellHistory) ∷ (codes "begin", Begin) ∷ (codes "end", End) ∷ (codes "cancel", Cancel) ∷ (codes "size", Size) ∷ []
+requests_alone = (codes "undo", OnHistory Undo) ∷ (codes "redo", OnHistory Redo) ∷ (codes "marks", ListMarks) ∷ (codes "history", TellHistory) ∷ (codes "begin", OnHistory Begin) ∷ (codes "end", OnHistory End) ∷ (codes "cancel", OnHistory Cancel) ∷ (codes "size", Size) ∷ []
 
 -- the words that make a request with the name of a mark, each with the request of a name
-abbrev pub requests_by_name : List (List ℕ × (List ℕ → Request))
+abbrev pub requests_by_name : List (List ℕ × (List ℕ → HistoryRequest))
 requests_by_name = (codes "mark", SetMark) ∷ (codes "unmark", TakeMark) ∷ (codes "back", GoBack) ∷ []
 
 -- the request, where it has no arguments; else BadArguments
@@ -28,10 +30,6 @@ unfoldable pub name_of : List Word → Result (List ℕ) ParseError
 name_of (name ∷ []) = text_of name
 name_of words = Err BadArguments
 
--- the request on the mark whose name the single argument says; else BadArguments
-abbrev pub mark_request : (List ℕ → Request) → List Word → Result Request ParseError
-mark_request request arguments = name_of arguments >>= λ name. Ok (request name)
-
 -- the listing of these arguments: none, a layer, or a layer and one of its features; or the first refusal
 unfoldable pub list_of : List Word → Result Request ParseError
 list_of [] = Ok (Lists Whole)
@@ -39,36 +37,29 @@ list_of (layer ∷ []) = do
   choice ← layer_of layer
   Ok (Lists (OneLayer choice))
 list_of (layer ∷ feature ∷ []) = do
-  choice ← layer_of layer
-  chosen ← feature_of feature
-  Ok (Lists (OneFeature choice chosen))
-list_of (layer ∷ feature ∷ more ∷ others) = Err BadArguments
+  chosen ← chosen_of layer feature
+  Ok (Lists (OneFeature chosen.0 chosen.1))
+list_of words = Err BadArguments
 
 -- the requests that are no commands, each with its word and how its arguments are read
 abbrev pub requests : List (List ℕ × (List Word → Result Request ParseError))
 requests =
-    map (λ word. (word.0, mark_request word.1)) requests_by_name
+    map (λ word. (word.0, λ arguments. name_of arguments >>= λ name. Ok (OnHistory (word.1 name)))) requests_by_name
     ++ map (λ word. (word.0, alone_of word.1)) requests_alone
     ++ (codes "list", list_of) ∷ []
 
 -- the request that begins with this word, with its arguments; or the first refusal
 unfoldable pub request_by : List ℕ → List Word → Result Request ParseError
-request_by name arguments = read_by requests (command_by name arguments >>= λ command. Ok (Edit command)) name arguments
+request_by name arguments = read_by requests (command_by name arguments >>= λ command. Ok (OnHistory (Edit command))) name arguments
 
 -- what the words of a line ask for, or the first refusal: the first word is bare and says which request it is
 unfoldable pub asked_by : List Word → Result Request ParseError
-asked_by [] = Err UnknownCommand
-asked_by (Quoted text ∷ arguments) = Err UnknownCommand
 asked_by (Bare name ∷ arguments) = request_by name arguments
+asked_by words = Err UnknownCommand
 
--- the bytes are empty or begin with a `#`
-abbrev pub is_remark_behind : List ℕ → Bool
-is_remark_behind [] = true
-is_remark_behind (b ∷ more) = b == 35
-
--- a line that asks for nothing: behind the blanks at its beginning there is nothing or a `#`
+-- a line that asks for nothing: behind the blanks at its beginning there is nothing, or first a `#`
 abbrev pub is_remark : List ℕ → Bool
-is_remark line = is_remark_behind (after_blanks line)
+is_remark line = option_map_or (λ byte. byte == 35) (slice_get (after_blanks line) 0) true
 
 -- what a line of words asks for, or the first refusal
 unfoldable pub request_in : List ℕ → Result Request ParseError

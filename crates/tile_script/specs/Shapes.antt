@@ -1,6 +1,7 @@
 -- Lines of the word of a request, and what they ask for.
 use Rattle.std.specs.Prelude.{◌≡◌, ℕ, List, [], ◌∷◌, Some, Ok}
-use Rattle.tile_request.specs.Request.{Request}
+use Rattle.mvt_command.specs.Requests.{HistoryRequest}
+use Rattle.tile_request.specs.Request.{Request, OnHistory}
 use Rattle.tile_words.specs.Words.{Bare, Quoted}
 use Rattle.tile_words.specs.Spelling.{SpellsWords}
 use Rattle.tile_script.specs.Line.{IsReadable, answer_to}
@@ -10,5 +11,5 @@ abbrev pub AsksAlone : List ℕ × Request → Type 0
 AsksAlone shape = (line : List ℕ) → IsReadable line → SpellsWords line (Bare shape.0 ∷ []) → answer_to line ≡ Ok (Some shape.1)
 
 -- a readable line of the word and a quoted name asks for the request of that name
-abbrev pub AsksByName : List ℕ × (List ℕ → Request) → Type 0
-AsksByName shape = (line name : List ℕ) → IsReadable line → SpellsWords line (Bare shape.0 ∷ Quoted name ∷ []) → answer_to line ≡ Ok (Some (shape.1 name))
+abbrev pub AsksByName : List ℕ × (List ℕ → HistoryRequest) → Type 0
+AsksByName shape = (line name : List ℕ) → IsReadable line → SpellsWords line (Bare shape.0 ∷ Quoted name ∷ []) → answer_to line ≡ Ok (Some (OnHistory (shape.1 name)))

@@ -174,7 +174,7 @@ fn clear_id(alloc: Global, arguments: &[Word<'_>]) -> Result<Command, ParseError
 
 /// A layer, and one of its features.
 #[tactic(auto, unfolding(crate::specs::Commands::chosen_of))]
-fn chosen(
+pub(crate) fn chosen(
     alloc: Global,
     layer: Word<'_>,
     feature: Word<'_>,

@@ -5,7 +5,8 @@ ghost use Rattle.std.specs.List.{AllByRecursion};
 ghost use Rattle.std.specs.Str.Parse.{digits_value};
 ghost use Rattle.mvt_command.specs.Command.{AtOrdinal, Named, RenameLayer, FeatureAtOrdinal, WithId};
 ghost use Rattle.tile_arguments.specs.Arguments.{is_number};
-ghost use Rattle.tile_request.specs.Request.{Edit, Lists, Whole, OneLayer, OneFeature};
+ghost use Rattle.mvt_command.specs.Requests.{Edit};
+ghost use Rattle.tile_request.specs.Request.{OnHistory, Lists, Whole, OneLayer, OneFeature};
 ghost use Rattle.tile_script.specs.Line.{requests_alone, requests_by_name, IsReadable, answer_to};
 ghost use Rattle.tile_script.specs.Shapes.{AsksAlone, AsksByName};
 ghost use Rattle.tile_words.specs.Spelling.{SpellsWords};
@@ -21,8 +22,8 @@ pub use tile_words::laws::words_are_spelled;
 pub fn words_ask_for_requests()
     ensures alone { AllByRecursion AsksAlone requests_alone }
     ensures by_name { AllByRecursion AsksByName requests_by_name }
-    ensures rename_layer { (line old new : List ℕ) → IsReadable line → SpellsWords line (Bare (codes "rename-layer") ∷ Quoted old ∷ Quoted new ∷ []) → answer_to line ≡ Ok (Some (Edit (RenameLayer (Named old) new))) }
-    ensures rename_layer_at { (line digits new : List ℕ) → IsReadable line → IsTrue (is_number digits) → SpellsWords line (Bare (codes "rename-layer") ∷ Bare (codes "#" ++ digits) ∷ Quoted new ∷ []) → answer_to line ≡ Ok (Some (Edit (RenameLayer (AtOrdinal (digits_value 10 digits)) new))) }
+    ensures rename_layer { (line old new : List ℕ) → IsReadable line → SpellsWords line (Bare (codes "rename-layer") ∷ Quoted old ∷ Quoted new ∷ []) → answer_to line ≡ Ok (Some (OnHistory (Edit (RenameLayer (Named old) new)))) }
+    ensures rename_layer_at { (line digits new : List ℕ) → IsReadable line → IsTrue (is_number digits) → SpellsWords line (Bare (codes "rename-layer") ∷ Bare (codes "#" ++ digits) ∷ Quoted new ∷ []) → answer_to line ≡ Ok (Some (OnHistory (Edit (RenameLayer (AtOrdinal (digits_value 10 digits)) new)))) }
     ensures list { (line : List ℕ) → IsReadable line → SpellsWords line (Bare (codes "list") ∷ []) → answer_to line ≡ Ok (Some (Lists Whole)) }
     ensures list_layer { (line name : List ℕ) → IsReadable line → SpellsWords line (Bare (codes "list") ∷ Quoted name ∷ []) → answer_to line ≡ Ok (Some (Lists (OneLayer (Named name)))) }
     ensures list_feature_at { (line layer feature : List ℕ) → IsReadable line → IsTrue (is_number layer) → IsTrue (is_number feature) → SpellsWords line (Bare (codes "list") ∷ Bare (codes "#" ++ layer) ∷ Bare feature ∷ []) → answer_to line ≡ Ok (Some (Lists (OneFeature (AtOrdinal (digits_value 10 layer)) (FeatureAtOrdinal (digits_value 10 feature))))) }

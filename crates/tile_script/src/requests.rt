@@ -7,10 +7,10 @@ ghost use Rattle.tile_script.specs.Line.{alone_of, name_of, list_of, request_by,
 ghost use Rattle.tile_words.specs.Answers.{Gives};
 ghost use Rattle.tile_words.specs.WordStands.{word_of};
 
-use crate::commands::command;
+use crate::commands::{chosen, command};
 use mvt_document::Items;
 use std::alloc::Global;
-use tile_arguments::{feature_choice, layer_choice, text_argument};
+use tile_arguments::{layer_choice, text_argument};
 use tile_request::{Request, What};
 use tile_words::{ParseError, Word};
 
@@ -94,8 +94,7 @@ fn list(alloc: Global, arguments: &[Word<'_>]) -> Result<Request, ParseError>
         [] => Ok(Request::List(What::Whole)),
         [layer] => Ok(Request::List(What::OneLayer(layer_choice(alloc, *layer)?))),
         [layer, feature] => {
-            let layer = layer_choice(alloc, *layer)?;
-            let feature = feature_choice(*feature)?;
+            let (layer, feature) = chosen(alloc, *layer, *feature)?;
             Ok(Request::List(What::OneFeature(layer, feature)))
         }
         _ => Err(ParseError::BadArguments),

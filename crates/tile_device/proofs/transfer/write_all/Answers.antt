@@ -1,8 +1,8 @@
-use Rattle.std.proofs.Common.{rules, None}
+use Rattle.std.proofs.Common.{rules, refl, None}
 use Rattle.std.proofs.lemmas.List.{take_rest}
 use Rattle.tile_device.specs.Seen.{sink_at}
 use Rattle.tile_device.proofs.Meeting.{meets_call}
-use Rattle.tile_device.proofs.Writing.{on_err, writes_more, wrote_front}
+use Rattle.tile_device.proofs.Writing.{on_err, leaves_less, wrote_front}
 use Rattle.tile_device.proofs.transfer.write_all.Goals as goal
 
 pub loop-rest-preserved-in-Ok : goal.loop-rest-preserved-in-Ok
@@ -10,13 +10,10 @@ loop-rest-preserved-in-Ok g c =
     let before = sink_at g.S.Sink c.loop-rest.sink in
     let after = sink_at g.S.Sink c.write.new.self in
     let e = c.in-Ok.ensures in
-    record {
-      within = search rules;
-      writes = writes_more _ before after _ _ _ _ c.in-Ok.count c.loop-rest.invariant.writes
-          (meets_call before after None e.interruptions e.failures e.still_tells) e.bytes (take_rest c.loop-rest.rest.now c.in-Ok.count);
-    }
+    leaves_less _ before after _ _ _ _ _ c.in-Ok.count c.loop-rest.invariant
+    (meets_call before after 0 None refl e.interruptions e.failures e.still_tells) e.bytes (take_rest c.loop-rest.rest.now c.in-Ok.count)
 
 pub returns-in_err-take_for-in-Err-clause-front : goal.returns-in_err-take_for-in-Err-clause-front
 returns-in_err-take_for-in-Err-clause-front g c =
-    λ told. on_err _ (wrote_front _ (sink_at g.S.Sink c.loop-rest.sink) (sink_at g.S.Sink c.write.new.self) _ _ _ c.loop-rest.invariant.writes (search rules)
+    λ told. on_err _ (wrote_front _ (sink_at g.S.Sink c.loop-rest.sink) (sink_at g.S.Sink c.write.new.self) _ _ _ _ c.loop-rest.invariant (search rules)
     c.in-Err.ensures.still_tells c.in-Err.ensures.bytes told)

@@ -5,7 +5,7 @@ use Rattle.mvt_document.specs.Stands.{document_of}
 use Rattle.mvt_document.specs.Wire.{bytes_of}
 use Rattle.mvt_document.proofs.Settling.{settled_file}
 use Rattle.tile_device.specs.Seen.{written}
-use Rattle.tile_run.proofs.Budgets.{writes_nothing}
+use Rattle.tile_device.proofs.Sending.{writes_nothing}
 use Rattle.tile_run.proofs.Reading.{all_replies}
 use Rattle.tile_run.proofs.runs.write_tile.Goals as goal
 

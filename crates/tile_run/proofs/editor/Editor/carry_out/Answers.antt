@@ -10,22 +10,22 @@ returns-in_default-clause-answers g c script strict p line at on is =
 pub returns-then-is_err-clause-answers : goal.returns-then-is_err-clause-answers
 returns-then-is_err-clause-answers g c script strict p line at on is =
     falters _ _ p line _ c.in-Some.answer (answer_seen c.told_in.result) _ c.reply.result (c.in-Some.ensures p line at.stands is) (ap (λ (n : ℕ). n + 1) (sym at.lines))
-    (sym c.is_err.ensures.value ∙ c.if-is_err.true) c.told_in.ensures c.reply.ensures.sends c.reply.ensures.spends
+    (sym c.is_err.ensures.value ∙ c.if-is_err.true) c.told_in.ensures c.reply.ensures
 
 pub returns-then-not-refused-clause-answers : goal.returns-then-not-refused-clause-answers
 returns-then-not-refused-clause-answers g c script strict p line at on is =
     advances_accepted _ _ strict p line _ c.in-Some.answer (answer_seen c.told_in.result) _ _ c.reply.result on (c.in-Some.ensures p line at.stands is)
     refl at.strict refl (ap (λ (n : ℕ). n + 1) (sym at.lines)) at.refused (sym c.is_err-refused.ensures.value ∙ c.if-not-refused.true)
-    (sym c.is_err.ensures.value ∙ c.if-is_err.false) c.told_in.ensures c.reply.ensures.sends c.reply.ensures.spends
+    (sym c.is_err.ensures.value ∙ c.if-is_err.false) c.told_in.ensures c.reply.ensures
 
 pub returns-then-self-clause-answers : goal.returns-then-self-clause-answers
 returns-then-self-clause-answers g c script strict p line at on is =
     advances_refused _ _ strict _ p line _ c.in-Some.answer (answer_seen c.told_in.result) _ _ c.reply.result on (c.in-Some.ensures p line at.stands is)
     refl at.strict refl (ap (λ (n : ℕ). n + 1) (sym at.lines)) refl (sym c.is_err-refused.ensures.value ∙ c.if-not-refused.false) (sym at.strict ∙ c.if-self.true)
-    (sym c.is_err.ensures.value ∙ c.if-is_err.false) c.told_in.ensures c.reply.ensures.sends c.reply.ensures.spends
+    (sym c.is_err.ensures.value ∙ c.if-is_err.false) c.told_in.ensures c.reply.ensures
 
 pub returns-clause-answers : goal.returns-clause-answers
 returns-clause-answers g c script strict p line at on is =
     advances_refused _ _ strict _ p line _ c.in-Some.answer (answer_seen c.told_in.result) _ _ c.reply.result on (c.in-Some.ensures p line at.stands is)
     refl at.strict refl (ap (λ (n : ℕ). n + 1) (sym at.lines)) refl (sym c.is_err-refused.ensures.value ∙ c.if-not-refused.false) (sym at.strict ∙ c.if-self.false)
-    (sym c.is_err.ensures.value ∙ c.if-is_err.false) c.told_in.ensures c.reply.ensures.sends c.reply.ensures.spends
+    (sym c.is_err.ensures.value ∙ c.if-is_err.false) c.told_in.ensures c.reply.ensures

@@ -14,19 +14,19 @@ loop-count-init g c = record {
 pub returns-in_default-clause-pieces : goal.returns-in_default-clause-pieces
 returns-in_default-clause-pieces g c strict document depth at =
     let so_far = c.loop-count.invariant.so_far strict document depth at in
-    stops_reading strict (at_first document depth) _ _ _ _ _ _ _ c.in_default.field-0 so_far c.in_default.ensures.supplies c.in_default.ensures.spends
+    stops_reading strict (at_first document depth) _ _ _ _ _ _ _ c.in_default.field-0 so_far c.in_default.ensures.reads
 
 pub returns-then-count-eq0-clause-pieces : goal.returns-then-count-eq0-clause-pieces
 returns-then-count-eq0-clause-pieces g c strict document depth at =
     let so_far = c.loop-count.invariant.so_far strict document depth at in
     let some : 0 < length c.read_some.new.buffer = search rules in
-    ends_reading strict (at_first document depth) _ _ _ _ _ _ _ _ _ so_far c.in-Ok.ensures.spends.within c.if-count-eq0.true some c.in-Ok.ensures.supplies
+    ends_reading strict (at_first document depth) _ _ _ _ _ _ _ _ _ so_far c.if-count-eq0.true some c.in-Ok.ensures.reads
 
 pub returns-in_err-carry_out_lines-clause-pieces : goal.returns-in_err-carry_out_lines-clause-pieces
 returns-in_err-carry_out_lines-clause-pieces g c strict document depth at =
     let so_far = c.loop-count.invariant.so_far strict document depth at in
     let within = c.in-Ok.ensures.within in
-    let got = got_piece strict (at_first document depth) _ _ _ _ _ _ _ _ _ so_far c.in-Ok.ensures.spends.within c.if-count-eq0.false c.in-Ok.ensures.supplies in
+    let got = got_piece strict (at_first document depth) _ _ _ _ _ _ _ _ _ so_far c.if-count-eq0.false c.in-Ok.ensures.reads in
     let by_one : c.in-Ok.count ≤ c.loop-count.room + 1 = search rules in
     let q = err_from_is_err_and c.from_residual.result c.from_residual.ensures.1 in
     stops_as strict (at_first document depth) _ _ _ _ _ c.from_residual.result (q.1 ∙ ap Err q.2)
@@ -37,7 +37,7 @@ pub returns-then-count-room-clause-pieces : goal.returns-then-count-room-clause-
 returns-then-count-room-clause-pieces g c strict document depth at =
     let so_far = c.loop-count.invariant.so_far strict document depth at in
     let within = c.in-Ok.ensures.within in
-    let got = got_piece strict (at_first document depth) _ _ _ _ _ _ _ _ _ so_far c.in-Ok.ensures.spends.within c.if-count-eq0.false c.in-Ok.ensures.supplies in
+    let got = got_piece strict (at_first document depth) _ _ _ _ _ _ _ _ _ so_far c.if-count-eq0.false c.in-Ok.ensures.reads in
     let by_one : c.in-Ok.count ≤ c.loop-count.room + 1 = search rules in
     stops_too_long strict (at_first document depth) _ _ _ _ _ _ _ _ _ _ _ got within c.if-count-room.true by_one (passed_on _ _ _ _ _ c.min.ensures within)
     (c.in_ok-carry_out_lines.ensures.comes strict (at_first document depth) got.bytes _ _ got.given got.comes)
@@ -48,7 +48,7 @@ loop-count-preserved g c = record {
   so_far = λ strict document depth at.
       let so_far = c.loop-count.invariant.so_far strict document depth at in
       let within = c.in-Ok.ensures.within in
-      let got = got_piece strict (at_first document depth) _ _ _ _ _ _ _ _ _ so_far c.in-Ok.ensures.spends.within c.if-count-eq0.false c.in-Ok.ensures.supplies in
+      let got = got_piece strict (at_first document depth) _ _ _ _ _ _ _ _ _ so_far c.if-count-eq0.false c.in-Ok.ensures.reads in
       so_far_more strict (at_first document depth) _ _ _ _ _ _ _ _ _ _ _ _ _ got within (omega arith) (passed_on _ _ _ _ _ c.min.ensures within)
       (c.in_ok-carry_out_lines.ensures.cutter got.bytes got.given refl) (c.in_ok-carry_out_lines.ensures.comes strict (at_first document depth) got.bytes _ _ got.given got.comes);
 }
