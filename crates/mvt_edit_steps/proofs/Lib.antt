@@ -1,6 +1,7 @@
 pub mod CarriedOut
 pub mod Following
 pub mod ListPlaces
+pub mod Planned
 pub mod Going
 pub mod Carrying
 pub mod Heavy

@@ -55,6 +55,12 @@ changes Stays = false
 changes Goes = true
 changes (Becomes item) = true
 
+-- the fate of a plain value that an item of this fate stands for: what comes in its place is seen as a plain value too
+abbrev pub fate_seen : {T A : Type 0} → (T → A) → Fate T → Fate A
+fate_seen view Stays = Stays
+fate_seen view Goes = Goes
+fate_seen view (Becomes item) = Becomes (view item)
+
 -- behind the steps that were given come those of the splices, and so many items change
 pub record IsCarriedOut {A : Type 0} (step_with : Splice A → plain.Step) (fates : List (Fate A)) (given steps : plain.Change) (changed : ℕ) : Type 0 where
   pub behind : steps ≡ given ++ map step_with (splices_of fates)
