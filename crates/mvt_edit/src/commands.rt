@@ -2,19 +2,14 @@
 
 ghost use Rattle.mvt_document.specs.Stands.{document_of};
 ghost use Rattle.mvt_command.specs.CommandStands.{command_of};
-ghost use Rattle.mvt_edit.specs.Prepared.{Prepares};
+ghost use Rattle.mvt_edit_steps.specs.Prepared.{Prepares};
 
-use crate::clear_id::clear_id;
-use crate::drop_feature::drop_feature;
-use crate::drop_layer::drop_layer;
-use crate::insert_feature::insert_feature;
-use crate::keep_layers::keep_layers;
-use crate::move_feature::move_feature;
-use crate::move_layer::move_layer;
-use crate::rename_layer::rename_layer;
-use crate::set_id::set_id;
 use mvt_change::Change;
 use mvt_document::Document;
+use mvt_edit_lists::{
+    clear_id, drop_feature, drop_layer, insert_feature, keep_layers, move_feature, move_layer,
+    rename_layer, set_id,
+};
 use mvt_meaning::{Command, Refusal};
 use std::alloc::Global;
 

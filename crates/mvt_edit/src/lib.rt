@@ -8,19 +8,7 @@
 //!   plus half as many as these bytes together. The document is not touched: `prepare`.
 #![tactic(auto)]
 
-mod clear_id;
 mod commands;
-mod drop_feature;
-mod drop_layer;
-mod fates;
-mod insert_feature;
-mod keep_layers;
-mod move_feature;
-mod move_layer;
-mod put_last;
-mod rename_layer;
-mod set_id;
-mod steps;
 
 pub use commands::prepare;
 pub use mvt_meaning::{Command, FeatureChoice, LayerChoice, Refusal};
