@@ -10,6 +10,7 @@ use mvt_edit_lists::{
     clear_id, drop_feature, drop_layer, insert_feature, keep_layers, move_feature, move_layer,
     rename_layer, set_id,
 };
+use mvt_edit_tags::exclude_all;
 use mvt_meaning::{Command, Refusal};
 use std::alloc::Global;
 
@@ -40,5 +41,6 @@ pub fn prepare(alloc: Global, document: &Document, command: &Command) -> Result<
         Command::DropFeature { layer, feature } => drop_feature(alloc, document, layer, feature),
         Command::SetId { layer, feature, id } => set_id(alloc, document, layer, feature, *id),
         Command::ClearId { layer, feature } => clear_id(alloc, document, layer, feature),
+        Command::ExcludeAll { layers } => exclude_all(alloc, document, layers),
     }
 }

@@ -135,7 +135,7 @@ one_stands {A} {B} pick passes none several items found e =
 
 -- ---- a layer
 
-layer_there : (item : Option plain.TileItem) (layer : plain.Layer) → option_and_then layer_in item ≡ Some layer → item ≡ Some (plain.OfLayer layer)
+pub layer_there : (item : Option plain.TileItem) (layer : plain.Layer) → option_and_then layer_in item ≡ Some layer → item ≡ Some (plain.OfLayer layer)
 layer_there None layer e = absurd cc
 layer_there (Some (plain.OfLayer there)) layer e = let same : there ≡ layer = cc in ap (λ l. Some (plain.OfLayer l)) same
 layer_there (Some (plain.PlainInTile field)) layer e = absurd cc
