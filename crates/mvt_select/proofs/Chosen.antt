@@ -1,5 +1,5 @@
 -- The layers that are meant are found where they stand.
-use Rattle.std.proofs.Common.{◌≡◌, ℕ, suc, zero, ◌+◌, ◌<◌, ◌==◌, true, false, Option, Some, None, Result, Ok, Err, List, [], ◌∷◌, length, filter, get_or, slice_get, refl, sym, ap, ◌∙◌, arith}
+use Rattle.std.proofs.Common.{◌≡◌, ℕ, suc, zero, ◌+◌, ◌<◌, ◌==◌, true, false, Option, Some, None, Ok, Err, List, [], ◌∷◌, length, filter, get_or, slice_get, refl, sym, ap, ◌∙◌, arith}
 use Rattle.std.proofs.lemmas.Bool.Decides.{nat_tests}
 use Rattle.std.proofs.lemmas.Option.{slice_get-get_or}
 use Rattle.std.specs.List.{enumerate_from}
@@ -8,7 +8,7 @@ use Rattle.mvt_document.specs.Stands.{layer_of}
 use Rattle.mvt_command.specs.Command.{LayerChoice, TheLayer}
 use Rattle.mvt_view.specs.Found.{found_layers, placed_from}
 use Rattle.mvt_view.specs.Seen.{found_layer_seen}
-use Rattle.mvt_view.specs.Views.{layer_in, layers}
+use Rattle.mvt_view.specs.Views.{layer_in}
 use Rattle.mvt_view.specs.declared.found.FoundLayer.{FoundLayer}
 use Rattle.mvt_view.proofs.Placing.{found_count}
 use Rattle.mvt_meaning.specs.Selection.{layer_positions, selected, selected_layers}
