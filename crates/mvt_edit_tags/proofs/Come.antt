@@ -1,6 +1,6 @@
 -- What steps come to: the document that they make, the items that they put, and those that they take out. Steps behind
 -- others; and the steps of each feature of a layer, and of each layer of a tile.
-use Rattle.std.proofs.Common.{◌≡◌, ℕ, ◌+◌, ◌*◌, ◌≤◌, zero, suc, List, [], ◌∷◌, ◌++◌, length, length-append, append_assoc, map, slice_get, Option, Some, None, option_map, refl, sym, ap, ◌∙◌, subst, arith}
+use Rattle.std.proofs.Common.{◌≡◌, ℕ, ◌+◌, ◌*◌, ◌≤◌, zero, suc, List, [], ◌∷◌, ◌++◌, length, length-append, append_assoc, map, slice_get, Some, option_map, refl, sym, ap, ◌∙◌, subst, arith}
 use Rattle.std.proofs.lemmas.List.{length-map}
 use Rattle.std.proofs.lemmas.List.Concat.{flat_map-append}
 use Rattle.std.proofs.lemmas.List.Sums.{sum_by-append}
@@ -21,7 +21,7 @@ use Rattle.mvt_edit_steps.specs.declared.fates.Fate.{Fate}
 use Rattle.mvt_edit_steps.proofs.CarriedOut.{AreThere, put_all, spliced_all, taken_all}
 use Rattle.mvt_edit_steps.proofs.Carrying.{carried, in_feature_at, in_the_feature, in_the_layer, makes_alike}
 use Rattle.mvt_edit_steps.proofs.ListPlaces.{of_the_layer}
-use Rattle.mvt_edit_tags.specs.EachFeature.{feature_steps, layer_steps}
+use Rattle.mvt_edit_tags.specs.EachFeature.{layer_steps}
 
 -- the steps fit the document and make this of it; they put fields of so many bytes, and take out such, and they are at
 -- most half as many as these bytes together

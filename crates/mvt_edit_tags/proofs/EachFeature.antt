@@ -1,5 +1,5 @@
 -- The layers that are meant, each feature of them changed.
-use Rattle.std.proofs.Common.{◌≡◌, ℕ, zero, suc, Option, Some, Result, Ok, Err, List, [], ◌∷◌, map, slice_get, refl, sym, ap, ◌∙◌, subst}
+use Rattle.std.proofs.Common.{◌≡◌, ℕ, zero, suc, Some, Result, Ok, Err, List, [], ◌∷◌, map, slice_get, refl, sym, ap, ◌∙◌, subst}
 use Rattle.std.specs.List.{AllByRecursion, flat_map}
 use Rattle.mvt_document.specs.Plain.{Field, Layer, LayerItem, OfLayer, Document}
 use Rattle.mvt_document.specs.Places.{change_items, in_layer}
@@ -21,8 +21,8 @@ module _ (fates : List LayerItem → List Field → List (Fate Field)) (change :
     pub means : change_layers (each_changed fates change) choice document ≡ Ok made
     pub come : Come (flat_map (layer_steps fates) found) document made (flat_map (puts_in fates change) found) (flat_map (takes_in fates change) found)
 
-  same_list : (one other : List (ℕ × (ℕ × Layer))) → Ok {E = Refusal} one ≡ Ok other → one ≡ other
-  same_list one other e = cc
+  same_list : (one other : List (ℕ × (ℕ × Layer))) (r : Result (List (ℕ × (ℕ × Layer))) Refusal) → r ≡ Ok one → r ≡ Ok other → one ≡ other
+  same_list one other r is is_too = let both = sym is ∙ is_too in cc
 
   holds_at : {A : Type 0} (P : A → Type 0) (items : List A) (n : ℕ) (x : A) → slice_get items n ≡ Some x → AllByRecursion P items → P x
   holds_at P [] n x is all = absurd cc
@@ -32,8 +32,8 @@ module _ (fates : List LayerItem → List Field → List (Fate Field)) (change :
   one_made : (choice : LayerChoice) (document : Document) (found : List (ℕ × (ℕ × Layer))) (ordinal : ℕ) → selected choice document ≡ Ok ordinal → selected_layers (TheLayer choice) document ≡ Ok found → AllByRecursion (CarriesInTile fates change) document → Made (TheLayer choice) document found
   one_made choice document found ordinal meant is all =
       let one = the_one_meant choice document ordinal meant in
-      let at = (ordinal, (one.position, one.layer)) in
-      let here : at ∷ [] ≡ found = same_list (at ∷ []) found (sym one.alone ∙ is) in
+      let at : ℕ × (ℕ × Layer) = (ordinal, (one.position, one.layer)) in
+      let here : at ∷ [] ≡ found = same_list (at ∷ []) found (selected_layers (TheLayer choice) document) one.alone is in
       let changed = change_items (each_changed fates change) one.position document in
       let come = layer_comes fates change ordinal one.position one.layer document one.there (holds_at (CarriesInTile fates change) document one.position (OfLayer one.layer) one.there all) in
       subst (Made (TheLayer choice) document) here (record {
@@ -53,7 +53,7 @@ module _ (fates : List LayerItem → List Field → List (Fate Field)) (change :
   pub layers_made : (choice : LayersChoice) (document : Document) (found : List (ℕ × (ℕ × Layer))) → selected_layers choice document ≡ Ok found → AllByRecursion (CarriesInTile fates change) document → Made choice document found
   layers_made (TheLayer choice) document found is all = chosen_made choice document found (selected choice document) refl is all
   layers_made EachLayer document found is all =
-      subst (Made EachLayer document) (same_list (found_layers document) found is) (record { made = map (in_layer (each_changed fates change)) document; means = refl; come = all_come fates change document all })
+      subst (Made EachLayer document) (same_list (found_layers document) found (selected_layers EachLayer document) refl is) (record { made = map (in_layer (each_changed fates change)) document; means = refl; come = all_come fates change document all })
 
   -- where no layer is selected the change is refused
   pub none_made : (choice : LayersChoice) (document : Document) (refusal : Refusal) → selected_layers choice document ≡ Err refusal → change_layers (each_changed fates change) choice document ≡ Err refusal

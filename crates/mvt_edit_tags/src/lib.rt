@@ -6,6 +6,6 @@
 //!   `Prepares`: `exclude_all`.
 #![tactic(auto)]
 
-mod exclude_all;
+mod untagging;
 
-pub use exclude_all::exclude_all;
+pub use untagging::exclude_all;

@@ -1,8 +1,7 @@
 //! All attributes go.
 
 ghost use Rattle.std.specs.Prelude.{◌≡◌, ◌++◌, IfOk, map};
-ghost use Rattle.std.specs.List.{list_any};
-ghost use Rattle.mvt_document.specs.Stands.{document_of, feature_of, field_of};
+ghost use Rattle.mvt_document.specs.Stands.{document_of, field_of};
 ghost use Rattle.mvt_change.specs.ChangeStands.{step_of};
 ghost use Rattle.mvt_command.specs.Command.{ExcludeAll};
 ghost use Rattle.mvt_command.specs.CommandStands.{layers_choice_of};
@@ -27,7 +26,7 @@ pub fn exclude_all(
     ensures { Prepares (ExcludeAll (layers_choice_of choice.now)) (document_of document.now) result }
 {
     let layers = find_layers(document, choice)?;
-    let mut steps = Vec::with_capacity(alloc, tagged_count(layers.clone()))?;
+    let mut steps = Vec::with_capacity(alloc, tagged_count(layers.clone()?))?;
     for found in layers {
         untag_layer(alloc, found, &mut steps)?;
     }
@@ -46,9 +45,7 @@ fn tagged_count(layers: SelectedLayers<'_>) -> usize {
     count
 }
 
-fn has_tags(feature: &Feature) -> bool
-    ensures { result ≡ list_any is_tags (feature_of feature.now).fields }
-{
+fn has_tags(feature: &Feature) -> bool {
     feature.fields.as_slice().iter().any(|field| is_tags(field))
 }
 
