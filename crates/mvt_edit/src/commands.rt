@@ -6,11 +6,16 @@ ghost use Rattle.mvt_edit_steps.specs.Prepared.{Prepares};
 
 use mvt_change::Change;
 use mvt_document::Document;
-use mvt_edit_lists::{
-    clear_id, drop_feature, drop_layer, insert_feature, keep_layers, move_feature, move_layer,
-    rename_layer, set_id,
-};
-use mvt_edit_tags::exclude_all;
+use mvt_edit_lists::clear_id::clear_id;
+use mvt_edit_lists::drop_feature::drop_feature;
+use mvt_edit_lists::drop_layer::drop_layer;
+use mvt_edit_lists::insert_feature::insert_feature;
+use mvt_edit_lists::keep_layers::keep_layers;
+use mvt_edit_lists::move_feature::move_feature;
+use mvt_edit_lists::move_layer::move_layer;
+use mvt_edit_lists::rename_layer::rename_layer;
+use mvt_edit_lists::set_id::set_id;
+use mvt_edit_tags::exclude_all::exclude_all;
 use mvt_meaning::{Command, Refusal};
 use std::alloc::Global;
 

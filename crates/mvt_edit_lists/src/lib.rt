@@ -6,22 +6,12 @@
 //!   `move_feature`, `drop_feature`, `set_id`, `clear_id`.
 #![tactic(auto)]
 
-mod clear_id;
-mod drop_feature;
-mod drop_layer;
-mod insert_feature;
-mod keep_layers;
-mod move_feature;
-mod move_layer;
-mod rename_layer;
-mod set_id;
-
-pub use clear_id::clear_id;
-pub use drop_feature::drop_feature;
-pub use drop_layer::drop_layer;
-pub use insert_feature::insert_feature;
-pub use keep_layers::keep_layers;
-pub use move_feature::move_feature;
-pub use move_layer::move_layer;
-pub use rename_layer::rename_layer;
-pub use set_id::set_id;
+pub mod clear_id;
+pub mod drop_feature;
+pub mod drop_layer;
+pub mod insert_feature;
+pub mod keep_layers;
+pub mod move_feature;
+pub mod move_layer;
+pub mod rename_layer;
+pub mod set_id;

@@ -6,6 +6,5 @@
 //!   `Prepares`: `exclude_all`.
 #![tactic(auto)]
 
-mod untagging;
+pub mod exclude_all;
 
-pub use untagging::exclude_all;

@@ -7,7 +7,7 @@ use Rattle.mvt_view.specs.Seen.{found_layer_seen}
 use Rattle.mvt_select.specs.Found.{layers_left}
 use Rattle.mvt_edit_tags.specs.EachFeature.{layer_steps, tags_go}
 use Rattle.mvt_edit_tags.proofs.Untagged.{untags}
-use Rattle.mvt_edit_tags.proofs.untagging.exclude_all.Goals as goal
+use Rattle.mvt_edit_tags.proofs.exclude_all.exclude_all.Goals as goal
 
 pub returns : goal.returns
 returns c =
