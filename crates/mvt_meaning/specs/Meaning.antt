@@ -8,6 +8,7 @@ use Rattle.std.specs.Result.{result_unwrap_or}
 use Rattle.mvt_document.specs.declared.TheConstants.{MAX_FILE}
 use Rattle.mvt_document.specs.Plain.{Number, Body, Spelled, Delimited, Field, LayerItem, OfFeature, PlainInLayer, TileItem, OfLayer, PlainInTile, Document}
 use Rattle.mvt_document.specs.Wire.{bytes_of, minimal}
+pub use Rattle.mvt_numbers.specs.Renumbering.{with_number}
 use Rattle.mvt_geometry.specs.Shapes.{Geometry, kind_number}
 use Rattle.mvt_geometry.specs.Integers.{encoded}
 use Rattle.mvt_geometry.specs.Checks.{is_in_range}
@@ -28,10 +29,6 @@ abbrev pub ◌>>=◌ : {A B : Type 0} → Result A Refusal → (A → Result B R
 (Err e) >>= f = Err e
 
 -- ---- numbers and fields
-
--- the old number as it is spelled, where it has this value; else this value in its shortest spelling
-abbrev pub with_number : ℕ → Number → Number
-with_number value old = if old.value == value then old else minimal value
 
 -- a VARINT body with this number; another body as it is
 abbrev pub with_value : ℕ → Body → Body
