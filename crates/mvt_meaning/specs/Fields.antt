@@ -1,11 +1,8 @@
 -- Fields with another number or content, and new ones.
-use Rattle.std.specs.Prelude.{ℕ, List, ◌==◌, if◌then◌else◌}
-use Rattle.mvt_document.specs.Plain.{Number, Body, Spelled, Delimited, Field, LayerItem, OfFeature, PlainInLayer}
+use Rattle.std.specs.Prelude.{ℕ, List}
+use Rattle.mvt_document.specs.Plain.{Body, Spelled, Delimited, Field, LayerItem, OfFeature, PlainInLayer}
 use Rattle.mvt_document.specs.Wire.{minimal}
-
--- the old number as it is spelled, where it has this value; else this value in its shortest spelling
-abbrev pub with_number : ℕ → Number → Number
-with_number value old = if old.value == value then old else minimal value
+pub use Rattle.mvt_numbers.specs.Renumbering.{with_number}
 
 -- a VARINT body with this number; another body as it is
 abbrev pub with_value : ℕ → Body → Body
