@@ -15,6 +15,7 @@ use mvt_edit_lists::move_feature::move_feature;
 use mvt_edit_lists::move_layer::move_layer;
 use mvt_edit_lists::rename_layer::rename_layer;
 use mvt_edit_lists::set_id::set_id;
+use mvt_edit_tags::exclude_all::exclude_all;
 use mvt_meaning::{Command, Refusal};
 use std::alloc::Global;
 
@@ -45,5 +46,6 @@ pub fn prepare(alloc: Global, document: &Document, command: &Command) -> Result<
         Command::DropFeature { layer, feature } => drop_feature(alloc, document, layer, feature),
         Command::SetId { layer, feature, id } => set_id(alloc, document, layer, feature, *id),
         Command::ClearId { layer, feature } => clear_id(alloc, document, layer, feature),
+        Command::ExcludeAll { layers } => exclude_all(alloc, document, layers),
     }
 }

@@ -1,0 +1,3 @@
+pub mod Come
+pub mod EachFeature
+pub mod Untagged
