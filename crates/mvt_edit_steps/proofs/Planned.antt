@@ -36,7 +36,7 @@ module _ {T A : Type 0} (view : T → A) where
   count_fates [] = refl
   count_fates (fate ∷ fates) =
       let same = changes_seen fate in
-      elim (cases_Bool (changes fate)) [ inl yes ↦ rw (same, yes) (ap suc (count_fates fates)) | inr no ↦ rw (same, no) (count_fates fates) ]
+      elim (cases_Bool (changes fate)) [ inl out ↦ rw (same, out) (ap suc (count_fates fates)) | inr stays ↦ rw (same, stays) (count_fates fates) ]
 
   -- where each answer of the program is what is planned for the plain value of its item
   module _ (plan : A → Fate A) (answers : T → Fate T → Type 0) (each : (x : T) (fate : Fate T) → answers x fate → fate_seen view fate ≡ plan (view x)) where
