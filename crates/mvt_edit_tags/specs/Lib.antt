@@ -1,1 +1,2 @@
 pub mod EachFeature
+pub mod KeyFates

@@ -3,8 +3,8 @@
 //!
 //! - For each of these commands and every document: a command that is not refused is given the
 //!   change that carries it out, and a refused one the first of its refusals, by the definition
-//!   `Prepares`: `exclude_all`.
+//!   `Prepares`: `rename_key`, `exclude_all`.
 #![tactic(auto)]
 
 pub mod exclude_all;
-
+pub mod rename_key;
