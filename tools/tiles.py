@@ -6,7 +6,7 @@ LAYER, FEATURE = 3 << 3 | 2, 2 << 3 | 2
 
 # The tags of single fields.
 NAME, KEY, VALUE, EXTENT, VERSION = 1 << 3 | 2, 3 << 3 | 2, 4 << 3 | 2, 5 << 3, 15 << 3
-ID, TAGS, KIND, GEOMETRY = 1 << 3, 2 << 3 | 2, 3 << 3, 4 << 3 | 2
+ID, TAGS, TAG, KIND, GEOMETRY = 1 << 3, 2 << 3 | 2, 2 << 3, 3 << 3, 4 << 3 | 2
 
 LEN = 2
 SIZES = {1: 8, 5: 4}
@@ -239,6 +239,31 @@ def clear_id(tile, chosen, feature):
     found = feature_place(tile[place], feature)
     fields = tile[place].content[found].content
     return in_feature(tile, place, found, without(fields, places(fields, ID)))
+
+
+def layer_places(tile, chosen):
+    """The positions of the layers that are meant: of all by None, else of the one that is chosen."""
+    return places(tile, LAYER) if chosen is None else [layer_place(tile, chosen)]
+
+
+def rename_key(tile, chosen, old, new):
+    place = layer_place(tile, chosen)
+    items = tile[place].content
+    keys = [items[at].content for at in places(items, KEY)]
+    if old not in keys:
+        refuse(23)
+    if new in keys and new != old:
+        refuse(41)
+    renamed = {at: replace(items[at], content=new) for at in places(items, KEY) if items[at].content == old}
+    return in_layer(tile, place, tuple(renamed.get(at, item) for at, item in enumerate(items)))
+
+
+def exclude_all(tile, chosen):
+    for place in layer_places(tile, chosen):
+        for feature in places(tile[place].content, FEATURE):
+            fields = tile[place].content[feature].content
+            tile = in_feature(tile, place, feature, without(fields, places(fields, TAGS) + places(fields, TAG)))
+    return tile
 
 
 def quoted(text):

@@ -17,9 +17,9 @@ MAX_MARKS = 256
 
 NAMES = {
     11: "BadWord", 12: "UnknownCommand", 13: "BadArguments", 14: "BadNumber", 16: "BadGeometryText",
-    20: "NoLayer", 21: "AmbiguousLayer", 22: "NoFeature", 24: "BadPlace", 25: "AmbiguousFeature", 40: "NameTaken",
-    50: "NothingToUndo", 51: "NothingToRedo", 52: "NoMark", 53: "TooManyMarks", 54: "Stopped", 55: "GroupOpen",
-    56: "NoGroup", 60: "NoMemory",
+    20: "NoLayer", 21: "AmbiguousLayer", 22: "NoFeature", 23: "NoKey", 24: "BadPlace", 25: "AmbiguousFeature",
+    40: "NameTaken", 41: "KeyTaken", 50: "NothingToUndo", 51: "NothingToRedo", 52: "NoMark", 53: "TooManyMarks",
+    54: "Stopped", 55: "GroupOpen", 56: "NoGroup", 60: "NoMemory",
 }
 
 WORD = re.compile(r'[ \t\r]*(?:"((?:[^"\\]|\\["\\]|\\x[0-7][0-9a-fA-F])*)"|([^ \t\r"]+))(?=[ \t\r]|$)')
@@ -92,6 +92,11 @@ def layer(word):
     return number(Word(word.text[1:], False)) if is_ordinal else text(word)
 
 
+def layers(word):
+    """None for all, else a layer."""
+    return None if word == Word("*", False) else layer(word)
+
+
 def feature(word):
     """An ordinal, or a list of one id."""
     is_id = not word.is_quoted and word.text.startswith("@")
@@ -128,6 +133,8 @@ COMMANDS = {
     "drop-feature": (tiles.drop_feature, [layer, feature]),
     "set-id": (tiles.set_id, [layer, feature, number]),
     "clear-id": (tiles.clear_id, [layer, feature]),
+    "rename-key": (tiles.rename_key, [layer, text, text]),
+    "exclude-all": (tiles.exclude_all, [layers]),
 }
 
 

@@ -92,7 +92,7 @@ fn put_cut(lines: &mut Vec<u8>, cut: Cut<'_>) -> Result<(), AllocError> {
 }
 
 /// All reasons for which a line is refused.
-const REASONS: [Refused; 28] = [
+const REASONS: [Refused; 30] = [
     Refused::Parse(ParseError::BadUtf8),
     Refused::Parse(ParseError::BadWord),
     Refused::Parse(ParseError::UnknownCommand),
@@ -105,9 +105,11 @@ const REASONS: [Refused; 28] = [
     Refused::Edit(Refusal::NoLayer),
     Refused::Edit(Refusal::AmbiguousLayer),
     Refused::Edit(Refusal::NoFeature),
+    Refused::Edit(Refusal::NoKey),
     Refused::Edit(Refusal::BadPlace),
     Refused::Edit(Refusal::AmbiguousFeature),
     Refused::Edit(Refusal::NameTaken),
+    Refused::Edit(Refusal::KeyTaken),
     Refused::Edit(Refusal::OutOfRange),
     Refused::Edit(Refusal::TooLarge),
     Refused::Edit(Refusal::NoMemory),

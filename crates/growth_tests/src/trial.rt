@@ -8,8 +8,8 @@ use mvt_edit::Command;
 use std::alloc::{AllocError, Global};
 use std::fmt;
 use test_fixtures::asked::{
-    clear_id, drop_feature, drop_layer, insert_polygon, keep, move_feature, move_layer, rename,
-    set_id,
+    clear_id, drop_feature, drop_layer, exclude_all, insert_polygon, keep, move_feature, move_layer,
+    rename, rename_key, set_id,
 };
 use test_fixtures::bytes::joined;
 use test_fixtures::edits::Edit;
@@ -30,13 +30,15 @@ pub enum Trial {
     ClearId,
     /// Two ids that are no neighbours.
     ClearIds,
+    RenameKey,
+    ExcludeAll,
     /// The changes of two commands on one field, as one change.
     SetTwice,
     /// The changes of seven steps of several commands, as one change.
     Series,
 }
 
-const TRIALS: [Trial; 12] = [
+const TRIALS: [Trial; 14] = [
     Trial::RenameLayer,
     Trial::MoveLayer,
     Trial::DropLayer,
@@ -47,6 +49,8 @@ const TRIALS: [Trial; 12] = [
     Trial::SetId,
     Trial::ClearId,
     Trial::ClearIds,
+    Trial::RenameKey,
+    Trial::ExcludeAll,
     Trial::SetTwice,
     Trial::Series,
 ];
@@ -79,6 +83,8 @@ impl Trial {
             Trial::SetId => "set-id",
             Trial::ClearId => "clear-id",
             Trial::ClearIds => "clear-ids",
+            Trial::RenameKey => "rename-key",
+            Trial::ExcludeAll => "exclude-all",
             Trial::SetTwice => "set-twice",
             Trial::Series => "series",
         }
@@ -108,6 +114,8 @@ impl Trial {
             Trial::SetId => there_and_back(alloc, &T0, set_id(300)),
             Trial::ClearId => there_and_back(alloc, &T0, clear_id()),
             Trial::ClearIds => there_and_back(alloc, IDS_APART, clear_id()),
+            Trial::RenameKey => there_and_back(alloc, &T0, rename_key(alloc, b"k", b"kind")?),
+            Trial::ExcludeAll => there_and_back(alloc, &four_items(alloc)?, exclude_all()),
             Trial::SetTwice => flip_twice(alloc, &mut set_twice(alloc)?),
             Trial::Series => flip_twice(alloc, &mut a_series(alloc)?),
         }

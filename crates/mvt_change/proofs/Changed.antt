@@ -1,5 +1,5 @@
 -- The plain values of a list of the program of which a part or an item was changed.
-use Rattle.std.proofs.Common.{◌≡◌, ℕ, zero, suc, ◌+◌, ◌<◌, Option, None, List, [], ◌∷◌, ◌++◌, length, take, drop, map, slice_get, sym, ap, ◌∙◌, arith}
+use Rattle.std.proofs.Common.{◌≡◌, ℕ, ◌+◌, List, [], ◌++◌, take, drop, map, sym, ap, ◌∙◌}
 use Rattle.std.proofs.lemmas.List.{map-append, take-map, drop-map}
 use Rattle.mvt_document.specs.Splicing.{part, splice, moved}
 
@@ -18,11 +18,3 @@ map-moved g from to items =
     map-splice g to 0 (part from 1 items) (splice from 1 [] items)
     ∙ ap (λ y. splice to 0 y (map g (splice from 1 [] items))) (map-part g from 1 items)
     ∙ ap (λ y. splice to 0 (part from 1 (map g items)) y) (map-splice g from 1 [] items)
-
--- ---- one item changed
-
--- what is so of the item at a position, and of no item at all, is so within the list
-pub within_list : {A B : Type 0} (g : A → B) (at : ℕ) (items : List A) (Q : Option B → Type 0) → (Q None → ⊥) → Q (slice_get (map g items) at) → at < length items
-within_list g at [] Q never there = absurd (never there)
-within_list g zero (x ∷ items) Q never there = omega arith
-within_list g (suc at) (x ∷ items) Q never there = let below = within_list g at items Q never there in omega arith

@@ -1,17 +1,18 @@
 -- How many bytes a list takes of which a part is exchanged, an item is changed, or an item moves; and a message around it.
-use Rattle.std.proofs.Common.{◌≡◌, ℕ, zero, suc, ◌+◌, ◌<◌, ◌≤◌, max, not, ltb, Option, Some, None, is_some, List, [], ◌∷◌, ◌++◌, length, length-append, get_or, take, map, refl, sym, ap, ◌∙◌, inl, inr, arith}
+use Rattle.std.proofs.Common.{◌≡◌, ℕ, zero, suc, ◌+◌, ◌≤◌, max, not, ltb, Option, Some, None, is_some, List, [], ◌∷◌, ◌++◌, length, length-append, slice_get, take, map, refl, sym, ap, ◌∙◌, subst, inl, inr, arith}
 use Rattle.std.specs.List.{flat_map}
-use Rattle.std.specs.Option.{SomeIff}
+use Rattle.std.specs.Option.{IfSome, IsSome, IsSomeAnd, SomeIff, option_and_then}
 use Rattle.std.proofs.lemmas.Bool.{cases_lt, lt-ltb, le-ltb}
 use Rattle.std.proofs.lemmas.List.Folds.{flat_map-map}
-use Rattle.mvt_document.specs.Plain.{Field, LayerItem, OfFeature, PlainInLayer, TileItem, OfLayer, PlainInTile, Document}
+use Rattle.std.proofs.lemmas.Option.{same_Some}
+use Rattle.mvt_document.specs.Plain.{Field, Feature, LayerItem, OfFeature, PlainInLayer, Layer, TileItem, OfLayer, PlainInTile, Document}
 use Rattle.mvt_document.specs.Wire.{spell, minimal_width, delimited, field_bytes, layer_item_bytes, tile_item_bytes, bytes_of}
 use Rattle.mvt_document.specs.Kept.{bytes_beside}
 use Rattle.mvt_document.specs.Splicing.{splice, moved}
 use Rattle.mvt_document.proofs.Beside.{spliced_size, moved_size}
 use Rattle.mvt_document.proofs.Sizes.{length-message}
 use Rattle.mvt_document.specs.Lists.{change_at}
-use Rattle.mvt_document.specs.Places.{in_layer, in_feature}
+use Rattle.mvt_document.specs.Places.{change_items, fields_in, fields_in_at, in_feature, in_layer, items_at, items_in}
 use Rattle.mvt_change.specs.Changes.{Place, OfTheTile, OfTheLayer, OfTheFeature, change_list}
 use Rattle.mvt_change.proofs.Changed.{map-splice}
 
@@ -35,15 +36,16 @@ exchanged_size bytes g index taken put items =
 
 -- ---- one item
 
-pub changed_size : {A B : Type 0} (bytes : B → List ℕ) (g : A → B) (change : B → B) (at : ℕ) (items : List A) (x : A) → at < length items → x ≡ get_or items at x → bytes_beside (λ a. bytes (g a)) at items + length (bytes (change (g x))) ≡ length (flat_map bytes (change_at change at (map g items)))
-changed_size bytes g change at [] x inside is = absurd (omega arith)
-changed_size bytes g change zero (y ∷ items) x inside is =
+-- what is beside an item and what it takes once it is changed are the whole
+pub changed_size : {A B : Type 0} (bytes : B → List ℕ) (g : A → B) (change : B → B) (at : ℕ) (items : List A) (y : B) → slice_get (map g items) at ≡ Some y → bytes_beside (λ a. bytes (g a)) at items + length (bytes (change y)) ≡ length (flat_map bytes (change_at change at (map g items)))
+changed_size bytes g change at [] y there = absurd cc
+changed_size bytes g change zero (x ∷ items) y there =
     let others = ap length (flat_map-map bytes g items) in
-    let here = ap (λ z. length (bytes (change (g z)))) is in
-    omega (arith, length-append (bytes (change (g y))) (flat_map bytes (map g items)), others, here)
-changed_size bytes g change (suc at) (y ∷ items) x inside is =
-    let rest = changed_size bytes g change at items x (omega arith) is in
-    omega (arith, rest, length-append (bytes (g y)) (flat_map bytes (change_at change at (map g items))), length-append (bytes (g y)) (flat_map (λ a. bytes (g a)) (take at items)))
+    let here : length (bytes (change (g x))) ≡ length (bytes (change y)) = ap (λ z. length (bytes (change z))) (same_Some (g x) y there) in
+    omega (arith, length-append (bytes (change (g x))) (flat_map bytes (map g items)), others, here)
+changed_size bytes g change (suc at) (x ∷ items) y there =
+    let rest = changed_size bytes g change at items y there in
+    omega (arith, rest, length-append (bytes (g x)) (flat_map bytes (change_at change at (map g items))), length-append (bytes (g x)) (flat_map (λ a. bytes (g a)) (take at items)))
 
 same_at : {A : Type 0} (bytes : A → List ℕ) (change : A → A) → ((x : A) → length (bytes (change x)) ≡ length (bytes x)) → (at : ℕ) (items : List A) → length (flat_map bytes (change_at change at items)) ≡ length (flat_map bytes items)
 same_at bytes change same at [] = refl
@@ -85,24 +87,40 @@ moved_same (OfTheFeature layer item) from to document =
     let items = in_layer_same change (λ xs. same_at layer_item_bytes (in_feature (moved from to)) fields item xs) in
     sym (same_at tile_item_bytes (in_layer change) items layer document)
 
--- ---- a message of whose content a part is exchanged, or an item is changed
+-- ---- what is so of the list that is there
 
-module _ {A B : Type 0} (bytes : B → List ℕ) (g : A → B) (value tag_width width : ℕ) where
-  abbrev message : List B → List ℕ
-  message items = spell value tag_width ++ delimited width (flat_map bytes items)
+module _ (at : ℕ) (document : Document) (layer : Layer) (Q : List LayerItem → Type 0) (there : slice_get document at ≡ Some (OfLayer layer)) where
+  pub items_there : Q layer.items → IfSome (items_at at document) Q
+  items_there so = subst (λ found. IfSome (option_and_then items_in found) Q) (sym there) so
 
-  pub exchanged_message : (index taken : ℕ) (put items : List A) (n : ℕ) → n ≡ length (flat_map (λ a. bytes (g a)) (splice index taken [] items)) + length (flat_map (λ a. bytes (g a)) put) → tag_width + (max width (minimal_width n) + n) ≡ length (message (splice index taken (map g put) (map g items)))
-  exchanged_message index taken put items n is =
-      message_so value tag_width width n (flat_map bytes (splice index taken (map g put) (map g items))) (is ∙ exchanged_size bytes g index taken put items)
+  pub of_items_there : IfSome (items_at at document) Q → Q layer.items
+  of_items_there so = subst (λ found. IfSome (option_and_then items_in found) Q) there so
 
-  pub exchanged_within : (limit index taken : ℕ) (put items : List A) → length (message (splice index taken (map g put) (map g items))) ≤ limit → length (flat_map (λ a. bytes (g a)) (splice index taken [] items)) + length (flat_map (λ a. bytes (g a)) put) ≤ limit
-  exchanged_within limit index taken put items within =
-      omega (arith, length-message value tag_width width (flat_map bytes (splice index taken (map g put) (map g items))), exchanged_size bytes g index taken put items)
+module _ (at : ℕ) (items : List LayerItem) (feature : Feature) (Q : List Field → Type 0) (there : slice_get items at ≡ Some (OfFeature feature)) where
+  pub fields_there : Q feature.fields → IfSome (fields_in_at at items) Q
+  fields_there so = subst (λ found. IfSome (option_and_then fields_in found) Q) (sym there) so
 
-  pub changed_message : (change : B → B) (at : ℕ) (items : List A) (x : A) (n : ℕ) → at < length items → x ≡ get_or items at x → n ≡ bytes_beside (λ a. bytes (g a)) at items + length (bytes (change (g x))) → tag_width + (max width (minimal_width n) + n) ≡ length (message (change_at change at (map g items)))
-  changed_message change at items x n inside item is =
-      message_so value tag_width width n (flat_map bytes (change_at change at (map g items))) (is ∙ changed_size bytes g change at items x inside item)
+  pub of_fields_there : IfSome (fields_in_at at items) Q → Q feature.fields
+  of_fields_there so = subst (λ found. IfSome (option_and_then fields_in found) Q) there so
 
-  pub changed_within : (limit : ℕ) (change : B → B) (at : ℕ) (items : List A) (x : A) → at < length items → x ≡ get_or items at x → length (message (change_at change at (map g items))) ≤ limit → bytes_beside (λ a. bytes (g a)) at items + length (bytes (change (g x))) ≤ limit
-  changed_within limit change at items x inside item within =
-      omega (arith, length-message value tag_width width (flat_map bytes (change_at change at (map g items))), changed_size bytes g change at items x inside item)
+pub some_found : {A : Type 0} (found : Option A) (Q : A → Type 0) → IsSomeAnd found Q → IsSome found
+some_found None Q some = absurd some
+some_found (Some x) Q some = refl
+
+pub some_around : {A B : Type 0} (deeper : A → Option B) (found : Option A) → IsSome (option_and_then deeper found) → IsSome found
+some_around deeper None some = some
+some_around deeper (Some x) some = refl
+
+-- ---- a layer and a feature with other items
+
+-- the tile, of which the items of a layer are changed: what is beside the layer, and the layer as it is then
+pub tile_resized : {A : Type 0} (g : A → TileItem) (change : List LayerItem → List LayerItem) (at : ℕ) (items : List A) (layer : Layer) (n : ℕ) → slice_get (map g items) at ≡ Some (OfLayer layer) → n ≡ length (flat_map layer_item_bytes (change layer.items)) → bytes_beside (λ item. tile_item_bytes (g item)) at items + (layer.tag.width + (max layer.width (minimal_width n) + n)) ≡ length (bytes_of (change_items change at (map g items)))
+tile_resized g change at items layer n there takes =
+    let whole = message_so layer.tag.value layer.tag.width layer.width n (flat_map layer_item_bytes (change layer.items)) takes in
+    omega (arith, whole, changed_size tile_item_bytes g (in_layer change) at items (OfLayer layer) there)
+
+-- the items of a layer, of which the fields of a feature are changed, likewise
+pub items_resized : {A : Type 0} (g : A → LayerItem) (change : List Field → List Field) (at : ℕ) (items : List A) (feature : Feature) (n : ℕ) → slice_get (map g items) at ≡ Some (OfFeature feature) → n ≡ length (flat_map field_bytes (change feature.fields)) → bytes_beside (λ item. layer_item_bytes (g item)) at items + (feature.tag.width + (max feature.width (minimal_width n) + n)) ≡ length (flat_map layer_item_bytes (change_at (in_feature change) at (map g items)))
+items_resized g change at items feature n there takes =
+    let whole = message_so feature.tag.value feature.tag.width feature.width n (flat_map field_bytes (change feature.fields)) takes in
+    omega (arith, whole, changed_size layer_item_bytes g (in_feature change) at items (OfFeature feature) there)

@@ -8,3 +8,4 @@ pub mod Room
 pub mod HeldChanges
 pub mod Runs
 pub mod RunLaws
+pub mod FileSizes

@@ -7,6 +7,11 @@ pub data LayerChoice : Type 0 where
   AtOrdinal : (ordinal : ℕ) → LayerChoice
   Named : (name : List ℕ) → LayerChoice
 
+-- which layers are meant: the selected one, or each
+pub data LayersChoice : Type 0 where
+  TheLayer : (layer : LayerChoice) → LayersChoice
+  EachLayer : LayersChoice
+
 -- how a feature of a layer is selected: by its ordinal among the features, or by its id
 pub data FeatureChoice : Type 0 where
   FeatureAtOrdinal : (ordinal : ℕ) → FeatureChoice
@@ -23,6 +28,8 @@ pub data Command : Type 0 where
   DropFeature : (layer : LayerChoice) (feature : FeatureChoice) → Command
   SetId : (layer : LayerChoice) (feature : FeatureChoice) (id : ℕ) → Command
   ClearId : (layer : LayerChoice) (feature : FeatureChoice) → Command
+  RenameKey : (layer : LayerChoice) (old new : List ℕ) → Command
+  ExcludeAll : (layers : LayersChoice) → Command
 
 -- a valid command: the id that it sets, where it sets one, can be spelled, as it is below 2 ^ 64 (tiles 4.2)
 abbrev pub IsCommand : Command → Type 0

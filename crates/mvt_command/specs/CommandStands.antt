@@ -3,15 +3,22 @@ use Rattle.std.specs.Prelude.{map}
 use Rattle.mvt_command.specs.Command as plain
 use Rattle.mvt_command.specs.declared.command.LayerChoice.{LayerChoice}
 use Rattle.mvt_command.specs.declared.command.LayerChoice.TheVariants.{Ordinal, Name}
+use Rattle.mvt_command.specs.declared.command.LayersChoice.{LayersChoice}
+use Rattle.mvt_command.specs.declared.command.LayersChoice.TheVariants.{One, All}
 use Rattle.mvt_command.specs.declared.command.FeatureChoice.{FeatureChoice}
 use Rattle.mvt_command.specs.declared.command.FeatureChoice.TheVariants as features
 use Rattle.mvt_command.specs.declared.command.Command.{Command}
-use Rattle.mvt_command.specs.declared.command.Command.TheVariants.{RenameLayer, MoveLayer, DropLayer, KeepLayers, InsertFeature, MoveFeature, DropFeature, SetId, ClearId}
+use Rattle.mvt_command.specs.declared.command.Command.TheVariants.{RenameLayer, MoveLayer, DropLayer, KeepLayers, InsertFeature, MoveFeature, DropFeature, SetId, ClearId, RenameKey, ExcludeAll}
 
 -- the plain choice that a choice of a layer stands for
 abbrev pub layer_choice_of : LayerChoice → plain.LayerChoice
 layer_choice_of (Ordinal ordinal) = plain.AtOrdinal ordinal
 layer_choice_of (Name name) = plain.Named name.items
+
+-- the plain choice that a choice of layers stands for
+abbrev pub layers_choice_of : LayersChoice → plain.LayersChoice
+layers_choice_of (One layer) = plain.TheLayer (layer_choice_of layer)
+layers_choice_of All = plain.EachLayer
 
 -- the plain choice that a choice of a feature stands for
 abbrev pub feature_choice_of : FeatureChoice → plain.FeatureChoice
@@ -29,3 +36,5 @@ command_of (MoveFeature layer feature index) = plain.MoveFeature (layer_choice_o
 command_of (DropFeature layer feature) = plain.DropFeature (layer_choice_of layer) (feature_choice_of feature)
 command_of (SetId layer feature id) = plain.SetId (layer_choice_of layer) (feature_choice_of feature) id
 command_of (ClearId layer feature) = plain.ClearId (layer_choice_of layer) (feature_choice_of feature)
+command_of (RenameKey layer old new) = plain.RenameKey (layer_choice_of layer) old.items new.items
+command_of (ExcludeAll layers) = plain.ExcludeAll (layers_choice_of layers)

@@ -1,4 +1,4 @@
-//! The commands with their arguments, and how a layer or a feature is selected.
+//! The commands with their arguments, and how layers and features are selected.
 
 ghost use Rattle.mvt_command.specs.Command.{IsCommand};
 ghost use Rattle.mvt_command.specs.CommandStands.{command_of};
@@ -13,6 +13,13 @@ pub enum LayerChoice {
     Ordinal(u64),
     /// The bytes of the name.
     Name(Items<u8>),
+}
+
+/// The layers that are meant.
+#[derive(Debug, Drop)]
+pub enum LayersChoice {
+    One(LayerChoice),
+    All,
 }
 
 /// The feature of a layer that is meant.
@@ -64,6 +71,15 @@ pub enum Command {
     ClearId {
         layer: LayerChoice,
         feature: FeatureChoice,
+    },
+    RenameKey {
+        layer: LayerChoice,
+        old: Items<u8>,
+        new: Items<u8>,
+    },
+    /// All attributes go.
+    ExcludeAll {
+        layers: LayersChoice,
     },
 }
 

@@ -1,6 +1,6 @@
-//! The commands that change a tile, and how they select a layer or a feature, as types.
+//! The commands that change a tile, and how they select layers and features, as types.
 #![tactic(auto)]
 
 mod command;
 
-pub use command::{Command, FeatureChoice, LayerChoice};
+pub use command::{Command, FeatureChoice, LayerChoice, LayersChoice};

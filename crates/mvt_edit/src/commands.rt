@@ -2,19 +2,21 @@
 
 ghost use Rattle.mvt_document.specs.Stands.{document_of};
 ghost use Rattle.mvt_command.specs.CommandStands.{command_of};
-ghost use Rattle.mvt_edit.specs.Prepared.{Prepares};
+ghost use Rattle.mvt_edit_steps.specs.Prepared.{Prepares};
 
-use crate::clear_id::clear_id;
-use crate::drop_feature::drop_feature;
-use crate::drop_layer::drop_layer;
-use crate::insert_feature::insert_feature;
-use crate::keep_layers::keep_layers;
-use crate::move_feature::move_feature;
-use crate::move_layer::move_layer;
-use crate::rename_layer::rename_layer;
-use crate::set_id::set_id;
 use mvt_change::Change;
 use mvt_document::Document;
+use mvt_edit_lists::clear_id::clear_id;
+use mvt_edit_lists::drop_feature::drop_feature;
+use mvt_edit_lists::drop_layer::drop_layer;
+use mvt_edit_lists::insert_feature::insert_feature;
+use mvt_edit_lists::keep_layers::keep_layers;
+use mvt_edit_lists::move_feature::move_feature;
+use mvt_edit_lists::move_layer::move_layer;
+use mvt_edit_lists::rename_layer::rename_layer;
+use mvt_edit_lists::set_id::set_id;
+use mvt_edit_tags::exclude_all::exclude_all;
+use mvt_edit_tags::rename_key::rename_key;
 use mvt_meaning::{Command, Refusal};
 use std::alloc::Global;
 
@@ -45,5 +47,13 @@ pub fn prepare(alloc: Global, document: &Document, command: &Command) -> Result<
         Command::DropFeature { layer, feature } => drop_feature(alloc, document, layer, feature),
         Command::SetId { layer, feature, id } => set_id(alloc, document, layer, feature, *id),
         Command::ClearId { layer, feature } => clear_id(alloc, document, layer, feature),
+        Command::RenameKey { layer, old, new } => rename_key(
+            alloc,
+            document,
+            layer,
+            old.as_slice(),
+            new.as_slice(),
+        ),
+        Command::ExcludeAll { layers } => exclude_all(alloc, document, layers),
     }
 }

@@ -1,6 +1,6 @@
 //! The change that carries a command out.
 //!
-//! - For each of the nine commands and every document: a command that is not refused is given the
+//! - For each of the eleven commands and every document: a command that is not refused is given the
 //!   change that makes of the document exactly what the command makes of it by its definition; a
 //!   refused one the first of its refusals. Out of memory alone may come in place of either. The
 //!   change fits the document, so `flip` carries it out; it holds no more bytes than the command
@@ -8,19 +8,7 @@
 //!   plus half as many as these bytes together. The document is not touched: `prepare`.
 #![tactic(auto)]
 
-mod clear_id;
 mod commands;
-mod drop_feature;
-mod drop_layer;
-mod fates;
-mod insert_feature;
-mod keep_layers;
-mod move_feature;
-mod move_layer;
-mod put_last;
-mod rename_layer;
-mod set_id;
-mod steps;
 
 pub use commands::prepare;
-pub use mvt_meaning::{Command, FeatureChoice, LayerChoice, Refusal};
+pub use mvt_meaning::{Command, FeatureChoice, LayerChoice, LayersChoice, Refusal};

@@ -9,7 +9,7 @@ use Rattle.mvt_meaning.specs.Meaning.{after, applied}
 use Rattle.mvt_change.specs.Changes.{Change, Fits, go, turn, step_weight, weight}
 use Rattle.mvt_change.specs.Joining.{joined, go_along}
 use Rattle.mvt_change.proofs.Turning.{go_joined, fits_joined, turn_joined, turned_back, turned_fits, turned_twice}
-use Rattle.mvt_edit.specs.Prepared.{IsPrepared}
+use Rattle.mvt_edit_steps.specs.Prepared.{IsPrepared}
 use Rattle.mvt_history.specs.History.{after_all, after_steps, commands_in}
 use Rattle.mvt_history.specs.Reached.{all_taken_by, all_put_by, LeadsBack, LeadBack, singles, LeadOut}
 use Rattle.mvt_history.specs.Standing.{changes_in}

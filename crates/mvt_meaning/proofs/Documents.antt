@@ -1,6 +1,7 @@
 -- An accepted command makes a document of a document.
-use Rattle.std.proofs.Common.{ℕ, ◌^◌, ◌<◌, not, ltb, ◌==◌, IfOk, Err, Ok, List, length, refl, arith}
+use Rattle.std.proofs.Common.{ℕ, ◌^◌, ◌<◌, ◌&&◌, not, cond, ltb, ◌==◌, IfOk, Err, Ok, List, length, refl, arith}
 use Rattle.std.specs.List.{AllByRecursion, list_any}
+use Rattle.std.specs.Str.{bytes_eq}
 use Rattle.std.proofs.lemmas.Bool.{cond_both}
 use Rattle.mvt_document.specs.declared.TheConstants.{MAX_FILE}
 use Rattle.mvt_document.specs.Plain.{Number, Body, Spelled, Eight, Four, Delimited, Group, Field, LayerItem, OfFeature, PlainInLayer, TileItem, OfLayer, PlainInTile, Document}
@@ -14,16 +15,17 @@ use Rattle.mvt_geometry.specs.Shapes.{Geometry, kind_number}
 use Rattle.mvt_geometry.specs.declared.Kind.{Kind}
 use Rattle.mvt_geometry.specs.declared.Kind.TheVariants.{Dots, Lines, Areas}
 use Rattle.mvt_geometry.specs.Integers.{encoded}
-use Rattle.mvt_command.specs.Command.{Command, IsCommand, RenameLayer, MoveLayer, DropLayer, KeepLayers, InsertFeature, MoveFeature, DropFeature, SetId, ClearId}
+use Rattle.mvt_command.specs.Command.{LayersChoice, TheLayer, EachLayer, Command, IsCommand, RenameLayer, MoveLayer, DropLayer, KeepLayers, InsertFeature, MoveFeature, DropFeature, SetId, ClearId, RenameKey, ExcludeAll}
 use Rattle.mvt_view.specs.Views.{layers}
 use Rattle.mvt_meaning.specs.Ordinals.{change_nth, without, move_nth, insert_nth}
 use Rattle.mvt_meaning.specs.Selection.{is_feature, is_layer, selected, selected_in}
+use Rattle.mvt_meaning.specs.Tagging.{is_key, is_tags, renamed_keys, untagged, without_tags}
 use Rattle.mvt_geometry.specs.Checks.{is_in_range}
-use Rattle.mvt_meaning.specs.Meaning.{applied, refuse_if, layer_count, feature_count, is_id, is_kept, is_name, is_taken, within_limit, change_layer, change_feature, identified, named_items, new_content, new_feature, new_number, with_content, with_id, with_number, with_text, with_value, without_id}
-use Rattle.mvt_meaning.specs.declared.refusal.Refusal.TheVariants.{BadPlace, NameTaken, NoLayer, OutOfRange, TooLarge}
+use Rattle.mvt_meaning.specs.Meaning.{applied, refuse_if, layer_count, feature_count, has_key, is_id, is_kept, is_name, is_taken, within_limit, change_layer, change_layers, change_feature, identified, named_items, new_content, new_feature, new_number, with_content, with_id, with_number, with_text, with_value, without_id}
+use Rattle.mvt_meaning.specs.declared.refusal.Refusal.TheVariants.{BadPlace, KeyTaken, NameTaken, NoKey, NoLayer, OutOfRange, TooLarge}
 use Rattle.mvt_meaning.specs.DocumentLaws.{CommandMakesDocument}
 use Rattle.mvt_meaning.proofs.Accepted.{ok_so, then_so}
-use Rattle.mvt_meaning.proofs.Elements.{all_changed, all_filtered, all_inserted, all_moved, all_put, all_without}
+use Rattle.mvt_meaning.proofs.Elements.{all_changed, all_filtered, all_inserted, all_mapped, all_moved, all_put, all_without}
 
 -- ---- a new name
 
@@ -109,6 +111,21 @@ feature_valid : (change : List Field → List Field) → ((fields : List Field) 
 feature_valid change keeps ordinal feature document valid =
     layer_valid (change_nth is_feature (in_feature change) feature) (all_changed IsLayerItem is_feature (in_feature change) (in_feature_valid change keeps) feature) ordinal document valid
 
+layers_valid : (change : List LayerItem → List LayerItem) → ((items : List LayerItem) → AllByRecursion IsLayerItem items → AllByRecursion IsLayerItem (change items)) → (choice : LayersChoice) (document : Document) → IsDocument document → IfOk (change_layers change choice document) IsDocument
+layers_valid change keeps (TheLayer choice) document valid = then_so IsDocument (selected choice document) _ (λ ordinal. layer_valid change keeps ordinal document valid)
+layers_valid change keeps EachLayer document valid = all_mapped IsTileItem (in_layer change) (in_layer_valid change keeps) document valid
+
+-- ---- keys and tags
+
+renamed_valid : (old new : List ℕ) (items : List LayerItem) → AllByRecursion IsLayerItem items → AllByRecursion IsLayerItem (renamed_keys old new items)
+renamed_valid old new items all =
+    all_mapped IsLayerItem (λ item. cond (is_key old item) (with_text new item) item)
+    (λ item valid. cond_both (is_key old item) (with_text new item) item IsLayerItem (λ _. named_valid new item valid) (λ _. valid)) items all
+
+untagged_valid : (items : List LayerItem) → AllByRecursion IsLayerItem items → AllByRecursion IsLayerItem (untagged items)
+untagged_valid items all =
+    all_mapped IsLayerItem (in_feature without_tags) (in_feature_valid without_tags (all_filtered IsField (λ field. not (is_tags field)))) items all
+
 -- ---- accepted commands
 
 limited_valid : (document : Document) → IsDocument document → IfOk (within_limit document) IsDocument
@@ -149,6 +166,12 @@ made_valid (SetId choice feature id) document fits valid =
 made_valid (ClearId choice feature) document fits valid =
     then_so IsDocument (selected choice document) _ (λ ordinal.
     then_so IsDocument (selected_in feature ordinal document) _ (λ meant. feature_valid without_id (all_filtered IsField (λ field. not (is_id field))) ordinal meant document valid))
+made_valid (RenameKey choice old new) document fits valid =
+    then_so IsDocument (selected choice document) _ (λ ordinal.
+    then_so IsDocument (refuse_if (not (has_key old ordinal document)) NoKey) _ (λ there.
+    then_so IsDocument (refuse_if (has_key new ordinal document && not (bytes_eq old new)) KeyTaken) _ (λ free.
+    limited_valid (change_layer (renamed_keys old new) ordinal document) (layer_valid (renamed_keys old new) (renamed_valid old new) ordinal document valid))))
+made_valid (ExcludeAll choice) document fits valid = layers_valid untagged untagged_valid choice document valid
 
 pub command_makes_document : CommandMakesDocument
 command_makes_document command document after fits valid is = ok_so IsDocument (applied command document) after (made_valid command document fits valid) is

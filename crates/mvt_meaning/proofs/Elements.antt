@@ -1,5 +1,5 @@
 -- What holds of each item of a list holds of each after a change of it.
-use Rattle.std.proofs.Common.{◌≡◌, ℕ, zero, suc, ◌-◌, Bool, ◌&&◌, not, cond, ltb, ◌==◌, Option, Some, None, List, [], ◌∷◌, ◌++◌, take, drop, filter, slice_get, refl, subst, inl, inr}
+use Rattle.std.proofs.Common.{◌≡◌, ℕ, zero, suc, ◌-◌, Bool, ◌&&◌, not, cond, ltb, ◌==◌, Option, Some, None, List, [], ◌∷◌, ◌++◌, take, drop, map, filter, slice_get, refl, subst, inl, inr}
 use Rattle.std.specs.List.{AllByRecursion, list_any}
 use Rattle.std.specs.Option.{option_map_or}
 use Rattle.std.proofs.lemmas.Bool.{cases_Bool, cond_both}
@@ -14,6 +14,10 @@ module _ {A : Type 0} (P : A → Type 0) where
   all_filtered passes [] all = tt
   all_filtered passes (x ∷ xs) all =
       elim (cases_Bool (passes x)) [ inl kept ↦ rw kept (all.0, all_filtered passes xs all.1) | inr gone ↦ rw gone (all_filtered passes xs all.1) ]
+
+  pub all_mapped : (change : A → A) → ((x : A) → P x → P (change x)) → (xs : List A) → AllByRecursion P xs → AllByRecursion P (map change xs)
+  all_mapped change keeps [] all = tt
+  all_mapped change keeps (x ∷ xs) all = (keeps x all.0, all_mapped change keeps xs all.1)
 
   got_holds : (xs : List A) (index : ℕ) (x : A) → slice_get xs index ≡ Some x → AllByRecursion P xs → P x
   got_holds [] index x is all = absurd cc

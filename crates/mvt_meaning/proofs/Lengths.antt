@@ -1,23 +1,25 @@
 -- Which commands make no tile longer, and that an accepted one leaves a tile that a file can hold.
 use Rattle.std.proofs.Common.{◌≡◌, ℕ, zero, suc, ◌+◌, ◌-◌, ◌≤◌, Bool, true, false, ◌&&◌, not, cond, ltb, ◌==◌, Option, Some, None, Ok, Err, IfOk, List, [], ◌∷◌, ◌++◌, length, length-append, take, drop, slice_get, refl, ap, inl, inr, arith}
-use Rattle.std.specs.Prelude.{filter}
+use Rattle.std.specs.Prelude.{filter, map}
 use Rattle.std.specs.List.{flat_map, list_any}
 use Rattle.std.specs.Option.{option_map_or}
+use Rattle.std.specs.Str.{bytes_eq}
 use Rattle.std.proofs.lemmas.Bool.{cases_Bool, cond_both, ltb-false, ne_eqb}
 use Rattle.mvt_document.specs.declared.TheConstants.{MAX_FILE}
 use Rattle.mvt_document.specs.Plain.{Field, LayerItem, OfFeature, PlainInLayer, TileItem, OfLayer, PlainInTile, Document}
 use Rattle.mvt_document.specs.Wire.{field_bytes, layer_item_bytes, tile_item_bytes, bytes_of}
 use Rattle.mvt_document.proofs.Sizes.{length-message_grows}
 use Rattle.mvt_document.specs.Places.{in_layer, in_feature}
-use Rattle.mvt_command.specs.Command.{Command, RenameLayer, MoveLayer, DropLayer, KeepLayers, InsertFeature, MoveFeature, DropFeature, SetId, ClearId}
+use Rattle.mvt_command.specs.Command.{LayersChoice, TheLayer, EachLayer, Command, RenameLayer, MoveLayer, DropLayer, KeepLayers, InsertFeature, MoveFeature, DropFeature, SetId, ClearId, RenameKey, ExcludeAll}
 use Rattle.mvt_meaning.specs.Ordinals.{from_nth, change_first, change_nth, without, before, behind, move_nth, insert_nth}
 use Rattle.mvt_meaning.specs.Selection.{is_feature, is_layer, selected, selected_in}
 use Rattle.mvt_view.specs.Views.{layers}
 use Rattle.mvt_geometry.specs.Checks.{is_in_range}
-use Rattle.mvt_meaning.specs.Meaning.{applied, refuse_if, layer_count, feature_count, within_limit, change_layer, change_feature, is_id, is_kept, is_taken, without_id, identified, named_items, new_feature}
+use Rattle.mvt_meaning.specs.Tagging.{is_tags, renamed_keys, untagged, without_tags}
+use Rattle.mvt_meaning.specs.Meaning.{applied, refuse_if, layer_count, feature_count, has_key, within_limit, change_layer, change_layers, change_feature, is_id, is_kept, is_taken, without_id, identified, named_items, new_feature}
 use Rattle.mvt_meaning.specs.Weights.{weigh}
 use Rattle.mvt_meaning.specs.SizeLaws.{CommandFits, NeverLonger, may_lengthen}
-use Rattle.mvt_meaning.specs.declared.refusal.Refusal.TheVariants.{BadPlace, NameTaken, NoLayer, OutOfRange, TooLarge}
+use Rattle.mvt_meaning.specs.declared.refusal.Refusal.TheVariants.{BadPlace, KeyTaken, NameTaken, NoKey, NoLayer, OutOfRange, TooLarge}
 use Rattle.mvt_meaning.proofs.Accepted.{ok_so, then_so}
 
 -- ---- lists
@@ -63,6 +65,11 @@ module _ {A : Type 0} (bytes : A → List ℕ) where
       cond_both (passes x) (x ∷ filter passes xs) (filter passes xs) (λ ys. weigh bytes ys ≤ weigh bytes (x ∷ xs))
       (λ _. omega (arith, rest, length-append (bytes x) (flat_map bytes (filter passes xs)), length-append (bytes x) (flat_map bytes xs)))
       (λ _. omega (arith, rest, length-append (bytes x) (flat_map bytes xs)))
+
+  map_no_longer : (change : A → A) → ((x : A) → length (bytes (change x)) ≤ length (bytes x)) → (xs : List A) → weigh bytes (map change xs) ≤ weigh bytes xs
+  map_no_longer change less [] = omega arith
+  map_no_longer change less (x ∷ xs) =
+      omega (arith, less x, map_no_longer change less xs, length-append (bytes (change x)) (flat_map bytes (map change xs)), length-append (bytes x) (flat_map bytes xs))
 
   -- what is taken out is as much shorter as the item is long
   without_weighs : (passes : A → Bool) (ordinal : ℕ) (xs : List A) (item : A) → slice_get (filter passes xs) ordinal ≡ Some item → weigh bytes (without passes ordinal xs) + length (bytes item) ≡ weigh bytes xs
@@ -122,11 +129,19 @@ feature_no_longer change less ordinal feature document =
     layer_no_longer (change_nth is_feature (in_feature change) feature)
     (λ items. change_nth_no_longer layer_item_bytes is_feature (in_feature change) (in_feature_no_longer change less) feature items) ordinal document
 
--- ---- accepted commands
-
 -- no longer than it was
 abbrev IsNoLonger : Document → Document → Type 0
 IsNoLonger old new = length (bytes_of new) ≤ length (bytes_of old)
+
+layers_no_longer : (change : List LayerItem → List LayerItem) → ((items : List LayerItem) → weigh layer_item_bytes (change items) ≤ weigh layer_item_bytes items) → (choice : LayersChoice) (document : Document) → IfOk (change_layers change choice document) (IsNoLonger document)
+layers_no_longer change less (TheLayer choice) document = then_so (IsNoLonger document) (selected choice document) _ (λ ordinal. layer_no_longer change less ordinal document)
+layers_no_longer change less EachLayer document = map_no_longer tile_item_bytes (in_layer change) (in_layer_no_longer change less) document
+
+untagged_no_longer : (items : List LayerItem) → weigh layer_item_bytes (untagged items) ≤ weigh layer_item_bytes items
+untagged_no_longer items =
+    map_no_longer layer_item_bytes (in_feature without_tags) (in_feature_no_longer without_tags (λ fields. filter_no_longer field_bytes (λ field. not (is_tags field)) fields)) items
+
+-- ---- accepted commands
 
 kept_no_longer : (command : Command) (document : Document) → may_lengthen command ≡ false → IfOk (applied command document) (IsNoLonger document)
 kept_no_longer (RenameLayer choice name) document kind = absurd cc
@@ -149,6 +164,8 @@ kept_no_longer (SetId choice feature id) document kind = absurd cc
 kept_no_longer (ClearId choice feature) document kind =
     then_so (IsNoLonger document) (selected choice document) _ (λ ordinal.
     then_so (IsNoLonger document) (selected_in feature ordinal document) _ (λ meant. feature_no_longer without_id (λ fields. filter_no_longer field_bytes (λ field. not (is_id field)) fields) ordinal meant document))
+kept_no_longer (RenameKey choice old new) document kind = absurd cc
+kept_no_longer (ExcludeAll choice) document kind = layers_no_longer untagged untagged_no_longer choice document
 
 pub never_longer : NeverLonger
 never_longer command document after valid kind is = ok_so (IsNoLonger document) (applied command document) after (kept_no_longer command document kind) is
@@ -179,6 +196,11 @@ lengthens_within (DropFeature choice feature) document kind = absurd cc
 lengthens_within (SetId choice feature id) document kind =
     then_so IsWithin (selected choice document) _ (λ ordinal. then_so IsWithin (selected_in feature ordinal document) _ (λ meant. limited (change_feature (identified id) ordinal meant document)))
 lengthens_within (ClearId choice feature) document kind = absurd cc
+lengthens_within (RenameKey choice old new) document kind =
+    then_so IsWithin (selected choice document) _ (λ ordinal.
+    then_so IsWithin (refuse_if (not (has_key old ordinal document)) NoKey) _ (λ there.
+    then_so IsWithin (refuse_if (has_key new ordinal document && not (bytes_eq old new)) KeyTaken) _ (λ free. limited (change_layer (renamed_keys old new) ordinal document))))
+lengthens_within (ExcludeAll choice) document kind = absurd cc
 
 pub command_fits : CommandFits
 command_fits command document after valid within is =

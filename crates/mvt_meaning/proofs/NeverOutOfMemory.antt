@@ -1,20 +1,22 @@
 -- No command is refused as out of memory by its definition.
-use Rattle.std.proofs.Common.{◌≡◌, ◌≢◌, ℕ, List, [], ◌∷◌, length, Option, Some, None, Result, Ok, Err}
+use Rattle.std.proofs.Common.{◌≡◌, ◌≢◌, ℕ, ◌&&◌, List, [], ◌∷◌, length, Option, Some, None, Result, Ok, Err}
 use Rattle.std.specs.Prelude.{nat_lt, not, slice_get}
 use Rattle.std.specs.List.{list_any}
 use Rattle.std.specs.Option.{option_map_or}
+use Rattle.std.specs.Str.{bytes_eq}
 use Rattle.mvt_document.specs.declared.TheConstants.{MAX_FILE}
-use Rattle.mvt_document.specs.Plain.{Document, Layer, OfLayer}
+use Rattle.mvt_document.specs.Plain.{Document, Layer, LayerItem, OfLayer}
 use Rattle.mvt_document.specs.Wire.{bytes_of}
-use Rattle.mvt_command.specs.Command.{LayerChoice, AtOrdinal, Named, FeatureChoice, FeatureAtOrdinal, WithId, Command, RenameLayer, MoveLayer, DropLayer, KeepLayers, InsertFeature, MoveFeature, DropFeature, SetId, ClearId}
+use Rattle.mvt_command.specs.Command.{LayerChoice, AtOrdinal, Named, LayersChoice, TheLayer, EachLayer, FeatureChoice, FeatureAtOrdinal, WithId, Command, RenameLayer, MoveLayer, DropLayer, KeepLayers, InsertFeature, MoveFeature, DropFeature, SetId, ClearId, RenameKey, ExcludeAll}
 use Rattle.mvt_command.proofs.Others.{Other, either}
 use Rattle.mvt_view.specs.Views.{features, has_id, is_named, layers, ordinals_of, the_one}
 use Rattle.mvt_meaning.specs.MemoryLaws.{NoCommandIsOutOfMemory}
 use Rattle.mvt_meaning.specs.Selection.{selected, selected_feature, selected_in}
 use Rattle.mvt_geometry.specs.Checks.{is_in_range}
-use Rattle.mvt_meaning.specs.Meaning.{◌>>=◌, applied, refuse_if, within_limit, is_taken, is_kept, layer_count, feature_count}
+use Rattle.mvt_meaning.specs.Tagging.{untagged}
+use Rattle.mvt_meaning.specs.Meaning.{◌>>=◌, applied, change_layers, refuse_if, within_limit, is_taken, is_kept, has_key, layer_count, feature_count}
 use Rattle.mvt_meaning.specs.declared.refusal.Refusal.{Refusal}
-use Rattle.mvt_meaning.specs.declared.refusal.Refusal.TheVariants.{NoMemory, NoLayer, AmbiguousLayer, NoFeature, AmbiguousFeature, BadPlace, NameTaken, OutOfRange, TooLarge}
+use Rattle.mvt_meaning.specs.declared.refusal.Refusal.TheVariants.{NoMemory, NoLayer, AmbiguousLayer, NoFeature, AmbiguousFeature, NoKey, BadPlace, NameTaken, KeyTaken, OutOfRange, TooLarge}
 
 abbrev NeverOutOfMemory : {A : Type 0} → Result A Refusal → Type 0
 NeverOutOfMemory result = Other NoMemory result
@@ -51,6 +53,10 @@ feature_meant choice ordinal document = meant_there choice (slice_get (layers do
 limited : (document : Document) → NeverOutOfMemory (within_limit document)
 limited document = either NoMemory (nat_lt MAX_FILE (length (bytes_of document))) (Err TooLarge) (Ok document) (λ e. cc) tt
 
+layers_meant : (change : List LayerItem → List LayerItem) (choice : LayersChoice) (document : Document) → NeverOutOfMemory (change_layers change choice document)
+layers_meant change (TheLayer choice) document = then (selected choice document) _ (layer_meant choice document) (λ ordinal. tt)
+layers_meant change EachLayer document = tt
+
 pub applied_other : (command : Command) (document : Document) → Other NoMemory (applied command document)
 applied_other (RenameLayer choice name) document =
     then (selected choice document) _ (layer_meant choice document) (λ ordinal.
@@ -83,6 +89,13 @@ applied_other (SetId choice feature id) document =
 applied_other (ClearId choice feature) document =
     then (selected choice document) _ (layer_meant choice document) (λ ordinal.
     then (selected_in feature ordinal document) _ (feature_meant feature ordinal document) (λ meant. tt))
+applied_other (RenameKey choice old new) document =
+    then (selected choice document) _ (layer_meant choice document) (λ ordinal.
+    let gone = not (has_key old ordinal document) in
+    let taken = has_key new ordinal document && not (bytes_eq old new) in
+    then (refuse_if gone NoKey) _ (either NoMemory gone (Err NoKey) (Ok tt) (λ e. cc) tt) (λ there.
+    then (refuse_if taken KeyTaken) _ (either NoMemory taken (Err KeyTaken) (Ok tt) (λ e. cc) tt) (λ free. limited _)))
+applied_other (ExcludeAll choice) document = layers_meant untagged choice document
 
 other_refusal : {A : Type 0} (result : Result A Refusal) → Other NoMemory result → result ≢ Err NoMemory
 other_refusal (Ok x) other e = absurd cc

@@ -1,5 +1,7 @@
 pub mod Ordinals
 pub mod Selection
+pub mod Fields
+pub mod Tagging
 pub mod Meaning
 pub mod Kept
 pub mod LayerLaws

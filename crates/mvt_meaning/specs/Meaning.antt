@@ -1,12 +1,13 @@
 -- What a command makes of a document, and when it is refused. `applied` has a line for each refusal, in their order,
--- and one for the meaning: a list of the tile, of a layer or of a feature in which one item is changed, left out, moved
--- or new, or which is filtered.
-use Rattle.std.specs.Prelude.{ℕ, ◌==◌, nat_lt, Bool, true, not, List, [], ◌∷◌, length, filter, slice_get, Option, None, Result, Ok, Err, is_some, if◌then◌else◌}
+-- and one for the meaning: a list of the tile, of a layer or of a feature in which one item or each is changed, one is
+-- left out, moved or new, or which is filtered.
+use Rattle.std.specs.Prelude.{ℕ, ◌==◌, nat_lt, Bool, true, ◌&&◌, not, List, [], ◌∷◌, length, map, filter, slice_get, Option, None, Result, Ok, Err, is_some, if◌then◌else◌}
 use Rattle.std.specs.List.{list_any}
 use Rattle.std.specs.Option.{option_map_or}
 use Rattle.std.specs.Result.{result_unwrap_or}
+use Rattle.std.specs.Str.{bytes_eq}
 use Rattle.mvt_document.specs.declared.TheConstants.{MAX_FILE}
-use Rattle.mvt_document.specs.Plain.{Number, Body, Spelled, Delimited, Field, LayerItem, OfFeature, PlainInLayer, TileItem, OfLayer, PlainInTile, Document}
+use Rattle.mvt_document.specs.Plain.{Field, LayerItem, OfFeature, PlainInLayer, TileItem, OfLayer, PlainInTile, Document}
 use Rattle.mvt_document.specs.Wire.{bytes_of, minimal}
 use Rattle.mvt_geometry.specs.Shapes.{Geometry, kind_number}
 use Rattle.mvt_geometry.specs.Integers.{encoded}
@@ -15,41 +16,19 @@ use Rattle.mvt_geometry.specs.declared.faults.EncodeError.{EncodeError}
 use Rattle.mvt_geometry.specs.declared.faults.EncodeError.TheVariants as encode_errors
 use Rattle.mvt_view.specs.Views.{content_in, features_in, is_named, layers, ordinals_of, value_in}
 use Rattle.mvt_document.specs.Places.{in_feature, in_layer}
-use Rattle.mvt_command.specs.Command.{Command, RenameLayer, MoveLayer, DropLayer, KeepLayers, InsertFeature, MoveFeature, DropFeature, SetId, ClearId}
+use Rattle.mvt_command.specs.Command.{LayersChoice, TheLayer, EachLayer, Command, RenameLayer, MoveLayer, DropLayer, KeepLayers, InsertFeature, MoveFeature, DropFeature, SetId, ClearId, RenameKey, ExcludeAll}
 use Rattle.mvt_meaning.specs.Ordinals.{change_nth, without, move_nth, insert_nth, put_last}
 use Rattle.mvt_meaning.specs.Selection.{is_feature, is_layer, selected, selected_in}
+use Rattle.mvt_meaning.specs.Tagging.{is_key, renamed_keys, untagged}
+pub use Rattle.mvt_meaning.specs.Fields.{new_content, new_number, with_content, with_number, with_text, with_value}
 use Rattle.mvt_meaning.specs.declared.refusal.Refusal.{Refusal}
-use Rattle.mvt_meaning.specs.declared.refusal.Refusal.TheVariants.{BadPlace, NameTaken, NoLayer, NoMemory, OutOfRange, TooLarge}
+use Rattle.mvt_meaning.specs.declared.refusal.Refusal.TheVariants.{BadPlace, KeyTaken, NameTaken, NoKey, NoLayer, NoMemory, OutOfRange, TooLarge}
 
 -- what follows a step that was accepted; the refusal of one that was refused
 infixl 10 ◌>>=◌
 abbrev pub ◌>>=◌ : {A B : Type 0} → Result A Refusal → (A → Result B Refusal) → Result B Refusal
 (Ok x) >>= f = f x
 (Err e) >>= f = Err e
-
--- ---- numbers and fields
-
--- the old number as it is spelled, where it has this value; else this value in its shortest spelling
-abbrev pub with_number : ℕ → Number → Number
-with_number value old = if old.value == value then old else minimal value
-
--- a VARINT body with this number; another body as it is
-abbrev pub with_value : ℕ → Body → Body
-with_value value (Spelled number) = Spelled (with_number value number)
-with_value value body = body
-
--- a LEN body with this content, and its stored width; another body as it is
-abbrev pub with_content : List ℕ → Body → Body
-with_content bytes (Delimited width old) = Delimited width bytes
-with_content bytes body = body
-
--- a VARINT field with this tag, in its shortest spelling (guide, Message Structure)
-abbrev pub new_number : ℕ → ℕ → Field
-new_number tag value = record { tag = minimal tag; body = Spelled (minimal value) }
-
--- a LEN field with this tag, in its shortest spelling (guide, Message Structure)
-abbrev pub new_content : ℕ → List ℕ → Field
-new_content tag bytes = record { tag = minimal tag; body = Delimited 1 bytes }
 
 -- ---- the name of a layer: field 1, LEN
 
@@ -61,11 +40,6 @@ name_in (PlainInLayer field) = content_in 1 field
 -- the item of a layer is a name field (tiles 4.1)
 abbrev pub is_name : LayerItem → Bool
 is_name item = is_some (name_in item)
-
--- an item of a layer with this content, where it is a LEN field
-abbrev pub with_text : List ℕ → LayerItem → LayerItem
-with_text bytes (OfFeature feature) = OfFeature feature
-with_text bytes (PlainInLayer field) = PlainInLayer (record field { body = with_content bytes field.body })
 
 -- the items of a layer with this name in the last name field, or in a new one at the end where there is none
 -- (tiles 4.1)
@@ -132,6 +106,17 @@ change_layer change ordinal document = change_nth is_layer (in_layer change) ord
 abbrev pub change_feature : (List Field → List Field) → ℕ → ℕ → Document → Document
 change_feature change ordinal feature document = change_layer (change_nth is_feature (in_feature change) feature) ordinal document
 
+-- the tile with the items of the layers changed that are meant, or the refusal where none is
+abbrev pub change_layers : (List LayerItem → List LayerItem) → LayersChoice → Document → Result Document Refusal
+change_layers change (TheLayer choice) document = do
+  ordinal ← selected choice document
+  Ok (change_layer change ordinal document)
+change_layers change EachLayer document = Ok (map (in_layer change) document)
+
+-- the layer of this ordinal has the key (tiles 4.1, 4.4)
+abbrev pub has_key : List ℕ → ℕ → Document → Bool
+has_key key ordinal document = list_any (is_key key) (items_of ordinal document)
+
 -- ---- refusals
 
 -- the refusal, where it applies
@@ -187,6 +172,12 @@ applied (ClearId choice feature) document = do
   ordinal ← selected choice document
   meant ← selected_in feature ordinal document
   Ok (change_feature without_id ordinal meant document)
+applied (RenameKey choice old new) document = do
+  ordinal ← selected choice document
+  there ← refuse_if (not (has_key old ordinal document)) NoKey
+  free ← refuse_if (has_key new ordinal document && not (bytes_eq old new)) KeyTaken
+  within_limit (change_layer (renamed_keys old new) ordinal document)
+applied (ExcludeAll choice) document = change_layers untagged choice document
 
 -- the document after the command; a refused command changes nothing
 abbrev pub after : Command → Document → Document

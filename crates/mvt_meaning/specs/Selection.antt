@@ -1,9 +1,11 @@
--- Which layer is selected, and which feature of a layer.
-use Rattle.std.specs.Prelude.{ℕ, Bool, List, length, slice_get, Result, Ok, Err, is_some, nat_lt, if◌then◌else◌}
+-- Which layer is selected, which layers are, and which feature of a layer.
+use Rattle.std.specs.Prelude.{ℕ, ◌==◌, Bool, List, length, filter, slice_get, Result, Ok, Err, is_some, nat_lt, if◌then◌else◌}
 use Rattle.std.specs.Option.{option_map_or}
+use Rattle.std.specs.Result.{result_map_both}
 use Rattle.mvt_document.specs.Plain.{LayerItem, Layer, TileItem, Document}
+use Rattle.mvt_view.specs.Found.{found_layers}
 use Rattle.mvt_view.specs.Views.{feature_in, features, has_id, is_named, layer_in, layers, ordinals_of, the_one}
-use Rattle.mvt_command.specs.Command.{LayerChoice, AtOrdinal, Named, FeatureChoice, FeatureAtOrdinal, WithId}
+use Rattle.mvt_command.specs.Command.{LayerChoice, AtOrdinal, Named, LayersChoice, TheLayer, EachLayer, FeatureChoice, FeatureAtOrdinal, WithId}
 use Rattle.mvt_meaning.specs.Ordinals.{positions_of}
 use Rattle.mvt_meaning.specs.declared.refusal.Refusal.{Refusal}
 use Rattle.mvt_meaning.specs.declared.refusal.Refusal.TheVariants.{NoLayer, AmbiguousLayer, NoFeature, AmbiguousFeature}
@@ -13,6 +15,12 @@ use Rattle.mvt_meaning.specs.declared.refusal.Refusal.TheVariants.{NoLayer, Ambi
 abbrev pub selected : LayerChoice → Document → Result ℕ Refusal
 selected (AtOrdinal ordinal) document = if nat_lt ordinal (length (layers document)) then Ok ordinal else Err NoLayer
 selected (Named name) document = the_one NoLayer AmbiguousLayer (ordinals_of (is_named name) (layers document))
+
+-- the layers that are meant, in order, each with its ordinal and its position: the selected one, or all; else the
+-- refusal where none is selected (tiles 4.1)
+abbrev pub selected_layers : LayersChoice → Document → Result (List (ℕ × (ℕ × Layer))) Refusal
+selected_layers (TheLayer choice) document = result_map_both (λ ordinal. filter (λ found. found.0 == ordinal) (found_layers document)) (λ refusal. refusal) (selected choice document)
+selected_layers EachLayer document = Ok (found_layers document)
 
 -- the ordinal of the selected feature of a layer: the given one, where there is such a feature, or that of the one
 -- feature with the id; else the refusal that there is none, or that there are several (tiles 4.2)

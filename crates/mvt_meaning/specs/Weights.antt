@@ -5,8 +5,9 @@ use Rattle.std.specs.Option.{option_map_or}
 use Rattle.mvt_document.specs.Plain.{Field, Document}
 use Rattle.mvt_document.specs.Wire.{field_bytes, layer_item_bytes, tile_item_bytes}
 use Rattle.mvt_document.specs.Places.{fields_in}
-use Rattle.mvt_command.specs.Command.{LayerChoice, FeatureChoice, Command, RenameLayer, DropLayer, KeepLayers, InsertFeature, DropFeature, SetId, ClearId}
-use Rattle.mvt_meaning.specs.Selection.{is_feature, is_layer, selected, selected_in}
+use Rattle.mvt_command.specs.Command.{LayerChoice, FeatureChoice, Command, RenameLayer, DropLayer, KeepLayers, InsertFeature, DropFeature, SetId, ClearId, RenameKey, ExcludeAll}
+use Rattle.mvt_meaning.specs.Selection.{is_feature, is_layer, selected, selected_in, selected_layers}
+use Rattle.mvt_meaning.specs.Tagging.{is_key, tags_fields}
 use Rattle.mvt_meaning.specs.Meaning.{after, is_id, is_kept, is_name, items_of, new_feature}
 use Rattle.mvt_meaning.specs.declared.refusal.Refusal.{Refusal}
 
@@ -26,9 +27,9 @@ weigh_nth bytes passes ordinal items = option_map_or (λ item. length (bytes ite
 
 -- ---- the layer and the feature that a command means
 
--- the weight of the selected ordinal, 0 where the selection is refused
-abbrev pub of_meant : Result ℕ Refusal → (ℕ → ℕ) → ℕ
-of_meant (Ok ordinal) weight = weight ordinal
+-- the weight of what is selected, 0 where the selection is refused
+abbrev pub of_meant : {A : Type 0} → Result A Refusal → (A → ℕ) → ℕ
+of_meant (Ok meant) weight = weight meant
 of_meant (Err refusal) weight = 0
 
 -- the fields of the feature of this ordinal, in the layer of that ordinal
@@ -43,6 +44,10 @@ name_weight choice document seen = of_meant (selected choice document) (λ ordin
 abbrev pub id_weight : LayerChoice → FeatureChoice → Document → Document → ℕ
 id_weight choice feature document seen = of_meant (selected choice document) (λ ordinal. of_meant (selected_in feature ordinal document) (λ meant. weigh_last field_bytes is_id (fields_of ordinal meant seen)))
 
+-- the bytes, in the document `seen`, of the keys of these bytes in the layer that is selected in `document`
+abbrev pub key_weight : List ℕ → LayerChoice → Document → Document → ℕ
+key_weight key choice document seen = of_meant (selected choice document) (λ ordinal. weigh layer_item_bytes (filter (is_key key) (items_of ordinal seen)))
+
 -- ---- commands
 
 -- the bytes of the items that a command takes out or replaces, as they stand before it
@@ -53,6 +58,8 @@ taken_by (KeepLayers names) document = weigh tile_item_bytes (filter (λ item. n
 taken_by (DropFeature choice feature) document = of_meant (selected choice document) (λ ordinal. of_meant (selected_in feature ordinal document) (λ going. weigh_nth layer_item_bytes is_feature going (items_of ordinal document)))
 taken_by (SetId choice feature id) document = id_weight choice feature document document
 taken_by (ClearId choice feature) document = of_meant (selected choice document) (λ ordinal. of_meant (selected_in feature ordinal document) (λ meant. weigh field_bytes (filter is_id (fields_of ordinal meant document))))
+taken_by (RenameKey choice old new) document = key_weight old choice document document
+taken_by (ExcludeAll choice) document = of_meant (selected_layers choice document) (λ meant. weigh field_bytes (flat_map (λ found. tags_fields found.1.1) meant))
 taken_by command document = 0
 
 -- the bytes of the items that a command puts in, new ones or those that replace others, as they stand after it
@@ -60,4 +67,5 @@ abbrev pub put_by : Command → Document → ℕ
 put_by (RenameLayer choice name) document = name_weight choice document (after (RenameLayer choice name) document)
 put_by (InsertFeature choice index geometry) document = length (layer_item_bytes (new_feature geometry))
 put_by (SetId choice feature id) document = id_weight choice feature document (after (SetId choice feature id) document)
+put_by (RenameKey choice old new) document = key_weight new choice document (after (RenameKey choice old new) document)
 put_by command document = 0

@@ -19,10 +19,14 @@ pub enum Refusal {
     NoFeature,
     #[error("several features have the id")]
     AmbiguousFeature,
+    #[error("the layer has no such key")]
+    NoKey,
     #[error("the place is past the last")]
     BadPlace,
     #[error("another layer has the name")]
     NameTaken,
+    #[error("the layer has the key already")]
+    KeyTaken,
     #[error("the geometry is out of range")]
     OutOfRange,
     #[error("the tile would be too large")]

@@ -1,2 +1,7 @@
 pub mod Pieces
 pub mod Fields
+pub mod Decisions
+pub mod Making
+pub mod Reread
+pub mod PackedLeft
+pub mod Redone

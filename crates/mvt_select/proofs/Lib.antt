@@ -1,2 +1,3 @@
 pub mod Meant
 mod Named
+pub mod Chosen

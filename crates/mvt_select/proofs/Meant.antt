@@ -1,5 +1,5 @@
 -- What is found is what is meant, and stands where its positions say.
-use Rattle.std.proofs.Common.{◌≡◌, ℕ, suc, zero, ◌+◌, ◌<◌, ◌≤◌, Bool, true, false, is_some, Option, Some, None, option_map, Result, Ok, Err, List, [], ◌∷◌, length, map, filter, slice_get, if◌then◌else◌, refl, sym, ap, ◌∙◌, inl, inr, arith}
+use Rattle.std.proofs.Common.{◌≡◌, ℕ, suc, zero, ◌+◌, ◌<◌, ◌≤◌, Bool, is_some, Option, Some, None, option_map, Result, Ok, Err, List, [], ◌∷◌, length, map, filter, slice_get, refl, sym, ap, ◌∙◌, inl, inr, arith}
 use Rattle.std.proofs.lemmas.Bool.{cases_Bool}
 use Rattle.std.proofs.lemmas.Bool.Decides.{nat_tests}
 use Rattle.std.proofs.lemmas.Option.{slice_get-map, slice_get_within}
@@ -15,7 +15,7 @@ use Rattle.mvt_view.specs.Views.{feature_in, features, has_id, is_named, layer_i
 use Rattle.mvt_view.specs.declared.found.FoundLayer.{FoundLayer}
 use Rattle.mvt_view.specs.declared.found.FoundFeature.{FoundFeature}
 use Rattle.mvt_view.proofs.Placing.{found_count, placed_items}
-use Rattle.mvt_meaning.specs.Selection.{feature_positions, layer_positions, selected, selected_feature}
+use Rattle.mvt_meaning.specs.Selection.{selected, selected_feature}
 use Rattle.mvt_meaning.specs.declared.refusal.Refusal.{Refusal}
 use Rattle.mvt_meaning.specs.declared.refusal.Refusal.TheVariants.{AmbiguousFeature, AmbiguousLayer, NoFeature, NoLayer}
 use Rattle.mvt_meaning.proofs.Found.{picked_found}
@@ -135,7 +135,7 @@ one_stands {A} {B} pick passes none several items found e =
 
 -- ---- a layer
 
-layer_there : (item : Option plain.TileItem) (layer : plain.Layer) → option_and_then layer_in item ≡ Some layer → item ≡ Some (plain.OfLayer layer)
+pub layer_there : (item : Option plain.TileItem) (layer : plain.Layer) → option_and_then layer_in item ≡ Some layer → item ≡ Some (plain.OfLayer layer)
 layer_there None layer e = absurd cc
 layer_there (Some (plain.OfLayer there)) layer e = let same : there ≡ layer = cc in ap (λ l. Some (plain.OfLayer l)) same
 layer_there (Some (plain.PlainInTile field)) layer e = absurd cc

@@ -1,8 +1,10 @@
-//! Which layer and which feature are selected, and where they stand.
+//! Which layer and which feature are selected, and where they stand; and which layers are meant.
 //!
 //! - A layer is found by its ordinal or its name, and a feature of a layer by its ordinal or its
 //!   id, as the definitions say, each with its ordinal and its position, or refused as they say:
 //!   `find_layer`, `find_feature`.
+//! - The layers that are meant, one or all, come in their order with the same, or are refused:
+//!   `find_layers`.
 //! - The position of the layer or the feature of an ordinal: `place_of_layer`, `place_of_feature`.
 //! - In the same walk it is found whether a layer of another ordinal has a name: `find_and_taken`.
 //! - The last name of a layer and the last id of a feature, which are those that count, are found
@@ -11,11 +13,13 @@
 
 mod find;
 mod last;
+mod layers;
 mod taken;
 
 pub use find::{find_feature, find_layer, place_of_feature, place_of_layer};
 pub use last::{last_id, last_name};
-pub use mvt_command::{FeatureChoice, LayerChoice};
+pub use layers::{SelectedLayers, find_layers};
+pub use mvt_command::{FeatureChoice, LayerChoice, LayersChoice};
 pub use mvt_meaning::Refusal;
 pub use mvt_view::{FoundFeature, FoundLayer};
 pub use taken::find_and_taken;

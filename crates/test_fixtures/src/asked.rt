@@ -1,6 +1,6 @@
 //! Commands that tests carry out.
 
-use mvt_edit::{Command, FeatureChoice, LayerChoice};
+use mvt_edit::{Command, FeatureChoice, LayerChoice, LayersChoice};
 use mvt_geometry::{Geometry, Kind, Part, Point};
 use mvt_wire::Items;
 use std::alloc::{AllocError, Global};
@@ -97,5 +97,21 @@ pub fn clear_id() -> Command {
     Command::ClearId {
         layer: FIRST,
         feature: FIRST_FEATURE,
+    }
+}
+
+/// A key of the first layer gets other bytes.
+pub fn rename_key(alloc: Global, from: &[u8], to: &[u8]) -> Result<Command, AllocError> {
+    Ok(Command::RenameKey {
+        layer: FIRST,
+        old: text(alloc, from)?,
+        new: text(alloc, to)?,
+    })
+}
+
+/// No feature of any layer keeps an attribute.
+pub fn exclude_all() -> Command {
+    Command::ExcludeAll {
+        layers: LayersChoice::All,
     }
 }

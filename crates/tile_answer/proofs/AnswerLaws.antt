@@ -125,9 +125,11 @@ edit_is_other : (refusal : Refusal) → refusal ≢ edit.NoMemory → ¬ (IsOutO
 edit_is_other edit.NoLayer other out_of_memory = elim out_of_memory [ inl e ↦ omega arith | inr e ↦ omega arith ]
 edit_is_other edit.AmbiguousLayer other out_of_memory = elim out_of_memory [ inl e ↦ omega arith | inr e ↦ omega arith ]
 edit_is_other edit.NoFeature other out_of_memory = elim out_of_memory [ inl e ↦ omega arith | inr e ↦ omega arith ]
+edit_is_other edit.NoKey other out_of_memory = elim out_of_memory [ inl e ↦ omega arith | inr e ↦ omega arith ]
 edit_is_other edit.BadPlace other out_of_memory = elim out_of_memory [ inl e ↦ omega arith | inr e ↦ omega arith ]
 edit_is_other edit.AmbiguousFeature other out_of_memory = elim out_of_memory [ inl e ↦ omega arith | inr e ↦ omega arith ]
 edit_is_other edit.NameTaken other out_of_memory = elim out_of_memory [ inl e ↦ omega arith | inr e ↦ omega arith ]
+edit_is_other edit.KeyTaken other out_of_memory = elim out_of_memory [ inl e ↦ omega arith | inr e ↦ omega arith ]
 edit_is_other edit.OutOfRange other out_of_memory = elim out_of_memory [ inl e ↦ omega arith | inr e ↦ omega arith ]
 edit_is_other edit.TooLarge other out_of_memory = elim out_of_memory [ inl e ↦ omega arith | inr e ↦ omega arith ]
 edit_is_other edit.NoMemory other out_of_memory = other refl

@@ -5,14 +5,14 @@ use Rattle.std.specs.List.{find}
 use Rattle.std.specs.Str.{bytes_eq}
 use Rattle.mvt_geometry.specs.declared.shapes.Point.{Point}
 use Rattle.mvt_geometry.specs.declared.shapes.Kind.{Kind}
-use Rattle.mvt_command.specs.Command.{AtOrdinal, Named, FeatureAtOrdinal, WithId}
+use Rattle.mvt_command.specs.Command.{AtOrdinal, Named, TheLayer, EachLayer, FeatureAtOrdinal, WithId}
 use Rattle.tile_words.specs.Words.{Word, Bare, Quoted}
 use Rattle.tile_words.specs.Answers.{◌>>=◌}
 use Rattle.tile_words.specs.declared.parse_error.ParseError.{ParseError}
 use Rattle.tile_words.specs.declared.parse_error.ParseError.TheVariants as parse
 use Rattle.mvt_command.proofs.Others.{Other, either}
 use Rattle.tile_arguments.proofs.Judged.{only_other, texts_only, parts_only}
-use Rattle.tile_arguments.specs.Arguments.{behind_mark, is_number, number_of, number_in, text_in, text_of, texts_of, layer_by, layer_of, feature_by, feature_of, parts_of, kinds, kind_word, kind_of, are_parts, shaped, geometry_of}
+use Rattle.tile_arguments.specs.Arguments.{behind_mark, is_number, number_of, number_in, text_in, text_of, texts_of, layer_by, layer_of, is_star, layers_of, feature_by, feature_of, parts_of, kinds, kind_word, kind_of, are_parts, shaped, geometry_of}
 
 pub then_other : {A B : Type 0} (r : Result A ParseError) (f : A → Result B ParseError) → Other parse.NoMemory r → ((x : A) → Other parse.NoMemory (f x)) → Other parse.NoMemory (r >>= f)
 then_other (Ok x) f first second = second x
@@ -41,6 +41,10 @@ pub layer_other : (word : Word) → Other parse.NoMemory (layer_of word)
 unfolding layer_of
 layer_other (Quoted text) = layer_by_other None (Quoted text)
 layer_other (Bare bytes) = layer_by_other (behind_mark (codes "#") bytes) (Bare bytes)
+
+pub layers_other : (word : Word) → Other parse.NoMemory (layers_of word)
+unfolding layers_of
+layers_other word = either parse.NoMemory (is_star word) (Ok EachLayer) _ tt (then_other (layer_of word) _ (layer_other word) (λ choice. tt))
 
 feature_by_other : (marked : Option (List ℕ)) (bytes : List ℕ) → Other parse.NoMemory (feature_by marked bytes)
 feature_by_other (Some digits) bytes = then_other (number_of digits) (λ id. Ok (WithId id)) (number_other digits) (λ id. tt)

@@ -6,7 +6,7 @@ use Rattle.std.specs.Result.{result_ok}
 use Rattle.std.specs.Str.{bytes_eq, all_ascii_digits}
 use Rattle.std.specs.Str.Parse.{digits_value}
 use Rattle.hex.specs.Hex.{decode_of, decode_sized}
-use Rattle.mvt_command.specs.Command.{LayerChoice, AtOrdinal, Named, FeatureChoice, FeatureAtOrdinal, WithId}
+use Rattle.mvt_command.specs.Command.{LayerChoice, AtOrdinal, Named, LayersChoice, TheLayer, EachLayer, FeatureChoice, FeatureAtOrdinal, WithId}
 use Rattle.mvt_geometry.specs.Shapes.{Geometry, least_points}
 use Rattle.mvt_geometry.specs.Checks.{is_part_count}
 use Rattle.mvt_geometry.specs.declared.shapes.Point.{Point}
@@ -112,6 +112,15 @@ layer_by None word = text_of word >>= λ name. Ok (Named name)
 unfoldable pub layer_of : Word → Result LayerChoice ParseError
 layer_of (Quoted text) = layer_by None (Quoted text)
 layer_of (Bare bytes) = layer_by (behind_mark (codes "#") bytes) (Bare bytes)
+
+-- the word is the star `*` that means each layer
+abbrev pub is_star : Word → Bool
+is_star (Bare bytes) = bytes_eq bytes (codes "*")
+is_star (Quoted text) = false
+
+-- which layers a word means: the star each, and another word the one that it selects
+unfoldable pub layers_of : Word → Result LayersChoice ParseError
+layers_of word = if is_star word then Ok EachLayer else (layer_of word >>= λ choice. Ok (TheLayer choice))
 
 -- the feature of the id behind a mark, or, where there is no mark, of the ordinal that the bytes write
 abbrev pub feature_by : Option (List ℕ) → List ℕ → Result FeatureChoice ParseError

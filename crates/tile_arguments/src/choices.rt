@@ -1,16 +1,16 @@
-//! How a word selects a layer or a feature.
+//! How a word selects a layer, or layers, or a feature.
 
-ghost use Rattle.std.specs.Prelude.{IsSome};
+ghost use Rattle.std.specs.Prelude.{◌≡◌, IsSome};
 ghost use Rattle.std.specs.Result.{IsErrOf};
-ghost use Rattle.mvt_command.specs.CommandStands.{layer_choice_of, feature_choice_of};
+ghost use Rattle.mvt_command.specs.CommandStands.{layer_choice_of, layers_choice_of, feature_choice_of};
 ghost use Rattle.tile_words.specs.Answers.{Gives, GivesAlways};
 ghost use Rattle.tile_words.specs.WordStands.{word_of};
-ghost use Rattle.tile_arguments.specs.Arguments.{text_in, layer_of, feature_of};
+ghost use Rattle.tile_arguments.specs.Arguments.{text_in, layer_of, is_star, layers_of, feature_of};
 
 use crate::marks::behind_mark;
 use crate::numbers::number;
 use crate::texts::text_argument;
-use mvt_command::{FeatureChoice, LayerChoice};
+use mvt_command::{FeatureChoice, LayerChoice, LayersChoice};
 use std::alloc::Global;
 use tile_words::{ParseError, Word};
 
@@ -26,6 +26,27 @@ pub fn layer_choice(alloc: Global, word: Word<'_>) -> Result<LayerChoice, ParseE
             None => Ok(LayerChoice::Name(text_argument(alloc, word)?)),
         },
         Word::Quoted(_) => Ok(LayerChoice::Name(text_argument(alloc, word)?)),
+    }
+}
+
+/// The layers that a word means.
+#[tactic(auto, unfolding(crate::specs::Arguments::layers_of))]
+pub fn layers_choice(alloc: Global, word: Word<'_>) -> Result<LayersChoice, ParseError>
+    ensures answer { Gives layers_choice_of result (layers_of (word_of word.entry)) }
+    ensures no_memory { IsErrOf result ParseError.NoMemory → IsSome (text_in (word_of word.entry)) }
+{
+    if is_star(word) {
+        return Ok(LayersChoice::All);
+    }
+    Ok(LayersChoice::One(layer_choice(alloc, word)?))
+}
+
+fn is_star(word: Word<'_>) -> bool
+    ensures { result ≡ is_star (word_of word.entry) }
+{
+    match word {
+        Word::Bare(bytes) => bytes == b"*".as_slice(),
+        Word::Quoted(_) => false,
     }
 }
 

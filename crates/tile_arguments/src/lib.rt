@@ -1,10 +1,10 @@
 //! What single arguments of a request say: texts, numbers, layers, features, values, geometries.
 //!
 //! - A number, a coordinate, and a feature are read as the definition says, or refused as it says:
-//!   `number`, `number_argument`, `distance`, `feature_choice`. So are a text, a layer, a value by
-//!   its type, and a geometry, where out of memory alone may come in place of that (`answer`), and
+//!   `number`, `number_argument`, `distance`, `feature_choice`. So are a text, a layer, all layers, a
+//!   value by its type, and a geometry, where out of memory alone may come in place of that (`answer`), and
 //!   only where the words say a text, or a kind and points (`no_memory`): `text_argument`,
-//!   `text_arguments`, `layer_choice`, `new_value`, `new_geometry`. The kind of a geometry is read
+//!   `text_arguments`, `layer_choice`, `layers_choice`, `new_value`, `new_geometry`. The kind of a geometry is read
 //!   and written as one word: `kind_word`.
 #![tactic(auto)]
 
@@ -15,7 +15,7 @@ mod numbers;
 mod texts;
 mod values;
 
-pub use choices::{feature_choice, layer_choice};
+pub use choices::{feature_choice, layer_choice, layers_choice};
 pub use geometries::{kind_word, new_geometry};
 pub use numbers::{distance, number, number_argument};
 pub use texts::{text_argument, text_arguments};

@@ -120,9 +120,11 @@ tells_memory ends (refused.Parse parse.NoMemory) = record { alike = λ e line. r
 tells_memory ends (refused.Edit edit.NoLayer) = record { alike = λ e line. absurd (omega arith); out_of_memory = refl; not_ok = refl }
 tells_memory ends (refused.Edit edit.AmbiguousLayer) = record { alike = λ e line. absurd (omega arith); out_of_memory = refl; not_ok = refl }
 tells_memory ends (refused.Edit edit.NoFeature) = record { alike = λ e line. absurd (omega arith); out_of_memory = refl; not_ok = refl }
+tells_memory ends (refused.Edit edit.NoKey) = record { alike = λ e line. absurd (omega arith); out_of_memory = refl; not_ok = refl }
 tells_memory ends (refused.Edit edit.BadPlace) = record { alike = λ e line. absurd (omega arith); out_of_memory = refl; not_ok = refl }
 tells_memory ends (refused.Edit edit.AmbiguousFeature) = record { alike = λ e line. absurd (omega arith); out_of_memory = refl; not_ok = refl }
 tells_memory ends (refused.Edit edit.NameTaken) = record { alike = λ e line. absurd (omega arith); out_of_memory = refl; not_ok = refl }
+tells_memory ends (refused.Edit edit.KeyTaken) = record { alike = λ e line. absurd (omega arith); out_of_memory = refl; not_ok = refl }
 tells_memory ends (refused.Edit edit.OutOfRange) = record { alike = λ e line. absurd (omega arith); out_of_memory = refl; not_ok = refl }
 tells_memory ends (refused.Edit edit.TooLarge) = record { alike = λ e line. absurd (omega arith); out_of_memory = refl; not_ok = refl }
 tells_memory ends (refused.Edit edit.NoMemory) = record { alike = λ e line. refl; out_of_memory = refl; not_ok = refl }

@@ -6,12 +6,12 @@ use Rattle.std.specs.Map.{lookup}
 use Rattle.std.specs.Option.{option_map_or}
 use Rattle.std.specs.Str.{bytes_eq, is_utf8}
 use Rattle.tile_words.specs.Words.{Word, Bare, Quoted, words_of}
-use Rattle.tile_arguments.specs.Arguments.{text_of, texts_of, number_in, layer_of, feature_of, geometry_of}
-use Rattle.tile_arguments.proofs.Refusals.{then_other, text_other, texts_other, number_in_other, layer_other, feature_other, geometry_other}
+use Rattle.tile_arguments.specs.Arguments.{text_of, texts_of, number_in, layer_of, layers_of, feature_of, geometry_of}
+use Rattle.tile_arguments.proofs.Refusals.{then_other, text_other, texts_other, number_in_other, layer_other, layers_other, feature_other, geometry_other}
 use Rattle.mvt_command.specs.Requests.{HistoryRequest}
 use Rattle.tile_request.specs.Request.{Request, OnHistory}
 use Rattle.tile_script.specs.Line.{is_remark, requests_alone, requests_by_name, alone_of, name_of, list_of, requests, request_by, asked_by, request_in, answer_to}
-use Rattle.tile_script.specs.Commands.{chosen_of, rename_layer_of, move_layer_of, drop_layer_of, keep_layers_of, insert_feature_of, move_feature_of, drop_feature_of, set_id_of, clear_id_of, commands, read_by, command_by}
+use Rattle.tile_script.specs.Commands.{chosen_of, rename_layer_of, move_layer_of, drop_layer_of, keep_layers_of, insert_feature_of, move_feature_of, drop_feature_of, set_id_of, clear_id_of, rename_key_of, exclude_all_of, commands, read_by, command_by}
 use Rattle.tile_words.specs.Answers.{◌>>=◌}
 use Rattle.tile_words.specs.declared.parse_error.ParseError.{ParseError}
 use Rattle.tile_words.specs.declared.parse_error.ParseError.TheVariants as parse
@@ -83,6 +83,20 @@ clear_id_other (layer ∷ []) = λ e. cc
 clear_id_other (layer ∷ feature ∷ []) = then_other (chosen_of layer feature) _ (chosen_other layer feature) (λ chosen. tt)
 clear_id_other (layer ∷ feature ∷ more ∷ others) = λ e. cc
 
+rename_key_other : (arguments : List Word) → Other parse.NoMemory (rename_key_of arguments)
+unfolding rename_key_of
+rename_key_other [] = λ e. cc
+rename_key_other (layer ∷ []) = λ e. cc
+rename_key_other (layer ∷ old ∷ []) = λ e. cc
+rename_key_other (layer ∷ old ∷ new ∷ []) = then_other (layer_of layer) _ (layer_other layer) (λ choice. then_other (text_of old) _ (text_other old) (λ former. then_other (text_of new) _ (text_other new) (λ present. tt)))
+rename_key_other (layer ∷ old ∷ new ∷ more ∷ others) = λ e. cc
+
+exclude_all_other : (arguments : List Word) → Other parse.NoMemory (exclude_all_of arguments)
+unfolding exclude_all_of
+exclude_all_other [] = λ e. cc
+exclude_all_other (layers ∷ []) = then_other (layers_of layers) _ (layers_other layers) (λ choice. tt)
+exclude_all_other (layers ∷ more ∷ others) = λ e. cc
+
 first_other : {A : Type 0} (is : Bool) (read : List Word → Result A ParseError) (found : Option (List Word → Result A ParseError)) (arguments : List Word) (unknown : Result A ParseError) → Other parse.NoMemory (read arguments) → Other parse.NoMemory (option_map_or (λ read. read arguments) found unknown) → Other parse.NoMemory (option_map_or (λ read. read arguments) (if is then Some read else found) unknown)
 first_other true read found arguments unknown first others = first
 first_other false read found arguments unknown first others = others
@@ -107,7 +121,13 @@ command_other name arguments = read_other commands (Err parse.UnknownCommand) na
           insert_feature_other arguments,
           (
             move_feature_other arguments,
-            (drop_feature_other arguments, (set_id_other arguments, (clear_id_other arguments, tt))),
+            (
+              drop_feature_other arguments,
+              (
+                set_id_other arguments,
+                (clear_id_other arguments, (rename_key_other arguments, (exclude_all_other arguments, tt))),
+              ),
+            ),
           ),
         ),
       ),

@@ -3,8 +3,8 @@ use Rattle.std.specs.Prelude.{ℕ, List, [], ◌∷◌, Result, Ok, Err, codes}
 use Rattle.std.specs.Map.{lookup}
 use Rattle.std.specs.Option.{option_map_or}
 use Rattle.std.specs.Str.{bytes_eq}
-use Rattle.mvt_command.specs.Command.{LayerChoice, FeatureChoice, Command, RenameLayer, MoveLayer, DropLayer, KeepLayers, InsertFeature, MoveFeature, DropFeature, SetId, ClearId}
-use Rattle.tile_arguments.specs.Arguments.{text_of, texts_of, number_in, layer_of, feature_of, geometry_of}
+use Rattle.mvt_command.specs.Command.{LayerChoice, FeatureChoice, Command, RenameLayer, MoveLayer, DropLayer, KeepLayers, InsertFeature, MoveFeature, DropFeature, SetId, ClearId, RenameKey, ExcludeAll}
+use Rattle.tile_arguments.specs.Arguments.{text_of, texts_of, number_in, layer_of, layers_of, feature_of, geometry_of}
 use Rattle.tile_words.specs.Words.{Word}
 use Rattle.tile_words.specs.Answers.{◌>>=◌}
 use Rattle.tile_words.specs.declared.parse_error.ParseError.{ParseError}
@@ -87,6 +87,22 @@ clear_id_of (layer ∷ feature ∷ []) = do
   Ok (ClearId chosen.0 chosen.1)
 clear_id_of words = Err BadArguments
 
+-- the rename of these arguments: a layer, a key and its new bytes as texts; or the first refusal
+unfoldable pub rename_key_of : List Word → Result Command ParseError
+rename_key_of (layer ∷ old ∷ new ∷ []) = do
+  choice ← layer_of layer
+  former ← text_of old
+  present ← text_of new
+  Ok (RenameKey choice former present)
+rename_key_of words = Err BadArguments
+
+-- the exclusion of these arguments: one layer or all; or the first refusal
+unfoldable pub exclude_all_of : List Word → Result Command ParseError
+exclude_all_of (layers ∷ []) = do
+  choice ← layers_of layers
+  Ok (ExcludeAll choice)
+exclude_all_of words = Err BadArguments
+
 -- the commands, each with its word and how its arguments are read
 abbrev pub commands : List (List ℕ × (List Word → Result Command ParseError))
 commands =
@@ -99,6 +115,8 @@ commands =
     ∷ (codes "drop-feature", drop_feature_of)
     ∷ (codes "set-id", set_id_of)
     ∷ (codes "clear-id", clear_id_of)
+    ∷ (codes "rename-key", rename_key_of)
+    ∷ (codes "exclude-all", exclude_all_of)
     ∷ []
 
 -- what the reader of this word among some makes of the arguments, or `unknown` where none has the word

@@ -3,14 +3,15 @@
 ghost use Rattle.std.specs.Prelude.{◌≤◌, length, map};
 ghost use Rattle.std.specs.Result.{IsErrOf};
 ghost use Rattle.mvt_command.specs.CommandStands.{command_of, layer_choice_of, feature_choice_of};
-ghost use Rattle.tile_script.specs.Commands.{chosen_of, rename_layer_of, move_layer_of, drop_layer_of, keep_layers_of, insert_feature_of, move_feature_of, drop_feature_of, set_id_of, clear_id_of, command_by};
+ghost use Rattle.tile_script.specs.Commands.{chosen_of, rename_layer_of, move_layer_of, drop_layer_of, keep_layers_of, insert_feature_of, move_feature_of, drop_feature_of, set_id_of, clear_id_of, rename_key_of, exclude_all_of, command_by};
 ghost use Rattle.tile_words.specs.Answers.{Gives};
 ghost use Rattle.tile_words.specs.WordStands.{word_of};
 
 use mvt_command::{Command, FeatureChoice, LayerChoice};
 use std::alloc::Global;
 use tile_arguments::{
-    feature_choice, layer_choice, new_geometry, number_argument, text_argument, text_arguments,
+    feature_choice, layer_choice, layers_choice, new_geometry, number_argument, text_argument,
+    text_arguments,
 };
 use tile_words::{ParseError, Word};
 
@@ -42,6 +43,10 @@ pub(crate) fn command(
         set_id(alloc, arguments)
     } else if name == b"clear-id".as_slice() {
         clear_id(alloc, arguments)
+    } else if name == b"rename-key".as_slice() {
+        rename_key(alloc, arguments)
+    } else if name == b"exclude-all".as_slice() {
+        exclude_all(alloc, arguments)
     } else {
         Err(ParseError::UnknownCommand)
     }
@@ -170,6 +175,32 @@ fn clear_id(alloc: Global, arguments: &[Word<'_>]) -> Result<Command, ParseError
     };
     let (layer, feature) = chosen(alloc, *layer, *feature)?;
     Ok(Command::ClearId { layer, feature })
+}
+
+#[tactic(auto, unfolding(crate::specs::Commands::rename_key_of))]
+fn rename_key(alloc: Global, arguments: &[Word<'_>]) -> Result<Command, ParseError>
+    ensures answer { Gives command_of result (rename_key_of (map word_of arguments.now)) }
+    ensures no_memory { IsErrOf result ParseError.NoMemory → 1 ≤ length arguments.now }
+{
+    let [layer, old, new] = arguments else {
+        return Err(ParseError::BadArguments);
+    };
+    let layer = layer_choice(alloc, *layer)?;
+    let old = text_argument(alloc, *old)?;
+    let new = text_argument(alloc, *new)?;
+    Ok(Command::RenameKey { layer, old, new })
+}
+
+#[tactic(auto, unfolding(crate::specs::Commands::exclude_all_of))]
+fn exclude_all(alloc: Global, arguments: &[Word<'_>]) -> Result<Command, ParseError>
+    ensures answer { Gives command_of result (exclude_all_of (map word_of arguments.now)) }
+    ensures no_memory { IsErrOf result ParseError.NoMemory → 1 ≤ length arguments.now }
+{
+    let [layers] = arguments else {
+        return Err(ParseError::BadArguments);
+    };
+    let layers = layers_choice(alloc, *layers)?;
+    Ok(Command::ExcludeAll { layers })
 }
 
 /// A layer, and one of its features.

@@ -16,7 +16,7 @@ mod in_memory;
 mod program;
 
 pub use in_memory::{Edited, edit};
-pub use mvt_command::{Command, FeatureChoice, LayerChoice};
+pub use mvt_command::{Command, FeatureChoice, LayerChoice, LayersChoice};
 pub use mvt_document::laws as wire_laws;
 pub use mvt_history::{HistoryError, MAX_DEPTH, MAX_MARKS};
 pub use mvt_meaning::{Refusal, laws as edit_laws};

@@ -1,4 +1,4 @@
-use Rattle.std.proofs.Common.{length, sym, ap, ◌∙◌, arith}
+use Rattle.std.proofs.Common.{length, sym, ap, ◌∙◌}
 use Rattle.std.proofs.lemmas.List.Folds.{flat_map-map}
 use Rattle.mvt_document.specs.declared.TheConstants.{MAX_FILE}
 use Rattle.mvt_document.specs.Stands.{document_of, tile_item_of}
@@ -8,16 +8,11 @@ use Rattle.mvt_document.proofs.Sizes.{told_so}
 use Rattle.mvt_change.proofs.Resized.{exchanged_size, moved_same}
 use Rattle.mvt_change.proofs.sizes.size_after.Goals as goal
 
-pub returns-in_err-beside-in-InTile : goal.returns-in_err-beside-in-InTile
-returns-in_err-beside-in-InTile c =
-    let whole = exchanged_size tile_item_bytes tile_item_of c.in-InTile.index c.in-InTile.take c.in-InTile.put.items c.args.document.now.items.items in
-    rw (c.from_residual.ensures, c.in-InTile.is) (λ within. c.in_err-beside-in-InTile.ensures (omega (arith, whole)))
-
-pub returns-in_ok-beside-in-InTile : goal.returns-in_ok-beside-in-InTile
-returns-in_ok-beside-in-InTile c =
-    let whole = exchanged_size tile_item_bytes tile_item_of c.in-InTile.index c.in-InTile.take c.in-InTile.put.items c.args.document.now.items.items in
-    let told = rw c.as_slice.ensures at c.size_and.ensures in
-    rw c.in-InTile.is (told_so MAX_FILE c.size_and.result _ _ (omega (arith, whole, c.in_ok-beside-in-InTile.ensures.1)) told)
+pub returns-in-InTile : goal.returns-in-InTile
+returns-in-InTile c =
+    let put = c.in-InTile.put.items in
+    let size = c.size_and.ensures _ c.size_beside_part-beside.ensures in
+    rw c.in-InTile.is (told_so MAX_FILE c.size_and.result _ _ (exchanged_size tile_item_bytes tile_item_of c.in-InTile.index c.in-InTile.take put c.args.document.now.items.items) (rw c.as_slice.ensures at size))
 
 pub returns-in-Move : goal.returns-in-Move
 returns-in-Move c =

@@ -1,4 +1,4 @@
-use Rattle.std.proofs.Common.{List, map, filter, ap, ◌∙◌}
+use Rattle.std.proofs.Common.{filter, ap, ◌∙◌}
 use Rattle.std.proofs.lemmas.Iterator.Consumers.{YieldsList-at, YieldsList-end, YieldsList-from_first}
 use Rattle.mvt_document.specs.Stands.{layer_of}
 use Rattle.mvt_view.specs.Seen.{found_layer_seen}

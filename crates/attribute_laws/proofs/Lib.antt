@@ -1,0 +1,3 @@
+pub mod MeantLayers
+pub mod Untagged
+pub mod Renamed

@@ -1,0 +1,89 @@
+-- The layers that are meant, changed.
+use Rattle.std.proofs.Common.{◌≡◌, ◌≢◌, ℕ, zero, suc, ◌+◌, ◌<◌, Bool, true, false, is_some, Option, Some, None, option_map, Result, Ok, Err, List, [], ◌∷◌, length, map, slice_get, refl, sym, ap, ◌∙◌, subst, arith}
+use Rattle.std.specs.List.{filter_map}
+use Rattle.mvt_document.specs.Plain.{Layer, LayerItem, TileItem, OfLayer, PlainInTile, Document}
+use Rattle.mvt_document.specs.Places.{in_layer}
+use Rattle.mvt_command.specs.Command.{LayerChoice, LayersChoice, TheLayer, EachLayer}
+use Rattle.mvt_view.specs.Views.{layer_in, layers}
+use Rattle.mvt_meaning.specs.Ordinals.{positions_of}
+use Rattle.mvt_meaning.specs.Selection.{is_layer, selected}
+use Rattle.mvt_meaning.specs.Meaning.{change_layer, change_layers}
+use Rattle.mvt_meaning.specs.Kept.{field_in, tile_fields}
+use Rattle.mvt_meaning.proofs.Accepted.{accepted}
+use Rattle.mvt_meaning.proofs.Around.{around}
+use Rattle.mvt_meaning.proofs.Parts.{layer_differs, with_items}
+use Rattle.mvt_meaning.proofs.Positions.{positions_from, positions_pass, positions_skip}
+use Rattle.mvt_meaning.proofs.Selecting.{selected_within}
+use Rattle.attribute_laws.specs.MeantLayers.{Becomes, ChangesLayers}
+
+-- ---- one layer
+
+one_meant : (choice : LayerChoice) (document : Document) (ordinal other : ℕ) → selected choice document ≡ Ok ordinal → selected choice document ≡ Ok other → other ≡ ordinal
+one_meant choice document ordinal other meant is = let both = sym is ∙ meant in cc
+
+some_same : {A : Type 0} (x y : A) (o : Option A) → o ≡ Some x → o ≡ Some y → x ≡ y
+some_same x y o is is_too = let both = sym is ∙ is_too in cc
+
+module _ (way : Layer → Layer → Type 0) (change : List LayerItem → List LayerItem) (changed : (layer : Layer) → way layer (with_items change layer)) where
+  becomes : (layer : Layer) → Becomes way layer (with_items change layer)
+  becomes layer = record { tag = refl; width = refl; changed = changed layer }
+
+  one_changes : (choice : LayerChoice) (document : Document) (ordinal : ℕ) → selected choice document ≡ Ok ordinal → ChangesLayers (TheLayer choice) way document (change_layer change ordinal document)
+  one_changes choice document ordinal meant =
+      let a = around layer_in document ordinal (selected_within choice document ordinal meant) in
+      let d = layer_differs change ordinal document a in
+      record {
+        meant = λ other former is was.
+        let same = one_meant choice document ordinal other meant is in
+        let layer = some_same a.value former (slice_get (layers document) ordinal) d.was (ap (slice_get (layers document)) (sym same) ∙ was) in
+        (with_items change former, ap (slice_get (layers (change_layer change ordinal document))) same ∙ d.is ∙ ap (λ (l : Layer). Some (with_items change l)) layer, becomes former);
+        others = λ other apart. d.others other (λ same. apart (meant ∙ ap Ok (sym same)));
+        fields = d.fields;
+        positions = d.positions;
+      }
+
+  -- ---- each layer
+
+  layers_mapped : (document : Document) → layers (map (in_layer change) document) ≡ map (with_items change) (layers document)
+  layers_mapped [] = refl
+  layers_mapped (OfLayer layer ∷ document) = ap (λ rest. with_items change layer ∷ rest) (layers_mapped document)
+  layers_mapped (PlainInTile field ∷ document) = layers_mapped document
+
+  fields_mapped : (document : Document) → tile_fields (map (in_layer change) document) ≡ tile_fields document
+  fields_mapped [] = refl
+  fields_mapped (OfLayer layer ∷ document) = fields_mapped document
+  fields_mapped (PlainInTile field ∷ document) = ap (λ rest. field ∷ rest) (fields_mapped document)
+
+  positions_mapped : (n : ℕ) (document : Document) → positions_from is_layer n (map (in_layer change) document) ≡ positions_from is_layer n document
+  positions_mapped n [] = refl
+  positions_mapped n (OfLayer layer ∷ document) =
+      positions_pass is_layer n (in_layer change (OfLayer layer)) (map (in_layer change) document) refl
+      ∙ ap (λ rest. n ∷ rest) (positions_mapped (n + 1) document)
+      ∙ sym (positions_pass is_layer n (OfLayer layer) document refl)
+  positions_mapped n (PlainInTile field ∷ document) =
+      positions_skip is_layer n (PlainInTile field) (map (in_layer change) document) refl
+      ∙ positions_mapped (n + 1) document
+      ∙ sym (positions_skip is_layer n (PlainInTile field) document refl)
+
+  got_mapped : (list : List Layer) (n : ℕ) (layer : Layer) → slice_get list n ≡ Some layer → slice_get (map (with_items change) list) n ≡ Some (with_items change layer)
+  got_mapped [] n layer is = absurd cc
+  got_mapped (x ∷ list) zero layer is = let same : x ≡ layer = cc in ap (λ (l : Layer). Some (with_items change l)) same
+  got_mapped (x ∷ list) (suc n) layer is = got_mapped list n layer is
+
+  each_changes : (document : Document) → ChangesLayers EachLayer way document (map (in_layer change) document)
+  each_changes document = record {
+    meant = λ ordinal former is was. (with_items change former, ap (λ list. slice_get list ordinal) (layers_mapped document) ∙ got_mapped (layers document) ordinal former was, becomes former);
+    others = λ ordinal apart. absurd (apart tt);
+    fields = fields_mapped document;
+    positions = positions_mapped 0 document;
+  }
+
+  -- what an accepted change of the layers that are meant makes
+  pub layers_change : (choice : LayersChoice) (old new : Document) → change_layers change choice old ≡ Ok new → ChangesLayers choice way old new
+  layers_change (TheLayer choice) old new is =
+      let meant = accepted (selected choice old) (λ ordinal. Ok (change_layer change ordinal old)) new is in
+      let made : change_layer change meant.0 old ≡ new = let same = meant.2 in cc in
+      subst (ChangesLayers (TheLayer choice) way old) made (one_changes choice old meant.0 meant.1)
+  layers_change EachLayer old new is =
+      let made : map (in_layer change) old ≡ new = cc in
+      subst (ChangesLayers EachLayer way old) made (each_changes old)

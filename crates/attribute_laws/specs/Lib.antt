@@ -1,0 +1,2 @@
+pub mod MeantLayers
+pub mod Laws

@@ -1,0 +1,11 @@
+pub mod Searched
+pub mod Kept
+pub mod HaveBytes
+pub mod Gone
+pub mod Nth
+pub mod Moving
+pub mod Inserting
+pub mod MovesPrepared
+pub mod InsertionPrepared
+pub mod Replaced
+pub mod NamesAndIds

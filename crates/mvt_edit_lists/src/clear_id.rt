@@ -1,0 +1,52 @@
+//! A feature loses its id.
+
+ghost use Rattle.std.specs.Prelude.{◌≡◌};
+ghost use Rattle.mvt_document.specs.Stands.{document_of, field_of};
+ghost use Rattle.mvt_command.specs.Command.{ClearId};
+ghost use Rattle.mvt_command.specs.CommandStands.{feature_choice_of, layer_choice_of};
+ghost use Rattle.mvt_meaning.specs.Meaning.{is_id};
+ghost use Rattle.mvt_edit_steps.specs.Prepared.{Prepares};
+
+use mvt_change::{Change, Step};
+use mvt_document::tags::ID;
+use mvt_document::{Body, Document, Field, Items};
+use mvt_edit_steps::{Fate, carry_out};
+use mvt_select::{FeatureChoice, LayerChoice, Refusal, find_feature, find_layer};
+use std::alloc::Global;
+
+/// The feature loses each of its id fields.
+pub fn clear_id(
+    alloc: Global,
+    document: &Document,
+    choice: &LayerChoice,
+    feature: &FeatureChoice,
+) -> Result<Change, Refusal>
+    ensures { Prepares (ClearId (layer_choice_of choice.now) (feature_choice_of feature.now)) (document_of document.now) result }
+{
+    let holder = find_layer(document, choice)?;
+    let found = find_feature(holder.layer, feature)?;
+    let (layer, item) = (holder.position, found.position);
+    let mut steps = Vec::new(alloc);
+    carry_out(
+        alloc,
+        found.feature.fields.as_slice(),
+        |field| Ok(Fate::goes_if(is_id(field))),
+        |run| Step::InFeature {
+            layer,
+            item,
+            index: run.index,
+            take: run.take,
+            put: Items::from_vec(run.put),
+        },
+        &mut steps,
+    )?;
+    Ok(Change {
+        steps: Items::from_vec(steps),
+    })
+}
+
+fn is_id(field: &Field) -> bool
+    ensures { result ≡ is_id (field_of field.now) }
+{
+    field.tag.value / 8 == ID && matches!(field.body, Body::Number(_))
+}

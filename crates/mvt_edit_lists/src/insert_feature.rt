@@ -1,0 +1,103 @@
+//! A feature comes to stand at an ordinal.
+
+ghost use Rattle.std.specs.Prelude.{◌≡◌, ◌<◌, [], ◌∷◌, map, IfNone, IfOk, IfSome, IsErrOf, OnOk, length};
+ghost use Rattle.mvt_document.specs.Stands.{document_of, field_of, layer_item_of};
+ghost use Rattle.mvt_geometry.specs.Shapes.{kind_number};
+ghost use Rattle.mvt_geometry.specs.Integers.{IsInRange};
+ghost use Rattle.mvt_view.specs.Views.{features_in};
+ghost use Rattle.mvt_command.specs.Command.{InsertFeature};
+ghost use Rattle.mvt_command.specs.CommandStands.{layer_choice_of};
+ghost use Rattle.mvt_meaning.specs.Meaning.{new_content, new_feature, new_number};
+ghost use Rattle.mvt_meaning.specs.Selection.{is_feature};
+ghost use Rattle.mvt_edit_lists.specs.Placing.{IsPlaceFor};
+ghost use Rattle.mvt_edit_steps.specs.Prepared.{Prepares};
+
+use mvt_change::{Change, Step};
+use mvt_document::tags::{FEATURE_TAG, GEOMETRY_TAG, KIND_TAG};
+use mvt_document::{Body, Document, Feature, Field, Items, LayerItem, Varint};
+use mvt_edit_steps::{one_item, one_step_within_limit};
+use mvt_geometry::{EncodeError, Geometry, Kind, encode_geometry};
+use mvt_select::{LayerChoice, Refusal, find_layer};
+use std::alloc::{AllocError, Global};
+
+/// A feature with this geometry comes into the layer.
+pub fn insert_feature(
+    alloc: Global,
+    document: &Document,
+    choice: &LayerChoice,
+    index: u64,
+    geometry: &Geometry,
+) -> Result<Change, Refusal>
+    ensures { Prepares (InsertFeature (layer_choice_of choice.now) index geometry.now) (document_of document.now) result }
+{
+    let found = find_layer(document, choice)?;
+    let place = place_of_new(found.layer.items.as_slice(), index).ok_or(Refusal::BadPlace)?;
+    let feature = new_feature(alloc, geometry)?;
+    let step = Step::InLayer {
+        layer: found.position,
+        index: place,
+        take: 0,
+        put: one_item(alloc, feature)?,
+    };
+    one_step_within_limit(alloc, document, step)
+}
+
+/// Where a new feature comes to have this ordinal: right before the feature that has it; where none
+/// has it so far, right behind the last feature, or at the end.
+fn place_of_new(items: &[LayerItem], ordinal: u64) -> Option<usize>
+    ensures place { IfSome result (IsPlaceFor is_feature ordinal (map layer_item_of items.now)) }
+    ensures none { IfNone result (length (features_in (map layer_item_of items.now)) < ordinal) }
+{
+    let mut before = 0;
+    let mut behind = items.len();
+    for (position, item) in items.iter().enumerate() {
+        if is_feature(item) {
+            if before == ordinal {
+                return Some(position);
+            }
+            before += 1;
+            behind = position + 1;
+        }
+    }
+    if before == ordinal {
+        Some(behind)
+    } else {
+        None
+    }
+}
+
+fn is_feature(item: &LayerItem) -> bool
+    ensures { result ≡ is_feature (layer_item_of item.now) }
+{
+    matches!(item, LayerItem::Feature(_))
+}
+
+/// A feature with this geometry, in its shortest spelling.
+fn new_feature(alloc: Global, geometry: &Geometry) -> Result<LayerItem, EncodeError>
+    ensures feature { IfOk result (λ item. layer_item_of item ≡ new_feature geometry.now) }
+    ensures in_range { OnOk result (IsInRange geometry.now) }
+    ensures out_of_range { IsErrOf result EncodeError.OutOfRange → ¬ IsInRange geometry.now }
+{
+    let bytes = encode_geometry(alloc, geometry)?;
+    Ok(LayerItem::Feature(Feature {
+        tag: Varint::minimal(FEATURE_TAG),
+        width: 1,
+        fields: fields_of(alloc, geometry.kind(), bytes)?,
+    }))
+}
+
+/// The fields of a feature of this kind, whose geometry has these bytes.
+fn fields_of(alloc: Global, kind: Kind, bytes: Items<u8>) -> Result<Items<Field>, AllocError>
+    ensures { IfOk result (λ fields. map field_of fields.items
+        ≡ new_number 24 (kind_number kind) ∷ new_content 34 bytes.items ∷ []) }
+{
+    let kind = Field {
+        tag: Varint::minimal(KIND_TAG),
+        body: Body::Number(Varint::minimal(kind.number())),
+    };
+    let geometry = Field {
+        tag: Varint::minimal(GEOMETRY_TAG),
+        body: Body::Bytes { width: 1, bytes },
+    };
+    Ok(Items::from_vec(vec![in alloc; kind, geometry]?))
+}

@@ -1,0 +1,13 @@
+pub mod CarriedOut
+pub mod Following
+pub mod ListPlaces
+pub mod Planned
+pub mod Going
+pub mod Carrying
+pub mod Heavy
+pub mod Refusing
+pub mod PutLast
+pub mod Putting
+pub mod OneStep
+pub mod Limits
+pub mod Apart

@@ -1,0 +1,142 @@
+//! What becomes of the items of a list, carried out in steps: neighbours that change are one step,
+//! and each step is on what the steps before it made.
+
+ghost use Rattle.std.specs.Prelude.{◌≡◌, ℕ, ◌+◌, ◌≤◌, ◌<◌, ◌^◌, List, [], ◌∷◌, ◌++◌, Option, Some, None, Ok, IfOk, IfSome, map, option_map, length, if◌then◌else◌};
+ghost use Rattle.std.specs.Fn.{FnReturns, FnReturnsAt};
+ghost use Rattle.std.specs.List.{AllZip, cons_option};
+ghost use Rattle.std.specs.Option.{option_map_or};
+ghost use Rattle.mvt_change.specs.Changes as plain;
+ghost use Rattle.mvt_change.specs.ChangeStands.{step_of};
+ghost use Rattle.mvt_edit_steps.specs.Fates.{IsCarriedOut, Splice, Tells, and_last, changes, goes_if, splice_of, splices_from};
+
+use mvt_change::Step;
+use std::alloc::{AllocError, Global};
+
+/// What becomes of an item of a list.
+#[derive(Debug, Drop)]
+pub enum Fate<T> {
+    Stays,
+    Goes,
+    /// The other comes in its place.
+    Becomes(T),
+}
+
+impl<T> Fate<T> {
+    /// It goes where it is picked, and else stays.
+    pub fn goes_if(picked: bool) -> Fate<T>
+        ensures { result ≡ goes_if picked }
+    {
+        if picked { Fate::Goes } else { Fate::Stays }
+    }
+}
+
+/// So many items from an index of a list on are taken out, and the ones to put come there.
+#[derive(Debug, Drop)]
+pub struct Run<T> {
+    pub index: usize,
+    pub take: usize,
+    pub put: Vec<T>,
+}
+
+/// Carries out what becomes of each item, in steps behind those that are given. How many items
+/// change.
+pub fn carry_out<T: Drop, F: Fn(&T) -> Result<Fate<T>, AllocError>, S: Fn(Run<T>) -> Step>(
+    alloc: Global,
+    items: &[T],
+    fate_of: F,
+    step: S,
+    steps: &mut Vec<Step>,
+) -> Result<usize, AllocError>
+    requires fates { F.IsAlwaysCallable fate_of }
+    requires steps { S.IsAlwaysCallable step }
+    ensures { (step_with : Splice T → plain.Step) → Tells (λ run made. FnReturns S.Fn step (run, tt) made) step_of (λ run. step_with (splice_of run)) →
+        IfOk result (λ changed. (fates : List (Fate T)) × AllZip (λ item fate. FnReturnsAt F.Fn fate_of item (Ok fate)) items.now fates × IsCarriedOut step_with fates (map step_of steps.old.items) (map step_of steps.new.items) changed) }
+{
+    let mut last = None;
+    let mut at = 0;
+    let mut changed = 0;
+    for index in 0..items.len() {
+        let fate = fate_of(&items[index])?;
+        changed += changes(&fate);
+        let (whole, run, next) = joined(alloc, last, at, fate)?;
+        put_step(whole, &step, steps)?;
+        last = run;
+        at = next;
+    }
+    put_step(last, &step, steps)?;
+    Ok(changed)
+}
+
+/// 1 where an item of this fate changes, else 0.
+fn changes<T>(fate: &Fate<T>) -> usize
+    ensures { result ≡ if changes fate.now then 1 else 0 }
+{
+    match fate {
+        Fate::Stays => 0,
+        _ => 1,
+    }
+}
+
+/// With one more item of this fate behind the run that is open, which comes to stand at this index:
+/// the run that is whole now, the one that is open then, and the index behind the item.
+fn joined<T: Drop>(
+    alloc: Global,
+    last: Option<Run<T>>,
+    at: usize,
+    fate: Fate<T>,
+) -> Result<(Option<Run<T>>, Option<Run<T>>, usize), AllocError>
+    requires ends { IfSome last (λ run. (run.index + length run.put.items ≡ at) × (run.take + 1 < 2 ^ 64)) }
+    requires short { at + 1 < 2 ^ 64 }
+    ensures runs { IfOk result (λ made. (rest : List (Fate T)) → and_last (option_map splice_of last) (splices_from at (fate ∷ rest))
+        ≡ map splice_of (cons_option made.0 []) ++ and_last (option_map splice_of made.1) (splices_from made.2 rest)) }
+    ensures ends { IfOk result (λ made. IfSome made.1 (λ run. run.index + length run.put.items ≡ made.2)) }
+    ensures take { IfOk result (λ made. (most : ℕ) → IfSome last (λ run. run.take ≤ most) → IfSome made.1 (λ run. run.take ≤ most + 1)) }
+    ensures next { IfOk result (λ made. made.2 ≤ at + 1) }
+{
+    match fate {
+        Fate::Stays => Ok((last, None, at + 1)),
+        Fate::Goes => Ok((None, Some(one_more(alloc, last, at)), at)),
+        Fate::Becomes(item) => {
+            let mut run = one_more(alloc, last, at);
+            run.put.push(item)?;
+            Ok((None, Some(run), at + 1))
+        }
+    }
+}
+
+/// The last run with one more item that it takes out, or a run of that item alone.
+fn one_more<T>(alloc: Global, last: Option<Run<T>>, at: usize) -> Run<T>
+    requires { IfSome last (λ run. run.take + 1 < 2 ^ 64) }
+    ensures index { result.index ≡ option_map_or (λ run. run.index) last at }
+    ensures take { result.take ≡ option_map_or (λ run. run.take + 1) last 1 }
+    ensures put { result.put.items ≡ option_map_or (λ run. run.put.items) last [] }
+{
+    match last {
+        Some(Run { index, take, put }) => Run {
+            index,
+            take: take + 1,
+            put,
+        },
+        None => Run {
+            index: at,
+            take: 1,
+            put: Vec::new(alloc),
+        },
+    }
+}
+
+/// Puts the step of the run, where there is one, behind the others.
+fn put_step<T: Drop, S: Fn(Run<T>) -> Step>(
+    run: Option<Run<T>>,
+    step: &S,
+    steps: &mut Vec<Step>,
+) -> Result<(), AllocError>
+    requires { S.IsAlwaysCallable step.now }
+    ensures { (step_with : Splice T → plain.Step) → Tells (λ run made. FnReturns S.Fn step.now (run, tt) made) step_of (λ run. step_with (splice_of run)) →
+        IfOk result (λ done. map step_of steps.new.items ≡ map step_of steps.old.items ++ map step_with (map splice_of (cons_option run []))) }
+{
+    if let Some(run) = run {
+        steps.push(step(run))?;
+    }
+    Ok(())
+}

@@ -1,0 +1,23 @@
+//! What the changes of commands are made of: steps on the items of a list, and steps alone.
+//!
+//! - What becomes of each item of a list is carried out in steps behind those that are given:
+//!   neighbours that change are one step, each step is on what the steps before it made, and it is
+//!   told how many items change: `carry_out`.
+//! - The change of one step, also as one that is refused where a file cannot hold what the step
+//!   makes of the document, exactly there; and the change that takes one item out: `one_step`,
+//!   `one_step_within_limit`, `item_out`.
+//! - Where an item comes that takes the place of the last one that passes, or else stands at the
+//!   end of the list: `Spot::of`.
+//! - What it is that a change carries a command out, the definition `Prepares`, is that of all
+//!   commands.
+//! - Conditions: what is given to `carry_out` answers for every item and every run; the step fits
+//!   the document (`one_step_within_limit`).
+#![tactic(auto)]
+
+mod fates;
+mod put_last;
+mod steps;
+
+pub use fates::{Fate, Run, carry_out};
+pub use put_last::Spot;
+pub use steps::{item_out, one_item, one_step, one_step_within_limit};

@@ -1,0 +1,81 @@
+//! The change of one step, the same where a file can hold what it makes, and the change that takes
+//! one item out; a list of one item.
+
+ghost use Rattle.std.specs.Prelude.{◌≡◌, ◌⊎◌, ◌<◌, ◌≤◌, [], ◌∷◌, IfErr, IfOk, length};
+ghost use Rattle.mvt_document.specs.declared.TheConstants.{MAX_FILE};
+ghost use Rattle.mvt_document.specs.Stands.{document_of};
+ghost use Rattle.mvt_document.specs.Wire.{bytes_of};
+ghost use Rattle.mvt_change.specs.Changes.{FitsStep, go_step};
+ghost use Rattle.mvt_change.specs.ChangeStands.{change_of, place_of, step_of};
+ghost use Rattle.mvt_edit_steps.specs.Fates.{item_out};
+ghost use Rattle.mvt_meaning.specs.declared.refusal.Refusal.TheVariants.{NoMemory, TooLarge};
+
+use mvt_change::{Change, Place, Step, fits_after};
+use mvt_document::{Document, Items};
+use mvt_meaning::Refusal;
+use std::alloc::{AllocError, Global};
+
+/// The change of this step alone.
+pub fn one_step(alloc: Global, step: Step) -> Result<Change, AllocError>
+    ensures { IfOk result (λ change. change_of change ≡ step_of step ∷ []) }
+{
+    Ok(Change {
+        steps: one_item(alloc, step)?,
+    })
+}
+
+/// The same, where a file can hold what the step makes of the document.
+pub fn one_step_within_limit(
+    alloc: Global,
+    document: &Document,
+    step: Step,
+) -> Result<Change, Refusal>
+    requires { FitsStep (step_of step) (document_of document.now) }
+    ensures made { IfOk result (λ change. change_of change ≡ step_of step ∷ []) }
+    ensures within { IfOk result (λ change. length (bytes_of (go_step (step_of step) (document_of document.now))) ≤ MAX_FILE) }
+    ensures refused { IfErr result (λ refusal. (refusal ≡ NoMemory)
+        ⊎ ((refusal ≡ TooLarge) × (MAX_FILE < length (bytes_of (go_step (step_of step) (document_of document.now)))))) }
+{
+    if !fits_after(document, &step) {
+        return Err(Refusal::TooLarge);
+    }
+    Ok(one_step(alloc, step)?)
+}
+
+/// The change that takes the item at this position of a list out.
+pub fn item_out(alloc: Global, place: Place, index: usize) -> Result<Change, AllocError>
+    ensures { IfOk result (λ change. change_of change ≡ item_out (place_of place) index ∷ []) }
+{
+    one_step(
+        alloc,
+        match place {
+            Place::Tile => Step::InTile {
+                index,
+                take: 1,
+                put: Items::from_vec(Vec::new(alloc)),
+            },
+            Place::Layer { layer } => Step::InLayer {
+                layer,
+                index,
+                take: 1,
+                put: Items::from_vec(Vec::new(alloc)),
+            },
+            Place::Feature { layer, item } => Step::InFeature {
+                layer,
+                item,
+                index,
+                take: 1,
+                put: Items::from_vec(Vec::new(alloc)),
+            },
+        },
+    )
+}
+
+/// The list of this item alone.
+pub fn one_item<T: Drop>(alloc: Global, item: T) -> Result<Items<T>, AllocError>
+    ensures { IfOk result (λ list. list.items ≡ item ∷ []) }
+{
+    let mut list = Vec::new(alloc);
+    list.push(item)?;
+    Ok(Items::from_vec(list))
+}

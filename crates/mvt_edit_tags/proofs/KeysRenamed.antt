@@ -1,0 +1,183 @@
+-- What the steps come to that rename the keys of a layer.
+use Rattle.std.proofs.Common.{◌≡◌, ℕ, ◌*◌, ◌+◌, ◌/◌, ◌<◌, ◌≤◌, ◌==◌, Bool, true, false, not, Ok, Err, Some, List, [], ◌∷◌, length, map, filter, nat_lt, slice_get, refl, sym, ap, ◌∙◌, subst, inl, inr, arith}
+use Rattle.std.specs.Prelude.{◌&&◌}
+use Rattle.std.proofs.lemmas.Bool.{cases_Bool, eqb-true, or_parts}
+use Rattle.std.proofs.lemmas.List.{length-map}
+use Rattle.std.proofs.lemmas.Slice.Eq.{bytes_eq-Decides}
+use Rattle.std.specs.List.{AllByRecursion, flat_map, list_any}
+use Rattle.std.specs.Result.{result_unwrap_or}
+use Rattle.std.specs.Str.{bytes_eq}
+use Rattle.mvt_document.specs.declared.TheConstants.{MAX_FILE}
+use Rattle.mvt_document.specs.Plain.{Number, Body, Spelled, Eight, Four, Delimited, Group, Field, LayerItem, OfFeature, PlainInLayer, Layer, OfLayer, Document}
+use Rattle.mvt_document.specs.Opens.{IsLayerItem}
+use Rattle.mvt_document.specs.Wire.{bytes_of, layer_item_bytes}
+use Rattle.mvt_document.specs.Places.{change_items}
+use Rattle.mvt_change.specs.Changes.{Change}
+use Rattle.mvt_command.specs.Command.{LayerChoice, RenameKey}
+use Rattle.mvt_meaning.specs.Fields.{with_content, with_text}
+use Rattle.mvt_meaning.specs.Meaning.{after, applied, change_layer, has_key, items_of, within_limit}
+use Rattle.mvt_meaning.specs.Selection.{layer_positions, selected}
+use Rattle.mvt_meaning.specs.Tagging.{is_key, renamed_keys}
+use Rattle.mvt_meaning.specs.Weights.{of_meant, put_by, taken_by, weigh}
+use Rattle.mvt_meaning.specs.declared.refusal.Refusal.TheVariants.{KeyTaken, NoKey, TooLarge}
+use Rattle.mvt_meaning.proofs.Found.{change_layer_found, items_at_found, items_changed, items_of_found}
+use Rattle.mvt_edit_steps.specs.Fates.{changes, splices_of}
+use Rattle.mvt_edit_steps.specs.Prepared.{IsPrepared}
+use Rattle.mvt_edit_steps.proofs.CarriedOut.{carries_out, left_of, new_in}
+use Rattle.mvt_edit_steps.proofs.Carrying.{carried, in_layer_at, in_the_layer, makes_alike}
+use Rattle.mvt_edit_steps.proofs.Limits.{limit_kept}
+use Rattle.mvt_edit_tags.specs.KeyFates.{key_fate}
+
+-- ---- a key that gets other bytes
+
+module _ (old new : List ℕ) where
+  key_given : (tag : Number) (body : Body) → is_key old (PlainInLayer (record { tag = tag; body = body })) ≡ true → is_key new (PlainInLayer (record { tag = tag; body = with_content new body })) ≡ true
+  key_given tag (Spelled number) key = absurd (elim (cases_Bool (tag.value / 8 == 3)) [ inl three ↦ let is = rw three at key in cc | inr other ↦ let is = rw other at key in cc ])
+  key_given tag (Eight bytes) key = absurd (elim (cases_Bool (tag.value / 8 == 3)) [ inl three ↦ let is = rw three at key in cc | inr other ↦ let is = rw other at key in cc ])
+  key_given tag (Four bytes) key = absurd (elim (cases_Bool (tag.value / 8 == 3)) [ inl three ↦ let is = rw three at key in cc | inr other ↦ let is = rw other at key in cc ])
+  key_given tag (Group bytes) key = absurd (elim (cases_Bool (tag.value / 8 == 3)) [ inl three ↦ let is = rw three at key in cc | inr other ↦ let is = rw other at key in cc ])
+  key_given tag (Delimited width bytes) key = elim (cases_Bool (tag.value / 8 == 3)) [ inl three ↦ rw three ((bytes_eq-Decides new new).1 refl) | inr other ↦ absurd (let is = rw other at key in cc) ]
+
+  renamed_is_key : (item : LayerItem) → is_key old item ≡ true → is_key new (with_text new item) ≡ true
+  renamed_is_key (OfFeature feature) key = absurd cc
+  renamed_is_key (PlainInLayer field) key = key_given field.tag field.body key
+
+  -- ---- what is left of the items, what is taken out and what is put
+
+  keys_left : (items : List LayerItem) → flat_map (λ x. left_of (key_fate old new x) x) items ≡ renamed_keys old new items
+  keys_left [] = refl
+  keys_left (x ∷ items) = elim (cases_Bool (is_key old x)) [ inl key ↦ rw key (ap (λ xs. with_text new x ∷ xs) (keys_left items)) | inr other ↦ rw other (ap (λ xs. x ∷ xs) (keys_left items)) ]
+
+  keys_taken : (items : List LayerItem) → filter (λ x. changes (key_fate old new x)) items ≡ filter (is_key old) items
+  keys_taken [] = refl
+  keys_taken (x ∷ items) = elim (cases_Bool (is_key old x)) [ inl key ↦ rw key (ap (λ xs. x ∷ xs) (keys_taken items)) | inr other ↦ rw other (keys_taken items) ]
+
+  keys_put : (items : List LayerItem) → list_any (is_key new) items ≡ false → flat_map (λ x. new_in (key_fate old new x)) items ≡ filter (is_key new) (renamed_keys old new items)
+  keys_put [] free = refl
+  keys_put (x ∷ items) free =
+      let parts = or_parts (is_key new x) (list_any (is_key new) items) free in
+      elim (cases_Bool (is_key old x)) [
+        | inl key ↦ (let given = renamed_is_key x key in rw (key, given) (ap (λ xs. with_text new x ∷ xs) (keys_put items parts.1)))
+        | inr other ↦ (let apart = parts.0 in rw (other, apart) (keys_put items parts.1))
+      ]
+
+-- a key that gets the bytes that it has stays as it is
+module _ (key : List ℕ) where
+  same_content : (tag : Number) (body : Body) → is_key key (PlainInLayer (record { tag = tag; body = body })) ≡ true → with_content key body ≡ body
+  same_content tag (Spelled number) is = refl
+  same_content tag (Eight bytes) is = refl
+  same_content tag (Four bytes) is = refl
+  same_content tag (Group bytes) is = refl
+  same_content tag (Delimited width bytes) is =
+      elim (cases_Bool (tag.value / 8 == 3)) [ inl three ↦ ap (Delimited width) ((bytes_eq-Decides key bytes).0 (rw three at is)) | inr other ↦ absurd (let no = rw other at is in cc) ]
+
+  same_text : (item : LayerItem) → is_key key item ≡ true → with_text key item ≡ item
+  same_text (OfFeature feature) is = refl
+  same_text (PlainInLayer field) is =
+      let with_body : Body → LayerItem = λ body. PlainInLayer (record { tag = field.tag; body = body }) in
+      ap with_body (same_content field.tag field.body is)
+
+  same_keys : (items : List LayerItem) → items ≡ renamed_keys key key items
+  same_keys [] = refl
+  same_keys (x ∷ items) =
+      elim (cases_Bool (is_key key x)) [
+        | inl is ↦ rw is (ap (λ y. y ∷ items) (sym (same_text x is)) ∙ ap (λ xs. with_text key x ∷ xs) (same_keys items))
+        | inr other ↦ rw other (ap (λ xs. x ∷ xs) (same_keys items))
+      ]
+
+pub not_true : (b : Bool) → not b ≡ true → b ≡ false
+not_true true e = absurd cc
+not_true false e = refl
+
+pub not_false : (b : Bool) → not b ≡ false → b ≡ true
+not_false true e = refl
+not_false false e = absurd cc
+
+pub either_false : (b c : Bool) → c ≡ false → (b && c) ≡ false
+either_false true c e = e
+either_false false c e = refl
+
+first_false : (b same : Bool) → same ≡ false → (b && not same) ≡ false → b ≡ false
+first_false true same apart free = absurd (let no = rw apart at free in cc)
+first_false false same apart free = refl
+
+-- ---- the change
+
+module _ (choice : LayerChoice) (old new : List ℕ) (document : Document) (ordinal position : ℕ) (layer : Layer) (chosen : selected choice document ≡ Ok ordinal) (placed : slice_get (layer_positions document) ordinal ≡ Some position) (there : slice_get document position ≡ Some (OfLayer layer)) where
+  has_here : (key : List ℕ) → has_key key ordinal document ≡ list_any (is_key key) layer.items
+  has_here key = ap (list_any (is_key key)) (items_of_found document ordinal position layer placed there)
+
+  made_there : change_layer (renamed_keys old new) ordinal document ≡ change_items (renamed_keys old new) position document
+  made_there = change_layer_found document ordinal position layer placed there (renamed_keys old new)
+
+  pub key_missing : list_any (is_key old) layer.items ≡ false → applied (RenameKey choice old new) document ≡ Err NoKey
+  key_missing none = let no = has_here old ∙ none in rw (chosen, no) refl
+
+  module _ (has : list_any (is_key old) layer.items ≡ true) where
+    pub key_taken : list_any (is_key new) layer.items ≡ true → bytes_eq old new ≡ false → applied (RenameKey choice old new) document ≡ Err KeyTaken
+    key_taken taken apart =
+        let yes = has_here old ∙ has in
+        let too = has_here new ∙ taken in
+        rw (chosen, yes, too, apart) refl
+
+    module _ (free : (list_any (is_key new) layer.items && not (bytes_eq old new)) ≡ false) where
+      limited : applied (RenameKey choice old new) document ≡ within_limit (change_layer (renamed_keys old new) ordinal document)
+      limited =
+          let yes = has_here old ∙ has in
+          let allowed : (has_key new ordinal document && not (bytes_eq old new)) ≡ false = ap (λ b. b && not (bytes_eq old new)) (has_here new) ∙ free in
+          rw (chosen, yes, allowed) refl
+
+      pub keys_too_large : nat_lt MAX_FILE (length (bytes_of (change_items (renamed_keys old new) position document))) ≡ true → applied (RenameKey choice old new) document ≡ Err TooLarge
+      keys_too_large large = limited ∙ ap within_limit made_there ∙ rw large refl
+
+      module _ (fits : nat_lt MAX_FILE (length (bytes_of (change_items (renamed_keys old new) position document))) ≡ false) where
+        made : applied (RenameKey choice old new) document ≡ Ok (change_layer (renamed_keys old new) ordinal document)
+        made = limited ∙ ap within_limit made_there ∙ rw fits refl ∙ ap Ok (sym made_there)
+
+        taken_keys : taken_by (RenameKey choice old new) document ≡ length (flat_map layer_item_bytes (filter (is_key old) layer.items))
+        taken_keys =
+            ap (λ meant. of_meant meant (λ n. weigh layer_item_bytes (filter (is_key old) (items_of n document)))) chosen
+            ∙ ap (λ items. weigh layer_item_bytes (filter (is_key old) items)) (items_of_found document ordinal position layer placed there)
+
+        put_keys : put_by (RenameKey choice old new) document ≡ length (flat_map layer_item_bytes (filter (is_key new) (renamed_keys old new layer.items)))
+        put_keys =
+            ap (λ meant. of_meant meant (λ n. weigh layer_item_bytes (filter (is_key new) (items_of n (after (RenameKey choice old new) document))))) chosen
+            ∙ ap (λ result. weigh layer_item_bytes (filter (is_key new) (items_of ordinal (result_unwrap_or result document)))) made
+            ∙ ap (λ items. weigh layer_item_bytes (filter (is_key new) items)) (items_changed document ordinal position layer placed there (renamed_keys old new))
+
+        -- no step, where both are the same
+        pub keys_stay : old ≡ new → IsPrepared (RenameKey choice old new) document []
+        keys_stay same =
+            let sits = in_the_layer position in
+            let at = items_at_found document ordinal position layer placed there in
+            let none = carried sits document layer.items at [] tt tt in
+            let kept : layer.items ≡ renamed_keys old new layer.items = subst (λ key. layer.items ≡ renamed_keys old key layer.items) same (same_keys old layer.items) in
+            record {
+              fits = none.fits;
+              means = made ∙ ap Ok (sym (none.makes ∙ makes_alike sits document layer.items at (renamed_keys old new) [] kept ∙ sym made_there));
+              puts = omega arith;
+              takes = omega arith;
+              steps = omega arith;
+            }
+
+        -- else the steps that rename them
+        pub keys_renamed : bytes_eq old new ≡ false → AllByRecursion IsLayerItem (flat_map (λ x. new_in (key_fate old new x)) layer.items) → 2 * length (filter (is_key old) layer.items) ≤ length (flat_map layer_item_bytes (filter (is_key old) layer.items)) → (change : Change) → change ≡ map (in_layer_at position) (splices_of (map (key_fate old new) layer.items)) → IsPrepared (RenameKey choice old new) document change
+        keys_renamed apart valid heavy change steps =
+            let sits = in_the_layer position in
+            let at = items_at_found document ordinal position layer placed there in
+            let splices = splices_of (map (key_fate old new) layer.items) in
+            let all = carries_out (key_fate old new) layer.items in
+            let done = carried sits document layer.items at splices all.there (subst (AllByRecursion IsLayerItem) (sym all.puts) valid) in
+            let makes = done.makes ∙ makes_alike sits document layer.items at (renamed_keys old new) splices (all.leaves ∙ keys_left old new layer.items) ∙ sym made_there in
+            let untaken : list_any (is_key new) layer.items ≡ false = first_false (list_any (is_key new) layer.items) (bytes_eq old new) apart free in
+            let puts = done.puts ∙ ap (λ put. length (flat_map layer_item_bytes put)) (all.puts ∙ keys_put old new layer.items untaken) ∙ sym put_keys in
+            let takes = done.takes ∙ ap (λ gone. length (flat_map layer_item_bytes gone)) (all.takes ∙ keys_taken old new layer.items) ∙ sym taken_keys in
+            let few = all.few in
+            let count = ap length (keys_taken old new layer.items) in
+            rw steps (record {
+              fits = done.fits;
+              means = made ∙ ap Ok (sym makes);
+              puts = omega (arith, puts);
+              takes = omega (arith, takes);
+              steps = omega (arith, few, count, heavy, taken_keys, length-map splices (in_layer_at position));
+            })

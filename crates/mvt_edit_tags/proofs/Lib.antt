@@ -1,0 +1,5 @@
+pub mod Come
+pub mod EachFeature
+pub mod Untagged
+pub mod KeyFields
+pub mod KeysRenamed

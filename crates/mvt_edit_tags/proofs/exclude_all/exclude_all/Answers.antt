@@ -1,0 +1,18 @@
+use Rattle.std.proofs.Common.{map, refl, ap, ◌∙◌}
+use Rattle.std.proofs.lemmas.Iterator.Consumers.{YieldsList-at, YieldsList-end, YieldsList-from_first}
+use Rattle.std.specs.List.{flat_map}
+use Rattle.mvt_change.specs.ChangeStands.{step_of}
+use Rattle.mvt_command.specs.CommandStands.{layers_choice_of}
+use Rattle.mvt_view.specs.Seen.{found_layer_seen}
+use Rattle.mvt_select.specs.Found.{layers_left}
+use Rattle.mvt_edit_tags.specs.EachFeature.{layer_steps, tags_go}
+use Rattle.mvt_edit_tags.proofs.Untagged.{untags}
+use Rattle.mvt_edit_tags.proofs.exclude_all.exclude_all.Goals as goal
+
+pub returns : goal.returns
+returns c =
+    let found = layers_left c.in_ok-layers.layers in
+    let all = YieldsList-from_first found_layer_seen layers_left found refl in
+    let came = YieldsList-end (YieldsList-at c.into_iter-found-iterator.ensures.into_iter_gives all) c.loop-found.yielded c.loop-found.found-iterator c.loop-found.yielded_by c.next.result c.next.new.self c.in-None.is c.next.ensures.steps in
+    untags (layers_choice_of c.args.choice.now) c.args.document.now found _ c.in_ok-layers.ensures.found
+    (ap (map step_of) c.from_vec.ensures.items ∙ c.loop-found.invariant ∙ ap (flat_map (layer_steps (λ items. tags_go))) came.0)

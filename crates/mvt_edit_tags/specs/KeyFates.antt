@@ -1,0 +1,22 @@
+-- What becomes of the items of a layer whose keys are renamed, and what a walk over them tells of two keys.
+use Rattle.std.specs.Prelude.{◌≡◌, ℕ, List, length, if◌then◌else◌}
+use Rattle.std.specs.List.{flat_map, list_any}
+use Rattle.mvt_document.specs.Plain.{LayerItem}
+use Rattle.mvt_document.specs.Wire.{layer_item_bytes}
+use Rattle.mvt_change.specs.FileSizes.{IsFileSize}
+use Rattle.mvt_meaning.specs.Fields.{with_text}
+use Rattle.mvt_meaning.specs.Tagging.{is_key, renamed_keys}
+use Rattle.mvt_edit_steps.specs.declared.fates.Fate.{Fate}
+use Rattle.mvt_edit_steps.specs.declared.fates.Fate.TheVariants.{Stays, Becomes}
+use Rattle.mvt_edit_tags.specs.declared.rename_key.Keys.{Keys}
+
+-- a key of the old bytes becomes one of the new bytes, and other items stay (tiles 4.1)
+abbrev pub key_fate : List ℕ → List ℕ → LayerItem → Fate LayerItem
+key_fate old new item = if is_key old item then Becomes (with_text new item) else Stays
+
+-- whether the old key and the new one are among the items, and which size the items have with the one in place of the
+-- other (tiles 4.1)
+pub record TellsOfKeys (old new : List ℕ) (items : List LayerItem) (keys : Keys) : Type 0 where
+  pub old_there : keys.there ≡ list_any (is_key old) items
+  pub new_there : keys.taken ≡ list_any (is_key new) items
+  pub renamed_size : IsFileSize keys.size (length (flat_map layer_item_bytes (renamed_keys old new items)))

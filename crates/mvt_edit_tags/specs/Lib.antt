@@ -1,0 +1,2 @@
+pub mod EachFeature
+pub mod KeyFates

@@ -1,0 +1,97 @@
+//! All attributes go.
+
+ghost use Rattle.std.specs.Prelude.{◌≡◌, ◌++◌, IfOk, map};
+ghost use Rattle.mvt_document.specs.Stands.{document_of, field_of};
+ghost use Rattle.mvt_change.specs.ChangeStands.{step_of};
+ghost use Rattle.mvt_command.specs.Command.{ExcludeAll};
+ghost use Rattle.mvt_command.specs.CommandStands.{layers_choice_of};
+ghost use Rattle.mvt_meaning.specs.Tagging.{is_tags};
+ghost use Rattle.mvt_view.specs.Seen.{found_feature_seen, found_layer_seen};
+ghost use Rattle.mvt_edit_steps.specs.Prepared.{Prepares};
+ghost use Rattle.mvt_edit_tags.specs.EachFeature.{feature_steps, layer_steps, tags_go};
+
+use mvt_change::{Change, Step};
+use mvt_document::tags::TAGS;
+use mvt_document::{Body, Document, Feature, Field, Items};
+use mvt_edit_steps::{Fate, carry_out};
+use mvt_select::{FoundFeature, FoundLayer, LayersChoice, Refusal, SelectedLayers, find_layers};
+use std::alloc::{AllocError, Global};
+
+/// Each feature of the layers that are meant loses all its tags fields.
+pub fn exclude_all(
+    alloc: Global,
+    document: &Document,
+    choice: &LayersChoice,
+) -> Result<Change, Refusal>
+    ensures { Prepares (ExcludeAll (layers_choice_of choice.now)) (document_of document.now) result }
+{
+    let layers = find_layers(document, choice)?;
+    let mut steps = Vec::with_capacity(alloc, tagged_count(layers.clone()?))?;
+    for found in layers {
+        untag_layer(alloc, found, &mut steps)?;
+    }
+    Ok(Change {
+        steps: Items::from_vec(steps),
+    })
+}
+
+/// How many features of the layers have tags fields, which mostly go in one step of a feature.
+fn tagged_count(layers: SelectedLayers<'_>) -> usize {
+    let mut count = 0_usize;
+    for found in layers {
+        let tagged = found.view().features().filter(|found| has_tags(found.feature));
+        count = count.saturating_add(tagged.count());
+    }
+    count
+}
+
+fn has_tags(feature: &Feature) -> bool {
+    feature.fields.as_slice().iter().any(|field| is_tags(field))
+}
+
+fn is_tags(field: &Field) -> bool
+    ensures { result ≡ is_tags (field_of field.now) }
+{
+    field.tag.value / 8 == TAGS && matches!(field.body, Body::Number(_) | Body::Bytes { .. })
+}
+
+/// Puts the steps by which each feature of the layer loses its tags fields behind the others.
+fn untag_layer(
+    alloc: Global,
+    found: FoundLayer<'_>,
+    steps: &mut Vec<Step>,
+) -> Result<(), AllocError>
+    ensures { IfOk result (λ done. map step_of steps.new.items ≡ map step_of steps.old.items ++ layer_steps (λ items. tags_go) (found_layer_seen found.entry)) }
+{
+    for feature in found.view().features() {
+        untag(alloc, found.position, feature, steps)?;
+    }
+    Ok(())
+}
+
+/// Puts the steps by which the feature, in the layer at this position, loses its tags fields behind
+/// the others.
+fn untag(
+    alloc: Global,
+    layer: usize,
+    found: FoundFeature<'_>,
+    steps: &mut Vec<Step>,
+) -> Result<(), AllocError>
+    ensures { IfOk result (λ done. map step_of steps.new.items ≡ map step_of steps.old.items ++ feature_steps tags_go layer (found_feature_seen found.entry)) }
+{
+    let item = found.position;
+    carry_out(
+        alloc,
+        found.feature.fields.as_slice(),
+        |field| Ok(Fate::goes_if(is_tags(field))),
+        |run| Step::InFeature {
+            layer,
+            item,
+            index: run.index,
+            take: run.take,
+            put: Items::from_vec(run.put),
+        },
+        steps,
+    )?;
+    Ok(())
+}

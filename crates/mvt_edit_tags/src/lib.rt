@@ -1,0 +1,10 @@
+//! The changes of the commands on attributes: on the tags of features, and on the keys and values of
+//! a layer.
+//!
+//! - For each of these commands and every document: a command that is not refused is given the
+//!   change that carries it out, and a refused one the first of its refusals, by the definition
+//!   `Prepares`: `rename_key`, `exclude_all`.
+#![tactic(auto)]
+
+pub mod exclude_all;
+pub mod rename_key;

@@ -1,0 +1,180 @@
+//! The keys of a layer that have some bytes get others.
+
+ghost use Rattle.std.specs.Prelude.{◌≡◌, ℕ, ◌+◌, List, [], ◌∷◌, ◌++◌, IfOk, IfSome, is_some, length, map};
+ghost use Rattle.std.specs.List.{flat_map};
+ghost use Rattle.mvt_document.specs.Plain as plain;
+ghost use Rattle.mvt_document.specs.Stands.{document_of, layer_item_of, number_of};
+ghost use Rattle.mvt_document.specs.Wire.{layer_item_bytes};
+ghost use Rattle.mvt_change.specs.Changes.{LayerStep};
+ghost use Rattle.mvt_change.specs.ChangeStands.{change_of};
+ghost use Rattle.mvt_change.specs.FileSizes.{IsFileSize};
+ghost use Rattle.mvt_command.specs.Command.{RenameKey};
+ghost use Rattle.mvt_command.specs.CommandStands.{layer_choice_of};
+ghost use Rattle.mvt_meaning.specs.Tagging.{is_key, renamed_keys};
+ghost use Rattle.mvt_edit_steps.specs.Fates.{fate_seen, splices_of};
+ghost use Rattle.mvt_edit_steps.specs.Prepared.{Prepares};
+ghost use Rattle.mvt_edit_tags.specs.KeyFates.{TellsOfKeys, key_fate};
+
+use mvt_change::{Change, Step, fits_with_items};
+use mvt_document::tags::KEYS;
+use mvt_document::{
+    Body, Document, Field, Items, LayerItem, MAX_FILE, Measured, Varint, message_size, sum_within,
+};
+use mvt_edit_steps::{Fate, carry_out};
+use mvt_select::{LayerChoice, Refusal, find_layer};
+use std::alloc::{AllocError, Global};
+
+/// Each key of the layer that is the old one becomes the new one. Where both are the same the
+/// change has no step.
+pub fn rename_key(
+    alloc: Global,
+    document: &Document,
+    choice: &LayerChoice,
+    old: &[u8],
+    new: &[u8],
+) -> Result<Change, Refusal>
+    ensures { Prepares (RenameKey (layer_choice_of choice.now) old.now new.now) (document_of document.now) result }
+{
+    let found = find_layer(document, choice)?;
+    let items = found.layer.items.as_slice();
+    let keys = look_for(items, old, new);
+    if !keys.there {
+        return Err(Refusal::NoKey);
+    }
+    if keys.taken && old != new {
+        return Err(Refusal::KeyTaken);
+    }
+    if !fits_with_items(document, found.position, keys.size) {
+        return Err(Refusal::TooLarge);
+    }
+    if old == new {
+        return Ok(Change {
+            steps: Items::from_vec(Vec::new(alloc)),
+        });
+    }
+    Ok(renaming(alloc, found.position, items, old, new)?)
+}
+
+/// What a walk over the items of a layer tells of an old key and of a new one: whether they are
+/// there, and how many bytes the items take with the one in place of the other, where a file may
+/// have so many.
+#[derive(Clone, Copy, Debug)]
+struct Keys {
+    there: bool,
+    taken: bool,
+    size: Option<usize>,
+}
+
+fn look_for(items: &[LayerItem], old: &[u8], new: &[u8]) -> Keys
+    ensures { TellsOfKeys old.now new.now (map layer_item_of items.now) result }
+{
+    let mut keys = Keys {
+        there: false,
+        taken: false,
+        size: Some(0),
+    };
+    for item in items {
+        keys = and_item(keys, item, old, new);
+    }
+    keys
+}
+
+/// The same with one more item.
+fn and_item(keys: Keys, item: &LayerItem, old: &[u8], new: &[u8]) -> Keys
+    ensures { (items : List plain.LayerItem) → TellsOfKeys old.now new.now items keys → TellsOfKeys old.now new.now (items ++ layer_item_of item.now ∷ []) result }
+{
+    Keys {
+        there: keys.there || key_field(item, old).is_some(),
+        taken: keys.taken || key_field(item, new).is_some(),
+        size: and_size(keys.size, size_renamed(item, old, new)),
+    }
+}
+
+/// The sum of both sizes, where a file may have so many bytes.
+fn and_size(size: Option<usize>, more: Option<usize>) -> Option<usize>
+    ensures { (first second : ℕ) → IsFileSize size first → IsFileSize more second → IsFileSize result (first + second) }
+{
+    sum_within(size?, more?, MAX_FILE)
+}
+
+/// How many bytes the item takes, a key that is the old one with the new one, where a file may have
+/// so many.
+fn size_renamed(item: &LayerItem, old: &[u8], new: &[u8]) -> Option<usize>
+    ensures { IsFileSize result (length (flat_map layer_item_bytes (renamed_keys old.now new.now (layer_item_of item.now ∷ [])))) }
+{
+    match key_field(item, old) {
+        Some((tag, width)) => message_size(tag, width, new.len(), MAX_FILE),
+        None => item.size(),
+    }
+}
+
+/// The tag and the stored width of the item, where it is a key of these bytes.
+fn key_field(item: &LayerItem, key: &[u8]) -> Option<(Varint, u8)>
+    ensures there { is_some result ≡ is_key key.now (layer_item_of item.now) }
+    ensures parts { IfSome result (λ parts. layer_item_of item.now ≡ plain.PlainInLayer (record { tag = number_of parts.0; body = plain.Delimited parts.1 key.now })) }
+{
+    match item {
+        LayerItem::Plain(
+            Field {
+                tag,
+                body: Body::Bytes { width, bytes },
+            },
+        ) => {
+            if tag.value / 8 == KEYS && bytes.as_slice() == key {
+                Some((*tag, *width))
+            } else {
+                None
+            }
+        }
+        _ => None,
+    }
+}
+
+/// The steps that rename the keys of the layer at this position of the tile.
+fn renaming(
+    alloc: Global,
+    layer: usize,
+    items: &[LayerItem],
+    old: &[u8],
+    new: &[u8],
+) -> Result<Change, AllocError>
+    ensures { IfOk result (λ change. change_of change ≡ map (λ s. LayerStep layer s.index s.taken s.put) (splices_of (map (key_fate old.now new.now) (map layer_item_of items.now)))) }
+{
+    let mut steps = Vec::new(alloc);
+    carry_out(
+        alloc,
+        items,
+        |item| fate_of(alloc, item, old, new),
+        |run| Step::InLayer {
+            layer,
+            index: run.index,
+            take: run.take,
+            put: Items::from_vec(run.put),
+        },
+        &mut steps,
+    )?;
+    Ok(Change {
+        steps: Items::from_vec(steps),
+    })
+}
+
+/// A key that is the old one becomes the new one, with its tag and its stored width.
+fn fate_of(
+    alloc: Global,
+    item: &LayerItem,
+    old: &[u8],
+    new: &[u8],
+) -> Result<Fate<LayerItem>, AllocError>
+    ensures { IfOk result (λ fate. fate_seen layer_item_of fate ≡ key_fate old.now new.now (layer_item_of item.now)) }
+{
+    Ok(match key_field(item, old) {
+        Some((tag, width)) => Fate::Becomes(LayerItem::Plain(Field {
+            tag,
+            body: Body::Bytes {
+                width,
+                bytes: Items::from_vec(Vec::from_slice(alloc, new)?),
+            },
+        })),
+        None => Fate::Stays,
+    })
+}

@@ -1,0 +1,10 @@
+//! What becomes of an item of a list.
+
+/// What becomes of an item of a list.
+#[derive(Debug, Drop)]
+pub enum Fate<T> {
+    Stays,
+    Goes,
+    /// The other comes in its place.
+    Becomes(T),
+}
