@@ -1,14 +1,12 @@
 -- The layers that are meant, changed.
-use Rattle.std.proofs.Common.{◌≡◌, ◌≢◌, ℕ, zero, suc, ◌+◌, ◌<◌, Bool, true, false, is_some, Option, Some, None, option_map, Result, Ok, Err, List, [], ◌∷◌, length, map, slice_get, refl, sym, ap, ◌∙◌, subst, arith}
-use Rattle.std.specs.List.{filter_map}
-use Rattle.mvt_document.specs.Plain.{Layer, LayerItem, TileItem, OfLayer, PlainInTile, Document}
+use Rattle.std.proofs.Common.{◌≡◌, ℕ, zero, suc, ◌+◌, Option, Some, Ok, List, [], ◌∷◌, map, slice_get, refl, sym, ap, ◌∙◌, subst}
+use Rattle.mvt_document.specs.Plain.{Layer, LayerItem, OfLayer, PlainInTile, Document}
 use Rattle.mvt_document.specs.Places.{in_layer}
 use Rattle.mvt_command.specs.Command.{LayerChoice, LayersChoice, TheLayer, EachLayer}
 use Rattle.mvt_view.specs.Views.{layer_in, layers}
-use Rattle.mvt_meaning.specs.Ordinals.{positions_of}
 use Rattle.mvt_meaning.specs.Selection.{is_layer, selected}
 use Rattle.mvt_meaning.specs.Meaning.{change_layer, change_layers}
-use Rattle.mvt_meaning.specs.Kept.{field_in, tile_fields}
+use Rattle.mvt_meaning.specs.Kept.{tile_fields}
 use Rattle.mvt_meaning.proofs.Accepted.{accepted}
 use Rattle.mvt_meaning.proofs.Around.{around}
 use Rattle.mvt_meaning.proofs.Parts.{layer_differs, with_items}

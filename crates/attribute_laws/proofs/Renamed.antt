@@ -1,18 +1,16 @@
 -- A key of another name, in a layer and in the attributes of its features.
-use Rattle.std.proofs.Common.{◌≡◌, ℕ, zero, suc, ◌+◌, ◌/◌, ◌==◌, Bool, true, false, ◌&&◌, not, cond, Option, Some, None, option_map, Ok, List, [], ◌∷◌, ◌++◌, length, get_or, map, filter, slice_get, refl, sym, ap, ◌∙◌, inl, inr, subst, arith}
+use Rattle.std.proofs.Common.{◌≡◌, ℕ, zero, suc, ◌/◌, ◌==◌, Bool, true, false, ◌&&◌, not, cond, Option, Some, None, option_map, List, [], ◌∷◌, ◌++◌, length, get_or, map, filter, slice_get, refl, sym, ap, ◌∙◌, inl, inr, subst, arith}
 use Rattle.std.proofs.lemmas.Bool.{cases_Bool, eqb-true, ne_eqb, or_parts}
 use Rattle.std.proofs.lemmas.List.{length-map}
 use Rattle.std.proofs.lemmas.Slice.Eq.{bytes_eq-Decides}
 use Rattle.std.specs.List.{AllByRecursion, cons_option, filter_map, list_any}
-use Rattle.std.specs.Option.{option_map_or}
 use Rattle.std.specs.Str.{bytes_eq}
 use Rattle.mvt_document.specs.Plain.{Number, Body, Spelled, Eight, Four, Delimited, Group, Field, Feature, LayerItem, OfFeature, PlainInLayer, Layer, Document}
 use Rattle.mvt_view.specs.Attributes.{attribute_at, attributes, pairs_in, pairs_of}
 use Rattle.mvt_view.specs.Laws.{Names}
-use Rattle.mvt_view.specs.Views.{content_in, contents, features, features_in, keys, plain_fields, values}
+use Rattle.mvt_view.specs.Views.{content_in, contents, features_in, keys, plain_fields, values}
 use Rattle.mvt_view.proofs.Pairing.{pairs_are_named}
 use Rattle.mvt_numbers.specs.Numbers.{numbers}
-use Rattle.mvt_command.specs.Command.{LayerChoice}
 use Rattle.mvt_meaning.specs.Selection.{selected}
 use Rattle.mvt_meaning.specs.Fields.{with_text}
 use Rattle.mvt_meaning.specs.Tagging.{is_key, renamed_keys}
@@ -23,6 +21,10 @@ use Rattle.mvt_meaning.proofs.Parts.{changes_layer, items_there, with_items}
 use Rattle.attribute_laws.specs.Laws.{RenameKeyRenames, RenamesKey, renamed}
 
 -- ---- one item
+
+no_content : (same : Bool) → cond {A = Option (List ℕ)} same None None ≡ None
+no_content true = refl
+no_content false = refl
 
 module _ (former present : List ℕ) where
   -- an item of a layer, which has the new key where it is the old one
@@ -35,10 +37,10 @@ module _ (former present : List ℕ) where
   entry number (PlainInLayer field) = content_in number field
 
   key_of : (tag : Number) (body : Body) → entry 3 (rekeyed (PlainInLayer (record { tag = tag; body = body }))) ≡ option_map (renamed former present) (entry 3 (PlainInLayer (record { tag = tag; body = body })))
-  key_of tag (Spelled number) = elim (cases_Bool (tag.value / 8 == 3)) [ inl three ↦ rw three refl | inr other ↦ rw other refl ]
-  key_of tag (Eight bytes) = elim (cases_Bool (tag.value / 8 == 3)) [ inl three ↦ rw three refl | inr other ↦ rw other refl ]
-  key_of tag (Four bytes) = elim (cases_Bool (tag.value / 8 == 3)) [ inl three ↦ rw three refl | inr other ↦ rw other refl ]
-  key_of tag (Group bytes) = elim (cases_Bool (tag.value / 8 == 3)) [ inl three ↦ rw three refl | inr other ↦ rw other refl ]
+  key_of tag (Spelled number) = let none : content_in 3 (record { tag = tag; body = Spelled number }) ≡ None = no_content (tag.value / 8 == 3) in rw none none
+  key_of tag (Eight bytes) = let none : content_in 3 (record { tag = tag; body = Eight bytes }) ≡ None = no_content (tag.value / 8 == 3) in rw none none
+  key_of tag (Four bytes) = let none : content_in 3 (record { tag = tag; body = Four bytes }) ≡ None = no_content (tag.value / 8 == 3) in rw none none
+  key_of tag (Group bytes) = let none : content_in 3 (record { tag = tag; body = Group bytes }) ≡ None = no_content (tag.value / 8 == 3) in rw none none
   key_of tag (Delimited width bytes) =
       elim (cases_Bool (tag.value / 8 == 3)) [
         | inl three ↦ elim (cases_Bool (bytes_eq former bytes)) [ inl same ↦ rw (three, same) (rw three refl) | inr apart ↦ rw (three, apart) (rw three refl) ]
@@ -46,10 +48,10 @@ module _ (former present : List ℕ) where
       ]
 
   value_of : (tag : Number) (body : Body) → entry 4 (rekeyed (PlainInLayer (record { tag = tag; body = body }))) ≡ entry 4 (PlainInLayer (record { tag = tag; body = body }))
-  value_of tag (Spelled number) = elim (cases_Bool (tag.value / 8 == 3)) [ inl three ↦ rw three refl | inr other ↦ rw other refl ]
-  value_of tag (Eight bytes) = elim (cases_Bool (tag.value / 8 == 3)) [ inl three ↦ rw three refl | inr other ↦ rw other refl ]
-  value_of tag (Four bytes) = elim (cases_Bool (tag.value / 8 == 3)) [ inl three ↦ rw three refl | inr other ↦ rw other refl ]
-  value_of tag (Group bytes) = elim (cases_Bool (tag.value / 8 == 3)) [ inl three ↦ rw three refl | inr other ↦ rw other refl ]
+  value_of tag (Spelled number) = let none : content_in 3 (record { tag = tag; body = Spelled number }) ≡ None = no_content (tag.value / 8 == 3) in rw none refl
+  value_of tag (Eight bytes) = let none : content_in 3 (record { tag = tag; body = Eight bytes }) ≡ None = no_content (tag.value / 8 == 3) in rw none refl
+  value_of tag (Four bytes) = let none : content_in 3 (record { tag = tag; body = Four bytes }) ≡ None = no_content (tag.value / 8 == 3) in rw none refl
+  value_of tag (Group bytes) = let none : content_in 3 (record { tag = tag; body = Group bytes }) ≡ None = no_content (tag.value / 8 == 3) in rw none refl
   value_of tag (Delimited width bytes) =
       elim (cases_Bool (tag.value / 8 == 3)) [
         | inl three ↦ (
@@ -174,7 +176,7 @@ module _ (former present : List ℕ) where
           ]
 
       filtered_first : {A : Type 0} (test : A → Bool) (x : A) (list : List A) → filter test (x ∷ list) ≡ filter test (x ∷ []) ++ filter test list
-      filtered_first test x list = elim (cases_Bool (test x)) [ inl yes ↦ rw yes refl | inr no ↦ rw no refl ]
+      filtered_first test x list = elim (cases_Bool (test x)) [ inl pass ↦ rw pass refl | inr skip ↦ rw skip refl ]
 
       as_they_were : (items : List LayerItem) → former ≡ present → filter (λ item. not (is_key present item)) (renamed_keys former present items) ≡ filter (λ item. not (is_key former item)) items
       as_they_were [] same = refl

@@ -1,12 +1,12 @@
 -- Features without their tags fields have no attribute.
-use Rattle.std.proofs.Common.{◌≡◌, ℕ, ◌+◌, ◌/◌, ◌==◌, Bool, true, false, ◌||◌, not, Option, Some, None, Result, List, [], ◌∷◌, ◌++◌, length, map, filter, refl, sym, ap, ◌∙◌, inl, inr, subst}
+use Rattle.std.proofs.Common.{◌≡◌, ℕ, ◌+◌, ◌/◌, ◌==◌, false, Some, List, [], ◌∷◌, ◌++◌, map, refl, sym, ap, ◌∙◌, inl, inr, subst}
 use Rattle.std.proofs.lemmas.Bool.{cases_Bool}
 use Rattle.std.specs.List.{AllByRecursion, enumerate_from, flat_map}
 use Rattle.mvt_document.specs.Plain.{Number, Body, Spelled, Eight, Four, Delimited, Group, Field, Feature, LayerItem, OfFeature, PlainInLayer, Layer}
 use Rattle.mvt_document.specs.Places.{in_feature}
-use Rattle.mvt_numbers.specs.Numbers.{Placed, numbers, numbers_in, through_bad}
-use Rattle.mvt_view.specs.Attributes.{attributes, pairs_in}
-use Rattle.mvt_view.specs.Views.{features, features_in, keys, plain_fields, values}
+use Rattle.mvt_numbers.specs.Numbers.{numbers, numbers_in, through_bad}
+use Rattle.mvt_view.specs.Attributes.{attributes}
+use Rattle.mvt_view.specs.Views.{features, features_in, plain_fields}
 use Rattle.mvt_meaning.specs.Selection.{is_feature}
 use Rattle.mvt_meaning.specs.Tagging.{is_tags, untagged, without_tags}
 use Rattle.mvt_meaning.proofs.Parts.{with_fields, with_items}

@@ -33,11 +33,15 @@ RenameKeyRenames = (choice : LayerChoice) (former present : List ℕ) (old new :
 
 -- ---- no attributes
 
+-- a feature without its tags fields (tiles 4.2)
+abbrev pub untagged_feature : Feature → Feature
+untagged_feature feature = record feature { fields = without_tags feature.fields }
+
 -- no feature of the layer has an attribute; each has its fields that are no tags, in their order, and the other fields
 -- of the layer and the positions of the features are as they were (tiles 4.1, 4.2)
 pub record LosesAttributes (old new : Layer) : Type 0 where
   pub none : AllByRecursion (λ feature. attributes new feature ≡ Some []) (features new)
-  pub features_so : features new ≡ map (λ feature. record feature { fields = without_tags feature.fields }) (features old)
+  pub features_so : features new ≡ map untagged_feature (features old)
   pub fields : plain_fields new.items ≡ plain_fields old.items
   pub positions : feature_positions new.items ≡ feature_positions old.items
 

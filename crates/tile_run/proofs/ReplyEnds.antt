@@ -94,7 +94,7 @@ runs_out number = (number == 60) || (number == 54)
 
 -- the text ends with the y of `NoMemory`, or with a number
 abbrev ends_out_of_memory : ℕ × ℕ → Bool
-ends_out_of_memory ends = (ends.1 == 121) || (ends.1 == 32)
+ends_out_of_memory ends = ((ends.0 == 114) && (ends.1 == 121)) || ((ends.0 == 110) && (ends.1 == 32))
 
 -- the text ends with `ok`
 abbrev ends_with_ok : ℕ × ℕ → Bool

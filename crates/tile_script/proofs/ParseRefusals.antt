@@ -11,7 +11,7 @@ use Rattle.tile_arguments.proofs.Refusals.{then_other, text_other, texts_other, 
 use Rattle.mvt_command.specs.Requests.{HistoryRequest}
 use Rattle.tile_request.specs.Request.{Request, OnHistory}
 use Rattle.tile_script.specs.Line.{is_remark, requests_alone, requests_by_name, alone_of, name_of, list_of, requests, request_by, asked_by, request_in, answer_to}
-use Rattle.tile_script.specs.Commands.{chosen_of, rename_layer_of, move_layer_of, drop_layer_of, keep_layers_of, insert_feature_of, move_feature_of, drop_feature_of, set_id_of, clear_id_of, rename_key_of, exclude_all_of, commands, read_by, command_by}
+use Rattle.tile_script.specs.Commands.{chosen_of, two_texts_of, rename_layer_of, move_layer_of, drop_layer_of, keep_layers_of, insert_feature_of, move_feature_of, drop_feature_of, set_id_of, clear_id_of, rename_key_of, exclude_all_of, commands, read_by, command_by}
 use Rattle.tile_words.specs.Answers.{◌>>=◌}
 use Rattle.tile_words.specs.declared.parse_error.ParseError.{ParseError}
 use Rattle.tile_words.specs.declared.parse_error.ParseError.TheVariants as parse
@@ -20,6 +20,10 @@ use Rattle.mvt_command.proofs.Others.{Other, either}
 chosen_other : (layer feature : Word) → Other parse.NoMemory (chosen_of layer feature)
 unfolding chosen_of
 chosen_other layer feature = then_other (layer_of layer) _ (layer_other layer) (λ choice. then_other (feature_of feature) _ (feature_other feature) (λ chosen. tt))
+
+two_texts_other : (first second : Word) → Other parse.NoMemory (two_texts_of first second)
+unfolding two_texts_of
+two_texts_other first second = then_other (text_of first) _ (text_other first) (λ one. then_other (text_of second) _ (text_other second) (λ other. tt))
 
 rename_layer_other : (arguments : List Word) → Other parse.NoMemory (rename_layer_of arguments)
 unfolding rename_layer_of
@@ -88,7 +92,7 @@ unfolding rename_key_of
 rename_key_other [] = λ e. cc
 rename_key_other (layer ∷ []) = λ e. cc
 rename_key_other (layer ∷ old ∷ []) = λ e. cc
-rename_key_other (layer ∷ old ∷ new ∷ []) = then_other (layer_of layer) _ (layer_other layer) (λ choice. then_other (text_of old) _ (text_other old) (λ former. then_other (text_of new) _ (text_other new) (λ present. tt)))
+rename_key_other (layer ∷ old ∷ new ∷ []) = then_other (layer_of layer) _ (layer_other layer) (λ choice. then_other (two_texts_of old new) _ (two_texts_other old new) (λ keys. tt))
 rename_key_other (layer ∷ old ∷ new ∷ more ∷ others) = λ e. cc
 
 exclude_all_other : (arguments : List Word) → Other parse.NoMemory (exclude_all_of arguments)

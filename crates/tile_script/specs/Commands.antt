@@ -17,6 +17,13 @@ chosen_of layer feature = do
   chosen ← feature_of feature
   Ok (choice, chosen)
 
+-- the texts that two words say, or the first refusal
+unfoldable pub two_texts_of : Word → Word → Result (List ℕ × List ℕ) ParseError
+two_texts_of first second = do
+  one ← text_of first
+  other ← text_of second
+  Ok (one, other)
+
 -- the rename of these arguments: a layer, and its new name as a text; or the first refusal
 unfoldable pub rename_layer_of : List Word → Result Command ParseError
 rename_layer_of (layer ∷ name ∷ []) = do
@@ -91,9 +98,8 @@ clear_id_of words = Err BadArguments
 unfoldable pub rename_key_of : List Word → Result Command ParseError
 rename_key_of (layer ∷ old ∷ new ∷ []) = do
   choice ← layer_of layer
-  former ← text_of old
-  present ← text_of new
-  Ok (RenameKey choice former present)
+  keys ← two_texts_of old new
+  Ok (RenameKey choice keys.0 keys.1)
 rename_key_of words = Err BadArguments
 
 -- the exclusion of these arguments: one layer or all; or the first refusal

@@ -3,11 +3,12 @@
 ghost use Rattle.std.specs.Prelude.{◌≤◌, length, map};
 ghost use Rattle.std.specs.Result.{IsErrOf};
 ghost use Rattle.mvt_command.specs.CommandStands.{command_of, layer_choice_of, feature_choice_of};
-ghost use Rattle.tile_script.specs.Commands.{chosen_of, rename_layer_of, move_layer_of, drop_layer_of, keep_layers_of, insert_feature_of, move_feature_of, drop_feature_of, set_id_of, clear_id_of, rename_key_of, exclude_all_of, command_by};
+ghost use Rattle.tile_script.specs.Commands.{chosen_of, two_texts_of, rename_layer_of, move_layer_of, drop_layer_of, keep_layers_of, insert_feature_of, move_feature_of, drop_feature_of, set_id_of, clear_id_of, rename_key_of, exclude_all_of, command_by};
 ghost use Rattle.tile_words.specs.Answers.{Gives};
 ghost use Rattle.tile_words.specs.WordStands.{word_of};
 
 use mvt_command::{Command, FeatureChoice, LayerChoice};
+use mvt_document::Items;
 use std::alloc::Global;
 use tile_arguments::{
     feature_choice, layer_choice, layers_choice, new_geometry, number_argument, text_argument,
@@ -186,8 +187,7 @@ fn rename_key(alloc: Global, arguments: &[Word<'_>]) -> Result<Command, ParseErr
         return Err(ParseError::BadArguments);
     };
     let layer = layer_choice(alloc, *layer)?;
-    let old = text_argument(alloc, *old)?;
-    let new = text_argument(alloc, *new)?;
+    let (old, new) = two_texts(alloc, *old, *new)?;
     Ok(Command::RenameKey { layer, old, new })
 }
 
@@ -215,4 +215,18 @@ pub(crate) fn chosen(
     let layer = layer_choice(alloc, layer)?;
     let feature = feature_choice(feature)?;
     Ok((layer, feature))
+}
+
+/// A text, and another.
+#[tactic(auto, unfolding(crate::specs::Commands::two_texts_of))]
+fn two_texts(
+    alloc: Global,
+    first: Word<'_>,
+    second: Word<'_>,
+) -> Result<(Items<u8>, Items<u8>), ParseError>
+    ensures { Gives (λ texts. (texts.0.items, texts.1.items)) result (two_texts_of (word_of first.entry) (word_of second.entry)) }
+{
+    let first = text_argument(alloc, first)?;
+    let second = text_argument(alloc, second)?;
+    Ok((first, second))
 }
