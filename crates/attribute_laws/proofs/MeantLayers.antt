@@ -32,9 +32,9 @@ module _ (way : Layer → Layer → Type 0) (change : List LayerItem → List La
       let d = layer_differs change ordinal document a in
       record {
         meant = λ other former is was.
-        let same = one_meant choice document ordinal other meant is in
-        let layer = some_same a.value former (slice_get (layers document) ordinal) d.was (ap (slice_get (layers document)) (sym same) ∙ was) in
-        (with_items change former, ap (slice_get (layers (change_layer change ordinal document))) same ∙ d.is ∙ ap (λ (l : Layer). Some (with_items change l)) layer, becomes former);
+            let same = one_meant choice document ordinal other meant is in
+            let layer = some_same a.value former (slice_get (layers document) ordinal) d.was (ap (slice_get (layers document)) (sym same) ∙ was) in
+            (with_items change former, ap (slice_get (layers (change_layer change ordinal document))) same ∙ d.is ∙ ap (λ (l : Layer). Some (with_items change l)) layer, becomes former);
         others = λ other apart. d.others other (λ same. apart (meant ∙ ap Ok (sym same)));
         fields = d.fields;
         positions = d.positions;

@@ -8,8 +8,8 @@ use mvt_edit::Command;
 use std::alloc::{AllocError, Global};
 use std::fmt;
 use test_fixtures::asked::{
-    clear_id, drop_feature, drop_layer, exclude_all, insert_polygon, keep, move_feature, move_layer,
-    rename, rename_key, set_id,
+    clear_id, drop_feature, drop_layer, exclude_all, insert_polygon, keep, move_feature,
+    move_layer, rename, rename_key, set_id,
 };
 use test_fixtures::bytes::joined;
 use test_fixtures::edits::Edit;

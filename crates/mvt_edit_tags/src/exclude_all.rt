@@ -39,7 +39,10 @@ pub fn exclude_all(
 fn tagged_count(layers: SelectedLayers<'_>) -> usize {
     let mut count = 0_usize;
     for found in layers {
-        let tagged = found.view().features().filter(|found| has_tags(found.feature));
+        let tagged = found
+            .view()
+            .features()
+            .filter(|found| has_tags(found.feature));
         count = count.saturating_add(tagged.count());
     }
     count
