@@ -1,5 +1,5 @@
 -- Numbers by decisions, one after the other, and the numbers that a packed body spells.
-use Rattle.std.proofs.Common.{◌≡◌, ℕ, suc, ◌+◌, ◌<◌, ◌≤◌, List, [], ◌∷◌, ◌++◌, length, map, take, drop, Option, Some, None, Result, eqb, refl, sym, ap, ◌∙◌, arith}
+use Rattle.std.proofs.Common.{false, ◌≡◌, ℕ, suc, ◌+◌, ◌<◌, ◌≤◌, List, [], ◌∷◌, ◌++◌, length, map, take, drop, Option, Some, None, Result, eqb, refl, sym, ap, ◌∙◌, arith}
 use Rattle.std.specs.Prelude.{option_map}
 use Rattle.std.specs.List.{flat_map, cons_option, AllByRecursion}
 use Rattle.std.proofs.lemmas.Bool.{cond-true, eq-eqb}
@@ -8,7 +8,7 @@ use Rattle.mvt_document.specs.Plain.{Number}
 use Rattle.mvt_document.specs.Wire.{spelling, minimal}
 use Rattle.mvt_document.specs.Groups.{IsNumber}
 use Rattle.mvt_numbers.specs.Numbers.{Placed, pieces, number_in, chunk_at, unpacked, all_good, and_more}
-use Rattle.mvt_numbers.specs.Renumbering.{with_number, decided, renumbered}
+use Rattle.mvt_numbers.specs.Renumbering.{with_number, decided, renumbered, some_changed}
 use Rattle.mvt_numbers.specs.Deciding.{packed_numbers}
 use Rattle.mvt_numbers.proofs.Pieces.{packed-spelling, packed-bad}
 
@@ -23,6 +23,11 @@ renumbered_more (Some value) decisions number more = refl
 pub renumbered-none : (decisions : List (Option ℕ)) → renumbered decisions [] ≡ []
 renumbered-none [] = refl
 renumbered-none (decision ∷ more) = refl
+
+-- without decisions no number changes
+pub none_changed : (numbers : List Number) → some_changed [] numbers ≡ false
+none_changed [] = refl
+none_changed (number ∷ more) = refl
 
 pub with_number-same : (value : ℕ) (number : Number) → number.value ≡ value → with_number value number ≡ number
 with_number-same value number e = cond-true (eqb number.value value) number (minimal value) (eq-eqb number.value value e)

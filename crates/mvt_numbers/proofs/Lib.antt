@@ -5,3 +5,4 @@ pub mod Making
 pub mod Reread
 pub mod PackedLeft
 pub mod Redone
+pub mod FieldFate

@@ -7,7 +7,7 @@ use Rattle.std.proofs.lemmas.List.Concat.{flat_map-append}
 use Rattle.mvt_document.specs.Plain.{Number}
 use Rattle.mvt_document.specs.Wire.{spelling}
 use Rattle.mvt_document.specs.Groups.{IsNumber}
-use Rattle.mvt_numbers.specs.Renumbering.{renumbered}
+use Rattle.mvt_numbers.specs.Renumbering.{renumbered, some_changed}
 use Rattle.mvt_numbers.specs.Deciding.{packed_numbers, StaysBefore, IsLeft}
 use Rattle.mvt_document.specs.Stands.{number_of}
 use Rattle.mvt_document.specs.declared.varint.Varint.{Varint}
@@ -43,14 +43,15 @@ stays_none bytes decisions = record {
   valid = tt;
   stay = λ more. refl;
   behind = λ more. ap (λ n. drop n decisions) (omega arith);
+  same = λ more. refl;
 }
 
 -- one more number that stays
 pub stays_more : (bytes : List ℕ) (decisions : List (Option ℕ)) (place : ℕ) (left behind : List (Option ℕ)) (number : Number)
     → StaysBefore bytes decisions place left → IsNumber number → take number.width (drop place bytes) ≡ spelling number
     → ((more : List Number) → renumbered left (number ∷ more) ≡ number ∷ renumbered behind more) → ((more : ℕ) → drop (more + 1) left ≡ drop more behind)
-    → StaysBefore bytes decisions (place + number.width) behind
-stays_more bytes decisions place left behind number s valid at same dropped =
+    → ((more : List Number) → some_changed left (number ∷ more) ≡ some_changed behind more) → StaysBefore bytes decisions (place + number.width) behind
+stays_more bytes decisions place left behind number s valid at same dropped unchanged =
     let rest = drop place bytes in
     let first : packed_numbers rest ≡ option_map (λ (more : List Number). number ∷ more) (packed_numbers (drop (place + number.width) bytes)) =
     packed-first number rest valid at ∙ ap (λ (b : List ℕ). option_map (λ (more : List Number). number ∷ more) (packed_numbers b)) (drop-drop number.width place bytes) in
@@ -75,6 +76,7 @@ stays_more bytes decisions place left behind number s valid at same dropped =
           ap (λ n. drop n decisions) (omega (arith, length-append s.read (number ∷ [])))
           ∙ s.behind (more + 1)
           ∙ dropped more;
+      same = λ more. ap (some_changed decisions) (append_assoc s.read (number ∷ []) more) ∙ s.same (number ∷ more) ∙ unchanged more;
     }
 
 -- ---- what is left

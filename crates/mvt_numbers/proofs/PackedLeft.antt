@@ -1,5 +1,5 @@
 -- What is left of a packed field: how its scan and the body made of it answer for the whole field.
-use Rattle.std.proofs.Common.{◌≡◌, ◌≢◌, ℕ, ◌≤◌, List, [], ◌∷◌, ◌++◌, length, take, drop, Option, Some, None, refl, sym, ap, ◌∙◌, subst, arith}
+use Rattle.std.proofs.Common.{◌≡◌, Bool, true, false, ◌||◌, ◌≢◌, ℕ, ◌≤◌, List, [], ◌∷◌, ◌++◌, length, take, drop, Option, Some, None, refl, sym, ap, ◌∙◌, subst, arith}
 use Rattle.std.specs.Option.{unwrap_or}
 use Rattle.std.specs.List.{flat_map, AllByRecursion}
 use Rattle.std.proofs.lemmas.List.{append-nil, append_cancel_left, drop_all, take_all, length-append}
@@ -11,8 +11,8 @@ use Rattle.mvt_document.specs.Groups.{IsNumber}
 use Rattle.mvt_document.specs.declared.varint.Varint.{Varint}
 use Rattle.mvt_document.specs.declared.document.Field as program
 use Rattle.mvt_document.proofs.Spelling.{spelling_some, length-spell}
-use Rattle.mvt_numbers.specs.Renumbering.{renumbered, with_left}
-use Rattle.mvt_numbers.specs.Fates.{IsChange, left_of_fate}
+use Rattle.mvt_numbers.specs.Renumbering.{renumbered, some_changed, with_left}
+use Rattle.mvt_numbers.specs.Fates.{IsChange, changes, left_of_fate}
 use Rattle.mvt_numbers.specs.Deciding.{packed_numbers, packed_field, with_bytes, StaysBefore, FirstDiffers, AllStayOf, IsLeft}
 use Rattle.mvt_numbers.specs.declared.fate.Fate.{Fate}
 use Rattle.mvt_numbers.specs.declared.fate.Fate.TheVariants.{Stays, Goes, Becomes}
@@ -22,8 +22,11 @@ use Rattle.mvt_numbers.proofs.Decisions.{renumbered-none, renumbered-no_more, pa
 
 -- something else is packed
 pub all_stay-bad : (bytes : List ℕ) (decisions : List (Option ℕ)) → packed_numbers bytes ≡ None → AllStayOf bytes decisions decisions
-all_stay-bad bytes decisions e =
-    (ap (λ (found : Option (List Number)). drop (length (unwrap_or found [])) decisions) (sym e), λ numbers f. let apart : None ≡ Some numbers = sym e ∙ f in absurd (cc))
+all_stay-bad bytes decisions e = (
+    ap (λ (found : Option (List Number)). drop (length (unwrap_or found [])) decisions) (sym e),
+    ap (λ (found : Option (List Number)). some_changed decisions (unwrap_or found [])) e,
+    λ numbers f. let apart : None ≡ Some numbers = sym e ∙ f in absurd (cc),
+)
 
 -- all numbers were gone through
 pub all_stay-end : (bytes : List ℕ) (decisions : List (Option ℕ)) (place : ℕ) (left : List (Option ℕ)) → length bytes ≤ place → StaysBefore bytes decisions place left → AllStayOf bytes decisions left
@@ -33,6 +36,7 @@ all_stay-end bytes decisions place left whole s =
     let spelled : flat_map spelling (s.read ++ []) ≡ bytes = ap (flat_map spelling) (append-nil s.read) ∙ sym s.spelled ∙ take_all place bytes whole in
     let behind : drop (length (s.read ++ [])) decisions ≡ left = ap (λ (n : ℕ). drop n decisions) (length-append s.read []) ∙ s.behind 0 in (
       sym (ap (λ (o : Option (List Number)). drop (length (unwrap_or o [])) decisions) found ∙ behind),
+      ap (λ (o : Option (List Number)). some_changed decisions (unwrap_or o [])) found ∙ s.same [],
       λ numbers e.
           let same : s.read ++ [] ≡ numbers = cc in
           subst (λ (list : List Number). (renumbered decisions list ≡ list) × (flat_map spelling list ≡ bytes)) same (stay, spelled),
@@ -51,13 +55,20 @@ differs_by left behind number (Becomes other) not_stays change more e same =
     let head : number_of other ≡ number_of number = cc in
     change head
 
+changed_by : (fate : Fate Varint) (others : Bool) → (fate ≡ Stays → ⊥) → changes fate || others ≡ true
+changed_by Stays others not_stays = absurd (not_stays refl)
+changed_by Goes others not_stays = refl
+changed_by (Becomes other) others not_stays = refl
+
 pub first_differs : (rest : List ℕ) (left behind : List (Option ℕ)) (number : Varint) (fate : Fate Varint) → (fate ≡ Stays → ⊥) → IsChange number_of (number_of number) fate
     → ((more : List Number) → renumbered left (number_of number ∷ more) ≡ left_of_fate number_of (number_of number) fate ++ renumbered behind more)
+    → ((more : List Number) → some_changed left (number_of number ∷ more) ≡ changes fate || some_changed behind more)
     → ((numbers : List Number) → packed_numbers rest ≡ Some numbers → (more : List Number) × (numbers ≡ number_of number ∷ more))
     → FirstDiffers rest left
-first_differs rest left behind number fate not_stays change decided begins numbers e =
+first_differs rest left behind number fate not_stays change decided changed begins numbers e =
     let more = begins numbers e in
-    subst (λ (list : List Number). renumbered left list ≢ list) (sym more.1) (differs_by left behind number fate not_stays change more.0 (decided more.0))
+    subst (λ (list : List Number). (renumbered left list ≢ list) × (some_changed left list ≡ true)) (sym more.1)
+    (differs_by left behind number fate not_stays change more.0 (decided more.0), changed more.0 ∙ changed_by fate (some_changed behind more.0) not_stays)
 
 -- ---- the whole body
 
@@ -69,6 +80,7 @@ pub record IsChanged (bytes : List ℕ) (decisions : List (Option ℕ)) (made : 
   pub spelled : made ≡ flat_map spelling (renumbered decisions numbers)
   pub differs : renumbered decisions numbers ≢ numbers
   pub behind : left ≡ drop (length numbers) decisions
+  pub some : some_changed decisions numbers ≡ true
 
 pub whole_changed : (bytes : List ℕ) (decisions : List (Option ℕ)) (place : ℕ) (from : List (Option ℕ)) (made : List ℕ) (left : List (Option ℕ))
     → StaysBefore bytes decisions place from → FirstDiffers (drop place bytes) from → IsLeft (take place bytes) (drop place bytes) from made left → IsChanged bytes decisions made left
@@ -83,8 +95,9 @@ whole_changed bytes decisions place from made left s differs m =
           ∙ ap (λ (b : List ℕ). b ++ flat_map spelling (renumbered from m.numbers)) s.spelled
           ∙ sym (flat_map-append spelling s.read (renumbered from m.numbers))
           ∙ ap (flat_map spelling) (sym new);
-      differs = λ same. differs m.numbers m.good (append_cancel_left s.read (renumbered from m.numbers) m.numbers (sym new ∙ same));
+      differs = λ same. (differs m.numbers m.good).0 (append_cancel_left s.read (renumbered from m.numbers) m.numbers (sym new ∙ same));
       behind = m.behind ∙ sym (ap (λ (n : ℕ). drop n decisions) (length-append s.read m.numbers) ∙ s.behind (length m.numbers));
+      some = s.same m.numbers ∙ (differs m.numbers m.good).1;
     }
 
 -- ---- the field
@@ -110,6 +123,9 @@ changed_left tag width bytes decisions made left m =
 
 pub changed_behind : (bytes : List ℕ) (decisions : List (Option ℕ)) (made : List ℕ) (left : List (Option ℕ)) → IsChanged bytes decisions made left → left ≡ drop (length (unwrap_or (packed_numbers bytes) [])) decisions
 changed_behind bytes decisions made left m = m.behind ∙ ap (λ (o : Option (List Number)). drop (length (unwrap_or o [])) decisions) (sym m.good)
+
+pub changed_some : (bytes : List ℕ) (decisions : List (Option ℕ)) (made : List ℕ) (left : List (Option ℕ)) → IsChanged bytes decisions made left → some_changed decisions (unwrap_or (packed_numbers bytes) []) ≡ true
+changed_some bytes decisions made left m = ap (λ (o : Option (List Number)). some_changed decisions (unwrap_or o [])) m.good ∙ m.some
 
 changed_bytes : (bytes : List ℕ) (decisions : List (Option ℕ)) (made : List ℕ) (left : List (Option ℕ)) → IsChanged bytes decisions made left → made ≢ bytes
 changed_bytes bytes decisions made left m same =

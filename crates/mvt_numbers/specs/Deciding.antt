@@ -1,12 +1,12 @@
 -- A packed body of whose numbers each is decided on, as far as it has been read.
-use Rattle.std.specs.Prelude.{◌≡◌, ◌≢◌, ℕ, ◌+◌, ◌<◌, List, [], ◌∷◌, ◌++◌, Option, Some, None, length, take, drop, map, option_map, slice_range}
+use Rattle.std.specs.Prelude.{◌≡◌, ◌≢◌, ℕ, true, false, ◌+◌, ◌<◌, List, [], ◌∷◌, ◌++◌, Option, Some, None, length, take, drop, map, option_map, slice_range}
 use Rattle.std.specs.List.{flat_map, AllByRecursion}
 use Rattle.std.specs.Option.{unwrap_or}
 use Rattle.mvt_document.specs.Plain.{Number, Delimited, Field}
 use Rattle.mvt_document.specs.Wire.{spelling}
 use Rattle.mvt_document.specs.Groups.{IsNumber}
 use Rattle.mvt_numbers.specs.Numbers.{Placed, pieces, unpacked, all_good}
-use Rattle.mvt_numbers.specs.Renumbering.{renumbered}
+use Rattle.mvt_numbers.specs.Renumbering.{renumbered, some_changed}
 use Rattle.mvt_numbers.specs.declared.renumber.Scan.{Scan}
 use Rattle.mvt_numbers.specs.declared.renumber.Scan.TheVariants as scan
 use Rattle.mvt_numbers.specs.declared.renumber.Making.{Making}
@@ -33,14 +33,16 @@ pub record StaysBefore (bytes : List ℕ) (decisions : List (Option ℕ)) (place
   pub valid : AllByRecursion IsNumber read
   pub stay : (more : List Number) → renumbered decisions (read ++ more) ≡ read ++ renumbered left more
   pub behind : (more : ℕ) → drop (length read + more) decisions ≡ drop more left
+  pub same : (more : List Number) → some_changed decisions (read ++ more) ≡ some_changed left more
 
 -- these decisions change numbers that begin with those of this body
 abbrev pub FirstDiffers : List ℕ → List (Option ℕ) → Type 0
-FirstDiffers bytes decisions = (numbers : List Number) → packed_numbers bytes ≡ Some numbers → renumbered decisions numbers ≢ numbers
+FirstDiffers bytes decisions = (numbers : List Number) → packed_numbers bytes ≡ Some numbers → (renumbered decisions numbers ≢ numbers) × (some_changed decisions numbers ≡ true)
 
 -- these decisions are left behind a packed body whose numbers all stay, or one that packs anything else
 abbrev pub AllStayOf : List ℕ → List (Option ℕ) → List (Option ℕ) → Type 0
 AllStayOf bytes decisions left = (left ≡ drop (length (unwrap_or (packed_numbers bytes) [])) decisions)
+    × (some_changed decisions (unwrap_or (packed_numbers bytes) []) ≡ false)
     × ((numbers : List Number) → packed_numbers bytes ≡ Some numbers → (renumbered decisions numbers ≡ numbers) × (flat_map spelling numbers ≡ bytes))
 
 -- what was found of a packed body

@@ -1,8 +1,8 @@
 -- The numbers in the fields of one number replaced or left out, by a decision for each in order. All stay in their
 -- fields, and all other bytes stay.
-use Rattle.std.specs.Prelude.{ℕ, ◌==◌, List, [], ◌∷◌, ◌++◌, Option, length, drop, map, option_map, slice_index_or, if◌then◌else◌}
-use Rattle.std.specs.List.{filter_map, flat_map, zip}
-use Rattle.std.specs.Option.{unwrap_or}
+use Rattle.std.specs.Prelude.{ℕ, ◌==◌, Bool, true, not, List, [], ◌∷◌, ◌++◌, Option, length, drop, map, option_map, slice_index_or, if◌then◌else◌}
+use Rattle.std.specs.List.{filter_map, flat_map, list_any, zip}
+use Rattle.std.specs.Option.{option_map_or, unwrap_or}
 use Rattle.mvt_document.specs.Plain.{Number, Body, Spelled, Delimited, Field}
 use Rattle.mvt_document.specs.Wire.{minimal, spelling}
 use Rattle.mvt_numbers.specs.Numbers.{Placed, numbers_in, all_good}
@@ -19,6 +19,14 @@ decided p = option_map (λ value. with_number value p.1) p.0
 -- the numbers behind the last decision stay
 abbrev pub renumbered : List (Option ℕ) → List Number → List Number
 renumbered decisions numbers = filter_map decided (zip decisions numbers) ++ drop (length decisions) numbers
+
+-- the number does not keep its value by this decision
+abbrev pub is_changed : Number × Option ℕ → Bool
+is_changed p = option_map_or (λ value. not (value == p.0.value)) p.1 true
+
+-- some number does not keep its value, by a decision for each in order
+abbrev pub some_changed : List (Option ℕ) → List Number → Bool
+some_changed decisions numbers = list_any is_changed (zip numbers decisions)
 
 -- a body with these numbers in place of its own: a VARINT body has one, a LEN body packs them
 -- (guide, Packed Repeated Fields)

@@ -1,6 +1,6 @@
 //! What becomes of a field when each of its numbers is decided on.
 
-ghost use Rattle.std.specs.Prelude.{◌≡◌, ℕ, ◌+◌, ◌<◌, ◌≤◌, ◌++◌, List, [], ◌∷◌, length, take, drop, IfOk, OnOk, MatchOption};
+ghost use Rattle.std.specs.Prelude.{◌≡◌, ℕ, true, ◌||◌, ◌+◌, ◌<◌, ◌≤◌, ◌++◌, List, [], ◌∷◌, length, take, drop, IfOk, OnOk, MatchOption};
 ghost use Rattle.std.specs.List.{flat_map};
 ghost use Rattle.std.specs.Option.{unwrap_or};
 ghost use Rattle.mvt_document.specs.Plain as plain;
@@ -8,8 +8,8 @@ ghost use Rattle.mvt_document.specs.Shape.{IsTag, IsWidth};
 ghost use Rattle.mvt_document.specs.Stands.{field_of, number_of};
 ghost use Rattle.mvt_document.specs.Wire.{spelling};
 ghost use Rattle.mvt_numbers.specs.Deciding.{IsLeft, IsScanned, made_up_to, packed_field, packed_numbers, with_bytes};
-ghost use Rattle.mvt_numbers.specs.Fates.{IsChange, left_of_fate};
-ghost use Rattle.mvt_numbers.specs.Renumbering.{field_numbers, renumbered, renumbered_field, with_left};
+ghost use Rattle.mvt_numbers.specs.Fates.{IsChange, changes, left_of_fate};
+ghost use Rattle.mvt_numbers.specs.Renumbering.{field_numbers, renumbered, renumbered_field, some_changed, with_left};
 
 use crate::fate::Fate;
 use mvt_document::{Body, Field, Items, Varint, read_varint};
@@ -27,6 +27,7 @@ pub fn renumber_field<'a>(
 ) -> Result<(Fate<Field>, &'a [Option<u64>]), AllocError>
     ensures fate { IfOk result (λ made. left_of_fate field_of (field_of field.now) made.0 ≡ renumbered_field number decisions.now (field_of field.now)) }
     ensures change { IfOk result (λ made. IsChange field_of (field_of field.now) made.0) }
+    ensures changes { IfOk result (λ made. changes made.0 ≡ some_changed decisions.now (field_numbers number (field_of field.now))) }
     ensures left { IfOk result (λ made. made.1.now ≡ drop (length (field_numbers number (field_of field.now))) decisions.now) }
 {
     if field.tag.value / 8 != number {
@@ -51,6 +52,7 @@ fn renumber_unpacked<'a>(
     ensures fate { left_of_fate field_of (record { tag = number_of tag; body = plain.Spelled (number_of old) }) result.0
         ≡ with_left (record { tag = number_of tag; body = plain.Spelled (number_of old) }) (number_of old ∷ []) (renumbered decisions.now (number_of old ∷ [])) }
     ensures change { IsChange field_of (record { tag = number_of tag; body = plain.Spelled (number_of old) }) result.0 }
+    ensures changes { changes result.0 ≡ some_changed decisions.now (number_of old ∷ []) }
     ensures left { result.1.now ≡ drop 1 decisions.now }
 {
     let (fate, left) = first_fate(old, decisions);
@@ -78,6 +80,7 @@ fn renumber_packed<'a>(
     ensures fate { IfOk result (λ made. left_of_fate field_of (packed_field (number_of tag) width bytes.now) made.0
         ≡ with_left (packed_field (number_of tag) width bytes.now) (unwrap_or (packed_numbers bytes.now) []) (renumbered decisions.now (unwrap_or (packed_numbers bytes.now) []))) }
     ensures change { IfOk result (λ made. IsChange field_of (packed_field (number_of tag) width bytes.now) made.0) }
+    ensures changes { IfOk result (λ made. changes made.0 ≡ some_changed decisions.now (unwrap_or (packed_numbers bytes.now) [])) }
     ensures left { IfOk result (λ made. made.1.now ≡ drop (length (unwrap_or (packed_numbers bytes.now) [])) decisions.now) }
 {
     let (place, from) = match first_change(bytes, decisions) {
@@ -97,7 +100,8 @@ fn renumber_packed<'a>(
 fn packed_fate(tag: Varint, width: u8, left: Vec<u8>) -> Fate<Field>
     requires tag { IsTag tag.value 2 }
     requires width { IsWidth width }
-    ensures { (old : plain.Field) → left_of_fate field_of old result ≡ with_bytes (number_of tag) width left.items }
+    ensures fate { (old : plain.Field) → left_of_fate field_of old result ≡ with_bytes (number_of tag) width left.items }
+    ensures changes { changes result ≡ true }
 {
     if left.is_empty() {
         return Fate::Goes;
@@ -182,6 +186,7 @@ fn changed_from<'a>(
 fn first_fate<'a>(number: Varint, decisions: &'a [Option<u64>]) -> (Fate<Varint>, &'a [Option<u64>])
     ensures fate { (more : List plain.Number) → renumbered decisions.now (number_of number ∷ more) ≡ left_of_fate number_of (number_of number) result.0 ++ renumbered result.1.now more }
     ensures change { IsChange number_of (number_of number) result.0 }
+    ensures changes { (more : List plain.Number) → some_changed decisions.now (number_of number ∷ more) ≡ changes result.0 || some_changed result.1.now more }
     ensures left { (more : ℕ) → drop (more + 1) decisions.now ≡ drop more result.1.now }
 {
     let Some((decision, left)) = decisions.split_first() else {

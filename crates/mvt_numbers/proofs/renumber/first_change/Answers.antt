@@ -1,12 +1,12 @@
-use Rattle.std.proofs.Common.{◌≡◌, ℕ, ◌+◌, ◌++◌, List, ◌∷◌, length, take, drop, subst, sym, ap, ◌∙◌, arith}
+use Rattle.std.proofs.Common.{◌||◌, ◌≡◌, ℕ, ◌+◌, ◌++◌, List, ◌∷◌, length, take, drop, subst, sym, ap, ◌∙◌, arith}
 use Rattle.std.proofs.lemmas.List.{length-drop, take_rest}
 use Rattle.mvt_document.specs.Plain.{Number}
 use Rattle.mvt_document.specs.Stands.{number_of}
 use Rattle.mvt_document.specs.Wire.{spelling}
 use Rattle.mvt_document.proofs.Spelling.{spelling_some}
 use Rattle.mvt_numbers.specs.Deciding.{StaysBefore}
-use Rattle.mvt_numbers.specs.Fates.{left_of_fate}
-use Rattle.mvt_numbers.specs.Renumbering.{renumbered}
+use Rattle.mvt_numbers.specs.Fates.{changes, left_of_fate}
+use Rattle.mvt_numbers.specs.Renumbering.{renumbered, some_changed}
 use Rattle.mvt_numbers.proofs.Decisions.{packed-none, begins_with}
 use Rattle.mvt_numbers.proofs.Making.{stays_none, stays_more}
 use Rattle.mvt_numbers.proofs.PackedLeft.{all_stay-bad, all_stay-end, first_differs}
@@ -32,7 +32,7 @@ returns-in_default-fate c =
     ap (take n.width) (sym (take_rest bytes place)) ∙ c.in-Some.ensures.found in (
       c.loop-place-test.true,
       c.loop-place.invariant.stays,
-      first_differs (drop place bytes) c.loop-place.left.now c.first_fate-fate.result.1.now c.in-Some.number c.first_fate-fate.result.0 c.in_default-fate.not-Stays c.first_fate-fate.ensures.change c.first_fate-fate.ensures.fate
+      first_differs (drop place bytes) c.loop-place.left.now c.first_fate-fate.result.1.now c.in-Some.number c.first_fate-fate.result.0 c.in_default-fate.not-Stays c.first_fate-fate.ensures.change c.first_fate-fate.ensures.fate c.first_fate-fate.ensures.changes
           (begins_with n (drop place bytes) c.in-Some.number.spelled found),
     )
 
@@ -50,11 +50,13 @@ loop-place-preserved c =
     ap (take n.width) (sym (take_rest bytes place)) ∙ c.in-Some.ensures.found in
     let same : (more : List Number) → renumbered left (n ∷ more) ≡ n ∷ renumbered behind more = λ more.
     c.first_fate-fate.ensures.fate more ∙ ap (λ fate. left_of_fate number_of n fate ++ renumbered behind more) c.in-Stays.is in
+    let unchanged : (more : List Number) → some_changed left (n ∷ more) ≡ some_changed behind more = λ more.
+        c.first_fate-fate.ensures.changes more ∙ ap (λ fate. changes fate || some_changed behind more) c.in-Stays.is in
     record {
       within = omega (arith, c.in-Some.ensures.within, length-drop place bytes, ap length (take_rest bytes place));
       stays =
           subst (λ (w : ℕ). StaysBefore bytes c.args.decisions.now (place + w) behind) (sym c.from-place.ensures)
-          (stays_more bytes c.args.decisions.now place left behind n c.loop-place.invariant.stays c.in-Some.number.spelled found same c.first_fate-fate.ensures.left);
+          (stays_more bytes c.args.decisions.now place left behind n c.loop-place.invariant.stays c.in-Some.number.spelled found same c.first_fate-fate.ensures.left unchanged);
     }
 
 pub returns : goal.returns

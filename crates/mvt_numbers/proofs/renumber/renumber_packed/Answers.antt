@@ -1,7 +1,7 @@
-use Rattle.std.proofs.Common.{◌∙◌}
+use Rattle.std.proofs.Common.{◌∙◌, sym}
 use Rattle.mvt_document.specs.Stands.{number_of}
 use Rattle.mvt_numbers.specs.Deciding.{packed_field}
-use Rattle.mvt_numbers.proofs.PackedLeft.{IsChanged, whole_changed, changed_left, changed_behind, changed_field}
+use Rattle.mvt_numbers.proofs.PackedLeft.{IsChanged, whole_changed, changed_left, changed_behind, changed_field, changed_some}
 use Rattle.mvt_numbers.proofs.renumber.renumber_packed.Goals as goal
 use Rattle.mvt_numbers.proofs.renumber.renumber_packed.Goals.{In-Some}
 
@@ -11,14 +11,18 @@ whole c =
 
 pub returns-in-Some-clause-fate : goal.returns-in-Some-clause-fate
 returns-in-Some-clause-fate c =
-    c.packed_fate.ensures (packed_field (number_of c.args.tag) c.args.width c.args.bytes.now)
+    c.packed_fate.ensures.fate (packed_field (number_of c.args.tag) c.args.width c.args.bytes.now)
     ∙ changed_left (number_of c.args.tag) c.args.width c.args.bytes.now c.args.decisions.now c.in-Some.made.items c.in-Some.left.now (whole (goal.at.returns-in-Some-clause-fate c).In-Some)
 
 pub returns-in-Some-clause-change : goal.returns-in-Some-clause-change
 returns-in-Some-clause-change c =
     changed_field (number_of c.args.tag) c.args.width c.args.bytes.now c.args.decisions.now c.in-Some.made.items c.in-Some.left.now c.packed_fate.result (whole (goal.at.returns-in-Some-clause-change c).In-Some)
-    (c.packed_fate.ensures (packed_field (number_of c.args.tag) c.args.width c.args.bytes.now))
+    (c.packed_fate.ensures.fate (packed_field (number_of c.args.tag) c.args.width c.args.bytes.now))
 
 pub returns-in-Some-clause-left : goal.returns-in-Some-clause-left
 returns-in-Some-clause-left c =
     changed_behind c.args.bytes.now c.args.decisions.now c.in-Some.made.items c.in-Some.left.now (whole (goal.at.returns-in-Some-clause-left c).In-Some)
+
+pub returns-in-Some-clause-changes : goal.returns-in-Some-clause-changes
+returns-in-Some-clause-changes c =
+    c.packed_fate.ensures.changes ∙ sym (changed_some c.args.bytes.now c.args.decisions.now c.in-Some.made.items c.in-Some.left.now (whole (goal.at.returns-in-Some-clause-changes c).In-Some))

@@ -1,8 +1,8 @@
-use Rattle.std.proofs.Common.{◌≡◌, List, [], ◌∷◌, ◌++◌, ap, sym, ◌∙◌}
+use Rattle.std.proofs.Common.{false, ◌||◌, ◌≡◌, List, [], ◌∷◌, ◌++◌, ap, sym, ◌∙◌}
 use Rattle.std.proofs.lemmas.List.{append-nil}
 use Rattle.mvt_document.specs.Plain as plain
 use Rattle.mvt_document.specs.Stands.{number_of}
-use Rattle.mvt_numbers.specs.Fates.{left_of_fate}
+use Rattle.mvt_numbers.specs.Fates.{changes, left_of_fate}
 use Rattle.mvt_numbers.specs.Renumbering.{renumbered}
 use Rattle.mvt_numbers.proofs.Decisions.{renumbered-none}
 use Rattle.mvt_numbers.proofs.renumber.renumber_unpacked.Goals as goal
@@ -23,3 +23,12 @@ returns-clause-fate c =
 
 pub returns-clause-left : goal.returns-clause-left
 returns-clause-left c = sym (c.first_fate-fate.ensures.left 0)
+
+pub returns-clause-changes : goal.returns-clause-changes
+returns-clause-changes c =
+    let said = c.first_fate-fate.ensures.changes [] in
+    elim c.match-fate.branch [
+      in-Stays w ↦ rw w.fate-is (sym (said ∙ ap (λ fate. changes fate || false) w.in-Stays.is))
+    | in-Goes w ↦ rw w.fate-is (sym (said ∙ ap (λ fate. changes fate || false) w.in-Goes.is))
+    | in-Becomes w ↦ rw w.fate-is (sym (said ∙ ap (λ fate. changes fate || false) w.in-Becomes.is))
+    ]
