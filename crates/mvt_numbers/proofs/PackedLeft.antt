@@ -23,9 +23,9 @@ use Rattle.mvt_numbers.proofs.Decisions.{renumbered-none, renumbered-no_more, pa
 -- something else is packed
 pub all_stay-bad : (bytes : List ℕ) (decisions : List (Option ℕ)) → packed_numbers bytes ≡ None → AllStayOf bytes decisions decisions
 all_stay-bad bytes decisions e = (
-    ap (λ (found : Option (List Number)). drop (length (unwrap_or found [])) decisions) (sym e),
-    ap (λ (found : Option (List Number)). some_changed decisions (unwrap_or found [])) e,
-    λ numbers f. let apart : None ≡ Some numbers = sym e ∙ f in absurd (cc),
+  ap (λ (found : Option (List Number)). drop (length (unwrap_or found [])) decisions) (sym e),
+  ap (λ (found : Option (List Number)). some_changed decisions (unwrap_or found [])) e,
+  λ numbers f. let apart : None ≡ Some numbers = sym e ∙ f in absurd (cc),
 )
 
 -- all numbers were gone through

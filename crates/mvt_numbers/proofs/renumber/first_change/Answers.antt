@@ -51,7 +51,7 @@ loop-place-preserved c =
     let same : (more : List Number) → renumbered left (n ∷ more) ≡ n ∷ renumbered behind more = λ more.
     c.first_fate-fate.ensures.fate more ∙ ap (λ fate. left_of_fate number_of n fate ++ renumbered behind more) c.in-Stays.is in
     let unchanged : (more : List Number) → some_changed left (n ∷ more) ≡ some_changed behind more = λ more.
-        c.first_fate-fate.ensures.changes more ∙ ap (λ fate. changes fate || some_changed behind more) c.in-Stays.is in
+    c.first_fate-fate.ensures.changes more ∙ ap (λ fate. changes fate || some_changed behind more) c.in-Stays.is in
     record {
       within = omega (arith, c.in-Some.ensures.within, length-drop place bytes, ap length (take_rest bytes place));
       stays =

@@ -28,7 +28,7 @@ pub returns-clause-changes : goal.returns-clause-changes
 returns-clause-changes c =
     let said = c.first_fate-fate.ensures.changes [] in
     elim c.match-fate.branch [
-      in-Stays w ↦ rw w.fate-is (sym (said ∙ ap (λ fate. changes fate || false) w.in-Stays.is))
-    | in-Goes w ↦ rw w.fate-is (sym (said ∙ ap (λ fate. changes fate || false) w.in-Goes.is))
-    | in-Becomes w ↦ rw w.fate-is (sym (said ∙ ap (λ fate. changes fate || false) w.in-Becomes.is))
+      | in-Stays w ↦ rw w.fate-is (sym (said ∙ ap (λ fate. changes fate || false) w.in-Stays.is))
+      | in-Goes w ↦ rw w.fate-is (sym (said ∙ ap (λ fate. changes fate || false) w.in-Goes.is))
+      | in-Becomes w ↦ rw w.fate-is (sym (said ∙ ap (λ fate. changes fate || false) w.in-Becomes.is))
     ]
