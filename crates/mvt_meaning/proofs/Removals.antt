@@ -1,10 +1,10 @@
 -- What is decided on numbers of tags, where the pairs of a key go: the values are short, and none is new.
-use Rattle.std.proofs.Common.{◌≡◌, ℕ, ◌<◌, ◌^◌, Bool, true, false, Option, Some, None, option_map, Result, List, [], ◌∷◌, length, map, refl, sym, ap, ◌∙◌, inl, inr, subst, arith}
+use Rattle.std.proofs.Common.{◌≡◌, ℕ, ◌<◌, ◌^◌, Bool, true, Option, Some, None, option_map, Result, List, [], ◌∷◌, length, map, refl, sym, ap, ◌∙◌, inl, inr, subst, arith}
 use Rattle.std.specs.Prelude.{nat_lt}
 use Rattle.std.proofs.lemmas.Bool.{and_parts, cases_Bool, ltb-true}
 use Rattle.std.proofs.lemmas.Simd.{map-map}
-use Rattle.std.specs.List.{AllByRecursion, flat_map, list_all, zip}
-use Rattle.std.specs.Option.{IfSome, option_and_then, option_map_or}
+use Rattle.std.specs.List.{flat_map, list_all}
+use Rattle.std.specs.Option.{option_and_then, option_map_or}
 use Rattle.mvt_document.specs.Plain.{Number, Field, LayerItem}
 use Rattle.mvt_numbers.specs.Laws.{AreShort, NoneIsNew}
 use Rattle.mvt_numbers.specs.Numbers.{Placed, all_good, and_more, numbers}
