@@ -16,9 +16,11 @@ KINDS = ["unknown", "point", "line", "polygon"]
 class Refused(Exception):
     """Why a line is refused: the number of the refusal."""
 
-    def __init__(self, number):
+    def __init__(self, number, behind=""):
         super().__init__(number)
         self.number = number
+        # What a reply tells behind the name of the refusal.
+        self.behind = behind
 
 
 @dataclass(frozen=True)
@@ -142,8 +144,8 @@ def one_of(found, none, several):
     return found[0] if len(found) == 1 else refuse(several if found else none)
 
 
-def refuse(number):
-    raise Refused(number)
+def refuse(number, behind=""):
+    raise Refused(number, behind)
 
 
 def in_layer(tile, place, items):
@@ -256,6 +258,74 @@ def rename_key(tile, chosen, old, new):
         refuse(41)
     renamed = {at: replace(items[at], content=new) for at in places(items, KEY) if items[at].content == old}
     return in_layer(tile, place, tuple(renamed.get(at, item) for at, item in enumerate(items)))
+
+
+def numbers_in(field):
+    """The numbers of a tags field, each as it is spelled; none of another. A body that is no such sequence is refused."""
+    if field.key == TAG:
+        return [field.content]
+    found, at = [], 0
+    while field.key == TAGS and at < len(field.content):
+        end = next((end for end in range(at, len(field.content)) if field.content[end] < 0x80), len(field.content))
+        spelling = field.content[at:end + 1]
+        if end == len(field.content) or len(spelling) > 10 or number_at(spelling, 0)[0] >= 2**64:
+            raise ValueError
+        found.append(spelling)
+        at = end + 1
+    return found
+
+
+def pairs_in(layer, fields):
+    """The pairs of a feature's tags."""
+    numbers = [number_at(spelling, 0)[0] for field in fields for spelling in numbers_in(field)]
+    pairs = list(zip(numbers[::2], numbers[1::2]))
+    counts = len(places(layer, KEY)), len(places(layer, VALUE))
+    if len(numbers) % 2 or any(key >= counts[0] or value >= counts[1] for key, value in pairs):
+        raise ValueError
+    return pairs
+
+
+def readable(tile, place, feature):
+    """The pairs of the feature at this position of the layer at that one, which is refused where there are none."""
+    layer = tile[place].content
+    try:
+        return pairs_in(layer, layer[feature].content)
+    except ValueError:
+        at = places(tile, LAYER).index(place), places(layer, FEATURE).index(feature)
+        return refuse(30, f" layer {at[0]} feature {at[1]}")
+
+
+def without_key(tile, place, feature, key):
+    """The tile, where the feature has no pair of the key."""
+    layer = tile[place].content
+    keys = [layer[at].content for at in places(layer, KEY)]
+    stays = [keys[pair[0]] != key for pair in readable(tile, place, feature) for _ in pair]
+    fields = []
+    for field in layer[feature].content:
+        numbers = numbers_in(field)
+        left = [number for number, kept in zip(numbers, stays) if kept]
+        stays = stays[len(numbers):]
+        if left or not numbers:
+            fields.append(replace(field, content=b"".join(left)) if numbers else field)
+    return in_feature(tile, place, feature, tuple(fields))
+
+
+def unset(tile, chosen, feature, key):
+    place = layer_place(tile, chosen)
+    found = feature_place(tile[place], feature)
+    layer = tile[place].content
+    if key not in [layer[at].content for at in places(layer, KEY)]:
+        refuse(23)
+    return without_key(tile, place, found, key)
+
+
+def exclude(tile, chosen, key):
+    found = [(place, feature) for place in layer_places(tile, chosen) for feature in places(tile[place].content, FEATURE)]
+    for place, feature in found:
+        readable(tile, place, feature)
+    for place, feature in found:
+        tile = without_key(tile, place, feature, key)
+    return tile
 
 
 def exclude_all(tile, chosen):

@@ -18,7 +18,7 @@ MAX_MARKS = 256
 NAMES = {
     11: "BadWord", 12: "UnknownCommand", 13: "BadArguments", 14: "BadNumber", 16: "BadGeometryText",
     20: "NoLayer", 21: "AmbiguousLayer", 22: "NoFeature", 23: "NoKey", 24: "BadPlace", 25: "AmbiguousFeature",
-    40: "NameTaken", 41: "KeyTaken", 50: "NothingToUndo", 51: "NothingToRedo", 52: "NoMark", 53: "TooManyMarks",
+    30: "BadTags", 40: "NameTaken", 41: "KeyTaken", 50: "NothingToUndo", 51: "NothingToRedo", 52: "NoMark", 53: "TooManyMarks",
     54: "Stopped", 55: "GroupOpen", 56: "NoGroup", 60: "NoMemory",
 }
 
@@ -133,7 +133,9 @@ COMMANDS = {
     "drop-feature": (tiles.drop_feature, [layer, feature]),
     "set-id": (tiles.set_id, [layer, feature, number]),
     "clear-id": (tiles.clear_id, [layer, feature]),
+    "unset": (tiles.unset, [layer, feature, text]),
     "rename-key": (tiles.rename_key, [layer, text, text]),
+    "exclude": (tiles.exclude, [layers, text]),
     "exclude-all": (tiles.exclude_all, [layers]),
 }
 
@@ -254,8 +256,8 @@ def carried_out(state, words):
     return edit(state, command_of(request, rest) or refuse(12)), []
 
 
-def refusal(line, state, reason, taken=None):
-    behind = "" if taken is None else f" taken {taken}"
+def refusal(line, state, reason, taken=None, behind=""):
+    behind = behind if taken is None else f" taken {taken}"
     return Answer(f"line {line} refused {reason} {NAMES[reason]}{behind}\n", state, reason, taken)
 
 
@@ -264,7 +266,7 @@ def plain(state, line, words):
     try:
         after, told = carried_out(state, words)
     except Refused as refused:
-        return refusal(line, state, refused.number)
+        return refusal(line, state, refused.number, behind=refused.behind)
     return Answer("".join(f"{each}\n" for each in [*told, "ok"]), after)
 
 

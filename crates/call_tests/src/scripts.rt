@@ -92,7 +92,7 @@ fn put_cut(lines: &mut Vec<u8>, cut: Cut<'_>) -> Result<(), AllocError> {
 }
 
 /// All reasons for which a line is refused.
-const REASONS: [Refused; 30] = [
+const REASONS: [Refused; 32] = [
     Refused::Parse(ParseError::BadUtf8),
     Refused::Parse(ParseError::BadWord),
     Refused::Parse(ParseError::UnknownCommand),
@@ -108,6 +108,8 @@ const REASONS: [Refused; 30] = [
     Refused::Edit(Refusal::NoKey),
     Refused::Edit(Refusal::BadPlace),
     Refused::Edit(Refusal::AmbiguousFeature),
+    Refused::Edit(Refusal::BadTags { layer: 0, feature: 0 }),
+    Refused::Edit(Refusal::BadTags { layer: 1, feature: 20 }),
     Refused::Edit(Refusal::NameTaken),
     Refused::Edit(Refusal::KeyTaken),
     Refused::Edit(Refusal::OutOfRange),

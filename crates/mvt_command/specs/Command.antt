@@ -28,7 +28,9 @@ pub data Command : Type 0 where
   DropFeature : (layer : LayerChoice) (feature : FeatureChoice) → Command
   SetId : (layer : LayerChoice) (feature : FeatureChoice) (id : ℕ) → Command
   ClearId : (layer : LayerChoice) (feature : FeatureChoice) → Command
+  UnsetAttribute : (layer : LayerChoice) (feature : FeatureChoice) (key : List ℕ) → Command
   RenameKey : (layer : LayerChoice) (old new : List ℕ) → Command
+  Exclude : (layers : LayersChoice) (key : List ℕ) → Command
   ExcludeAll : (layers : LayersChoice) → Command
 
 -- a valid command: the id that it sets, where it sets one, can be spelled, as it is below 2 ^ 64 (tiles 4.2)

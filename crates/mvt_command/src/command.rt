@@ -72,10 +72,20 @@ pub enum Command {
         layer: LayerChoice,
         feature: FeatureChoice,
     },
+    UnsetAttribute {
+        layer: LayerChoice,
+        feature: FeatureChoice,
+        key: Items<u8>,
+    },
     RenameKey {
         layer: LayerChoice,
         old: Items<u8>,
         new: Items<u8>,
+    },
+    /// The attributes of one key go.
+    Exclude {
+        layers: LayersChoice,
+        key: Items<u8>,
     },
     /// All attributes go.
     ExcludeAll {

@@ -8,8 +8,8 @@ use Rattle.mvt_document.specs.Wire.{bytes_of, field_bytes, layer_item_bytes}
 use Rattle.mvt_change.specs.Changes.{FeatureStep, FitsStep, LayerStep, Step, go_step, step_weight, turn_step}
 use Rattle.mvt_command.specs.Command.{FeatureChoice, LayerChoice, RenameLayer, SetId}
 use Rattle.mvt_meaning.specs.Selection.{feature_positions, layer_positions, selected, selected_feature, selected_in}
-use Rattle.mvt_meaning.specs.Meaning.{after, applied, change_feature, change_layer, identified, is_id, is_name, is_taken, items_of, named_items, within_limit}
-use Rattle.mvt_meaning.specs.Weights.{fields_of, of_meant, put_by, taken_by, weigh_last}
+use Rattle.mvt_meaning.specs.Meaning.{after, applied, change_feature, change_layer, fields_of, identified, is_id, is_name, is_taken, items_of, named_items, within_limit}
+use Rattle.mvt_meaning.specs.Weights.{of_meant, put_by, taken_by, weigh_last}
 use Rattle.mvt_meaning.specs.declared.refusal.Refusal.{Refusal}
 use Rattle.mvt_meaning.specs.declared.refusal.Refusal.TheVariants.{TooLarge}
 use Rattle.mvt_meaning.proofs.Found.{change_feature_found, change_layer_found, fields_at_found, fields_changed, fields_of_found, items_at_found, items_changed, items_of_found, selected_in_found}

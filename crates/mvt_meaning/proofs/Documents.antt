@@ -15,17 +15,19 @@ use Rattle.mvt_geometry.specs.Shapes.{Geometry, kind_number}
 use Rattle.mvt_geometry.specs.declared.Kind.{Kind}
 use Rattle.mvt_geometry.specs.declared.Kind.TheVariants.{Dots, Lines, Areas}
 use Rattle.mvt_geometry.specs.Integers.{encoded}
-use Rattle.mvt_command.specs.Command.{LayersChoice, TheLayer, EachLayer, Command, IsCommand, RenameLayer, MoveLayer, DropLayer, KeepLayers, InsertFeature, MoveFeature, DropFeature, SetId, ClearId, RenameKey, ExcludeAll}
+use Rattle.mvt_command.specs.Command.{LayersChoice, TheLayer, EachLayer, Command, IsCommand, RenameLayer, MoveLayer, DropLayer, KeepLayers, InsertFeature, MoveFeature, DropFeature, SetId, ClearId, UnsetAttribute, RenameKey, Exclude, ExcludeAll}
 use Rattle.mvt_view.specs.Views.{layers}
 use Rattle.mvt_meaning.specs.Ordinals.{change_nth, without, move_nth, insert_nth}
-use Rattle.mvt_meaning.specs.Selection.{is_feature, is_layer, selected, selected_in}
-use Rattle.mvt_meaning.specs.Tagging.{is_key, is_tags, renamed_keys, untagged, without_tags}
+use Rattle.mvt_meaning.specs.Selection.{is_feature, is_layer, selected, selected_in, selected_layers}
+use Rattle.mvt_meaning.specs.Tagging.{excluded, is_key, is_tags, removals, renamed_keys, unreadable, untagged, without_attribute, without_tags}
 use Rattle.mvt_geometry.specs.Checks.{is_in_range}
-use Rattle.mvt_meaning.specs.Meaning.{applied, refuse_if, layer_count, feature_count, has_key, is_id, is_kept, is_name, is_taken, within_limit, change_layer, change_layers, change_feature, identified, named_items, new_content, new_feature, new_number, with_content, with_id, with_number, with_text, with_value, without_id}
-use Rattle.mvt_meaning.specs.declared.refusal.Refusal.TheVariants.{BadPlace, KeyTaken, NameTaken, NoKey, NoLayer, OutOfRange, TooLarge}
+use Rattle.mvt_meaning.specs.Meaning.{applied, refuse_if, layer_count, feature_count, has_key, has_pairs, is_id, items_of, refuse_first, is_kept, is_name, is_taken, within_limit, change_layer, change_layers, change_feature, identified, named_items, new_content, new_feature, new_number, with_content, with_id, with_number, with_text, with_value, without_id}
+use Rattle.mvt_meaning.specs.declared.refusal.Refusal.TheVariants.{BadPlace, BadTags, KeyTaken, NameTaken, NoKey, NoLayer, OutOfRange, TooLarge}
 use Rattle.mvt_meaning.specs.DocumentLaws.{CommandMakesDocument}
+use Rattle.mvt_numbers.proofs.Redone.{stays_valid}
 use Rattle.mvt_meaning.proofs.Accepted.{ok_so, then_so}
 use Rattle.mvt_meaning.proofs.Elements.{all_changed, all_filtered, all_inserted, all_mapped, all_moved, all_put, all_without}
+use Rattle.mvt_meaning.proofs.Removals.{removals_short}
 
 -- ---- a new name
 
@@ -126,6 +128,13 @@ untagged_valid : (items : List LayerItem) → AllByRecursion IsLayerItem items �
 untagged_valid items all =
     all_mapped IsLayerItem (in_feature without_tags) (in_feature_valid without_tags (all_filtered IsField (λ field. not (is_tags field)))) items all
 
+unset_valid : (key : List ℕ) (items : List LayerItem) (fields : List Field) → AllByRecursion IsField fields → AllByRecursion IsField (without_attribute key items fields)
+unset_valid key items fields all = stays_valid 2 (removals key items fields) fields (removals_short key items fields) all
+
+excluded_valid : (key : List ℕ) (items : List LayerItem) → AllByRecursion IsLayerItem items → AllByRecursion IsLayerItem (excluded key items)
+excluded_valid key items all =
+    all_mapped IsLayerItem (in_feature (without_attribute key items)) (in_feature_valid (without_attribute key items) (unset_valid key items)) items all
+
 -- ---- accepted commands
 
 limited_valid : (document : Document) → IsDocument document → IfOk (within_limit document) IsDocument
@@ -166,11 +175,20 @@ made_valid (SetId choice feature id) document fits valid =
 made_valid (ClearId choice feature) document fits valid =
     then_so IsDocument (selected choice document) _ (λ ordinal.
     then_so IsDocument (selected_in feature ordinal document) _ (λ meant. feature_valid without_id (all_filtered IsField (λ field. not (is_id field))) ordinal meant document valid))
+made_valid (UnsetAttribute choice feature key) document fits valid =
+    then_so IsDocument (selected choice document) _ (λ ordinal.
+    then_so IsDocument (selected_in feature ordinal document) _ (λ meant.
+    then_so IsDocument (refuse_if (not (has_key key ordinal document)) NoKey) _ (λ there.
+    then_so IsDocument (refuse_if (not (has_pairs ordinal meant document)) (BadTags ordinal meant)) _ (λ readable.
+    feature_valid (without_attribute key (items_of ordinal document)) (unset_valid key (items_of ordinal document)) ordinal meant document valid))))
 made_valid (RenameKey choice old new) document fits valid =
     then_so IsDocument (selected choice document) _ (λ ordinal.
     then_so IsDocument (refuse_if (not (has_key old ordinal document)) NoKey) _ (λ there.
     then_so IsDocument (refuse_if (has_key new ordinal document && not (bytes_eq old new)) KeyTaken) _ (λ free.
     limited_valid (change_layer (renamed_keys old new) ordinal document) (layer_valid (renamed_keys old new) (renamed_valid old new) ordinal document valid))))
+made_valid (Exclude choice key) document fits valid =
+    then_so IsDocument (selected_layers choice document) _ (λ layers.
+    then_so IsDocument (refuse_first (unreadable layers)) _ (λ readable. layers_valid (excluded key) (excluded_valid key) choice document valid))
 made_valid (ExcludeAll choice) document fits valid = layers_valid untagged untagged_valid choice document valid
 
 pub command_makes_document : CommandMakesDocument

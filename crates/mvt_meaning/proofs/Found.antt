@@ -11,8 +11,7 @@ use Rattle.mvt_document.specs.Places.{change_fields, change_items, fields_at, fi
 use Rattle.mvt_command.specs.Command.{FeatureChoice}
 use Rattle.mvt_meaning.specs.Ordinals.{change_first, change_nth, from_nth}
 use Rattle.mvt_meaning.specs.Selection.{feature_positions, is_feature, is_layer, layer_positions, selected_feature, selected_in}
-use Rattle.mvt_meaning.specs.Meaning.{change_feature, change_layer, items_of}
-use Rattle.mvt_meaning.specs.Weights.{fields_of}
+use Rattle.mvt_meaning.specs.Meaning.{change_feature, change_layer, fields_of, items_of}
 use Rattle.mvt_meaning.specs.declared.refusal.Refusal.TheVariants.{NoLayer}
 use Rattle.mvt_meaning.proofs.Positions.{positions_from, positions_pass, positions_skip, positions_within}
 

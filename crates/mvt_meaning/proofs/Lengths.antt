@@ -10,17 +10,19 @@ use Rattle.mvt_document.specs.Plain.{Field, LayerItem, OfFeature, PlainInLayer, 
 use Rattle.mvt_document.specs.Wire.{field_bytes, layer_item_bytes, tile_item_bytes, bytes_of}
 use Rattle.mvt_document.proofs.Sizes.{length-message_grows}
 use Rattle.mvt_document.specs.Places.{in_layer, in_feature}
-use Rattle.mvt_command.specs.Command.{LayersChoice, TheLayer, EachLayer, Command, RenameLayer, MoveLayer, DropLayer, KeepLayers, InsertFeature, MoveFeature, DropFeature, SetId, ClearId, RenameKey, ExcludeAll}
+use Rattle.mvt_command.specs.Command.{LayersChoice, TheLayer, EachLayer, Command, RenameLayer, MoveLayer, DropLayer, KeepLayers, InsertFeature, MoveFeature, DropFeature, SetId, ClearId, UnsetAttribute, RenameKey, Exclude, ExcludeAll}
 use Rattle.mvt_meaning.specs.Ordinals.{from_nth, change_first, change_nth, without, before, behind, move_nth, insert_nth}
-use Rattle.mvt_meaning.specs.Selection.{is_feature, is_layer, selected, selected_in}
+use Rattle.mvt_meaning.specs.Selection.{is_feature, is_layer, selected, selected_in, selected_layers}
 use Rattle.mvt_view.specs.Views.{layers}
 use Rattle.mvt_geometry.specs.Checks.{is_in_range}
-use Rattle.mvt_meaning.specs.Tagging.{is_tags, renamed_keys, untagged, without_tags}
-use Rattle.mvt_meaning.specs.Meaning.{applied, refuse_if, layer_count, feature_count, has_key, within_limit, change_layer, change_layers, change_feature, is_id, is_kept, is_taken, without_id, identified, named_items, new_feature}
+use Rattle.mvt_meaning.specs.Tagging.{excluded, is_tags, removals, renamed_keys, unreadable, untagged, without_attribute, without_tags}
+use Rattle.mvt_meaning.specs.Meaning.{applied, refuse_if, layer_count, feature_count, has_key, has_pairs, items_of, refuse_first, within_limit, change_layer, change_layers, change_feature, is_id, is_kept, is_taken, without_id, identified, named_items, new_feature}
 use Rattle.mvt_meaning.specs.Weights.{weigh}
 use Rattle.mvt_meaning.specs.SizeLaws.{CommandFits, NeverLonger, may_lengthen}
-use Rattle.mvt_meaning.specs.declared.refusal.Refusal.TheVariants.{BadPlace, KeyTaken, NameTaken, NoKey, NoLayer, OutOfRange, TooLarge}
+use Rattle.mvt_meaning.specs.declared.refusal.Refusal.TheVariants.{BadPlace, BadTags, KeyTaken, NameTaken, NoKey, NoLayer, OutOfRange, TooLarge}
+use Rattle.mvt_numbers.proofs.Redone.{no_longer}
 use Rattle.mvt_meaning.proofs.Accepted.{ok_so, then_so}
+use Rattle.mvt_meaning.proofs.Removals.{none_new}
 
 -- ---- lists
 
@@ -141,6 +143,13 @@ untagged_no_longer : (items : List LayerItem) → weigh layer_item_bytes (untagg
 untagged_no_longer items =
     map_no_longer layer_item_bytes (in_feature without_tags) (in_feature_no_longer without_tags (λ fields. filter_no_longer field_bytes (λ field. not (is_tags field)) fields)) items
 
+unset_no_longer : (key : List ℕ) (items : List LayerItem) (fields : List Field) → weigh field_bytes (without_attribute key items fields) ≤ weigh field_bytes fields
+unset_no_longer key items fields = no_longer 2 (removals key items fields) fields (none_new key items fields)
+
+excluded_no_longer : (key : List ℕ) (items : List LayerItem) → weigh layer_item_bytes (excluded key items) ≤ weigh layer_item_bytes items
+excluded_no_longer key items =
+    map_no_longer layer_item_bytes (in_feature (without_attribute key items)) (in_feature_no_longer (without_attribute key items) (unset_no_longer key items)) items
+
 -- ---- accepted commands
 
 kept_no_longer : (command : Command) (document : Document) → may_lengthen command ≡ false → IfOk (applied command document) (IsNoLonger document)
@@ -164,7 +173,16 @@ kept_no_longer (SetId choice feature id) document kind = absurd cc
 kept_no_longer (ClearId choice feature) document kind =
     then_so (IsNoLonger document) (selected choice document) _ (λ ordinal.
     then_so (IsNoLonger document) (selected_in feature ordinal document) _ (λ meant. feature_no_longer without_id (λ fields. filter_no_longer field_bytes (λ field. not (is_id field)) fields) ordinal meant document))
+kept_no_longer (UnsetAttribute choice feature key) document kind =
+    then_so (IsNoLonger document) (selected choice document) _ (λ ordinal.
+    then_so (IsNoLonger document) (selected_in feature ordinal document) _ (λ meant.
+    then_so (IsNoLonger document) (refuse_if (not (has_key key ordinal document)) NoKey) _ (λ there.
+    then_so (IsNoLonger document) (refuse_if (not (has_pairs ordinal meant document)) (BadTags ordinal meant)) _ (λ readable.
+    feature_no_longer (without_attribute key (items_of ordinal document)) (unset_no_longer key (items_of ordinal document)) ordinal meant document))))
 kept_no_longer (RenameKey choice old new) document kind = absurd cc
+kept_no_longer (Exclude choice key) document kind =
+    then_so (IsNoLonger document) (selected_layers choice document) _ (λ layers.
+    then_so (IsNoLonger document) (refuse_first (unreadable layers)) _ (λ readable. layers_no_longer (excluded key) (excluded_no_longer key) choice document))
 kept_no_longer (ExcludeAll choice) document kind = layers_no_longer untagged untagged_no_longer choice document
 
 pub never_longer : NeverLonger
@@ -196,10 +214,12 @@ lengthens_within (DropFeature choice feature) document kind = absurd cc
 lengthens_within (SetId choice feature id) document kind =
     then_so IsWithin (selected choice document) _ (λ ordinal. then_so IsWithin (selected_in feature ordinal document) _ (λ meant. limited (change_feature (identified id) ordinal meant document)))
 lengthens_within (ClearId choice feature) document kind = absurd cc
+lengthens_within (UnsetAttribute choice feature key) document kind = absurd cc
 lengthens_within (RenameKey choice old new) document kind =
     then_so IsWithin (selected choice document) _ (λ ordinal.
     then_so IsWithin (refuse_if (not (has_key old ordinal document)) NoKey) _ (λ there.
     then_so IsWithin (refuse_if (has_key new ordinal document && not (bytes_eq old new)) KeyTaken) _ (λ free. limited (change_layer (renamed_keys old new) ordinal document))))
+lengthens_within (Exclude choice key) document kind = absurd cc
 lengthens_within (ExcludeAll choice) document kind = absurd cc
 
 pub command_fits : CommandFits

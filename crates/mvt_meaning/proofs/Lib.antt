@@ -9,6 +9,7 @@ pub mod FeatureCommands
 pub mod Positions
 pub mod Selecting
 pub mod SelectionLemmas
+pub mod Removals
 pub mod Lengths
 pub mod Elements
 pub mod Documents

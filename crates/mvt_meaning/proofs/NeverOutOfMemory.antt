@@ -3,20 +3,21 @@ use Rattle.std.proofs.Common.{◌≡◌, ◌≢◌, ℕ, ◌&&◌, List, [], ◌
 use Rattle.std.specs.Prelude.{nat_lt, not, slice_get}
 use Rattle.std.specs.List.{list_any}
 use Rattle.std.specs.Option.{option_map_or}
+use Rattle.std.specs.Result.{result_map_both}
 use Rattle.std.specs.Str.{bytes_eq}
 use Rattle.mvt_document.specs.declared.TheConstants.{MAX_FILE}
 use Rattle.mvt_document.specs.Plain.{Document, Layer, LayerItem, OfLayer}
 use Rattle.mvt_document.specs.Wire.{bytes_of}
-use Rattle.mvt_command.specs.Command.{LayerChoice, AtOrdinal, Named, LayersChoice, TheLayer, EachLayer, FeatureChoice, FeatureAtOrdinal, WithId, Command, RenameLayer, MoveLayer, DropLayer, KeepLayers, InsertFeature, MoveFeature, DropFeature, SetId, ClearId, RenameKey, ExcludeAll}
+use Rattle.mvt_command.specs.Command.{LayerChoice, AtOrdinal, Named, LayersChoice, TheLayer, EachLayer, FeatureChoice, FeatureAtOrdinal, WithId, Command, RenameLayer, MoveLayer, DropLayer, KeepLayers, InsertFeature, MoveFeature, DropFeature, SetId, ClearId, UnsetAttribute, RenameKey, Exclude, ExcludeAll}
 use Rattle.mvt_command.proofs.Others.{Other, either}
 use Rattle.mvt_view.specs.Views.{features, has_id, is_named, layers, ordinals_of, the_one}
 use Rattle.mvt_meaning.specs.MemoryLaws.{NoCommandIsOutOfMemory}
-use Rattle.mvt_meaning.specs.Selection.{selected, selected_feature, selected_in}
+use Rattle.mvt_meaning.specs.Selection.{selected, selected_feature, selected_in, selected_layers}
 use Rattle.mvt_geometry.specs.Checks.{is_in_range}
-use Rattle.mvt_meaning.specs.Tagging.{untagged}
-use Rattle.mvt_meaning.specs.Meaning.{◌>>=◌, applied, change_layers, refuse_if, within_limit, is_taken, is_kept, has_key, layer_count, feature_count}
+use Rattle.mvt_meaning.specs.Tagging.{excluded, unreadable, untagged}
+use Rattle.mvt_meaning.specs.Meaning.{◌>>=◌, applied, change_layers, has_pairs, refuse_first, refuse_if, within_limit, is_taken, is_kept, has_key, layer_count, feature_count}
 use Rattle.mvt_meaning.specs.declared.refusal.Refusal.{Refusal}
-use Rattle.mvt_meaning.specs.declared.refusal.Refusal.TheVariants.{NoMemory, NoLayer, AmbiguousLayer, NoFeature, AmbiguousFeature, NoKey, BadPlace, NameTaken, KeyTaken, OutOfRange, TooLarge}
+use Rattle.mvt_meaning.specs.declared.refusal.Refusal.TheVariants.{NoMemory, NoLayer, AmbiguousLayer, NoFeature, AmbiguousFeature, NoKey, BadPlace, BadTags, NameTaken, KeyTaken, OutOfRange, TooLarge}
 
 abbrev NeverOutOfMemory : {A : Type 0} → Result A Refusal → Type 0
 NeverOutOfMemory result = Other NoMemory result
@@ -57,6 +58,18 @@ layers_meant : (change : List LayerItem → List LayerItem) (choice : LayersChoi
 layers_meant change (TheLayer choice) document = then (selected choice document) _ (layer_meant choice document) (λ ordinal. tt)
 layers_meant change EachLayer document = tt
 
+meant_layers : (choice : LayersChoice) (document : Document) → NeverOutOfMemory (selected_layers choice document)
+meant_layers (TheLayer choice) document = mapped _ (selected choice document) (layer_meant choice document)
+  where
+    mapped : {A B : Type 0} (f : A → B) (r : Result A Refusal) → NeverOutOfMemory r → NeverOutOfMemory (result_map_both f (λ refusal. refusal) r)
+    mapped f (Ok x) other = tt
+    mapped f (Err e) other = other
+meant_layers EachLayer document = tt
+
+first_refused : (list : List (ℕ × ℕ)) → NeverOutOfMemory (refuse_first list)
+first_refused [] = tt
+first_refused (at ∷ more) = λ e. cc
+
 pub applied_other : (command : Command) (document : Document) → Other NoMemory (applied command document)
 applied_other (RenameLayer choice name) document =
     then (selected choice document) _ (layer_meant choice document) (λ ordinal.
@@ -89,12 +102,22 @@ applied_other (SetId choice feature id) document =
 applied_other (ClearId choice feature) document =
     then (selected choice document) _ (layer_meant choice document) (λ ordinal.
     then (selected_in feature ordinal document) _ (feature_meant feature ordinal document) (λ meant. tt))
+applied_other (UnsetAttribute choice feature key) document =
+    then (selected choice document) _ (layer_meant choice document) (λ ordinal.
+    then (selected_in feature ordinal document) _ (feature_meant feature ordinal document) (λ meant.
+    let gone = not (has_key key ordinal document) in
+    let bad = not (has_pairs ordinal meant document) in
+    then (refuse_if gone NoKey) _ (either NoMemory gone (Err NoKey) (Ok tt) (λ e. cc) tt) (λ there.
+    then (refuse_if bad (BadTags ordinal meant)) _ (either NoMemory bad (Err (BadTags ordinal meant)) (Ok tt) (λ e. cc) tt) (λ readable. tt))))
 applied_other (RenameKey choice old new) document =
     then (selected choice document) _ (layer_meant choice document) (λ ordinal.
     let gone = not (has_key old ordinal document) in
     let taken = has_key new ordinal document && not (bytes_eq old new) in
     then (refuse_if gone NoKey) _ (either NoMemory gone (Err NoKey) (Ok tt) (λ e. cc) tt) (λ there.
     then (refuse_if taken KeyTaken) _ (either NoMemory taken (Err KeyTaken) (Ok tt) (λ e. cc) tt) (λ free. limited _)))
+applied_other (Exclude choice key) document =
+    then (selected_layers choice document) _ (meant_layers choice document) (λ layers.
+    then (refuse_first (unreadable layers)) _ (first_refused (unreadable layers)) (λ readable. layers_meant (excluded key) choice document))
 applied_other (ExcludeAll choice) document = layers_meant untagged choice document
 
 other_refusal : {A : Type 0} (result : Result A Refusal) → Other NoMemory result → result ≢ Err NoMemory

@@ -15,14 +15,14 @@ use Rattle.mvt_geometry.specs.Checks.{is_in_range}
 use Rattle.mvt_geometry.specs.declared.faults.EncodeError.{EncodeError}
 use Rattle.mvt_geometry.specs.declared.faults.EncodeError.TheVariants as encode_errors
 use Rattle.mvt_view.specs.Views.{content_in, features_in, is_named, layers, ordinals_of, value_in}
-use Rattle.mvt_document.specs.Places.{in_feature, in_layer}
-use Rattle.mvt_command.specs.Command.{LayersChoice, TheLayer, EachLayer, Command, RenameLayer, MoveLayer, DropLayer, KeepLayers, InsertFeature, MoveFeature, DropFeature, SetId, ClearId, RenameKey, ExcludeAll}
+use Rattle.mvt_document.specs.Places.{fields_in, in_feature, in_layer}
+use Rattle.mvt_command.specs.Command.{LayersChoice, TheLayer, EachLayer, Command, RenameLayer, MoveLayer, DropLayer, KeepLayers, InsertFeature, MoveFeature, DropFeature, SetId, ClearId, UnsetAttribute, RenameKey, Exclude, ExcludeAll}
 use Rattle.mvt_meaning.specs.Ordinals.{change_nth, without, move_nth, insert_nth, put_last}
-use Rattle.mvt_meaning.specs.Selection.{is_feature, is_layer, selected, selected_in}
-use Rattle.mvt_meaning.specs.Tagging.{is_key, renamed_keys, untagged}
+use Rattle.mvt_meaning.specs.Selection.{is_feature, is_layer, selected, selected_in, selected_layers}
+use Rattle.mvt_meaning.specs.Tagging.{excluded, is_key, pairs_among, renamed_keys, unreadable, untagged, without_attribute}
 pub use Rattle.mvt_meaning.specs.Fields.{new_content, new_number, with_content, with_number, with_text, with_value}
 use Rattle.mvt_meaning.specs.declared.refusal.Refusal.{Refusal}
-use Rattle.mvt_meaning.specs.declared.refusal.Refusal.TheVariants.{BadPlace, KeyTaken, NameTaken, NoKey, NoLayer, NoMemory, OutOfRange, TooLarge}
+use Rattle.mvt_meaning.specs.declared.refusal.Refusal.TheVariants.{BadPlace, BadTags, KeyTaken, NameTaken, NoKey, NoLayer, NoMemory, OutOfRange, TooLarge}
 
 -- what follows a step that was accepted; the refusal of one that was refused
 infixl 10 ◌>>=◌
@@ -94,6 +94,10 @@ layer_count document = length (layers document)
 abbrev pub items_of : ℕ → Document → List LayerItem
 items_of ordinal document = option_map_or (λ layer. layer.items) (slice_get (layers document) ordinal) []
 
+-- the fields of the feature of this ordinal, in the layer of that ordinal
+abbrev pub fields_of : ℕ → ℕ → Document → List Field
+fields_of ordinal feature document = option_map_or (λ item. option_map_or (λ fields. fields) (fields_in item) []) (slice_get (filter is_feature (items_of ordinal document)) feature) []
+
 -- how many features the layer of this ordinal has (tiles 4.2)
 abbrev pub feature_count : ℕ → Document → ℕ
 feature_count ordinal document = length (features_in (items_of ordinal document))
@@ -117,11 +121,20 @@ change_layers change EachLayer document = Ok (map (in_layer change) document)
 abbrev pub has_key : List ℕ → ℕ → Document → Bool
 has_key key ordinal document = list_any (is_key key) (items_of ordinal document)
 
+-- the tags of the feature of this ordinal make pairs, in the layer of that ordinal (tiles 4.4)
+abbrev pub has_pairs : ℕ → ℕ → Document → Bool
+has_pairs ordinal feature document = is_some (pairs_among (items_of ordinal document) (fields_of ordinal feature document))
+
 -- ---- refusals
 
 -- the refusal, where it applies
 abbrev pub refuse_if : Bool → Refusal → Result (Unit {0}) Refusal
 refuse_if applies refusal = if applies then Err refusal else Ok tt
+
+-- the refusal for the tags of the first of these features, where there is one
+abbrev pub refuse_first : List (ℕ × ℕ) → Result (Unit {0}) Refusal
+refuse_first [] = Ok tt
+refuse_first (at ∷ more) = Err (BadTags at.0 at.1)
 
 -- the refusal for a geometry that has no bytes: it is out of range, or there is no memory
 abbrev pub geometry_refusal : EncodeError → Refusal
@@ -172,11 +185,21 @@ applied (ClearId choice feature) document = do
   ordinal ← selected choice document
   meant ← selected_in feature ordinal document
   Ok (change_feature without_id ordinal meant document)
+applied (UnsetAttribute choice feature key) document = do
+  ordinal ← selected choice document
+  meant ← selected_in feature ordinal document
+  there ← refuse_if (not (has_key key ordinal document)) NoKey
+  readable ← refuse_if (not (has_pairs ordinal meant document)) (BadTags ordinal meant)
+  Ok (change_feature (without_attribute key (items_of ordinal document)) ordinal meant document)
 applied (RenameKey choice old new) document = do
   ordinal ← selected choice document
   there ← refuse_if (not (has_key old ordinal document)) NoKey
   free ← refuse_if (has_key new ordinal document && not (bytes_eq old new)) KeyTaken
   within_limit (change_layer (renamed_keys old new) ordinal document)
+applied (Exclude choice key) document = do
+  layers ← selected_layers choice document
+  readable ← refuse_first (unreadable layers)
+  change_layers (excluded key) choice document
 applied (ExcludeAll choice) document = change_layers untagged choice document
 
 -- the document after the command; a refused command changes nothing

@@ -1,14 +1,14 @@
 -- How many bytes a command takes out of a document, and how many it puts in: those of whole items.
-use Rattle.std.specs.Prelude.{ℕ, Bool, not, List, [], length, filter, slice_get, None, Result, Ok, Err}
+use Rattle.std.specs.Prelude.{ℕ, Bool, not, List, length, map, filter, slice_get, Option, None, Result, Ok, Err}
 use Rattle.std.specs.List.{flat_map, last_or}
 use Rattle.std.specs.Option.{option_map_or}
 use Rattle.mvt_document.specs.Plain.{Field, Document}
 use Rattle.mvt_document.specs.Wire.{field_bytes, layer_item_bytes, tile_item_bytes}
-use Rattle.mvt_document.specs.Places.{fields_in}
-use Rattle.mvt_command.specs.Command.{LayerChoice, FeatureChoice, Command, RenameLayer, DropLayer, KeepLayers, InsertFeature, DropFeature, SetId, ClearId, RenameKey, ExcludeAll}
+use Rattle.mvt_numbers.specs.Renumbering.{renumbered_field}
+use Rattle.mvt_command.specs.Command.{LayerChoice, LayersChoice, FeatureChoice, Command, RenameLayer, DropLayer, KeepLayers, InsertFeature, DropFeature, SetId, ClearId, UnsetAttribute, RenameKey, Exclude, ExcludeAll}
 use Rattle.mvt_meaning.specs.Selection.{is_feature, is_layer, selected, selected_in, selected_layers}
-use Rattle.mvt_meaning.specs.Tagging.{is_key, tags_fields}
-use Rattle.mvt_meaning.specs.Meaning.{after, is_id, is_kept, is_name, items_of, new_feature}
+use Rattle.mvt_meaning.specs.Tagging.{is_key, losing, losing_in, tags_fields}
+use Rattle.mvt_meaning.specs.Meaning.{after, fields_of, is_id, is_kept, is_name, items_of, new_feature}
 use Rattle.mvt_meaning.specs.declared.refusal.Refusal.{Refusal}
 
 -- ---- the bytes of some items
@@ -32,10 +32,6 @@ abbrev pub of_meant : {A : Type 0} → Result A Refusal → (A → ℕ) → ℕ
 of_meant (Ok meant) weight = weight meant
 of_meant (Err refusal) weight = 0
 
--- the fields of the feature of this ordinal, in the layer of that ordinal
-abbrev pub fields_of : ℕ → ℕ → Document → List Field
-fields_of ordinal feature document = option_map_or (λ item. option_map_or (λ fields. fields) (fields_in item) []) (slice_get (filter is_feature (items_of ordinal document)) feature) []
-
 -- the bytes, in the document `seen`, of the last name field of the layer that is selected in `document`
 abbrev pub name_weight : LayerChoice → Document → Document → ℕ
 name_weight choice document seen = of_meant (selected choice document) (λ ordinal. weigh_last layer_item_bytes is_name (items_of ordinal seen))
@@ -48,6 +44,24 @@ id_weight choice feature document seen = of_meant (selected choice document) (λ
 abbrev pub key_weight : List ℕ → LayerChoice → Document → Document → ℕ
 key_weight key choice document seen = of_meant (selected choice document) (λ ordinal. weigh layer_item_bytes (filter (is_key key) (items_of ordinal seen)))
 
+-- ---- fields of which numbers go or get other values
+
+-- these fields, as they are before
+abbrev pub as_before : List (List (Option ℕ) × Field) → List Field
+as_before decided = map (λ at. at.1) decided
+
+-- what comes of these fields
+abbrev pub as_after : List (List (Option ℕ) × Field) → List Field
+as_after decided = flat_map (λ at. renumbered_field 2 at.0 at.1) decided
+
+-- the bytes, seen so, of the tags fields that lose a pair of the key in the feature that is selected
+abbrev pub unset_weight : (List (List (Option ℕ) × Field) → List Field) → LayerChoice → FeatureChoice → List ℕ → Document → ℕ
+unset_weight seen choice feature key document = of_meant (selected choice document) (λ ordinal. of_meant (selected_in feature ordinal document) (λ meant. weigh field_bytes (seen (losing key (items_of ordinal document) (fields_of ordinal meant document)))))
+
+-- the bytes, seen so, of the tags fields that lose a pair of the key in all features of the layers that are meant
+abbrev pub excluded_weight : (List (List (Option ℕ) × Field) → List Field) → LayersChoice → List ℕ → Document → ℕ
+excluded_weight seen choice key document = of_meant (selected_layers choice document) (λ meant. weigh field_bytes (seen (flat_map (λ found. losing_in key found.1.1) meant)))
+
 -- ---- commands
 
 -- the bytes of the items that a command takes out or replaces, as they stand before it
@@ -58,7 +72,9 @@ taken_by (KeepLayers names) document = weigh tile_item_bytes (filter (λ item. n
 taken_by (DropFeature choice feature) document = of_meant (selected choice document) (λ ordinal. of_meant (selected_in feature ordinal document) (λ going. weigh_nth layer_item_bytes is_feature going (items_of ordinal document)))
 taken_by (SetId choice feature id) document = id_weight choice feature document document
 taken_by (ClearId choice feature) document = of_meant (selected choice document) (λ ordinal. of_meant (selected_in feature ordinal document) (λ meant. weigh field_bytes (filter is_id (fields_of ordinal meant document))))
+taken_by (UnsetAttribute choice feature key) document = unset_weight as_before choice feature key document
 taken_by (RenameKey choice old new) document = key_weight old choice document document
+taken_by (Exclude choice key) document = excluded_weight as_before choice key document
 taken_by (ExcludeAll choice) document = of_meant (selected_layers choice document) (λ meant. weigh field_bytes (flat_map (λ found. tags_fields found.1.1) meant))
 taken_by command document = 0
 
@@ -67,5 +83,7 @@ abbrev pub put_by : Command → Document → ℕ
 put_by (RenameLayer choice name) document = name_weight choice document (after (RenameLayer choice name) document)
 put_by (InsertFeature choice index geometry) document = length (layer_item_bytes (new_feature geometry))
 put_by (SetId choice feature id) document = id_weight choice feature document (after (SetId choice feature id) document)
+put_by (UnsetAttribute choice feature key) document = unset_weight as_after choice feature key document
 put_by (RenameKey choice old new) document = key_weight new choice document (after (RenameKey choice old new) document)
+put_by (Exclude choice key) document = excluded_weight as_after choice key document
 put_by command document = 0

@@ -23,6 +23,8 @@ pub enum Refusal {
     NoKey,
     #[error("the place is past the last")]
     BadPlace,
+    #[error("the tags of feature {feature} of layer {layer} cannot be read")]
+    BadTags { layer: usize, feature: usize },
     #[error("another layer has the name")]
     NameTaken,
     #[error("the layer has the key already")]

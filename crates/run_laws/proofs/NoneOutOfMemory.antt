@@ -13,7 +13,7 @@ use Rattle.tile_listing.specs.Told.{MayBeTold, AreLinesToTell}
 use Rattle.tile_listing.proofs.Telling.{uncut-append, decimal_uncut}
 use Rattle.tile_answer.specs.Answering.{Told, carried_out}
 use Rattle.tile_answer.proofs.AnswerLaws.{requests_tell_lines, no_request_is_out_of_memory}
-use Rattle.tile_reply.specs.Replies.{accepted_reply, refused_front, refused_reply, refusal_number, refusal_name, stop_told, taken_in, IsOutOfMemory, NoneIsOutOfMemory}
+use Rattle.tile_reply.specs.Replies.{accepted_reply, refused_front, refused_reply, refusal_number, refusal_name, behind_name, IsOutOfMemory, NoneIsOutOfMemory}
 use Rattle.tile_run.specs.Run.{Progress, at_first, ran, settled_by, answered_by, after_line, is_over, after_lines}
 use Rattle.run_laws.specs.RunLaws.{NoRunIsOutOfMemory}
 use Rattle.mvt_meaning.specs.declared.refusal.Refusal.TheVariants as edit
@@ -63,6 +63,7 @@ name_uncut (refused.Edit edit.NoFeature) = refl
 name_uncut (refused.Edit edit.NoKey) = refl
 name_uncut (refused.Edit edit.BadPlace) = refl
 name_uncut (refused.Edit edit.AmbiguousFeature) = refl
+name_uncut (refused.Edit (edit.BadTags layer feature)) = refl
 name_uncut (refused.Edit edit.NameTaken) = refl
 name_uncut (refused.Edit edit.KeyTaken) = refl
 name_uncut (refused.Edit edit.OutOfRange) = refl
@@ -77,9 +78,39 @@ name_uncut (refused.History history.GroupOpen) = refl
 name_uncut (refused.History history.NoGroup) = refl
 name_uncut (refused.History history.NoMemory) = refl
 
-stop_uncut : (taken : Option ℕ) → HasNoLineFeed (stop_told taken)
-stop_uncut None = tt
-stop_uncut (Some taken) = uncut-append (codes " taken ") (decimal taken) (uncut_by_test (codes " taken ") refl) (decimal_uncut taken)
+behind_uncut : (reason : Refused) → HasNoLineFeed (behind_name reason)
+behind_uncut (refused.Parse parse.BadUtf8) = tt
+behind_uncut (refused.Parse parse.BadWord) = tt
+behind_uncut (refused.Parse parse.UnknownCommand) = tt
+behind_uncut (refused.Parse parse.BadArguments) = tt
+behind_uncut (refused.Parse parse.BadNumber) = tt
+behind_uncut (refused.Parse parse.BadValue) = tt
+behind_uncut (refused.Parse parse.BadGeometryText) = tt
+behind_uncut (refused.Parse parse.LineTooLong) = tt
+behind_uncut (refused.Parse parse.NoMemory) = tt
+behind_uncut (refused.Edit edit.NoLayer) = tt
+behind_uncut (refused.Edit edit.AmbiguousLayer) = tt
+behind_uncut (refused.Edit edit.NoFeature) = tt
+behind_uncut (refused.Edit edit.NoKey) = tt
+behind_uncut (refused.Edit edit.BadPlace) = tt
+behind_uncut (refused.Edit edit.AmbiguousFeature) = tt
+behind_uncut (refused.Edit (edit.BadTags layer feature)) =
+    uncut-append (codes " layer ") (decimal layer ++ codes " feature " ++ decimal feature) (uncut_by_test (codes " layer ") refl)
+    (uncut-append (decimal layer) (codes " feature " ++ decimal feature) (decimal_uncut layer)
+    (uncut-append (codes " feature ") (decimal feature) (uncut_by_test (codes " feature ") refl) (decimal_uncut feature)))
+behind_uncut (refused.Edit edit.NameTaken) = tt
+behind_uncut (refused.Edit edit.KeyTaken) = tt
+behind_uncut (refused.Edit edit.OutOfRange) = tt
+behind_uncut (refused.Edit edit.TooLarge) = tt
+behind_uncut (refused.Edit edit.NoMemory) = tt
+behind_uncut (refused.History history.NothingToUndo) = tt
+behind_uncut (refused.History history.NothingToRedo) = tt
+behind_uncut (refused.History history.NoMark) = tt
+behind_uncut (refused.History history.TooManyMarks) = tt
+behind_uncut (refused.History (history.Stopped taken)) = uncut-append (codes " taken ") (decimal taken) (uncut_by_test (codes " taken ") refl) (decimal_uncut taken)
+behind_uncut (refused.History history.GroupOpen) = tt
+behind_uncut (refused.History history.NoGroup) = tt
+behind_uncut (refused.History history.NoMemory) = tt
 
 refused_uncut : (line : ℕ) (reason : Refused) → HasNoLineFeed (refused_text line reason)
 refused_uncut line reason =
@@ -89,7 +120,7 @@ refused_uncut line reason =
     let third = uncut-append (codes "line " ++ decimal line ++ codes " refused ") number second (decimal_uncut (refusal_number reason)) in
     let fourth = uncut-append (codes "line " ++ decimal line ++ codes " refused " ++ number) (codes " ") third (uncut_by_test (codes " ") refl) in
     let fifth = uncut-append (before_name line reason) (refusal_name reason) fourth (uncut_by_test (refusal_name reason) (name_uncut reason)) in
-    uncut-append (refused_front line reason) (stop_told (taken_in reason)) fifth (stop_uncut (taken_in reason))
+    uncut-append (refused_front line reason) (behind_name reason) fifth (behind_uncut reason)
 
 -- ---- texts of whole lines that are not out of memory
 
@@ -125,7 +156,7 @@ clean_line text uncut is = record { ends = inr (text, refl); each = subst (AllBy
 told_is_not_out_of_memory : (text : List ℕ) → MayBeTold text → IsNotOutOfMemory text
 unfolding IsNotOutOfMemory
 told_is_not_out_of_memory text may line reason out_of_memory e =
-    may.other (decimal line ++ codes " refused " ++ decimal (refusal_number reason) ++ codes " " ++ refusal_name reason ++ stop_told (taken_in reason)) e
+    may.other (decimal line ++ codes " refused " ++ decimal (refusal_number reason) ++ codes " " ++ refusal_name reason ++ behind_name reason) e
 
 clean_each : (lines : List (List ℕ)) → AllByRecursion MayBeTold lines → IsClean (flat_map with_feed lines)
 clean_each [] all = clean_nothing

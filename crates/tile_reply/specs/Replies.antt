@@ -1,5 +1,5 @@
 -- What is written in reply to a line.
-use Rattle.std.specs.Prelude.{◌≡◌, ◌≢◌, ◌⊎◌, ℕ, List, [], ◌++◌, Option, Some, None, Result, Ok, Err, codes, decimal}
+use Rattle.std.specs.Prelude.{◌≡◌, ◌≢◌, ◌⊎◌, ℕ, List, [], ◌++◌, Result, Ok, Err, codes, decimal}
 use Rattle.std.specs.Borrow.{Bor}
 use Rattle.tile_lines.specs.Lines.{EndsWithALine}
 use Rattle.tile_words.specs.declared.parse_error.ParseError.TheVariants as parse
@@ -26,6 +26,7 @@ number_and_name (refused.Edit edit.NoFeature) = (22, codes "NoFeature")
 number_and_name (refused.Edit edit.NoKey) = (23, codes "NoKey")
 number_and_name (refused.Edit edit.BadPlace) = (24, codes "BadPlace")
 number_and_name (refused.Edit edit.AmbiguousFeature) = (25, codes "AmbiguousFeature")
+number_and_name (refused.Edit (edit.BadTags layer feature)) = (30, codes "BadTags")
 number_and_name (refused.Edit edit.NameTaken) = (40, codes "NameTaken")
 number_and_name (refused.Edit edit.KeyTaken) = (41, codes "KeyTaken")
 number_and_name (refused.Edit edit.OutOfRange) = (42, codes "OutOfRange")
@@ -48,11 +49,6 @@ refusal_number reason = (number_and_name reason).0
 abbrev pub refusal_name : Refused → List ℕ
 refusal_name reason = (number_and_name reason).1
 
--- how many steps, or commands of the open step, were taken before a request was stopped; none for another refusal
-abbrev pub taken_in : Refused → Option ℕ
-taken_in (refused.History (history.Stopped taken)) = Some taken
-taken_in reason = None
-
 -- the reply to a request that is accepted: its lines, and then `ok`
 abbrev pub accepted_reply : List ℕ → List ℕ
 accepted_reply lines = lines ++ codes "ok\n"
@@ -61,14 +57,16 @@ accepted_reply lines = lines ++ codes "ok\n"
 abbrev pub refused_front : ℕ → Refused → List ℕ
 refused_front line reason = codes "line " ++ decimal line ++ codes " refused " ++ decimal (refusal_number reason) ++ codes " " ++ refusal_name reason
 
--- the end of the reply to a request that was stopped: how many steps or commands were taken
-abbrev pub stop_told : Option ℕ → List ℕ
-stop_told None = []
-stop_told (Some taken) = codes " taken " ++ decimal taken
+-- what stands behind the name of a refusal: the ordinals of the layer and the feature whose tags are at fault; how many
+-- steps, or commands of the open step, were taken before a request was stopped; nothing for another refusal
+abbrev pub behind_name : Refused → List ℕ
+behind_name (refused.Edit (edit.BadTags layer feature)) = codes " layer " ++ decimal layer ++ codes " feature " ++ decimal feature
+behind_name (refused.History (history.Stopped taken)) = codes " taken " ++ decimal taken
+behind_name reason = []
 
--- the reply to a refused line: its beginning, how far it came where it was stopped, and a line feed
+-- the reply to a refused line: its beginning, what stands behind the name of the refusal, and a line feed
 abbrev pub refused_reply : ℕ → Refused → List ℕ
-refused_reply line reason = refused_front line reason ++ stop_told (taken_in reason) ++ codes "\n"
+refused_reply line reason = refused_front line reason ++ behind_name reason ++ codes "\n"
 
 -- what a line was answered, as plain values: its lines, or its refusal
 abbrev pub answer_seen : Result (Bor (List ℕ)) Refused → Result (List ℕ) Refused

@@ -1,7 +1,7 @@
 //! Why a line was refused, in the words of a reply.
 
 ghost use Rattle.std.specs.Prelude.{◌≡◌};
-ghost use Rattle.tile_reply.specs.Replies.{refusal_number, refusal_name, taken_in};
+ghost use Rattle.tile_reply.specs.Replies.{refusal_number, refusal_name};
 ghost use Rattle.tile_reply.specs.declared.refused.Refused.TheVariants.{Edit, History};
 
 use mvt_history_error::HistoryError;
@@ -76,6 +76,7 @@ impl Refused {
             Refused::Edit(Refusal::NoKey) => (23, "NoKey"),
             Refused::Edit(Refusal::BadPlace) => (24, "BadPlace"),
             Refused::Edit(Refusal::AmbiguousFeature) => (25, "AmbiguousFeature"),
+            Refused::Edit(Refusal::BadTags { .. }) => (30, "BadTags"),
             Refused::Edit(Refusal::NameTaken) => (40, "NameTaken"),
             Refused::Edit(Refusal::KeyTaken) => (41, "KeyTaken"),
             Refused::Edit(Refusal::OutOfRange) => (42, "OutOfRange"),
@@ -89,17 +90,6 @@ impl Refused {
             Refused::History(HistoryError::GroupOpen) => (55, "GroupOpen"),
             Refused::History(HistoryError::NoGroup) => (56, "NoGroup"),
             Refused::History(HistoryError::NoMemory) => (60, "NoMemory"),
-        }
-    }
-
-    /// How many steps, or commands of the open step, were taken before memory ran out and stopped the
-    /// request.
-    pub fn taken(self) -> Option<usize>
-        ensures { result ≡ taken_in self }
-    {
-        match self {
-            Refused::History(HistoryError::Stopped { taken }) => Some(taken),
-            _ => None,
         }
     }
 }

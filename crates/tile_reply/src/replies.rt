@@ -1,13 +1,15 @@
 //! What is written in reply to a line.
 
-ghost use Rattle.std.specs.Prelude.{◌++◌, codes};
+ghost use Rattle.std.specs.Prelude.{◌++◌, codes, decimal};
 ghost use Rattle.std.specs.List.{flat_map};
 ghost use Rattle.tile_device.specs.Device.{trouble_of};
 ghost use Rattle.tile_device.specs.Seen.{Sends, sink_at};
-ghost use Rattle.tile_reply.specs.Replies.{answer_seen, refused_front, refused_reply, reply_to, stop_told};
+ghost use Rattle.tile_reply.specs.Replies.{answer_seen, behind_name, refused_front, refused_reply, reply_to};
 
 use crate::refused::Refused;
 use itoa::Buffer;
+use mvt_history_error::HistoryError;
+use mvt_meaning::Refusal;
 use tile_device::{Retries, Sink, Trouble, write_all};
 
 /// Replies to the line of this number, with the lines that it told or why it was refused, and passes
@@ -51,7 +53,7 @@ fn write_refusal<W: Sink>(
         retries.old retries.new (refused_reply line reason) (trouble_of result) }
 {
     write_reason(replies, line, reason, retries)?;
-    write_end(replies, reason.taken(), retries)
+    write_end(replies, reason, retries)
 }
 
 /// Writes which line was refused, and why.
@@ -82,18 +84,60 @@ fn write_reason<W: Sink>(
     )
 }
 
-/// Writes how far a request came that was stopped, and the end of the line.
+/// Writes what stands behind the name of the refusal, and the end of the line.
 fn write_end<W: Sink>(
     replies: &mut W,
-    taken: Option<usize>,
+    reason: Refused,
     retries: &mut Retries,
 ) -> Result<(), Trouble>
     ensures { Sends (sink_at W.Sink replies.old) (sink_at W.Sink replies.new)
-        retries.old retries.new (stop_told taken ++ codes "\n") (trouble_of result) }
+        retries.old retries.new (behind_name reason ++ codes "\n") (trouble_of result) }
 {
-    let Some(taken) = taken else {
-        return write_all(replies, b"\n", retries);
-    };
+    match reason {
+        Refused::Edit(Refusal::BadTags { layer, feature }) => {
+            write_place(replies, layer, feature, retries)
+        }
+        Refused::History(HistoryError::Stopped { taken }) => write_taken(replies, taken, retries),
+        _ => write_all(replies, b"\n", retries),
+    }
+}
+
+/// Writes which feature it is, and the end of the line.
+fn write_place<W: Sink>(
+    replies: &mut W,
+    layer: usize,
+    feature: usize,
+    retries: &mut Retries,
+) -> Result<(), Trouble>
+    ensures { Sends (sink_at W.Sink replies.old) (sink_at W.Sink replies.new)
+        retries.old retries.new (codes " layer " ++ decimal layer ++ codes " feature " ++ decimal feature ++ codes "\n") (trouble_of result) }
+{
+    let mut layer_digits = Buffer::new();
+    let mut feature_digits = Buffer::new();
+    let layer = layer_digits.format(layer);
+    let feature = feature_digits.format(feature);
+    write_pieces(
+        replies,
+        &[
+            b" layer ",
+            layer.as_bytes(),
+            b" feature ",
+            feature.as_bytes(),
+            b"\n",
+        ],
+        retries,
+    )
+}
+
+/// Writes how far a request came that was stopped, and the end of the line.
+fn write_taken<W: Sink>(
+    replies: &mut W,
+    taken: usize,
+    retries: &mut Retries,
+) -> Result<(), Trouble>
+    ensures { Sends (sink_at W.Sink replies.old) (sink_at W.Sink replies.new)
+        retries.old retries.new (codes " taken " ++ decimal taken ++ codes "\n") (trouble_of result) }
+{
     let mut digits = Buffer::new();
     let taken = digits.format(taken);
     write_pieces(replies, &[b" taken ", taken.as_bytes(), b"\n"], retries)

@@ -7,7 +7,7 @@ use Rattle.std.proofs.lemmas.Bool.{cases_Bool}
 use Rattle.std.proofs.lemmas.Bool.Decides.{nat_tests}
 use Rattle.std.proofs.lemmas.List.{append_cancel_right}
 use Rattle.tile_lines.specs.Lines.{with_feed, EndsWithALine}
-use Rattle.tile_reply.specs.Replies.{accepted_reply, refused_front, refused_reply, refusal_number, refusal_name, stop_told, taken_in, IsOutOfMemory}
+use Rattle.tile_reply.specs.Replies.{accepted_reply, refused_front, refused_reply, refusal_number, refusal_name, behind_name, IsOutOfMemory}
 use Rattle.mvt_meaning.specs.declared.refusal.Refusal.TheVariants as edit
 use Rattle.mvt_history_error.specs.declared.HistoryError.TheVariants as history
 use Rattle.tile_words.specs.declared.parse_error.ParseError.TheVariants as parse
@@ -33,7 +33,7 @@ before_name line reason = codes "line " ++ decimal line ++ codes " refused " ++ 
 
 -- the reply without its line feed
 abbrev pub refused_text : ℕ → Refused → List ℕ
-refused_text line reason = refused_front line reason ++ stop_told (taken_in reason)
+refused_text line reason = refused_front line reason ++ behind_name reason
 
 pub refused_ends : (line : ℕ) (reason : Refused) → EndsWithALine (refused_reply line reason)
 refused_ends line reason = inr (refused_text line reason, refl)
@@ -81,24 +81,32 @@ last_two-decimal ends n = last_two-digits ends 64 n [] refl
 
 -- those of the reply to a refused line
 abbrev ends_of : ℕ × ℕ → Refused → ℕ × ℕ
-ends_of ends reason = last_two (last_two ends (refusal_name reason)) (stop_told (taken_in reason))
+ends_of ends reason = last_two (last_two ends (refusal_name reason)) (behind_name reason)
 
 refused_last : (line : ℕ) (reason : Refused) → last_two (0, 0) (refused_text line reason) ≡ ends_of (last_two (0, 0) (before_name line reason)) reason
 refused_last line reason =
-    last_two-append (0, 0) (refused_front line reason) (stop_told (taken_in reason))
-    ∙ ap (λ (ends : ℕ × ℕ). last_two ends (stop_told (taken_in reason))) (last_two-append (0, 0) (before_name line reason) (refusal_name reason))
+    last_two-append (0, 0) (refused_front line reason) (behind_name reason)
+    ∙ ap (λ (ends : ℕ × ℕ). last_two ends (behind_name reason)) (last_two-append (0, 0) (before_name line reason) (refusal_name reason))
 
 -- the number is one of out of memory
 abbrev pub runs_out : ℕ → Bool
 runs_out number = (number == 60) || (number == 54)
 
--- the text ends with the y of `NoMemory`, or with a number
+-- the text ends with the y of `NoMemory`, or with a number behind `taken`
 abbrev ends_out_of_memory : ℕ × ℕ → Bool
 ends_out_of_memory ends = ((ends.0 == 114) && (ends.1 == 121)) || ((ends.0 == 110) && (ends.1 == 32))
 
 -- the text ends with `ok`
 abbrev ends_with_ok : ℕ × ℕ → Bool
 ends_with_ok ends = (ends.0 == 111) && (ends.1 == 107)
+
+-- those behind the name of a refusal of tags
+place_last : (ends : ℕ × ℕ) (layer feature : ℕ) → last_two ends (codes " layer " ++ decimal layer ++ codes " feature " ++ decimal feature) ≡ (101, 32)
+place_last ends layer feature =
+    last_two-append ends (codes " layer ") (decimal layer ++ codes " feature " ++ decimal feature)
+    ∙ last_two-append (114, 32) (decimal layer) (codes " feature " ++ decimal feature)
+    ∙ last_two-append (last_two (114, 32) (decimal layer)) (codes " feature ") (decimal feature)
+    ∙ last_two-decimal (101, 32) feature
 
 -- the reply to a refusal with the number of out of memory is the same for each; and the text tells whether memory was
 -- refused
@@ -123,6 +131,9 @@ tells_memory ends (refused.Edit edit.NoFeature) = record { alike = λ e line. ab
 tells_memory ends (refused.Edit edit.NoKey) = record { alike = λ e line. absurd (omega arith); out_of_memory = refl; not_ok = refl }
 tells_memory ends (refused.Edit edit.BadPlace) = record { alike = λ e line. absurd (omega arith); out_of_memory = refl; not_ok = refl }
 tells_memory ends (refused.Edit edit.AmbiguousFeature) = record { alike = λ e line. absurd (omega arith); out_of_memory = refl; not_ok = refl }
+tells_memory ends (refused.Edit (edit.BadTags layer feature)) =
+    let same = place_last (last_two ends (codes "BadTags")) layer feature in
+    record { alike = λ e line. absurd (omega arith); out_of_memory = ap ends_out_of_memory same; not_ok = ap ends_with_ok same }
 tells_memory ends (refused.Edit edit.NameTaken) = record { alike = λ e line. absurd (omega arith); out_of_memory = refl; not_ok = refl }
 tells_memory ends (refused.Edit edit.KeyTaken) = record { alike = λ e line. absurd (omega arith); out_of_memory = refl; not_ok = refl }
 tells_memory ends (refused.Edit edit.OutOfRange) = record { alike = λ e line. absurd (omega arith); out_of_memory = refl; not_ok = refl }

@@ -11,7 +11,7 @@ use Rattle.tile_arguments.proofs.Refusals.{then_other, text_other, texts_other, 
 use Rattle.mvt_command.specs.Requests.{HistoryRequest}
 use Rattle.tile_request.specs.Request.{Request, OnHistory}
 use Rattle.tile_script.specs.Line.{is_remark, requests_alone, requests_by_name, alone_of, name_of, list_of, requests, request_by, asked_by, request_in, answer_to}
-use Rattle.tile_script.specs.Commands.{chosen_of, two_texts_of, rename_layer_of, move_layer_of, drop_layer_of, keep_layers_of, insert_feature_of, move_feature_of, drop_feature_of, set_id_of, clear_id_of, rename_key_of, exclude_all_of, commands, read_by, command_by}
+use Rattle.tile_script.specs.Commands.{chosen_of, two_texts_of, rename_layer_of, move_layer_of, drop_layer_of, keep_layers_of, insert_feature_of, move_feature_of, drop_feature_of, set_id_of, clear_id_of, unset_of, rename_key_of, exclude_of, exclude_all_of, commands, read_by, command_by}
 use Rattle.tile_words.specs.Answers.{◌>>=◌}
 use Rattle.tile_words.specs.declared.parse_error.ParseError.{ParseError}
 use Rattle.tile_words.specs.declared.parse_error.ParseError.TheVariants as parse
@@ -87,6 +87,14 @@ clear_id_other (layer ∷ []) = λ e. cc
 clear_id_other (layer ∷ feature ∷ []) = then_other (chosen_of layer feature) _ (chosen_other layer feature) (λ chosen. tt)
 clear_id_other (layer ∷ feature ∷ more ∷ others) = λ e. cc
 
+unset_other : (arguments : List Word) → Other parse.NoMemory (unset_of arguments)
+unfolding unset_of
+unset_other [] = λ e. cc
+unset_other (layer ∷ []) = λ e. cc
+unset_other (layer ∷ feature ∷ []) = λ e. cc
+unset_other (layer ∷ feature ∷ key ∷ []) = then_other (chosen_of layer feature) _ (chosen_other layer feature) (λ chosen. then_other (text_of key) _ (text_other key) (λ text. tt))
+unset_other (layer ∷ feature ∷ key ∷ more ∷ others) = λ e. cc
+
 rename_key_other : (arguments : List Word) → Other parse.NoMemory (rename_key_of arguments)
 unfolding rename_key_of
 rename_key_other [] = λ e. cc
@@ -94,6 +102,13 @@ rename_key_other (layer ∷ []) = λ e. cc
 rename_key_other (layer ∷ old ∷ []) = λ e. cc
 rename_key_other (layer ∷ old ∷ new ∷ []) = then_other (layer_of layer) _ (layer_other layer) (λ choice. then_other (two_texts_of old new) _ (two_texts_other old new) (λ keys. tt))
 rename_key_other (layer ∷ old ∷ new ∷ more ∷ others) = λ e. cc
+
+exclude_other : (arguments : List Word) → Other parse.NoMemory (exclude_of arguments)
+unfolding exclude_of
+exclude_other [] = λ e. cc
+exclude_other (layers ∷ []) = λ e. cc
+exclude_other (layers ∷ key ∷ []) = then_other (layers_of layers) _ (layers_other layers) (λ choice. then_other (text_of key) _ (text_other key) (λ text. tt))
+exclude_other (layers ∷ key ∷ more ∷ others) = λ e. cc
 
 exclude_all_other : (arguments : List Word) → Other parse.NoMemory (exclude_all_of arguments)
 unfolding exclude_all_of
@@ -129,7 +144,13 @@ command_other name arguments = read_other commands (Err parse.UnknownCommand) na
               drop_feature_other arguments,
               (
                 set_id_other arguments,
-                (clear_id_other arguments, (rename_key_other arguments, (exclude_all_other arguments, tt))),
+                (
+                  clear_id_other arguments,
+                  (
+                    unset_other arguments,
+                    (rename_key_other arguments, (exclude_other arguments, (exclude_all_other arguments, tt))),
+                  ),
+                ),
               ),
             ),
           ),

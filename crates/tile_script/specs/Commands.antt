@@ -3,7 +3,7 @@ use Rattle.std.specs.Prelude.{ℕ, List, [], ◌∷◌, Result, Ok, Err, codes}
 use Rattle.std.specs.Map.{lookup}
 use Rattle.std.specs.Option.{option_map_or}
 use Rattle.std.specs.Str.{bytes_eq}
-use Rattle.mvt_command.specs.Command.{LayerChoice, FeatureChoice, Command, RenameLayer, MoveLayer, DropLayer, KeepLayers, InsertFeature, MoveFeature, DropFeature, SetId, ClearId, RenameKey, ExcludeAll}
+use Rattle.mvt_command.specs.Command.{LayerChoice, FeatureChoice, Command, RenameLayer, MoveLayer, DropLayer, KeepLayers, InsertFeature, MoveFeature, DropFeature, SetId, ClearId, UnsetAttribute, RenameKey, Exclude, ExcludeAll}
 use Rattle.tile_arguments.specs.Arguments.{text_of, texts_of, number_in, layer_of, layers_of, feature_of, geometry_of}
 use Rattle.tile_words.specs.Words.{Word}
 use Rattle.tile_words.specs.Answers.{◌>>=◌}
@@ -94,6 +94,14 @@ clear_id_of (layer ∷ feature ∷ []) = do
   Ok (ClearId chosen.0 chosen.1)
 clear_id_of words = Err BadArguments
 
+-- the removal of these arguments: a layer, a feature, and a key as a text; or the first refusal
+unfoldable pub unset_of : List Word → Result Command ParseError
+unset_of (layer ∷ feature ∷ key ∷ []) = do
+  chosen ← chosen_of layer feature
+  text ← text_of key
+  Ok (UnsetAttribute chosen.0 chosen.1 text)
+unset_of words = Err BadArguments
+
 -- the rename of these arguments: a layer, a key and its new bytes as texts; or the first refusal
 unfoldable pub rename_key_of : List Word → Result Command ParseError
 rename_key_of (layer ∷ old ∷ new ∷ []) = do
@@ -102,7 +110,15 @@ rename_key_of (layer ∷ old ∷ new ∷ []) = do
   Ok (RenameKey choice keys.0 keys.1)
 rename_key_of words = Err BadArguments
 
--- the exclusion of these arguments: one layer or all; or the first refusal
+-- the exclusion of these arguments: one layer or all, and a key as a text; or the first refusal
+unfoldable pub exclude_of : List Word → Result Command ParseError
+exclude_of (layers ∷ key ∷ []) = do
+  choice ← layers_of layers
+  text ← text_of key
+  Ok (Exclude choice text)
+exclude_of words = Err BadArguments
+
+-- the exclusion of all attributes by these arguments: one layer or all; or the first refusal
 unfoldable pub exclude_all_of : List Word → Result Command ParseError
 exclude_all_of (layers ∷ []) = do
   choice ← layers_of layers
@@ -121,7 +137,9 @@ commands =
     ∷ (codes "drop-feature", drop_feature_of)
     ∷ (codes "set-id", set_id_of)
     ∷ (codes "clear-id", clear_id_of)
+    ∷ (codes "unset", unset_of)
     ∷ (codes "rename-key", rename_key_of)
+    ∷ (codes "exclude", exclude_of)
     ∷ (codes "exclude-all", exclude_all_of)
     ∷ []
 

@@ -3,7 +3,7 @@
 ghost use Rattle.std.specs.Prelude.{◌≤◌, length, map};
 ghost use Rattle.std.specs.Result.{IsErrOf};
 ghost use Rattle.mvt_command.specs.CommandStands.{command_of, layer_choice_of, feature_choice_of};
-ghost use Rattle.tile_script.specs.Commands.{chosen_of, two_texts_of, rename_layer_of, move_layer_of, drop_layer_of, keep_layers_of, insert_feature_of, move_feature_of, drop_feature_of, set_id_of, clear_id_of, rename_key_of, exclude_all_of, command_by};
+ghost use Rattle.tile_script.specs.Commands.{chosen_of, two_texts_of, rename_layer_of, move_layer_of, drop_layer_of, keep_layers_of, insert_feature_of, move_feature_of, drop_feature_of, set_id_of, clear_id_of, unset_of, rename_key_of, exclude_of, exclude_all_of, command_by};
 ghost use Rattle.tile_words.specs.Answers.{Gives};
 ghost use Rattle.tile_words.specs.WordStands.{word_of};
 
@@ -44,8 +44,12 @@ pub(crate) fn command(
         set_id(alloc, arguments)
     } else if name == b"clear-id".as_slice() {
         clear_id(alloc, arguments)
+    } else if name == b"unset".as_slice() {
+        unset(alloc, arguments)
     } else if name == b"rename-key".as_slice() {
         rename_key(alloc, arguments)
+    } else if name == b"exclude".as_slice() {
+        exclude(alloc, arguments)
     } else if name == b"exclude-all".as_slice() {
         exclude_all(alloc, arguments)
     } else {
@@ -178,6 +182,23 @@ fn clear_id(alloc: Global, arguments: &[Word<'_>]) -> Result<Command, ParseError
     Ok(Command::ClearId { layer, feature })
 }
 
+#[tactic(auto, unfolding(crate::specs::Commands::unset_of))]
+fn unset(alloc: Global, arguments: &[Word<'_>]) -> Result<Command, ParseError>
+    ensures answer { Gives command_of result (unset_of (map word_of arguments.now)) }
+    ensures no_memory { IsErrOf result ParseError.NoMemory → 1 ≤ length arguments.now }
+{
+    let [layer, feature, key] = arguments else {
+        return Err(ParseError::BadArguments);
+    };
+    let (layer, feature) = chosen(alloc, *layer, *feature)?;
+    let key = text_argument(alloc, *key)?;
+    Ok(Command::UnsetAttribute {
+        layer,
+        feature,
+        key,
+    })
+}
+
 #[tactic(auto, unfolding(crate::specs::Commands::rename_key_of))]
 fn rename_key(alloc: Global, arguments: &[Word<'_>]) -> Result<Command, ParseError>
     ensures answer { Gives command_of result (rename_key_of (map word_of arguments.now)) }
@@ -189,6 +210,19 @@ fn rename_key(alloc: Global, arguments: &[Word<'_>]) -> Result<Command, ParseErr
     let layer = layer_choice(alloc, *layer)?;
     let (old, new) = two_texts(alloc, *old, *new)?;
     Ok(Command::RenameKey { layer, old, new })
+}
+
+#[tactic(auto, unfolding(crate::specs::Commands::exclude_of))]
+fn exclude(alloc: Global, arguments: &[Word<'_>]) -> Result<Command, ParseError>
+    ensures answer { Gives command_of result (exclude_of (map word_of arguments.now)) }
+    ensures no_memory { IsErrOf result ParseError.NoMemory → 1 ≤ length arguments.now }
+{
+    let [layers, key] = arguments else {
+        return Err(ParseError::BadArguments);
+    };
+    let layers = layers_choice(alloc, *layers)?;
+    let key = text_argument(alloc, *key)?;
+    Ok(Command::Exclude { layers, key })
 }
 
 #[tactic(auto, unfolding(crate::specs::Commands::exclude_all_of))]
