@@ -10,7 +10,7 @@ ghost use Rattle.mvt_edit_steps.specs.Prepared.{Prepares};
 use mvt_change::{Change, Step};
 use mvt_document::tags::ID;
 use mvt_document::{Body, Document, Field, Items};
-use mvt_edit_steps::{Fate, carry_out};
+use mvt_edit_steps::{carry_out, goes_if};
 use mvt_select::{FeatureChoice, LayerChoice, Refusal, find_feature, find_layer};
 use std::alloc::Global;
 
@@ -30,7 +30,7 @@ pub fn clear_id(
     carry_out(
         alloc,
         found.feature.fields.as_slice(),
-        |field| Ok(Fate::goes_if(is_id(field))),
+        |field| Ok(goes_if(is_id(field))),
         |run| Step::InFeature {
             layer,
             item,

@@ -13,7 +13,7 @@ ghost use Rattle.mvt_edit_steps.specs.Prepared.{Prepares};
 
 use mvt_change::{Change, Step};
 use mvt_document::{Document, Items, TileItem};
-use mvt_edit_steps::{Fate, carry_out};
+use mvt_edit_steps::{carry_out, goes_if};
 use mvt_select::Refusal;
 use mvt_view::{LayerView, layer_count};
 use std::alloc::{AllocError, Global};
@@ -34,7 +34,7 @@ pub fn keep_layers(
     let gone = carry_out(
         alloc,
         items,
-        |item| Ok(Fate::goes_if(!is_kept(item, ordered))),
+        |item| Ok(goes_if(!is_kept(item, ordered))),
         |run| Step::InTile {
             index: run.index,
             take: run.take,

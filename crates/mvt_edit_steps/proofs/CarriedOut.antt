@@ -1,13 +1,14 @@
 -- The splices of fates: what they make of the list, what they take out and put, and that each finds its items.
-use Rattle.std.proofs.Common.{◌≡◌, ℕ, suc, ◌+◌, ◌≤◌, ◌==◌, List, [], ◌∷◌, ◌++◌, length, length-append, map, take, drop, filter, append_assoc, refl, sym, ap, ◌∙◌, subst, inl, inr, arith}
+use Rattle.std.proofs.Common.{◌≡◌, ℕ, suc, ◌+◌, ◌≤◌, ◌==◌, List, [], ◌∷◌, ◌++◌, length, length-append, map, take, drop, filter, append_assoc, map-id, refl, sym, ap, ◌∙◌, subst, inl, inr, arith}
 use Rattle.std.proofs.lemmas.Bool.{cases_Bool, eqb-true}
 use Rattle.std.proofs.lemmas.List.{append-nil, take_at, drop_at, drop-drop}
 use Rattle.std.specs.List.{flat_map}
 use Rattle.mvt_document.specs.Splicing.{part, splice}
 use Rattle.mvt_document.specs.Lists.{HasPart}
-use Rattle.mvt_edit_steps.specs.Fates.{Splice, and_splices, changes, splices_from}
-use Rattle.mvt_edit_steps.specs.declared.fates.Fate.{Fate}
-use Rattle.mvt_edit_steps.specs.declared.fates.Fate.TheVariants.{Stays, Goes, Becomes}
+use Rattle.mvt_numbers.specs.Fates.{changes, left_of_fate}
+use Rattle.mvt_edit_steps.specs.Fates.{Splice, and_splices, splices_from, splices_of}
+use Rattle.mvt_numbers.specs.declared.fate.Fate.{Fate}
+use Rattle.mvt_numbers.specs.declared.fate.Fate.TheVariants.{Stays, Goes, Becomes}
 
 -- ---- splices, one after the other
 
@@ -123,42 +124,59 @@ and_few s (next ∷ splices) =
 
 -- ---- the items of a list, with what is to become of each
 
--- what is left of an item
-abbrev pub left_of : {A : Type 0} → Fate A → A → List A
-left_of Stays x = x ∷ []
-left_of Goes x = []
-left_of (Becomes item) x = item ∷ []
-
--- what comes in its place
+-- what comes in the place of an item
 abbrev pub new_in : {A : Type 0} → Fate A → List A
 new_in Stays = []
 new_in Goes = []
 new_in (Becomes item) = item ∷ []
 
--- the splices of the items from an index on
-pub record CarriesFrom {A : Type 0} (plan : A → Fate A) (n : ℕ) (front xs : List A) : Type 0 where
-  pub leaves : spliced_all (splices_from n (map plan xs)) (front ++ xs) ≡ front ++ flat_map (λ x. left_of (plan x) x) xs
-  pub takes : taken_all (splices_from n (map plan xs)) (front ++ xs) ≡ filter (λ x. changes (plan x)) xs
-  pub puts : put_all (splices_from n (map plan xs)) ≡ flat_map (λ x. new_in (plan x)) xs
-  pub there : AreThere (splices_from n (map plan xs)) (front ++ xs)
-  pub few : length (splices_from n (map plan xs)) ≤ length (filter (λ x. changes (plan x)) xs)
+-- what the splices of these fates come to on the items of a list
+pub record CarriesOut {A : Type 0} (fates : List (Fate A)) (items left taken put : List A) : Type 0 where
+  pub leaves : spliced_all (splices_of fates) items ≡ left
+  pub takes : taken_all (splices_of fates) items ≡ taken
+  pub puts : put_all (splices_of fates) ≡ put
+  pub there : AreThere (splices_of fates) items
+  pub few : length (splices_of fates) ≤ length taken
 
-module _ {A : Type 0} (plan : A → Fate A) where
-  carries_first : (n : ℕ) (front : List A) (x : A) (xs : List A) → length front ≡ n → ((m : ℕ) (before : List A) → length before ≡ m → CarriesFrom plan m before xs) → (fate : Fate A) → plan x ≡ fate → CarriesFrom plan n front (x ∷ xs)
-  carries_first n front x xs e others Stays is =
+-- each item is that of a value, by which its fate is planned
+module _ {P A : Type 0} (item : P → A) (plan : P → Fate A) where
+  -- what is left of the items, what is taken out, and what comes in its place
+  abbrev pub left_in : List P → List A
+  left_in ps = flat_map (λ p. left_of_fate (λ y. y) (item p) (plan p)) ps
+
+  abbrev pub taken_in : List P → List A
+  taken_in ps = map item (filter (λ p. changes (plan p)) ps)
+
+  abbrev pub put_in : List P → List A
+  put_in ps = flat_map (λ p. new_in (plan p)) ps
+
+  -- the splices of the items from an index on
+  record CarriesFrom (n : ℕ) (front : List A) (ps : List P) : Type 0 where
+    pub leaves : spliced_all (splices_from n (map plan ps)) (front ++ map item ps) ≡ front ++ left_in ps
+    pub takes : taken_all (splices_from n (map plan ps)) (front ++ map item ps) ≡ taken_in ps
+    pub puts : put_all (splices_from n (map plan ps)) ≡ put_in ps
+    pub there : AreThere (splices_from n (map plan ps)) (front ++ map item ps)
+    pub few : length (splices_from n (map plan ps)) ≤ length (taken_in ps)
+
+  carries_first : (n : ℕ) (front : List A) (p : P) (ps : List P) → length front ≡ n → ((m : ℕ) (before : List A) → length before ≡ m → CarriesFrom m before ps) → (fate : Fate A) → plan p ≡ fate → CarriesFrom n front (p ∷ ps)
+  carries_first n front p ps e others Stays is =
+      let x = item p in
+      let xs = map item ps in
       let longer : length (front ++ x ∷ []) ≡ n + 1 = length-append front (x ∷ []) ∙ ap (λ m. m + 1) e in
       let more = others (n + 1) (front ++ x ∷ []) longer in
       let same : (front ++ x ∷ []) ++ xs ≡ front ++ x ∷ xs = append_assoc front (x ∷ []) xs in
       let few = more.few in
       record {
-        leaves = rw is (ap (spliced_all (splices_from (n + 1) (map plan xs))) (sym same) ∙ more.leaves ∙ append_assoc front (x ∷ []) (flat_map (λ y. left_of (plan y) y) xs));
-        takes = rw is (ap (taken_all (splices_from (n + 1) (map plan xs))) (sym same) ∙ more.takes);
+        leaves = rw is (ap (spliced_all (splices_from (n + 1) (map plan ps))) (sym same) ∙ more.leaves ∙ append_assoc front (x ∷ []) (left_in ps));
+        takes = rw is (ap (taken_all (splices_from (n + 1) (map plan ps))) (sym same) ∙ more.takes);
         puts = rw is more.puts;
-        there = rw is (subst (AreThere (splices_from (n + 1) (map plan xs))) same more.there);
+        there = rw is (subst (AreThere (splices_from (n + 1) (map plan ps))) same more.there);
         few = rw is (omega arith);
       }
-  carries_first n front x xs e others Goes is =
-      let rest = splices_from n (map plan xs) in
+  carries_first n front p ps e others Goes is =
+      let x = item p in
+      let xs = map item ps in
+      let rest = splices_from n (map plan ps) in
       let same : (front ++ []) ++ xs ≡ front ++ xs = ap (λ y. y ++ xs) (append-nil front) in
       let more = others n front e in
       let few = more.few in
@@ -169,23 +187,42 @@ module _ {A : Type 0} (plan : A → Fate A) where
         there = rw is (and_there n front x xs [] e rest (subst (AreThere rest) (sym same) more.there));
         few = rw is (omega (arith, and_few (record { index = n; taken = 1; put = [] }) rest));
       }
-  carries_first n front x xs e others (Becomes item) is =
-      let rest = splices_from (n + 1) (map plan xs) in
-      let longer : length (front ++ item ∷ []) ≡ n + 1 = length-append front (item ∷ []) ∙ ap (λ m. m + 1) e in
-      let more = others (n + 1) (front ++ item ∷ []) longer in
+  carries_first n front p ps e others (Becomes other) is =
+      let x = item p in
+      let xs = map item ps in
+      let rest = splices_from (n + 1) (map plan ps) in
+      let longer : length (front ++ other ∷ []) ≡ n + 1 = length-append front (other ∷ []) ∙ ap (λ m. m + 1) e in
+      let more = others (n + 1) (front ++ other ∷ []) longer in
       let few = more.few in
       record {
-        leaves = rw is (and_makes n front x xs (item ∷ []) e rest ∙ more.leaves ∙ append_assoc front (item ∷ []) (flat_map (λ y. left_of (plan y) y) xs));
-        takes = rw is (and_takes n front x xs (item ∷ []) e rest ∙ ap (λ y. x ∷ y) more.takes);
-        puts = rw is (and_puts (record { index = n; taken = 1; put = item ∷ [] }) rest ∙ ap (λ y. item ∷ y) more.puts);
-        there = rw is (and_there n front x xs (item ∷ []) e rest more.there);
-        few = rw is (omega (arith, and_few (record { index = n; taken = 1; put = item ∷ [] }) rest));
+        leaves = rw is (and_makes n front x xs (other ∷ []) e rest ∙ more.leaves ∙ append_assoc front (other ∷ []) (left_in ps));
+        takes = rw is (and_takes n front x xs (other ∷ []) e rest ∙ ap (λ y. x ∷ y) more.takes);
+        puts = rw is (and_puts (record { index = n; taken = 1; put = other ∷ [] }) rest ∙ ap (λ y. other ∷ y) more.puts);
+        there = rw is (and_there n front x xs (other ∷ []) e rest more.there);
+        few = rw is (omega (arith, and_few (record { index = n; taken = 1; put = other ∷ [] }) rest));
       }
 
-  carries_from : (n : ℕ) (front xs : List A) → length front ≡ n → CarriesFrom plan n front xs
+  carries_from : (n : ℕ) (front : List A) (ps : List P) → length front ≡ n → CarriesFrom n front ps
   carries_from n front [] e = record { leaves = refl; takes = refl; puts = refl; there = tt; few = omega arith }
-  carries_from n front (x ∷ xs) e = carries_first n front x xs e (λ m before long. carries_from m before xs long) (plan x) refl
+  carries_from n front (p ∷ ps) e = carries_first n front p ps e (λ m before long. carries_from m before ps long) (plan p) refl
 
-  -- of the whole list
-  pub carries_out : (items : List A) → CarriesFrom plan 0 [] items
-  carries_out items = carries_from 0 [] items refl
+  -- of the whole list, whose items are those of these values
+  pub carries_beside : (ps : List P) → CarriesOut (map plan ps) (map item ps) (left_in ps) (taken_in ps) (put_in ps)
+  carries_beside ps =
+      let all = carries_from 0 [] ps refl in
+      record { leaves = all.leaves; takes = all.takes; puts = all.puts; there = all.there; few = all.few }
+
+-- where the fate of each item is planned by the item itself
+pub carries_out : {A : Type 0} (plan : A → Fate A) (items : List A) → CarriesOut (map plan items) items (flat_map (λ x. left_of_fate (λ y. y) x (plan x)) items) (filter (λ x. changes (plan x)) items) (flat_map (λ x. new_in (plan x)) items)
+carries_out plan items =
+    let same = map-id items in
+    let gone = map-id (filter (λ x. changes (plan x)) items) in
+    let all = carries_beside (λ x. x) plan items in
+    let few = all.few in
+    record {
+      leaves = ap (spliced_all (splices_of (map plan items))) (sym same) ∙ all.leaves;
+      takes = ap (taken_all (splices_of (map plan items))) (sym same) ∙ all.takes ∙ gone;
+      puts = all.puts;
+      there = subst (AreThere (splices_of (map plan items))) same all.there;
+      few = omega (arith, ap length gone);
+    }

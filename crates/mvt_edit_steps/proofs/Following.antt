@@ -8,10 +8,12 @@ use Rattle.std.specs.Option.{IfSome}
 use Rattle.mvt_change.specs.Changes as plain
 use Rattle.mvt_change.specs.ChangeStands.{step_of}
 use Rattle.mvt_change.specs.declared.change.Step.{Step}
-use Rattle.mvt_edit_steps.specs.Fates.{Splice, and_last, and_splices, changes, splice_of, splices_from}
+use Rattle.mvt_numbers.specs.Fates.{changes}
+use Rattle.mvt_edit_steps.specs.Fates.{Splice, and_last, and_splices, splice_of, splices_from, steps_then}
 use Rattle.mvt_edit_steps.specs.declared.fates.Run.{Run}
-use Rattle.mvt_edit_steps.specs.declared.fates.Fate.{Fate}
-use Rattle.mvt_edit_steps.specs.declared.fates.Fate.TheVariants.{Stays, Goes, Becomes}
+use Rattle.mvt_edit_steps.specs.declared.fates.Walk.{Walk}
+use Rattle.mvt_numbers.specs.declared.fate.Fate.{Fate}
+use Rattle.mvt_numbers.specs.declared.fate.Fate.TheVariants.{Stays, Goes, Becomes}
 
 -- ---- a run that is whole
 
@@ -47,64 +49,75 @@ run_whole (Some run) at rest ends =
 
 -- ---- one fate more
 
-pub all_zip_more : {A B : Type 0} (R : A → B → Type 0) (xs : List A) (ys : List B) (x : A) (y : B) → AllZip R xs ys → R x y → AllZip R (xs ++ x ∷ []) (ys ++ y ∷ [])
+all_zip_more : {A B : Type 0} (R : A → B → Type 0) (xs : List A) (ys : List B) (x : A) (y : B) → AllZip R xs ys → R x y → AllZip R (xs ++ x ∷ []) (ys ++ y ∷ [])
 all_zip_more R [] [] x y all new = (new, tt)
 all_zip_more R [] (z ∷ ys) x y all new = absurd all
 all_zip_more R (z ∷ xs) [] x y all new = absurd all
 all_zip_more R (z ∷ xs) (v ∷ ys) x y all new = (all.0, all_zip_more R xs ys x y all.1 new)
 
--- the fates so far, and the steps behind those that were given, whichever fates follow
-pub record SoFar {T : Type 0} (answers : T → Fate T → Type 0) (tells : (Splice T → plain.Step) → Type 0) (items : List T) (given steps : List Step) (last : Option (Run T)) (at changed index : ℕ) : Type 0 where
+-- what each of the items so far was answered
+pub told_more : {T B : Type 0} (answers : T → B → Type 0) (items : List T) (index : ℕ) (x : T) (fates : List B) (fate : B) → index < length items → x ≡ get_or items index x → AllZip answers (take index items) fates → answers x fate → AllZip answers (take (index + 1) items) (fates ++ fate ∷ [])
+told_more answers items index x fates fate within is told says =
+    subst (λ all. AllZip answers all (fates ++ fate ∷ [])) (sym (take_more items index x within ∙ ap (λ y. take index items ++ y ∷ []) (sym is))) (all_zip_more answers (take index items) fates x fate told says)
+
+-- the fates so far, of which this was said, and the steps behind those that were given, whichever fates follow
+pub record SoFar {T : Type 0} (told : List (Fate T) → Type 0) (tells : (Splice T → plain.Step) → Type 0) (given steps : List Step) (walk : Walk T) (index : ℕ) : Type 0 where
   pub fates : List (Fate T)
-  pub told : AllZip answers (take index items) fates
-  pub so_far : (step_with : Splice T → plain.Step) → tells step_with → (rest : List (Fate T)) → map step_of given ++ map step_with (splices_from 0 (fates ++ rest)) ≡ map step_of steps ++ map step_with (and_last (option_map splice_of last) (splices_from at rest))
-  pub ends : IfSome last (λ run. run.index + length run.put.items ≡ at)
-  pub taken : IfSome last (λ run. run.take ≤ index)
-  pub short : at ≤ index
-  pub counted : changed ≡ length (filter changes fates)
-  pub few : changed ≤ index
+  pub said : told fates
+  pub so_far : (step_with : Splice T → plain.Step) → tells step_with → (rest : List (Fate T)) → map step_of given ++ map step_with (splices_from 0 (fates ++ rest)) ≡ steps_then step_with (map step_of steps) walk rest
+  pub ends : IfSome walk.last (λ run. run.index + length run.put.items ≡ walk.at)
+  pub taken : IfSome walk.last (λ run. run.take ≤ index)
+  pub short : walk.at ≤ index
+  pub counted : walk.changed ≡ length (filter changes fates)
+  pub few : walk.changed ≤ index
 
 counted_more : {A : Type 0} (fates : List (Fate A)) (fate : Fate A) → length (filter changes (fates ++ fate ∷ [])) ≡ length (filter changes fates) + cond (changes fate) 1 0
 counted_more fates fate =
     ap length (filter-append changes fates (fate ∷ [])) ∙ length-append (filter changes fates) (filter changes (fate ∷ []))
     ∙ elim (cases_Bool (changes fate)) [ inl so ↦ rw so refl | inr not_so ↦ rw not_so refl ]
 
-pub goes_on : {T : Type 0} {answers : T → Fate T → Type 0} {tells : (Splice T → plain.Step) → Type 0} {items : List T} {given steps : List Step} {last : Option (Run T)} {at changed index : ℕ} → SoFar answers tells items given steps last at changed index → (x : T) (fate : Fate T) (steps_then : List Step) (whole run : Option (Run T)) (next : ℕ) → index < length items → x ≡ get_or items index x → answers x fate
-    → ((rest : List (Fate T)) → and_last (option_map splice_of last) (splices_from at (fate ∷ rest)) ≡ map splice_of (cons_option whole []) ++ and_last (option_map splice_of run) (splices_from next rest))
-    → ((step_with : Splice T → plain.Step) → tells step_with → map step_of steps_then ≡ map step_of steps ++ map step_with (map splice_of (cons_option whole [])))
-    → IfSome run (λ r. r.index + length r.put.items ≡ next) → IfSome run (λ r. r.take ≤ index + 1) → next ≤ at + 1
-    → SoFar answers tells items given steps_then run next (changed + cond (changes fate) 1 0) (index + 1)
-goes_on {answers = answers} {items = items} {given = given} {steps = steps} {last = last} {at = at} {changed = changed} {index = index} kept x fate steps_then whole run next within is says runs put ends taken further =
-    let item : get_or items index x ≡ x = sym is in
+pub goes_on : {T : Type 0} {told told_then : List (Fate T) → Type 0} {tells : (Splice T → plain.Step) → Type 0} {given steps : List Step} {walk : Walk T} {index : ℕ} (kept : SoFar told tells given steps walk index) (fate : Fate T) (steps_next : List Step) (next : Walk T)
+    → told_then (kept.fates ++ fate ∷ [])
+    → ((step_with : Splice T → plain.Step) → tells step_with → (rest : List (Fate T)) → steps_then step_with (map step_of steps) walk (fate ∷ rest) ≡ steps_then step_with (map step_of steps_next) next rest)
+    → IfSome next.last (λ run. run.index + length run.put.items ≡ next.at) → IfSome next.last (λ run. run.take ≤ index + 1) → next.at ≤ walk.at + 1 → next.changed ≡ walk.changed + cond (changes fate) 1 0
+    → SoFar told_then tells given steps_next next (index + 1)
+goes_on {given = given} kept fate steps_next next said passes ends taken further counted =
     let short = kept.short in
     let few = kept.few in
     record {
       fates = kept.fates ++ fate ∷ [];
-      told = subst (λ all. AllZip answers all (kept.fates ++ fate ∷ [])) (sym (take_more items index x within ∙ ap (λ y. take index items ++ y ∷ []) item)) (all_zip_more answers (take index items) kept.fates x fate kept.told says);
+      said = said;
       so_far = λ step_with tells_so rest.
-          let then = and_last (option_map splice_of run) (splices_from next rest) in
           ap (λ all. map step_of given ++ map step_with (splices_from 0 all)) (append_assoc kept.fates (fate ∷ []) rest)
           ∙ kept.so_far step_with tells_so (fate ∷ rest)
-          ∙ ap (λ splices. map step_of steps ++ map step_with splices) (runs rest)
-          ∙ ap (λ more. map step_of steps ++ more) (map-append step_with (map splice_of (cons_option whole [])) then)
-          ∙ sym (append_assoc (map step_of steps) (map step_with (map splice_of (cons_option whole []))) (map step_with then))
-          ∙ ap (λ all. all ++ map step_with then) (sym (put step_with tells_so));
+          ∙ passes step_with tells_so rest;
       ends = ends;
       taken = taken;
       short = omega arith;
-      counted = omega (arith, kept.counted, counted_more kept.fates fate);
-      few = elim (cases_Bool (changes fate)) [ inl so ↦ rw so (omega arith) | inr not_so ↦ rw not_so (omega arith) ];
+      counted = omega (arith, counted, kept.counted, counted_more kept.fates fate);
+      few = elim (cases_Bool (changes fate)) [ inl so ↦ (let more = rw so at counted in omega arith) | inr not_so ↦ (let more = rw not_so at counted in omega arith) ];
     }
 
-alone_last : {T : Type 0} (last : Option (Run T)) → map splice_of (cons_option last []) ≡ and_last (option_map splice_of last) []
+-- a run that is whole is a step behind the others
+pub passed : {T : Type 0} (step_with : Splice T → plain.Step) (steps steps_next : plain.Change) (whole : Option (Run T)) (walk next : Walk T) (fate : Fate T) (rest : List (Fate T))
+    → and_last (option_map splice_of walk.last) (splices_from walk.at (fate ∷ rest)) ≡ map splice_of (cons_option whole []) ++ and_last (option_map splice_of next.last) (splices_from next.at rest)
+    → steps_next ≡ steps ++ map step_with (map splice_of (cons_option whole []))
+    → steps_then step_with steps walk (fate ∷ rest) ≡ steps_then step_with steps_next next rest
+passed step_with steps steps_next whole walk next fate rest runs put =
+    let then = and_last (option_map splice_of next.last) (splices_from next.at rest) in
+    ap (λ splices. steps ++ map step_with splices) runs
+    ∙ ap (λ more. steps ++ more) (map-append step_with (map splice_of (cons_option whole [])) then)
+    ∙ sym (append_assoc steps (map step_with (map splice_of (cons_option whole []))) (map step_with then))
+    ∙ ap (λ all. all ++ map step_with then) (sym put)
+
+pub alone_last : {T : Type 0} (last : Option (Run T)) → map splice_of (cons_option last []) ≡ and_last (option_map splice_of last) []
 alone_last None = refl
 alone_last (Some run) = refl
 
 -- all steps, once the last run is one
-pub all_steps : {T : Type 0} {answers : T → Fate T → Type 0} {tells : (Splice T → plain.Step) → Type 0} {items : List T} {given steps : List Step} {last : Option (Run T)} {at changed index : ℕ} (kept : SoFar answers tells items given steps last at changed index) (steps_then : List Step) (step_with : Splice T → plain.Step) → tells step_with → map step_of steps_then ≡ map step_of steps ++ map step_with (map splice_of (cons_option last [])) → map step_of steps_then ≡ map step_of given ++ map step_with (splices_from 0 kept.fates)
-all_steps {given = given} {steps = steps} {last = last} {at = at} kept steps_then step_with tells_so put =
-    put
-    ∙ ap (λ splices. map step_of steps ++ map step_with splices) (alone_last last)
+pub all_steps : {T : Type 0} {told : List (Fate T) → Type 0} {tells : (Splice T → plain.Step) → Type 0} {given steps : List Step} {walk : Walk T} {index : ℕ} (kept : SoFar told tells given steps walk index) (steps_next : List Step) (step_with : Splice T → plain.Step) → tells step_with → map step_of steps_next ≡ steps_then step_with (map step_of steps) walk [] → map step_of steps_next ≡ map step_of given ++ map step_with (splices_from 0 kept.fates)
+all_steps {given = given} kept steps_next step_with tells_so ended =
+    ended
     ∙ sym (kept.so_far step_with tells_so [])
     ∙ ap (λ all. map step_of given ++ map step_with (splices_from 0 all)) (append-nil kept.fates)
 

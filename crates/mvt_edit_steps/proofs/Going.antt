@@ -2,11 +2,12 @@
 use Rattle.std.proofs.Common.{◌≡◌, ◌≤◌, Bool, true, false, not, List, [], ◌∷◌, length, map, filter, suc, refl, ap, ◌∙◌, subst, inl, inr}
 use Rattle.std.proofs.lemmas.Bool.{cases_Bool}
 use Rattle.std.specs.List.{AllZip, flat_map}
-use Rattle.mvt_edit_steps.specs.Fates.{Splice, changes, fate_seen, goes_if, splices_of}
-use Rattle.mvt_edit_steps.specs.declared.fates.Fate.{Fate}
-use Rattle.mvt_edit_steps.proofs.CarriedOut.{spliced_all, taken_all, put_all, AreThere, carries_out, left_of, new_in}
+use Rattle.mvt_numbers.specs.Fates.{changes, fate_seen, left_of_fate}
+use Rattle.mvt_edit_steps.specs.Fates.{Splice, goes_if, splices_of}
+use Rattle.mvt_numbers.specs.declared.fate.Fate.{Fate}
+use Rattle.mvt_edit_steps.proofs.CarriedOut.{spliced_all, taken_all, put_all, AreThere, carries_out, new_in}
 use Rattle.mvt_edit_steps.proofs.Planned.{count_planned, splices_planned}
-pub use Rattle.mvt_edit_steps.proofs.Planned.{seen}
+pub use Rattle.mvt_edit_steps.specs.Fates.{seen}
 
 -- the splices of the items that go
 abbrev pub out : {A : Type 0} → (A → Bool) → List A → List (Splice A)
@@ -15,7 +16,7 @@ out goes items = splices_of (map (λ x. goes_if (goes x)) items)
 -- ---- what they make of the list
 
 module _ {A : Type 0} (goes : A → Bool) where
-  left_filtered : (xs : List A) → flat_map (λ x. left_of (goes_if (goes x)) x) xs ≡ filter (λ x. not (goes x)) xs
+  left_filtered : (xs : List A) → flat_map (λ x. left_of_fate (λ y. y) x (goes_if (goes x))) xs ≡ filter (λ x. not (goes x)) xs
   left_filtered [] = refl
   left_filtered (x ∷ xs) = elim (cases_Bool (goes x)) [ inl gone ↦ rw gone (left_filtered xs) | inr stays ↦ rw stays (ap (λ ys. x ∷ ys) (left_filtered xs)) ]
 

@@ -2,6 +2,7 @@ pub mod CarriedOut
 pub mod Following
 pub mod ListPlaces
 pub mod Planned
+pub mod Decided
 pub mod Going
 pub mod Carrying
 pub mod Heavy

@@ -3,25 +3,22 @@ use Rattle.std.proofs.Common.{◌≡◌, ℕ, ◌+◌, ◌==◌, Bool, suc, List
 use Rattle.std.proofs.lemmas.Bool.{cases_Bool}
 use Rattle.std.proofs.lemmas.List.{length-map, map-append}
 use Rattle.std.specs.List.{AllZip}
-use Rattle.mvt_edit_steps.specs.Fates.{Splice, and_splices, changes, fate_seen, splices_from, splices_of}
-use Rattle.mvt_edit_steps.specs.declared.fates.Fate.{Fate}
-use Rattle.mvt_edit_steps.specs.declared.fates.Fate.TheVariants.{Stays, Goes, Becomes}
+use Rattle.mvt_numbers.specs.Fates.{changes, fate_seen}
+use Rattle.mvt_edit_steps.specs.Fates.{Splice, and_splices, seen, splices_from, splices_of}
+use Rattle.mvt_numbers.specs.declared.fate.Fate.{Fate}
+use Rattle.mvt_numbers.specs.declared.fate.Fate.TheVariants.{Stays, Goes, Becomes}
 
 module _ {T A : Type 0} (view : T → A) where
-  -- a splice as a plain value
-  abbrev pub seen : Splice T → Splice A
-  seen s = record { index = s.index; taken = s.taken; put = map view s.put }
-
-  seen_and : (s : Splice T) (splices : List (Splice T)) → map seen (and_splices s splices) ≡ and_splices (seen s) (map seen splices)
+  seen_and : (s : Splice T) (splices : List (Splice T)) → map (seen view) (and_splices s splices) ≡ and_splices (seen view s) (map (seen view) splices)
   seen_and s [] = refl
   seen_and s (next ∷ splices) =
       let long : length (map view s.put) ≡ length s.put = length-map s.put view in
       elim (cases_Bool (next.index == s.index + length s.put)) [
-        | inl joins ↦ rw (long, joins) (ap (λ put. record { index = s.index; taken = s.taken + next.taken; put = put } ∷ map seen splices) (map-append view s.put next.put))
+        | inl joins ↦ rw (long, joins) (ap (λ put. record { index = s.index; taken = s.taken + next.taken; put = put } ∷ map (seen view) splices) (map-append view s.put next.put))
         | inr apart ↦ rw (long, apart) refl
       ]
 
-  splices_seen : (at : ℕ) (fates : List (Fate T)) → map seen (splices_from at fates) ≡ splices_from at (map (fate_seen view) fates)
+  pub splices_seen : (at : ℕ) (fates : List (Fate T)) → map (seen view) (splices_from at fates) ≡ splices_from at (map (fate_seen view) fates)
   splices_seen at [] = refl
   splices_seen at (Stays ∷ fates) = splices_seen (at + 1) fates
   splices_seen at (Goes ∷ fates) = seen_and (record { index = at; taken = 1; put = [] }) (splices_from at fates) ∙ ap (and_splices (record { index = at; taken = 1; put = [] })) (splices_seen at fates)
@@ -32,7 +29,7 @@ module _ {T A : Type 0} (view : T → A) where
   changes_seen Goes = refl
   changes_seen (Becomes item) = refl
 
-  count_fates : (fates : List (Fate T)) → length (filter changes fates) ≡ length (filter changes (map (fate_seen view) fates))
+  pub count_fates : (fates : List (Fate T)) → length (filter changes fates) ≡ length (filter changes (map (fate_seen view) fates))
   count_fates [] = refl
   count_fates (fate ∷ fates) =
       let same = changes_seen fate in
@@ -47,7 +44,7 @@ module _ {T A : Type 0} (view : T → A) where
     told (x ∷ xs) (fate ∷ fates) all = ap (λ f. f ∷ map (fate_seen view) fates) (each x fate all.0) ∙ ap (λ fs. plan (view x) ∷ fs) (told xs fates all.1)
 
     -- the splices that the program makes are those that are planned
-    pub splices_planned : (xs : List T) (fates : List (Fate T)) → AllZip answers xs fates → map seen (splices_of fates) ≡ splices_of (map plan (map view xs))
+    pub splices_planned : (xs : List T) (fates : List (Fate T)) → AllZip answers xs fates → map (seen view) (splices_of fates) ≡ splices_of (map plan (map view xs))
     splices_planned xs fates all = splices_seen 0 fates ∙ ap (splices_from 0) (told xs fates all)
 
     -- and so many items change

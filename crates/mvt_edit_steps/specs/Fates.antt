@@ -1,10 +1,12 @@
 -- What becomes of the items of a list, and the splices that carry it out: neighbours that change are one.
-use Rattle.std.specs.Prelude.{◌≡◌, ℕ, ◌+◌, ◌==◌, Bool, true, false, List, [], ◌∷◌, ◌++◌, Option, Some, None, length, filter, map, if◌then◌else◌}
+use Rattle.std.specs.Prelude.{◌≡◌, ℕ, ◌+◌, ◌==◌, Bool, List, [], ◌∷◌, ◌++◌, Option, Some, None, length, filter, map, option_map, if◌then◌else◌}
 use Rattle.mvt_change.specs.Changes as plain
 use Rattle.mvt_change.specs.Changes.{Place, OfTheTile, OfTheLayer, OfTheFeature, Step, TileStep, LayerStep, FeatureStep}
 use Rattle.mvt_edit_steps.specs.declared.fates.Run.{Run}
-use Rattle.mvt_edit_steps.specs.declared.fates.Fate.{Fate}
-use Rattle.mvt_edit_steps.specs.declared.fates.Fate.TheVariants.{Stays, Goes, Becomes}
+use Rattle.mvt_edit_steps.specs.declared.fates.Walk.{Walk}
+use Rattle.mvt_numbers.specs.Fates.{changes}
+use Rattle.mvt_numbers.specs.declared.fate.Fate.{Fate}
+use Rattle.mvt_numbers.specs.declared.fate.Fate.TheVariants.{Stays, Goes, Becomes}
 
 -- so many items from an index of a list are taken out, and these come there
 pub record Splice (A : Type 0) : Type 0 where
@@ -15,6 +17,10 @@ pub record Splice (A : Type 0) : Type 0 where
 -- the splice that a run of the program is
 abbrev pub splice_of : {T : Type 0} → Run T → Splice T
 splice_of run = record { index = run.index; taken = run.take; put = run.put.items }
+
+-- the splice with plain values for the items of the program that it puts
+abbrev pub seen : {T A : Type 0} → (T → A) → Splice T → Splice A
+seen view s = record { index = s.index; taken = s.taken; put = map view s.put }
 
 -- the step that takes the item at this position of the list of a place out
 abbrev pub item_out : Place → ℕ → Step
@@ -49,17 +55,9 @@ splices_of fates = splices_from 0 fates
 abbrev pub goes_if : {A : Type 0} → Bool → Fate A
 goes_if picked = if picked then Goes else Stays
 
--- the item does not stay
-abbrev pub changes : {A : Type 0} → Fate A → Bool
-changes Stays = false
-changes Goes = true
-changes (Becomes item) = true
-
--- the fate of a plain value that an item of this fate stands for: what comes in its place is seen as a plain value too
-abbrev pub fate_seen : {T A : Type 0} → (T → A) → Fate T → Fate A
-fate_seen view Stays = Stays
-fate_seen view Goes = Goes
-fate_seen view (Becomes item) = Becomes (view item)
+-- the steps that there are once items of these fates follow those that a walk has passed
+abbrev pub steps_then : {T : Type 0} → (Splice T → plain.Step) → plain.Change → Walk T → List (Fate T) → plain.Change
+steps_then step_with steps walk rest = steps ++ map step_with (and_last (option_map splice_of walk.last) (splices_from walk.at rest))
 
 -- behind the steps that were given come those of the splices, and so many items change
 pub record IsCarriedOut {A : Type 0} (step_with : Splice A → plain.Step) (fates : List (Fate A)) (given steps : plain.Change) (changed : ℕ) : Type 0 where

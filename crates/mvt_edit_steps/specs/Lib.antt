@@ -1,3 +1,4 @@
 pub mod Fates
+pub mod Decided
 pub mod Prepared
 pub mod PutsLast

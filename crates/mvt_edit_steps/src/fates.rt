@@ -5,29 +5,24 @@ ghost use Rattle.std.specs.Prelude.{◌≡◌, ℕ, ◌+◌, ◌≤◌, ◌<◌,
 ghost use Rattle.std.specs.Fn.{FnReturns, FnReturnsAt};
 ghost use Rattle.std.specs.List.{AllZip, cons_option};
 ghost use Rattle.std.specs.Option.{option_map_or};
+ghost use Rattle.mvt_document.specs.Plain as document;
+ghost use Rattle.mvt_document.specs.Stands.{field_of};
+ghost use Rattle.mvt_numbers.specs.Fates.{changes};
 ghost use Rattle.mvt_change.specs.Changes as plain;
 ghost use Rattle.mvt_change.specs.ChangeStands.{step_of};
-ghost use Rattle.mvt_edit_steps.specs.Fates.{IsCarriedOut, Splice, Tells, and_last, changes, goes_if, splice_of, splices_from};
+ghost use Rattle.mvt_edit_steps.specs.Decided.{field_fates};
+ghost use Rattle.mvt_edit_steps.specs.Fates.{IsCarriedOut, Splice, Tells, and_last, goes_if, seen, splice_of, splices_from, steps_then};
 
 use mvt_change::Step;
+use mvt_document::Field;
+use mvt_numbers::{Fate, renumber_field};
 use std::alloc::{AllocError, Global};
 
-/// What becomes of an item of a list.
-#[derive(Debug, Drop)]
-pub enum Fate<T> {
-    Stays,
-    Goes,
-    /// The other comes in its place.
-    Becomes(T),
-}
-
-impl<T> Fate<T> {
-    /// It goes where it is picked, and else stays.
-    pub fn goes_if(picked: bool) -> Fate<T>
-        ensures { result ≡ goes_if picked }
-    {
-        if picked { Fate::Goes } else { Fate::Stays }
-    }
+/// An item goes where it is picked, and else stays.
+pub fn goes_if<T>(picked: bool) -> Fate<T>
+    ensures { result ≡ goes_if picked }
+{
+    if picked { Fate::Goes } else { Fate::Stays }
 }
 
 /// So many items from an index of a list on are taken out, and the ones to put come there.
@@ -52,19 +47,100 @@ pub fn carry_out<T: Drop, F: Fn(&T) -> Result<Fate<T>, AllocError>, S: Fn(Run<T>
     ensures { (step_with : Splice T → plain.Step) → Tells (λ run made. FnReturns S.Fn step (run, tt) made) step_of (λ run. step_with (splice_of run)) →
         IfOk result (λ changed. (fates : List (Fate T)) × AllZip (λ item fate. FnReturnsAt F.Fn fate_of item (Ok fate)) items.now fates × IsCarriedOut step_with fates (map step_of steps.old.items) (map step_of steps.new.items) changed) }
 {
-    let mut last = None;
-    let mut at = 0;
-    let mut changed = 0;
+    let mut walk = Walk::first();
     for index in 0..items.len() {
         let fate = fate_of(&items[index])?;
-        changed += changes(&fate);
-        let (whole, run, next) = joined(alloc, last, at, fate)?;
-        put_step(whole, &step, steps)?;
-        last = run;
-        at = next;
+        walk = walk.pass(alloc, fate, &step, steps)?;
     }
-    put_step(last, &step, steps)?;
-    Ok(changed)
+    walk.end(&step, steps)
+}
+
+/// Carries out what becomes of the fields of a message, by a decision for each number in the fields
+/// of this number, in order, in steps behind those that are given. How many fields change.
+pub fn renumber_fields<S: Fn(Run<Field>) -> Step>(
+    alloc: Global,
+    fields: &[Field],
+    number: u64,
+    decisions: &[Option<u64>],
+    step: S,
+    steps: &mut Vec<Step>,
+) -> Result<usize, AllocError>
+    requires { S.IsAlwaysCallable step }
+    ensures { (step_with : Splice document.Field → plain.Step) → Tells (λ run made. FnReturns S.Fn step (run, tt) made) step_of (λ run. step_with (seen field_of (splice_of run))) →
+        IfOk result (λ changed. IsCarriedOut step_with (field_fates number decisions.now (map field_of fields.now)) (map step_of steps.old.items) (map step_of steps.new.items) changed) }
+{
+    let mut walk = Walk::first();
+    let mut left = decisions;
+    for index in 0..fields.len() {
+        let (fate, behind) = renumber_field(alloc, &fields[index], number, left)?;
+        walk = walk.pass(alloc, fate, &step, steps)?;
+        left = behind;
+    }
+    walk.end(&step, steps)
+}
+
+/// How far a walk over the items of a list is: the run that is open, the index of the next item in
+/// the list that is made, and how many items change.
+#[derive(Debug, Drop)]
+struct Walk<T> {
+    last: Option<Run<T>>,
+    at: usize,
+    changed: usize,
+}
+
+impl<T: Drop> Walk<T> {
+    /// Before the first item.
+    fn first() -> Walk<T>
+        ensures { result ≡ record { last = None; at = 0; changed = 0 } }
+    {
+        Walk {
+            last: None,
+            at: 0,
+            changed: 0,
+        }
+    }
+
+    /// Behind one more item, of this fate. A run that is whole now is a step behind the others.
+    fn pass<S: Fn(Run<T>) -> Step>(
+        self,
+        alloc: Global,
+        fate: Fate<T>,
+        step: &S,
+        steps: &mut Vec<Step>,
+    ) -> Result<Walk<T>, AllocError>
+        requires step { S.IsAlwaysCallable step.now }
+        requires ends { IfSome self.last (λ run. (run.index + length run.put.items ≡ self.at) × (run.take + 1 < 2 ^ 64)) }
+        requires short { self.at + 1 < 2 ^ 64 }
+        requires few { self.changed + 1 < 2 ^ 64 }
+        ensures steps { (step_with : Splice T → plain.Step) → Tells (λ run made. FnReturns S.Fn step.now (run, tt) made) step_of (λ run. step_with (splice_of run)) →
+            IfOk result (λ walk. (rest : List (Fate T)) → steps_then step_with (map step_of steps.old.items) self (fate ∷ rest) ≡ steps_then step_with (map step_of steps.new.items) walk rest) }
+        ensures ends { IfOk result (λ walk. IfSome walk.last (λ run. run.index + length run.put.items ≡ walk.at)) }
+        ensures take { IfOk result (λ walk. (most : ℕ) → IfSome self.last (λ run. run.take ≤ most) → IfSome walk.last (λ run. run.take ≤ most + 1)) }
+        ensures next { IfOk result (λ walk. walk.at ≤ self.at + 1) }
+        ensures changed { IfOk result (λ walk. walk.changed ≡ self.changed + (if changes fate then 1 else 0)) }
+    {
+        let Walk { last, at, changed } = self;
+        let more = changes(&fate);
+        let (whole, open, next) = joined(alloc, last, at, fate)?;
+        put_step(whole, step, steps)?;
+        Ok(Walk {
+            last: open,
+            at: next,
+            changed: changed + more,
+        })
+    }
+
+    /// Behind the last item: the run that is open is a step behind the others. How many items
+    /// change.
+    fn end<S: Fn(Run<T>) -> Step>(self, step: &S, steps: &mut Vec<Step>) -> Result<usize, AllocError>
+        requires { S.IsAlwaysCallable step.now }
+        ensures { (step_with : Splice T → plain.Step) → Tells (λ run made. FnReturns S.Fn step.now (run, tt) made) step_of (λ run. step_with (splice_of run)) →
+            IfOk result (λ changed. (map step_of steps.new.items ≡ steps_then step_with (map step_of steps.old.items) self []) × (changed ≡ self.changed)) }
+    {
+        let Walk { last, changed, .. } = self;
+        put_step(last, step, steps)?;
+        Ok(changed)
+    }
 }
 
 /// 1 where an item of this fate changes, else 0.

@@ -10,7 +10,7 @@ use Rattle.mvt_meaning.specs.Selection.{selected, selected_layers}
 use Rattle.mvt_meaning.specs.declared.refusal.Refusal.{Refusal}
 use Rattle.mvt_meaning.proofs.Found.{change_layer_found}
 use Rattle.mvt_select.proofs.Chosen.{the_one_meant}
-use Rattle.mvt_edit_steps.specs.declared.fates.Fate.{Fate}
+use Rattle.mvt_numbers.specs.declared.fate.Fate.{Fate}
 use Rattle.mvt_edit_tags.specs.EachFeature.{layer_steps}
 use Rattle.mvt_edit_tags.proofs.Come.{CarriesInTile, Come, all_come, both_come, each_changed, layer_comes, none_come, puts_in, takes_in}
 

@@ -21,9 +21,10 @@ use Rattle.mvt_meaning.specs.Tagging.{is_key, renamed_keys}
 use Rattle.mvt_meaning.specs.Weights.{of_meant, put_by, taken_by, weigh}
 use Rattle.mvt_meaning.specs.declared.refusal.Refusal.TheVariants.{KeyTaken, NoKey, TooLarge}
 use Rattle.mvt_meaning.proofs.Found.{change_layer_found, items_at_found, items_changed, items_of_found}
-use Rattle.mvt_edit_steps.specs.Fates.{changes, splices_of}
+use Rattle.mvt_numbers.specs.Fates.{changes, left_of_fate}
+use Rattle.mvt_edit_steps.specs.Fates.{splices_of}
 use Rattle.mvt_edit_steps.specs.Prepared.{IsPrepared}
-use Rattle.mvt_edit_steps.proofs.CarriedOut.{carries_out, left_of, new_in}
+use Rattle.mvt_edit_steps.proofs.CarriedOut.{carries_out, new_in}
 use Rattle.mvt_edit_steps.proofs.Carrying.{carried, in_layer_at, in_the_layer, makes_alike}
 use Rattle.mvt_edit_steps.proofs.Limits.{limit_kept}
 use Rattle.mvt_edit_tags.specs.KeyFates.{key_fate}
@@ -44,7 +45,7 @@ module _ (old new : List ℕ) where
 
   -- ---- what is left of the items, what is taken out and what is put
 
-  keys_left : (items : List LayerItem) → flat_map (λ x. left_of (key_fate old new x) x) items ≡ renamed_keys old new items
+  keys_left : (items : List LayerItem) → flat_map (λ x. left_of_fate (λ y. y) x (key_fate old new x)) items ≡ renamed_keys old new items
   keys_left [] = refl
   keys_left (x ∷ items) = elim (cases_Bool (is_key old x)) [ inl key ↦ rw key (ap (λ xs. with_text new x ∷ xs) (keys_left items)) | inr other ↦ rw other (ap (λ xs. x ∷ xs) (keys_left items)) ]
 

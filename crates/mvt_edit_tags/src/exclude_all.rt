@@ -13,7 +13,7 @@ ghost use Rattle.mvt_edit_tags.specs.EachFeature.{feature_steps, layer_steps, ta
 use mvt_change::{Change, Step};
 use mvt_document::tags::TAGS;
 use mvt_document::{Body, Document, Feature, Field, Items};
-use mvt_edit_steps::{Fate, carry_out};
+use mvt_edit_steps::{carry_out, goes_if};
 use mvt_select::{FoundFeature, FoundLayer, LayersChoice, Refusal, SelectedLayers, find_layers};
 use std::alloc::{AllocError, Global};
 
@@ -86,7 +86,7 @@ fn untag(
     carry_out(
         alloc,
         found.feature.fields.as_slice(),
-        |field| Ok(Fate::goes_if(is_tags(field))),
+        |field| Ok(goes_if(is_tags(field))),
         |run| Step::InFeature {
             layer,
             item,

@@ -1,0 +1,11 @@
+-- What becomes of the fields of a message of which numbers are decided on.
+use Rattle.std.specs.Prelude.{ℕ, List, [], ◌∷◌, Option, length, drop}
+use Rattle.mvt_document.specs.Plain.{Field}
+use Rattle.mvt_numbers.specs.Renumbering.{field_numbers}
+use Rattle.mvt_numbers.specs.Fates.{field_fate}
+use Rattle.mvt_numbers.specs.declared.fate.Fate.{Fate}
+
+-- what becomes of each field of a message, by a decision for each number in the fields of this number, in order
+abbrev pub field_fates : ℕ → List (Option ℕ) → List Field → List (Fate Field)
+field_fates number decisions [] = []
+field_fates number decisions (field ∷ more) = field_fate number decisions field ∷ field_fates number (drop (length (field_numbers number field)) decisions) more
