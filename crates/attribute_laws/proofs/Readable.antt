@@ -1,5 +1,5 @@
 -- The features of the layers that are meant have attributes, where none of them is unreadable.
-use Rattle.std.proofs.Common.{◌≡◌, ℕ, zero, suc, ◌+◌, ◌==◌, Bool, true, not, is_some, Option, Some, None, option_map, Ok, List, [], ◌∷◌, ◌++◌, map, filter, drop, slice_get, refl, ap, ◌∙◌, inl, inr, subst, arith}
+use Rattle.std.proofs.Common.{◌≡◌, ℕ, zero, suc, ◌+◌, ◌==◌, Bool, true, not, is_some, Option, Some, None, option_map, Ok, List, [], ◌∷◌, ◌++◌, map, filter, slice_get, refl, ap, ◌∙◌, inl, inr, subst, arith}
 use Rattle.std.proofs.lemmas.Bool.{cases_Bool, eq-eqb}
 use Rattle.std.specs.List.{AllByRecursion, cons_option, enumerate_from, filter_map, flat_map}
 use Rattle.mvt_document.specs.Plain.{Feature, Layer, Document}
