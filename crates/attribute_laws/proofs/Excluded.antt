@@ -209,9 +209,9 @@ excludes key layer readable =
     let change = without_attribute key layer.items in
     record {
       each = λ ordinal former is. (
-      with_fields change former,
-      ap (λ (list : List Feature). slice_get list ordinal) (features_changed change layer.items) ∙ got_mapped (with_fields change) (features layer) ordinal former is,
-      record { tag = refl; width = refl; changed = loses key layer (with_items (excluded key) layer) former (fields_stay change layer.items) (readable ordinal former is) }
+        with_fields change former,
+        ap (λ (list : List Feature). slice_get list ordinal) (features_changed change layer.items) ∙ got_mapped (with_fields change) (features layer) ordinal former is,
+        record { tag = refl; width = refl; changed = loses key layer (with_items (excluded key) layer) former (fields_stay change layer.items) (readable ordinal former is) },
       );
       fields = fields_stay change layer.items;
       positions = positions_stay change 0 layer.items;
