@@ -12,7 +12,7 @@ use Rattle.mvt_meaning.proofs.Around.{around}
 use Rattle.mvt_meaning.proofs.Parts.{layer_differs, with_items}
 use Rattle.mvt_meaning.proofs.Positions.{positions_from, positions_pass, positions_skip}
 use Rattle.mvt_meaning.proofs.Selecting.{selected_within}
-use Rattle.attribute_laws.specs.MeantLayers.{Becomes, ChangesLayers}
+use Rattle.attribute_laws.specs.MeantLayers.{Becomes, ChangesLayers, IsMeant}
 
 -- ---- one layer
 
@@ -22,19 +22,26 @@ one_meant choice document ordinal other meant is = let both = sym is ∙ meant i
 some_same : {A : Type 0} (x y : A) (o : Option A) → o ≡ Some x → o ≡ Some y → x ≡ y
 some_same x y o is is_too = let both = sym is ∙ is_too in cc
 
-module _ (way : Layer → Layer → Type 0) (change : List LayerItem → List LayerItem) (changed : (layer : Layer) → way layer (with_items change layer)) where
-  becomes : (layer : Layer) → Becomes way layer (with_items change layer)
-  becomes layer = record { tag = refl; width = refl; changed = changed layer }
+-- what is got of a list of which each item is changed
+pub got_mapped : {A B : Type 0} (f : A → B) (list : List A) (n : ℕ) (x : A) → slice_get list n ≡ Some x → slice_get (map f list) n ≡ Some (f x)
+got_mapped f [] n x is = absurd cc
+got_mapped f (y ∷ list) zero x is = let same : y ≡ x = cc in ap (λ item. Some (f item)) same
+got_mapped f (y ∷ list) (suc n) x is = got_mapped f list n x is
 
-  one_changes : (choice : LayerChoice) (document : Document) (ordinal : ℕ) → selected choice document ≡ Ok ordinal → ChangesLayers (TheLayer choice) way document (change_layer change ordinal document)
-  one_changes choice document ordinal meant =
+module _ (way : Layer → Layer → Type 0) (change : List LayerItem → List LayerItem) where
+  becomes : (layer : Layer) → way layer (with_items change layer) → Becomes way layer (with_items change layer)
+  becomes layer changed = record { tag = refl; width = refl; changed = changed }
+
+  one_changes : (choice : LayerChoice) (document : Document) (ordinal : ℕ) → selected choice document ≡ Ok ordinal → ((layer : Layer) → slice_get (layers document) ordinal ≡ Some layer → way layer (with_items change layer)) → ChangesLayers (TheLayer choice) way document (change_layer change ordinal document)
+  one_changes choice document ordinal meant changed =
       let a = around layer_in document ordinal (selected_within choice document ordinal meant) in
       let d = layer_differs change ordinal document a in
       record {
         meant = λ other former is was.
             let same = one_meant choice document ordinal other meant is in
-            let layer = some_same a.value former (slice_get (layers document) ordinal) d.was (ap (slice_get (layers document)) (sym same) ∙ was) in
-            (with_items change former, ap (slice_get (layers (change_layer change ordinal document))) same ∙ d.is ∙ ap (λ (l : Layer). Some (with_items change l)) layer, becomes former);
+            let here = ap (slice_get (layers document)) (sym same) ∙ was in
+            let layer = some_same a.value former (slice_get (layers document) ordinal) d.was here in
+            (with_items change former, ap (slice_get (layers (change_layer change ordinal document))) same ∙ d.is ∙ ap (λ (l : Layer). Some (with_items change l)) layer, becomes former (changed former here));
         others = λ other apart. d.others other (λ same. apart (meant ∙ ap Ok (sym same)));
         fields = d.fields;
         positions = d.positions;
@@ -63,25 +70,20 @@ module _ (way : Layer → Layer → Type 0) (change : List LayerItem → List La
       ∙ positions_mapped (n + 1) document
       ∙ sym (positions_skip is_layer n (PlainInTile field) document refl)
 
-  got_mapped : (list : List Layer) (n : ℕ) (layer : Layer) → slice_get list n ≡ Some layer → slice_get (map (with_items change) list) n ≡ Some (with_items change layer)
-  got_mapped [] n layer is = absurd cc
-  got_mapped (x ∷ list) zero layer is = let same : x ≡ layer = cc in ap (λ (l : Layer). Some (with_items change l)) same
-  got_mapped (x ∷ list) (suc n) layer is = got_mapped list n layer is
-
-  each_changes : (document : Document) → ChangesLayers EachLayer way document (map (in_layer change) document)
-  each_changes document = record {
-    meant = λ ordinal former is was. (with_items change former, ap (λ list. slice_get list ordinal) (layers_mapped document) ∙ got_mapped (layers document) ordinal former was, becomes former);
+  each_changes : (document : Document) → ((ordinal : ℕ) (layer : Layer) → slice_get (layers document) ordinal ≡ Some layer → way layer (with_items change layer)) → ChangesLayers EachLayer way document (map (in_layer change) document)
+  each_changes document changed = record {
+    meant = λ ordinal former is was. (with_items change former, ap (λ list. slice_get list ordinal) (layers_mapped document) ∙ got_mapped (with_items change) (layers document) ordinal former was, becomes former (changed ordinal former was));
     others = λ ordinal apart. absurd (apart tt);
     fields = fields_mapped document;
     positions = positions_mapped 0 document;
   }
 
   -- what an accepted change of the layers that are meant makes
-  pub layers_change : (choice : LayersChoice) (old new : Document) → change_layers change choice old ≡ Ok new → ChangesLayers choice way old new
-  layers_change (TheLayer choice) old new is =
+  pub layers_change : (choice : LayersChoice) (old new : Document) → change_layers change choice old ≡ Ok new → ((ordinal : ℕ) (layer : Layer) → IsMeant choice ordinal old → slice_get (layers old) ordinal ≡ Some layer → way layer (with_items change layer)) → ChangesLayers choice way old new
+  layers_change (TheLayer choice) old new is changed =
       let meant = accepted (selected choice old) (λ ordinal. Ok (change_layer change ordinal old)) new is in
       let made : change_layer change meant.0 old ≡ new = let same = meant.2 in cc in
-      subst (ChangesLayers (TheLayer choice) way old) made (one_changes choice old meant.0 meant.1)
-  layers_change EachLayer old new is =
+      subst (ChangesLayers (TheLayer choice) way old) made (one_changes choice old meant.0 meant.1 (λ layer there. changed meant.0 layer meant.1 there))
+  layers_change EachLayer old new is changed =
       let made : map (in_layer change) old ≡ new = cc in
-      subst (ChangesLayers EachLayer way old) made (each_changes old)
+      subst (ChangesLayers EachLayer way old) made (each_changes old (λ ordinal layer there. changed ordinal layer tt there))

@@ -1,15 +1,15 @@
 -- Laws of the commands on attributes, in the words of a tile: what an accepted command makes.
-use Rattle.std.specs.Prelude.{◌≡◌, ℕ, not, List, [], Some, Ok, map, filter, option_map, if◌then◌else◌}
+use Rattle.std.specs.Prelude.{◌≡◌, ℕ, not, List, [], Some, Ok, map, filter, option_map, slice_get, if◌then◌else◌}
 use Rattle.std.specs.List.{AllByRecursion}
 use Rattle.std.specs.Str.{bytes_eq}
 use Rattle.mvt_document.specs.Plain.{Feature, Layer, Document}
-use Rattle.mvt_command.specs.Command.{LayerChoice, LayersChoice, RenameKey, ExcludeAll}
+use Rattle.mvt_command.specs.Command.{LayerChoice, LayersChoice, FeatureChoice, UnsetAttribute, RenameKey, Exclude, ExcludeAll}
 use Rattle.mvt_view.specs.Attributes.{attributes}
 use Rattle.mvt_view.specs.Views.{features, keys, plain_fields, values}
 use Rattle.mvt_meaning.specs.Selection.{feature_positions}
 use Rattle.mvt_meaning.specs.Tagging.{is_key, without_tags}
 use Rattle.mvt_meaning.specs.Meaning.{applied}
-use Rattle.mvt_meaning.specs.Kept.{ChangesLayer}
+use Rattle.mvt_meaning.specs.Kept.{ChangesFeature, ChangesLayer}
 use Rattle.attribute_laws.specs.MeantLayers.{ChangesLayers}
 
 -- ---- a key of another name
@@ -30,6 +30,43 @@ pub record RenamesKey (former present : List ℕ) (old new : Layer) : Type 0 whe
 -- an accepted rename of a key renames it in the selected layer, and nothing else differs
 abbrev pub RenameKeyRenames : Type 0
 RenameKeyRenames = (choice : LayerChoice) (former present : List ℕ) (old new : Document) → applied (RenameKey choice former present) old ≡ Ok new → ChangesLayer choice (RenamesKey former present) old new
+
+-- ---- no attribute of a key
+
+-- the attributes of other keys than this one, in order (tiles 4.4)
+abbrev pub of_other_keys : List ℕ → List (List ℕ × List ℕ) → List (List ℕ × List ℕ)
+of_other_keys key found = filter (λ attribute. not (bytes_eq key attribute.0)) found
+
+-- the feature had attributes in the former layer, and in the present one it has those of other keys, in their order; all
+-- its fields that are no tags are as they were (tiles 4.2, 4.4)
+pub record LosesAttribute (key : List ℕ) (former present : Layer) (old new : Feature) : Type 0 where
+  pub found : List (List ℕ × List ℕ)
+  pub had : attributes former old ≡ Some found
+  pub has : attributes present new ≡ Some (of_other_keys key found)
+  pub others : without_tags new.fields ≡ without_tags old.fields
+
+-- where it is accepted that a key is unset, the selected feature loses the attributes of that key, and nothing else
+-- differs
+abbrev pub UnsetUnsets : Type 0
+UnsetUnsets = (choice : LayerChoice) (feature : FeatureChoice) (key : List ℕ) (old new : Document) → applied (UnsetAttribute choice feature key) old ≡ Ok new → ChangesLayer choice (λ former present. ChangesFeature feature (LosesAttribute key former present) former present) old new
+
+-- the feature has become another in this way, with its tag and its stored width
+pub record FeatureBecomes (way : Feature → Feature → Type 0) (former present : Feature) : Type 0 where
+  pub tag : present.tag ≡ former.tag
+  pub width : present.width ≡ former.width
+  pub changed : way former present
+
+-- each feature of the layer loses the attributes of the key; the other fields of the layer and the positions of the
+-- features are as they were (tiles 4.1, 4.2)
+pub record ExcludesKey (key : List ℕ) (old new : Layer) : Type 0 where
+  pub each : (ordinal : ℕ) (former : Feature) → slice_get (features old) ordinal ≡ Some former → (present : Feature) × (slice_get (features new) ordinal ≡ Some present) × FeatureBecomes (LosesAttribute key old new) former present
+  pub fields : plain_fields new.items ≡ plain_fields old.items
+  pub positions : feature_positions new.items ≡ feature_positions old.items
+
+-- where it is accepted that a key is excluded, each feature of each layer that is meant loses the attributes of that
+-- key, and nothing else differs
+abbrev pub ExcludeExcludes : Type 0
+ExcludeExcludes = (choice : LayersChoice) (key : List ℕ) (old new : Document) → applied (Exclude choice key) old ≡ Ok new → ChangesLayers choice (ExcludesKey key) old new
 
 -- ---- no attributes
 

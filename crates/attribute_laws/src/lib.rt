@@ -1,13 +1,27 @@
 //! Laws of the commands on attributes. Each function does nothing: its contract is the law.
 #![tactic(auto)]
 
-ghost use Rattle.attribute_laws.specs.Laws.{ExcludeAllExcludes, RenameKeyRenames};
+ghost use Rattle.attribute_laws.specs.Laws.{ExcludeAllExcludes, ExcludeExcludes, RenameKeyRenames, UnsetUnsets};
+
+/// Where it is accepted that a key is unset, the selected feature has its attributes of other keys,
+/// in their order, and all its fields that are no tags. The keys, the values, the other features and
+/// the other layers are as they were.
+pub fn unset_unsets()
+    ensures { UnsetUnsets }
+{}
 
 /// An accepted rename of a key renames it in the selected layer wherever it is a key, and so in the
 /// attributes of every feature of that layer. The values, the features and all other fields of the
 /// layer are as they were, and so are the other layers.
 pub fn rename_key_renames()
     ensures { RenameKeyRenames }
+{}
+
+/// Where it is accepted that a key is excluded, each feature of the layers that are meant has its
+/// attributes of other keys, in their order, and all its fields that are no tags. The keys, the
+/// values and the other layers are as they were.
+pub fn exclude_excludes()
+    ensures { ExcludeExcludes }
 {}
 
 /// Where it is accepted that all attributes are excluded, no feature of the layers that are meant has

@@ -108,8 +108,14 @@ const REASONS: [Refused; 32] = [
     Refused::Edit(Refusal::NoKey),
     Refused::Edit(Refusal::BadPlace),
     Refused::Edit(Refusal::AmbiguousFeature),
-    Refused::Edit(Refusal::BadTags { layer: 0, feature: 0 }),
-    Refused::Edit(Refusal::BadTags { layer: 1, feature: 20 }),
+    Refused::Edit(Refusal::BadTags {
+        layer: 0,
+        feature: 0,
+    }),
+    Refused::Edit(Refusal::BadTags {
+        layer: 1,
+        feature: 20,
+    }),
     Refused::Edit(Refusal::NameTaken),
     Refused::Edit(Refusal::KeyTaken),
     Refused::Edit(Refusal::OutOfRange),

@@ -8,8 +8,8 @@ use mvt_edit::Command;
 use std::alloc::{AllocError, Global};
 use std::fmt;
 use test_fixtures::asked::{
-    clear_id, drop_feature, drop_layer, exclude_all, insert_polygon, keep, move_feature,
-    move_layer, rename, rename_key, set_id,
+    clear_id, drop_feature, drop_layer, exclude, exclude_all, insert_polygon, keep, move_feature,
+    move_layer, rename, rename_key, set_id, unset,
 };
 use test_fixtures::bytes::joined;
 use test_fixtures::edits::Edit;
@@ -30,7 +30,9 @@ pub enum Trial {
     ClearId,
     /// Two ids that are no neighbours.
     ClearIds,
+    Unset,
     RenameKey,
+    Exclude,
     ExcludeAll,
     /// The changes of two commands on one field, as one change.
     SetTwice,
@@ -38,7 +40,7 @@ pub enum Trial {
     Series,
 }
 
-const TRIALS: [Trial; 14] = [
+const TRIALS: [Trial; 16] = [
     Trial::RenameLayer,
     Trial::MoveLayer,
     Trial::DropLayer,
@@ -49,7 +51,9 @@ const TRIALS: [Trial; 14] = [
     Trial::SetId,
     Trial::ClearId,
     Trial::ClearIds,
+    Trial::Unset,
     Trial::RenameKey,
+    Trial::Exclude,
     Trial::ExcludeAll,
     Trial::SetTwice,
     Trial::Series,
@@ -83,7 +87,9 @@ impl Trial {
             Trial::SetId => "set-id",
             Trial::ClearId => "clear-id",
             Trial::ClearIds => "clear-ids",
+            Trial::Unset => "unset",
             Trial::RenameKey => "rename-key",
+            Trial::Exclude => "exclude",
             Trial::ExcludeAll => "exclude-all",
             Trial::SetTwice => "set-twice",
             Trial::Series => "series",
@@ -114,7 +120,9 @@ impl Trial {
             Trial::SetId => there_and_back(alloc, &T0, set_id(300)),
             Trial::ClearId => there_and_back(alloc, &T0, clear_id()),
             Trial::ClearIds => there_and_back(alloc, IDS_APART, clear_id()),
+            Trial::Unset => there_and_back(alloc, &T0, unset(alloc, b"k")?),
             Trial::RenameKey => there_and_back(alloc, &T0, rename_key(alloc, b"k", b"kind")?),
+            Trial::Exclude => there_and_back(alloc, &four_items(alloc)?, exclude(alloc, b"k")?),
             Trial::ExcludeAll => there_and_back(alloc, &four_items(alloc)?, exclude_all()),
             Trial::SetTwice => flip_twice(alloc, &mut set_twice(alloc)?),
             Trial::Series => flip_twice(alloc, &mut a_series(alloc)?),

@@ -19,7 +19,7 @@ module _ {A : Type 0} (P : A → Type 0) where
   all_mapped change keeps [] all = tt
   all_mapped change keeps (x ∷ xs) all = (keeps x all.0, all_mapped change keeps xs all.1)
 
-  got_holds : (xs : List A) (index : ℕ) (x : A) → slice_get xs index ≡ Some x → AllByRecursion P xs → P x
+  pub got_holds : (xs : List A) (index : ℕ) (x : A) → slice_get xs index ≡ Some x → AllByRecursion P xs → P x
   got_holds [] index x is all = absurd cc
   got_holds (x ∷ xs) zero y is all = let same : x ≡ y = cc in subst P same all.0
   got_holds (x ∷ xs) (suc index) y is all = got_holds xs index y is all.1

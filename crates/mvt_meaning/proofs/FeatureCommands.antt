@@ -75,7 +75,7 @@ drop_feature_drops choice feature old new e =
 
 -- ---- ids
 
-number_given : (id : ℕ) (number : Number) → (with_number id number).value ≡ id
+pub number_given : (id : ℕ) (number : Number) → (with_number id number).value ≡ id
 number_given id number =
     elim (cases_Bool (number.value == id)) [
       | inl same ↦ rw same (eqb-true number.value id same)
@@ -105,7 +105,7 @@ set_id_sets choice feature id old new e =
     let found = accepted (selected_in feature meant.0 old) (λ found. within_limit (change_feature (identified id) meant.0 found old)) new meant.2 in
     let made = within_is (change_feature (identified id) meant.0 found.0 old) new found.2 in
     changes_layer choice (ChangesFeature feature (SetsId id)) (change_nth is_feature (in_feature (identified id)) found.0) old new meant.0 meant.1 made (λ layer is.
-    changes_feature feature (SetsId id) (identified id) layer found.0 (feature_meant feature old layer meant.0 found.0 is found.1) (sets_id id))
+    changes_feature feature (SetsId id) (identified id) layer found.0 (feature_meant feature old layer meant.0 found.0 is found.1) (λ former was. sets_id id former))
 
 id_gone : (field : Field) (fields : List Field) (id : Option ℕ) → value_in 1 field ≡ id → filter_map (value_in 1) (without_id fields) ≡ [] → filter_map (value_in 1) (without_id (field ∷ fields)) ≡ []
 id_gone field fields None is e = rw (is, is) e
@@ -124,4 +124,4 @@ clear_id_clears choice feature old new e =
     let found = accepted (selected_in feature meant.0 old) (λ found. Ok (change_feature without_id meant.0 found old)) new meant.2 in
     let made : change_feature without_id meant.0 found.0 old ≡ new = let same = found.2 in cc in
     changes_layer choice (ChangesFeature feature ClearsId) (change_nth is_feature (in_feature without_id) found.0) old new meant.0 meant.1 made (λ layer is.
-    changes_feature feature ClearsId without_id layer found.0 (feature_meant feature old layer meant.0 found.0 is found.1) clears_id)
+    changes_feature feature ClearsId without_id layer found.0 (feature_meant feature old layer meant.0 found.0 is found.1) (λ former was. clears_id former))

@@ -4,7 +4,7 @@ use Rattle.std.specs.List.{filter_map}
 use Rattle.mvt_document.specs.Plain.{Field, Feature, LayerItem, OfFeature, PlainInLayer, Layer, TileItem, OfLayer, PlainInTile, Document}
 use Rattle.mvt_command.specs.Command.{LayerChoice, FeatureChoice}
 use Rattle.mvt_document.specs.Places.{in_feature, in_layer}
-use Rattle.mvt_view.specs.Views.{feature_in, layer_in, layers, plain_in}
+use Rattle.mvt_view.specs.Views.{feature_in, features, layer_in, layers, plain_in}
 use Rattle.mvt_meaning.specs.Ordinals.{change_first, change_nth}
 use Rattle.mvt_meaning.specs.Selection.{is_feature, selected, selected_feature}
 use Rattle.mvt_meaning.specs.Meaning.{change_layer, items_of}
@@ -71,7 +71,7 @@ feature_given change (OfFeature feature) other e = let same : feature ≡ other 
 feature_given change (PlainInLayer field) other e = absurd cc
 
 -- a change of the fields of the feature that is meant
-pub changes_feature : (choice : FeatureChoice) (way : Feature → Feature → Type 0) (change : List Field → List Field) (layer : Layer) (ordinal : ℕ) → selected_feature choice layer ≡ Ok ordinal → ((feature : Feature) → way feature (with_fields change feature)) → ChangesFeature choice way layer (with_items (change_nth is_feature (in_feature change) ordinal) layer)
+pub changes_feature : (choice : FeatureChoice) (way : Feature → Feature → Type 0) (change : List Field → List Field) (layer : Layer) (ordinal : ℕ) → selected_feature choice layer ≡ Ok ordinal → ((feature : Feature) → slice_get (features layer) ordinal ≡ Some feature → way feature (with_fields change feature)) → ChangesFeature choice way layer (with_items (change_nth is_feature (in_feature change) ordinal) layer)
 changes_feature choice way change layer ordinal meant changed =
     let a = around feature_in layer.items ordinal (feature_within choice layer ordinal meant) in
     let d = one_differs feature_in plain_in feature_apart (in_feature change) ordinal layer.items a (with_fields change a.value) (feature_given change a.item a.value a.has) in
@@ -84,6 +84,6 @@ changes_feature choice way change layer ordinal meant changed =
       is = d.is;
       tag = refl;
       width = refl;
-      changed = changed a.value;
+      changed = changed a.value d.was;
       alone = record { others = d.others; fields = d.fields; positions = d.positions };
     }

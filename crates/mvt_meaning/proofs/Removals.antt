@@ -17,7 +17,7 @@ use Rattle.mvt_meaning.specs.Tagging.{is_key_at, pairs_among, removals, without_
 -- ---- pairs of numbers
 
 -- the numbers of pairs, in order
-abbrev flat : List (ℕ × ℕ) → List ℕ
+abbrev pub flat : List (ℕ × ℕ) → List ℕ
 flat pairs = flat_map (λ (pair : ℕ × ℕ). pair.0 ∷ pair.1 ∷ []) pairs
 
 -- what the numbers say that make these pairs
@@ -67,7 +67,7 @@ ordinal_short count ordinal is =
     let short : ordinal < 2 ^ 32 = ltb-true ordinal (2 ^ 32) (and_parts (nat_lt ordinal count) (nat_lt ordinal (2 ^ 32)) is).1 in
     omega arith
 
-pairs_short : (goes : ℕ → Bool) (key_count value_count : ℕ) (pairs : List (ℕ × ℕ)) → list_all (is_pair key_count value_count) pairs ≡ true → AreShort (without_pairs goes pairs)
+pub pairs_short : (goes : ℕ → Bool) (key_count value_count : ℕ) (pairs : List (ℕ × ℕ)) → list_all (is_pair key_count value_count) pairs ≡ true → AreShort (without_pairs goes pairs)
 pairs_short goes key_count value_count [] is = tt
 pairs_short goes key_count value_count (pair ∷ pairs) is =
     let parts = and_parts (is_pair key_count value_count pair) (list_all (is_pair key_count value_count) pairs) is in
@@ -78,7 +78,7 @@ pairs_short goes key_count value_count (pair ∷ pairs) is =
       | inr stays ↦ rw stays (ordinal_short key_count pair.0 first.0, (ordinal_short value_count pair.1 first.1, more))
     ]
 
-head_same : (x y : ℕ) (xs ys : List ℕ) → x ∷ xs ≡ y ∷ ys → (x ≡ y) × (xs ≡ ys)
+pub head_same : (x y : ℕ) (xs ys : List ℕ) → x ∷ xs ≡ y ∷ ys → (x ≡ y) × (xs ≡ ys)
 head_same x y xs ys e = (cc, cc)
 
 pairs_kept : (goes : ℕ → Bool) (pairs : List (ℕ × ℕ)) (list : List Number) → map (λ (n : Number). n.value) list ≡ flat pairs → NoneIsNew (without_pairs goes pairs) list

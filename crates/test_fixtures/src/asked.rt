@@ -109,6 +109,23 @@ pub fn rename_key(alloc: Global, from: &[u8], to: &[u8]) -> Result<Command, Allo
     })
 }
 
+/// The first feature of the first layer loses its attributes of a key.
+pub fn unset(alloc: Global, key: &[u8]) -> Result<Command, AllocError> {
+    Ok(Command::UnsetAttribute {
+        layer: FIRST,
+        feature: FIRST_FEATURE,
+        key: text(alloc, key)?,
+    })
+}
+
+/// No feature of any layer keeps an attribute of a key.
+pub fn exclude(alloc: Global, key: &[u8]) -> Result<Command, AllocError> {
+    Ok(Command::Exclude {
+        layers: LayersChoice::All,
+        key: text(alloc, key)?,
+    })
+}
+
 /// No feature of any layer keeps an attribute.
 pub fn exclude_all() -> Command {
     Command::ExcludeAll {

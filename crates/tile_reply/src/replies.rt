@@ -130,11 +130,7 @@ fn write_place<W: Sink>(
 }
 
 /// Writes how far a request came that was stopped, and the end of the line.
-fn write_taken<W: Sink>(
-    replies: &mut W,
-    taken: usize,
-    retries: &mut Retries,
-) -> Result<(), Trouble>
+fn write_taken<W: Sink>(replies: &mut W, taken: usize, retries: &mut Retries) -> Result<(), Trouble>
     ensures { Sends (sink_at W.Sink replies.old) (sink_at W.Sink replies.new)
         retries.old retries.new (codes " taken " ++ decimal taken ++ codes "\n") (trouble_of result) }
 {

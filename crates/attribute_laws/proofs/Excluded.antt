@@ -1,0 +1,225 @@
+-- A feature without the pairs of a key has its other attributes, in their order.
+use Rattle.std.proofs.Common.{◌≡◌, ℕ, zero, suc, ◌/◌, ◌==◌, Bool, true, false, not, is_some, Option, Some, None, option_map, Ok, List, [], ◌∷◌, ◌++◌, length, map, filter, drop, slice_get, get_or, refl, sym, ap, ◌∙◌, inl, inr, subst}
+use Rattle.std.proofs.lemmas.Bool.{and_from, and_parts, cases_Bool, not-false}
+use Rattle.std.proofs.lemmas.List.Elements.{filter-append}
+use Rattle.std.proofs.lemmas.Simd.{map-map}
+use Rattle.std.specs.List.{AllByRecursion, list_all}
+use Rattle.std.specs.Option.{option_and_then, option_map_or, unwrap_or}
+use Rattle.std.specs.Str.{bytes_eq}
+use Rattle.mvt_document.specs.Plain.{Number, Body, Spelled, Eight, Four, Delimited, Group, Field, Feature, LayerItem, OfFeature, PlainInLayer, Layer, Document}
+use Rattle.mvt_document.specs.Places.{fields_in, in_feature}
+use Rattle.mvt_command.specs.Command.{FeatureChoice}
+use Rattle.mvt_numbers.specs.Numbers.{Placed, all_good, and_more, numbers}
+use Rattle.mvt_numbers.specs.Renumbering.{field_numbers, renumber, renumbered, renumbered_field, with_left, with_number, with_numbers}
+use Rattle.mvt_numbers.specs.Laws.{read_numbers}
+use Rattle.mvt_numbers.proofs.Redone.{left_is_read}
+use Rattle.mvt_view.specs.Attributes.{attribute_at, attributes, if_pairs, in_pairs, is_pair, pairs_in, pairs_of, values_in}
+use Rattle.mvt_view.specs.Laws.{Names}
+use Rattle.mvt_view.specs.Views.{contents, features, features_in, key_field, keys, layers, plain_fields, value_field, values}
+use Rattle.mvt_view.proofs.Pairing.{pairs_are_named}
+use Rattle.mvt_meaning.specs.Kept.{ChangesFeature}
+use Rattle.mvt_meaning.specs.Ordinals.{change_nth}
+use Rattle.mvt_meaning.specs.Selection.{is_feature, selected, selected_feature, selected_in, selected_layers}
+use Rattle.mvt_meaning.specs.Tagging.{excluded, is_key_at, is_tags, pairs_among, removals, unreadable, without_attribute, without_pairs, without_tags}
+use Rattle.mvt_meaning.specs.Meaning.{◌>>=◌, change_feature, change_layers, fields_of, has_key, has_pairs, items_of, refuse_first, refuse_if}
+use Rattle.mvt_meaning.specs.declared.refusal.Refusal.TheVariants.{BadTags, NoKey}
+use Rattle.mvt_meaning.proofs.Accepted.{accepted, feature_meant, not_refused}
+use Rattle.mvt_meaning.proofs.FeatureCommands.{number_given}
+use Rattle.mvt_meaning.proofs.Parts.{changes_feature, changes_layer, items_there, with_fields, with_items}
+use Rattle.mvt_meaning.proofs.Removals.{flat, head_same, make_pairs, pairs_short}
+use Rattle.attribute_laws.specs.Laws.{ExcludeExcludes, ExcludesKey, LosesAttribute, UnsetUnsets, of_other_keys}
+use Rattle.attribute_laws.proofs.EachFeature.{features_changed, fields_stay, positions_stay}
+use Rattle.attribute_laws.proofs.MeantLayers.{got_mapped, layers_change}
+use Rattle.attribute_laws.proofs.Readable.{meant_read}
+use Rattle.attribute_laws.proofs.Untagged.{none_of}
+
+-- ---- the pairs of other keys
+
+-- the pairs of the keys that stay
+abbrev staying : (ℕ → Bool) → List (ℕ × ℕ) → List (ℕ × ℕ)
+staying goes pairs = filter (λ (pair : ℕ × ℕ). not (goes pair.0)) pairs
+
+abbrev value_list : List Number → List ℕ
+value_list list = map (λ (n : Number). n.value) list
+
+values_staying : (goes : ℕ → Bool) (pairs : List (ℕ × ℕ)) (list : List Number) → value_list list ≡ flat pairs → value_list (renumbered (without_pairs goes pairs) list) ≡ flat (staying goes pairs)
+values_staying goes [] list is = is
+values_staying goes (pair ∷ pairs) [] is = absurd cc
+values_staying goes (pair ∷ pairs) (key ∷ []) is = let tails = head_same key.value pair.0 [] (pair.1 ∷ flat pairs) is in absurd (let none = tails.1 in cc)
+values_staying goes (pair ∷ pairs) (key ∷ value ∷ list) is =
+    let first = head_same key.value pair.0 (value.value ∷ value_list list) (pair.1 ∷ flat pairs) is in
+    let second = head_same value.value pair.1 (value_list list) (flat pairs) first.1 in
+    let more = values_staying goes pairs list second.1 in
+    elim (cases_Bool (goes pair.0)) [
+      | inl gone ↦ rw gone more
+      | inr stays ↦ (
+          rw stays
+          (ap (λ (n : ℕ). n ∷ (with_number pair.1 value).value ∷ value_list (renumbered (without_pairs goes pairs) list)) (number_given pair.0 key)
+          ∙ ap (λ (n : ℕ). pair.0 ∷ n ∷ value_list (renumbered (without_pairs goes pairs) list)) (number_given pair.1 value)
+          ∙ ap (λ (rest : List ℕ). pair.0 ∷ pair.1 ∷ rest) more)
+          )
+    ]
+
+in_pairs-flat : (pairs : List (ℕ × ℕ)) → in_pairs (flat pairs) ≡ Some pairs
+in_pairs-flat [] = refl
+in_pairs-flat (pair ∷ pairs) = ap (and_more (pair.0, pair.1)) (in_pairs-flat pairs)
+
+still_pairs : (key_count value_count : ℕ) (goes : ℕ → Bool) (pairs : List (ℕ × ℕ)) → list_all (is_pair key_count value_count) pairs ≡ true → list_all (is_pair key_count value_count) (staying goes pairs) ≡ true
+still_pairs key_count value_count goes [] is = refl
+still_pairs key_count value_count goes (pair ∷ pairs) is =
+    let parts = and_parts (is_pair key_count value_count pair) (list_all (is_pair key_count value_count) pairs) is in
+    let more = still_pairs key_count value_count goes pairs parts.1 in
+    elim (cases_Bool (goes pair.0)) [
+      | inl gone ↦ rw gone more
+      | inr stays ↦ rw stays (and_from (is_pair key_count value_count pair) (list_all (is_pair key_count value_count) (staying goes pairs)) parts.0 more)
+    ]
+
+values_read : (good : Option (List Placed)) → option_map (map (λ (p : Placed). p.number.value)) good ≡ option_map value_list (option_map (map (λ (p : Placed). p.number)) good)
+values_read None = refl
+values_read (Some placed) = ap Some (sym (map-map (λ (n : Number). n.value) (λ (p : Placed). p.number) placed))
+
+are_pairs : (key_count value_count : ℕ) (pairs : List (ℕ × ℕ)) → list_all (is_pair key_count value_count) pairs ≡ true → if_pairs key_count value_count pairs ≡ Some pairs
+are_pairs key_count value_count pairs is = rw is refl
+
+-- the pairs of the keys that go are those that are no longer read
+pairs_staying : (key_count value_count : ℕ) (goes : ℕ → Bool) (fields : List Field) (pairs : List (ℕ × ℕ)) → pairs_in key_count value_count (numbers 2 fields) ≡ Some pairs → pairs_in key_count value_count (numbers 2 (renumber 2 (without_pairs goes pairs) fields)) ≡ Some (staying goes pairs)
+pairs_staying key_count value_count goes fields pairs is =
+    let made = make_pairs key_count value_count (numbers 2 fields) pairs is in
+    let list = map (λ (p : Placed). p.number) made.placed in
+    let left = renumber 2 (without_pairs goes pairs) fields in
+    let read : read_numbers 2 fields ≡ Some list = ap (option_map (map (λ (p : Placed). p.number))) made.good in
+    let reread = left_is_read 2 (without_pairs goes pairs) fields list (pairs_short goes key_count value_count pairs made.each) read in
+    let were : value_list list ≡ flat pairs = map-map (λ (n : Number). n.value) (λ (p : Placed). p.number) made.placed ∙ made.values in
+    let are : values_in (numbers 2 left) ≡ Some (flat (staying goes pairs)) =
+    values_read (all_good (numbers 2 left)) ∙ ap (option_map value_list) reread ∙ ap Some (values_staying goes pairs list were) in
+    ap (λ (found : Option (List ℕ)). option_and_then (if_pairs key_count value_count) (option_and_then in_pairs found)) are
+    ∙ ap (option_and_then (if_pairs key_count value_count)) (in_pairs-flat (staying goes pairs))
+    ∙ are_pairs key_count value_count (staying goes pairs) (still_pairs key_count value_count goes pairs made.each)
+
+-- ---- the attributes of other keys
+
+filtered_first : {A B : Type 0} (f : A → B) (passes : A → Bool) (test : B → Bool) (x : A) (xs : List A) (b : Bool) → passes x ≡ b → test (f x) ≡ b → map f (filter passes xs) ≡ filter test (map f xs) → map f (filter passes (x ∷ xs)) ≡ filter test (map f (x ∷ xs))
+filtered_first f passes test x xs true here there more = rw (here, there) (ap (λ rest. f x ∷ rest) more)
+filtered_first f passes test x xs false here there more = rw (here, there) more
+
+attributes_staying : (key : List ℕ) (layer : Layer) (pairs : List (ℕ × ℕ)) → AllByRecursion (Names layer) pairs → map (attribute_at layer) (staying (is_key_at layer.items key) pairs) ≡ of_other_keys key (map (attribute_at layer) pairs)
+attributes_staying key layer [] names = refl
+attributes_staying key layer (pair ∷ pairs) names =
+    let same : is_key_at layer.items key pair.0 ≡ bytes_eq key (attribute_at layer pair).0 = ap (λ found. option_map_or (bytes_eq key) found false) names.0.key in
+    filtered_first (attribute_at layer) (λ (pair : ℕ × ℕ). not (is_key_at layer.items key pair.0)) (λ (attribute : List ℕ × List ℕ). not (bytes_eq key attribute.0)) pair pairs (not (bytes_eq key (attribute_at layer pair).0))
+    (ap not same) refl (attributes_staying key layer pairs names.1)
+
+-- the attributes of a feature hang on the fields of its layer alone
+attributes_by_fields : (one other : Layer) (feature : Feature) → plain_fields one.items ≡ plain_fields other.items → attributes one feature ≡ attributes other feature
+attributes_by_fields one other feature same =
+    ap (λ (fields : List Field). option_map (map (λ (pair : ℕ × ℕ). (get_or (contents key_field fields) pair.0 [], get_or (contents value_field fields) pair.1 []))) (pairs_in (length (contents key_field fields)) (length (contents value_field fields)) (numbers 2 feature.fields))) same
+
+-- ---- the fields that are no tags
+
+tags_body : (tag : Number) (list : List Number) (body : Body) → is_tags (record { tag = tag; body = with_numbers list body }) ≡ is_tags (record { tag = tag; body = body })
+tags_body tag list (Spelled number) = elim (cases_Bool (tag.value / 8 == 2)) [ inl two ↦ rw two refl | inr other ↦ rw other refl ]
+tags_body tag list (Delimited width bytes) = elim (cases_Bool (tag.value / 8 == 2)) [ inl two ↦ rw two refl | inr other ↦ rw other refl ]
+tags_body tag list (Eight bytes) = refl
+tags_body tag list (Four bytes) = refl
+tags_body tag list (Group bytes) = refl
+
+tags_gone : (field : Field) (number : Number) (more list : List Number) → is_tags field ≡ true → without_tags (with_left field (number ∷ more) list) ≡ without_tags (field ∷ [])
+tags_gone field number more [] tags = rw tags refl
+tags_gone field number more (first ∷ others) tags =
+    let still : is_tags (record field { body = with_numbers (first ∷ others) field.body }) ≡ true = tags_body field.tag (first ∷ others) field.body ∙ tags in
+    rw (tags, still) refl
+
+left_apart : (field : Field) (had list : List Number) → (is_tags field ≡ false → had ≡ []) → without_tags (with_left field had list) ≡ without_tags (field ∷ [])
+left_apart field [] list none = refl
+left_apart field (number ∷ more) list none =
+    elim (cases_Bool (is_tags field)) [
+      | inl tags ↦ tags_gone field number more list tags
+      | inr other ↦ absurd (let e = none other in cc)
+    ]
+
+others_stay : (decisions : List (Option ℕ)) (fields : List Field) → without_tags (renumber 2 decisions fields) ≡ without_tags fields
+others_stay decisions [] = refl
+others_stay decisions (field ∷ fields) =
+    let rest = renumber 2 (drop (length (field_numbers 2 field)) decisions) fields in
+    let none : is_tags field ≡ false → field_numbers 2 field ≡ [] = λ other. ap (λ chunks. unwrap_or (option_map (map (λ (p : Placed). p.number)) (all_good chunks)) []) (none_of 0 field.tag field.body other) in
+    filter-append (λ (f : Field). not (is_tags f)) (renumbered_field 2 decisions field) rest
+    ∙ ap (λ first. first ++ without_tags rest) (left_apart field (field_numbers 2 field) (renumbered decisions (field_numbers 2 field)) none)
+    ∙ ap (λ more. without_tags (field ∷ []) ++ more) (others_stay (drop (length (field_numbers 2 field)) decisions) fields)
+    ∙ sym (filter-append (λ (f : Field). not (is_tags f)) (field ∷ []) fields)
+
+-- ---- a feature
+
+some_of : {A : Type 0} (found : Option A) → is_some found ≡ true → (x : A) × (found ≡ Some x)
+some_of None e = absurd cc
+some_of (Some x) e = (x, refl)
+
+loses : (key : List ℕ) (layer present : Layer) (feature : Feature) → plain_fields present.items ≡ plain_fields layer.items → is_some (pairs_of layer feature) ≡ true → LosesAttribute key layer present feature (with_fields (without_attribute key layer.items) feature)
+loses key layer present feature same readable =
+    let goes = is_key_at layer.items key in
+    let pairs = some_of (pairs_of layer feature) readable in
+    let left : pairs_of layer (with_fields (without_attribute key layer.items) feature) ≡ Some (staying goes pairs.0) =
+    ap (λ (found : Option (List (ℕ × ℕ))). pairs_in (length (keys layer)) (length (values layer)) (numbers 2 (renumber 2 (option_map_or (without_pairs goes) found []) feature.fields))) pairs.1
+    ∙ pairs_staying (length (keys layer)) (length (values layer)) goes feature.fields pairs.0 pairs.1 in
+    record {
+      found = map (attribute_at layer) pairs.0;
+      had = ap (option_map (map (attribute_at layer))) pairs.1;
+      has = attributes_by_fields present layer (with_fields (without_attribute key layer.items) feature) same ∙ ap (option_map (map (attribute_at layer))) left ∙ ap Some (attributes_staying key layer pairs.0 (pairs_are_named layer feature pairs.0 pairs.1));
+      others = others_stay (removals key layer.items feature.fields) feature.fields;
+    }
+
+-- ---- the feature that is meant
+
+fields_there : (items : List LayerItem) (index : ℕ) (feature : Feature) → slice_get (features_in items) index ≡ Some feature → option_map_or (λ item. option_map_or (λ (fields : List Field). fields) (fields_in item) []) (slice_get (filter is_feature items) index) [] ≡ feature.fields
+fields_there [] index feature is = absurd cc
+fields_there (OfFeature first ∷ items) zero feature is = let same : first ≡ feature = cc in ap (λ (f : Feature). f.fields) same
+fields_there (OfFeature first ∷ items) (suc index) feature is = fields_there items index feature is
+fields_there (PlainInLayer field ∷ items) index feature is = fields_there items index feature is
+
+read_there : (document : Document) (ordinal index : ℕ) (layer : Layer) (feature : Feature) → slice_get (layers document) ordinal ≡ Some layer → slice_get (features layer) index ≡ Some feature → has_pairs ordinal index document ≡ true → is_some (pairs_of layer feature) ≡ true
+read_there document ordinal index layer feature there is has =
+    let items = items_there document ordinal layer there in
+    let fields : fields_of ordinal index document ≡ feature.fields =
+    ap (λ (list : List LayerItem). option_map_or (λ item. option_map_or (λ (fields : List Field). fields) (fields_in item) []) (slice_get (filter is_feature list) index) []) items ∙ fields_there layer.items index feature is in
+    sym (ap (λ (list : List LayerItem). is_some (pairs_among list (fields_of ordinal index document))) items ∙ ap (λ (list : List Field). is_some (pairs_among layer.items list)) fields) ∙ has
+
+-- the fields of a layer that are no features stay where one feature changes
+fields_kept : (choice : FeatureChoice) (change : List Field → List Field) (layer : Layer) (ordinal : ℕ) → selected_feature choice layer ≡ Ok ordinal → plain_fields (change_nth is_feature (in_feature change) ordinal layer.items) ≡ plain_fields layer.items
+fields_kept choice change layer ordinal meant = (changes_feature choice (λ former present. Unit {0}) change layer ordinal meant (λ former was. tt)).alone.fields
+
+pub unset_unsets : UnsetUnsets
+unset_unsets choice feature key old new e =
+    let change : ℕ → List Field → List Field = λ ordinal. without_attribute key (items_of ordinal old) in
+    let meant = accepted (selected choice old) (λ ordinal. selected_in feature ordinal old >>= λ meant. refuse_if (not (has_key key ordinal old)) NoKey >>= λ there. refuse_if (not (has_pairs ordinal meant old)) (BadTags ordinal meant) >>= λ readable. Ok (change_feature (change ordinal) ordinal meant old)) new e in
+    let found = accepted (selected_in feature meant.0 old) (λ found. refuse_if (not (has_key key meant.0 old)) NoKey >>= λ there. refuse_if (not (has_pairs meant.0 found old)) (BadTags meant.0 found) >>= λ readable. Ok (change_feature (change meant.0) meant.0 found old)) new meant.2 in
+    let there = accepted (refuse_if (not (has_key key meant.0 old)) NoKey) (λ there. refuse_if (not (has_pairs meant.0 found.0 old)) (BadTags meant.0 found.0) >>= λ readable. Ok (change_feature (change meant.0) meant.0 found.0 old)) new found.2 in
+    let readable = accepted (refuse_if (not (has_pairs meant.0 found.0 old)) (BadTags meant.0 found.0)) (λ readable. Ok (change_feature (change meant.0) meant.0 found.0 old)) new there.2 in
+    let has = not-false (has_pairs meant.0 found.0 old) (not_refused (not (has_pairs meant.0 found.0 old)) (BadTags meant.0 found.0) readable.0 readable.1) in
+    let made : change_feature (change meant.0) meant.0 found.0 old ≡ new = let same = readable.2 in cc in
+    changes_layer choice (λ former present. ChangesFeature feature (LosesAttribute key former present) former present) (change_nth is_feature (in_feature (change meant.0)) found.0) old new meant.0 meant.1 made (λ layer is.
+    let chosen = feature_meant feature old layer meant.0 found.0 is found.1 in
+    let present : Layer = with_items (change_nth is_feature (in_feature (change meant.0)) found.0) layer in
+    changes_feature feature (LosesAttribute key layer present) (change meant.0) layer found.0 chosen (λ former was.
+    subst (λ (items : List LayerItem). LosesAttribute key layer present former (with_fields (without_attribute key items) former)) (sym (items_there old meant.0 layer is))
+    (loses key layer present former (fields_kept feature (change meant.0) layer found.0 chosen) (read_there old meant.0 found.0 layer former is was has))))
+
+-- ---- the features of the layers that are meant
+
+excludes : (key : List ℕ) (layer : Layer) → ((index : ℕ) (feature : Feature) → slice_get (features layer) index ≡ Some feature → is_some (pairs_of layer feature) ≡ true) → ExcludesKey key layer (with_items (excluded key) layer)
+excludes key layer readable =
+    let change = without_attribute key layer.items in
+    record {
+      each = λ ordinal former is. (
+        with_fields change former,
+        ap (λ (list : List Feature). slice_get list ordinal) (features_changed change layer.items) ∙ got_mapped (with_fields change) (features layer) ordinal former is,
+        record { tag = refl; width = refl; changed = loses key layer (with_items (excluded key) layer) former (fields_stay change layer.items) (readable ordinal former is) },
+      );
+      fields = fields_stay change layer.items;
+      positions = positions_stay change 0 layer.items;
+    }
+
+pub exclude_excludes : ExcludeExcludes
+exclude_excludes choice key old new e =
+    let found = accepted (selected_layers choice old) (λ found. refuse_first (unreadable found) >>= λ readable. change_layers (excluded key) choice old) new e in
+    let readable = accepted (refuse_first (unreadable found.0)) (λ readable. change_layers (excluded key) choice old) new found.2 in
+    layers_change (ExcludesKey key) (excluded key) choice old new readable.2 (λ ordinal layer meant there.
+    excludes key layer (meant_read choice old found.0 readable.0 found.1 readable.1 ordinal layer meant there))
