@@ -132,7 +132,11 @@ impl<T: Drop> Walk<T> {
 
     /// Behind the last item: the run that is open is a step behind the others. How many items
     /// change.
-    fn end<S: Fn(Run<T>) -> Step>(self, step: &S, steps: &mut Vec<Step>) -> Result<usize, AllocError>
+    fn end<S: Fn(Run<T>) -> Step>(
+        self,
+        step: &S,
+        steps: &mut Vec<Step>,
+    ) -> Result<usize, AllocError>
         requires { S.IsAlwaysCallable step.now }
         ensures { (step_with : Splice T → plain.Step) → Tells (λ run made. FnReturns S.Fn step.now (run, tt) made) step_of (λ run. step_with (splice_of run)) →
             IfOk result (λ changed. (map step_of steps.new.items ≡ steps_then step_with (map step_of steps.old.items) self []) × (changed ≡ self.changed)) }

@@ -45,7 +45,7 @@ returns g c = λ step_with tells.
     let steps_with = λ (s : Splice Field). step_with (seen field_of s) in
     IfOk-weaker c.end.result _ _ (λ changed ended. record {
       behind =
-        all_steps kept c.end.new.steps.items steps_with tells ended.0
-        ∙ ap (λ more. map step_of c.args.steps.now.items ++ more) (sym (map-map step_with (seen field_of) (splices_of kept.fates)) ∙ ap (map step_with) (splices_seen field_of 0 kept.fates ∙ ap splices_of fates));
+          all_steps kept c.end.new.steps.items steps_with tells ended.0
+          ∙ ap (λ more. map step_of c.args.steps.now.items ++ more) (sym (map-map step_with (seen field_of) (splices_of kept.fates)) ∙ ap (map step_with) (splices_seen field_of 0 kept.fates ∙ ap splices_of fates));
       counted = ended.1 ∙ kept.counted ∙ count_fates field_of kept.fates ∙ ap (λ all. length (filter changes all)) fates;
     }) (c.end.ensures steps_with tells)
