@@ -1,0 +1,77 @@
+-- The decisions on the numbers of pairs, one pair after the other; and the keys of a layer that have some bytes.
+use Rattle.std.proofs.Common.{◌≡◌, ℕ, zero, suc, Bool, true, false, ◌||◌, cond, Option, Some, None, Result, List, [], ◌∷◌, ◌++◌, is_some, length, map, option_map, slice_get, append_assoc, refl, sym, ap, ◌∙◌, inl, inr}
+use Rattle.std.proofs.lemmas.Bool.{cases_Bool}
+use Rattle.std.specs.List.{cons_option, flat_map, list_any}
+use Rattle.std.specs.Option.{option_map_or, unwrap_or}
+use Rattle.std.specs.Str.{bytes_eq}
+use Rattle.mvt_document.specs.Plain.{Field, LayerItem, OfFeature, PlainInLayer}
+use Rattle.mvt_numbers.specs.Numbers.{and_more}
+use Rattle.mvt_view.specs.Views.{content_in, contents, key_field, plain_fields}
+use Rattle.mvt_meaning.specs.Tagging.{is_key, is_key_at, pairs_among, removals, without_pairs}
+
+-- two decisions more
+pub decided_more : (goes : ℕ → Bool) (front : List (Option ℕ)) (pair : ℕ × ℕ) (rest : Option (List (ℕ × ℕ))) → option_map (λ more. front ++ without_pairs goes more) (and_more pair rest) ≡ option_map (λ more. (front ++ without_pairs goes (pair ∷ [])) ++ without_pairs goes more) rest
+decided_more goes front pair None = refl
+decided_more goes front pair (Some more) =
+    elim (cases_Bool (goes pair.0)) [
+      | inl gone ↦ rw gone (ap Some (sym (append_assoc front (None ∷ None ∷ []) (without_pairs goes more))))
+      | inr stays ↦ rw stays (ap Some (sym (append_assoc front (Some pair.0 ∷ Some pair.1 ∷ []) (without_pairs goes more))))
+    ]
+
+pub decided_none : (goes : ℕ → Bool) (rest : Option (List (ℕ × ℕ))) → option_map (λ more. [] ++ without_pairs goes more) rest ≡ option_map (without_pairs goes) rest
+decided_none goes None = refl
+decided_none goes (Some more) = refl
+
+-- ---- keys that have these bytes
+
+named_at : (key : List ℕ) (keys : List (List ℕ)) (ordinal : ℕ) → unwrap_or (slice_get (map (bytes_eq key) keys) ordinal) false ≡ option_map_or (bytes_eq key) (slice_get keys ordinal) false
+named_at key [] zero = refl
+named_at key [] (suc ordinal) = refl
+named_at key (first ∷ keys) zero = refl
+named_at key (first ∷ keys) (suc ordinal) = named_at key keys ordinal
+
+same_pairs : (goes goes_too : ℕ → Bool) → ((ordinal : ℕ) → goes ordinal ≡ goes_too ordinal) → (pairs : List (ℕ × ℕ)) → without_pairs goes pairs ≡ without_pairs goes_too pairs
+same_pairs goes goes_too same [] = refl
+same_pairs goes goes_too same (pair ∷ pairs) =
+    let e = same pair.0 in
+    elim (cases_Bool (goes_too pair.0)) [
+      | inl gone ↦ (let is = e ∙ gone in rw (gone, is) (ap (λ more. None ∷ None ∷ more) (same_pairs goes goes_too same pairs)))
+      | inr stays ↦ (let is = e ∙ stays in rw (stays, is) (ap (λ more. Some pair.0 ∷ Some pair.1 ∷ more) (same_pairs goes goes_too same pairs)))
+    ]
+
+-- the decisions by keys that are named are those on the pairs of the key
+named_removals : (key : List ℕ) (items : List LayerItem) (decisions : List (Option ℕ)) (found : Option (List (ℕ × ℕ))) → option_map (without_pairs (λ ordinal. unwrap_or (slice_get (map (bytes_eq key) (contents key_field (plain_fields items))) ordinal) false)) found ≡ Some decisions → decisions ≡ option_map_or (without_pairs (is_key_at items key)) found []
+named_removals key items decisions None is = absurd cc
+named_removals key items decisions (Some pairs) is =
+    let keys = contents key_field (plain_fields items) in
+    let here : without_pairs (λ ordinal. unwrap_or (slice_get (map (bytes_eq key) keys) ordinal) false) pairs ≡ decisions = cc in
+    sym here ∙ same_pairs (λ ordinal. unwrap_or (slice_get (map (bytes_eq key) keys) ordinal) false) (is_key_at items key) (named_at key keys) pairs
+
+pub removals_decided : (key : List ℕ) (items : List LayerItem) (fields : List Field) (decisions : List (Option ℕ)) → option_map (without_pairs (λ ordinal. unwrap_or (slice_get (map (bytes_eq key) (contents key_field (plain_fields items))) ordinal) false)) (pairs_among items fields) ≡ Some decisions → decisions ≡ removals key items fields
+removals_decided key items fields decisions is = named_removals key items decisions (pairs_among items fields) is
+
+-- where tags are decided on they make pairs
+pub then_pairs : {A B : Type 0} (f : A → B) (found : Option A) (made : B) → option_map f found ≡ Some made → is_some found ≡ true
+then_pairs f None made is = absurd cc
+then_pairs f (Some x) made is = refl
+
+-- a key is among the items where it is among the keys
+any_key : (key : List ℕ) (content : Option (List ℕ)) (rest : List (List ℕ)) → list_any (λ same. same) (map (bytes_eq key) (cons_option content rest)) ≡ (option_map_or (bytes_eq key) content false || list_any (λ same. same) (map (bytes_eq key) rest))
+any_key key None rest = refl
+any_key key (Some bytes) rest = refl
+
+pub has_named : (key : List ℕ) (items : List LayerItem) → list_any (λ same. same) (map (bytes_eq key) (contents key_field (plain_fields items))) ≡ list_any (is_key key) items
+has_named key [] = refl
+has_named key (OfFeature feature ∷ items) = has_named key items
+has_named key (PlainInLayer field ∷ items) =
+    any_key key (content_in key_field field) (contents key_field (plain_fields items)) ∙ ap (λ more. option_map_or (bytes_eq key) (content_in key_field field) false || more) (has_named key items)
+
+-- the decisions on the two numbers of a pair, one put behind the other
+pub two_pushed : (goes : ℕ → Bool) (front : List (Option ℕ)) (pair : ℕ × ℕ) (half whole : List (Option ℕ)) (first second : Option ℕ) {gone : Bool} → half ≡ front ++ first ∷ [] → whole ≡ half ++ second ∷ [] → gone ≡ goes pair.0 → first ≡ cond gone None (Some pair.0) → second ≡ cond gone None (Some pair.1) → whole ≡ front ++ without_pairs goes (pair ∷ [])
+two_pushed goes front pair half whole first second is_half is_whole is_gone is_first is_second =
+    is_whole ∙ ap (λ list. list ++ second ∷ []) is_half ∙ append_assoc front (first ∷ []) (second ∷ [])
+    ∙ ap (λ list. front ++ list) (
+      elim (cases_Bool (goes pair.0)) [
+        | inl gone ↦ rw gone (ap (λ x. x ∷ second ∷ []) (is_first ∙ ap (λ b. cond b None (Some pair.0)) (is_gone ∙ gone)) ∙ ap (λ x. None ∷ x ∷ []) (is_second ∙ ap (λ b. cond b None (Some pair.1)) (is_gone ∙ gone)))
+        | inr stays ↦ rw stays (ap (λ x. x ∷ second ∷ []) (is_first ∙ ap (λ b. cond b None (Some pair.0)) (is_gone ∙ stays)) ∙ ap (λ x. Some pair.0 ∷ x ∷ []) (is_second ∙ ap (λ b. cond b None (Some pair.1)) (is_gone ∙ stays)))
+      ])

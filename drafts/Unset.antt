@@ -1,0 +1,78 @@
+-- The pairs of a key that a feature loses.
+use Rattle.std.proofs.Common.{◌≡◌, ℕ, List, ◌*◌, ◌≤◌, true, false, is_some, length, map, slice_get, Some, Ok, Err, refl, sym, ap, ◌∙◌, arith}
+use Rattle.std.proofs.lemmas.List.{length-map}
+use Rattle.std.specs.List.{flat_map, list_any}
+use Rattle.mvt_document.specs.Plain.{Field, Feature, OfFeature, Layer, OfLayer, Document}
+use Rattle.mvt_document.specs.Wire.{field_bytes}
+use Rattle.mvt_change.specs.Changes.{Change}
+use Rattle.mvt_command.specs.Command.{LayerChoice, FeatureChoice, UnsetAttribute}
+use Rattle.mvt_meaning.specs.Meaning.{applied, fields_of, has_key, has_pairs, items_of}
+use Rattle.mvt_meaning.specs.Selection.{feature_positions, layer_positions, selected, selected_feature, selected_in}
+use Rattle.mvt_meaning.specs.Tagging.{is_key, losing, pairs_among, removals, without_attribute}
+use Rattle.mvt_meaning.specs.declared.refusal.Refusal.{Refusal}
+use Rattle.mvt_meaning.specs.declared.refusal.Refusal.TheVariants.{BadTags, NoKey}
+use Rattle.mvt_meaning.proofs.Found.{change_feature_found, fields_at_found, fields_of_found, items_of_found, selected_in_found}
+use Rattle.mvt_edit_steps.specs.Decided.{field_fates}
+use Rattle.mvt_edit_steps.specs.Fates.{splices_of}
+use Rattle.mvt_edit_steps.specs.Prepared.{IsPrepared}
+use Rattle.mvt_edit_steps.proofs.Carrying.{carried, in_feature_at, in_the_feature, makes_alike}
+use Rattle.mvt_edit_tags.proofs.TagsLeft.{TagsLeft}
+
+module _ (choice : LayerChoice) (key : List ℕ) (document : Document) (ordinal position : ℕ) (layer : Layer) (chosen : selected choice document ≡ Ok ordinal) (placed : slice_get (layer_positions document) ordinal ≡ Some position) (there : slice_get document position ≡ Some (OfLayer layer)) where
+  items_here : items_of ordinal document ≡ layer.items
+  items_here = items_of_found document ordinal position layer placed there
+
+  has_here : has_key key ordinal document ≡ list_any (is_key key) layer.items
+  has_here = ap (list_any (is_key key)) items_here
+
+  -- where no feature is meant
+  pub no_feature_loses : (feature : FeatureChoice) (refusal : Refusal) → selected_feature feature layer ≡ Err refusal → applied (UnsetAttribute choice feature key) document ≡ Err refusal
+  no_feature_loses feature refusal refused =
+      let none = selected_in_found document ordinal position layer placed there feature ∙ refused in
+      rw (chosen, none) refl
+
+  module _ (feature : FeatureChoice) (meant item : ℕ) (found : Feature) (selected_there : selected_feature feature layer ≡ Ok meant) (feature_placed : slice_get (feature_positions layer.items) meant ≡ Some item) (feature_there : slice_get layer.items item ≡ Some (OfFeature found)) where
+    selected_here : selected_in feature ordinal document ≡ Ok meant
+    selected_here = selected_in_found document ordinal position layer placed there feature ∙ selected_there
+
+    fields_here : fields_of ordinal meant document ≡ found.fields
+    fields_here = fields_of_found document ordinal position layer placed there meant item found feature_placed feature_there
+
+    pairs_here : has_pairs ordinal meant document ≡ is_some (pairs_among layer.items found.fields)
+    pairs_here = ap (λ items. is_some (pairs_among items (fields_of ordinal meant document))) items_here ∙ ap (λ fields. is_some (pairs_among layer.items fields)) fields_here
+
+    -- where the layer lacks the key
+    pub key_lacks : list_any (is_key key) layer.items ≡ false → applied (UnsetAttribute choice feature key) document ≡ Err NoKey
+    key_lacks none = let no = has_here ∙ none in rw (chosen, selected_here, no) refl
+
+    module _ (has : list_any (is_key key) layer.items ≡ true) where
+      -- where the tags make no pairs
+      pub pairs_lack : is_some (pairs_among layer.items found.fields) ≡ false → applied (UnsetAttribute choice feature key) document ≡ Err (BadTags ordinal meant)
+      pairs_lack none =
+          let yes = has_here ∙ has in
+          let no = pairs_here ∙ none in
+          rw (chosen, selected_here, yes, no) refl
+
+      -- where the steps make of the tags what is decided on them
+      pub tags_lose : is_some (pairs_among layer.items found.fields) ≡ true → TagsLeft (removals key layer.items found.fields) found.fields → (change : Change) → change ≡ map (in_feature_at position item) (splices_of (field_fates 2 (removals key layer.items found.fields) found.fields)) → IsPrepared (UnsetAttribute choice feature key) document change
+      tags_lose readable left change steps =
+          let yes = has_here ∙ has in
+          let pairs = pairs_here ∙ readable in
+          let sits = in_the_feature position item in
+          let splices = splices_of (field_fates 2 (removals key layer.items found.fields) found.fields) in
+          let at = fields_at_found document ordinal position layer placed there meant item found feature_placed feature_there in
+          let done = carried sits document found.fields at splices left.there left.valid in
+          let makes = done.makes ∙ makes_alike sits document found.fields at (without_attribute key layer.items) splices left.leaves ∙ sym (change_feature_found document ordinal position layer placed there meant item found feature_placed feature_there (without_attribute key layer.items)) in
+          let items = items_here in
+          let fields = fields_here in
+          let few = left.few in
+          let puts = done.puts ∙ ap (λ new. length (flat_map field_bytes new)) left.puts in
+          let gone = ap (λ old. length (flat_map field_bytes old)) left.takes in
+          let takes = done.takes ∙ gone in
+          rw steps (record {
+            fits = done.fits;
+            means = rw (chosen, selected_here, yes, pairs, items) (ap Ok (sym makes));
+            puts = rw (chosen, selected_here, items, fields) (omega (arith, puts));
+            takes = rw (chosen, selected_here, items, fields) (omega (arith, takes));
+            steps = rw (chosen, selected_here, items, fields) (omega (arith, few, length-map splices (in_feature_at position item)));
+          })
