@@ -33,8 +33,8 @@ JOBS = {
 LONG_JOBS = [MANY, IDS]
 SMALL_JOBS = [IDS]
 
-# The jobs of tiles of one kind, which have no others.
-JOBS_OF_KIND = {"empty tags": [EMPTY, UNTAGGED]}
+# The jobs of tiles of one kind, which have no others. protobuf loses an empty packed field, where it is not to go.
+JOBS_OF_KIND = {"empty tags": [UNTAGGED]}
 
 # The job `alternating layers`, of tileshell alone: layers of one name in turns with layers of another, of which one
 # kind goes, and comes back. The first script is what it is held against.

@@ -106,14 +106,21 @@ def seconds_for(tile):
 
 def check_same(programs, tile):
     """Ends the benchmark where the programs wrote different tiles."""
-    lengths = {program.out.stat().st_size for program in programs}
-    digests = {digest(program.out) for program in programs if program.keeps_order}
+    tiles = {program: respelled(program.out) for program in programs}
+    lengths = {len(each) for each in tiles.values()}
+    digests = {hashlib.sha256(each).digest() for program, each in tiles.items() if program.keeps_order}
     if len(lengths) > 1 or len(digests) > 1:
         raise SystemExit(f"bench: the programs wrote different tiles from {tile.name}")
 
 
-def digest(path):
-    return hashlib.sha256(path.read_bytes()).digest()
+def respelled(path):
+    """The bytes of a tile with each length in its shortest spelling, or as they are where protozero reads none.
+
+    A length that tileshell does not mean to change keeps the bytes that it was read in, though it needs fewer.
+    """
+    out = BUILD / "respelled"
+    peer = subprocess.run([BUILD / "protozero_peer", path, out], stdin=subprocess.DEVNULL, capture_output=True)
+    return (out if peer.returncode == 0 else path).read_bytes()
 
 
 def measure(programs, tile, script):
