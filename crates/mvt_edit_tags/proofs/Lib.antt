@@ -3,3 +3,6 @@ pub mod EachFeature
 pub mod Untagged
 pub mod KeyFields
 pub mod KeysRenamed
+pub mod Deciding
+pub mod TagsLeft
+pub mod Unset
