@@ -4,3 +4,4 @@ pub mod Untagged
 pub mod Renamed
 pub mod Readable
 pub mod Excluded
+mod Twice

@@ -68,6 +68,10 @@ pub record ExcludesKey (key : List ℕ) (old new : Layer) : Type 0 where
 abbrev pub ExcludeExcludes : Type 0
 ExcludeExcludes = (choice : LayersChoice) (key : List ℕ) (old new : Document) → applied (Exclude choice key) old ≡ Ok new → ChangesLayers choice (ExcludesKey key) old new
 
+-- where it is accepted that a key is excluded, the same is accepted of what is made, and changes nothing
+abbrev pub ExcludeAgainChangesNothing : Type 0
+ExcludeAgainChangesNothing = (choice : LayersChoice) (key : List ℕ) (old new : Document) → applied (Exclude choice key) old ≡ Ok new → applied (Exclude choice key) new ≡ Ok new
+
 -- ---- no attributes
 
 -- a feature without its tags fields (tiles 4.2)

@@ -6,3 +6,5 @@ pub mod KeysRenamed
 pub mod Deciding
 pub mod TagsLeft
 pub mod Unset
+pub mod Unreadable
+pub mod Excluded

@@ -4,7 +4,8 @@ use Rattle.std.specs.List.{flat_map}
 use Rattle.mvt_document.specs.Plain.{Field, Feature, LayerItem, Layer}
 use Rattle.mvt_change.specs.Changes.{Change, FeatureStep}
 use Rattle.mvt_view.specs.Found.{found_features}
-use Rattle.mvt_meaning.specs.Tagging.{is_tags}
+use Rattle.mvt_meaning.specs.Tagging.{is_tags, removals}
+use Rattle.mvt_edit_steps.specs.Decided.{field_fates}
 use Rattle.mvt_edit_steps.specs.Fates.{goes_if, splices_of}
 use Rattle.mvt_numbers.specs.declared.fate.Fate.{Fate}
 
@@ -20,3 +21,8 @@ layer_steps fates found = flat_map (feature_steps (fates found.1.1.items) found.
 -- the tags fields go, and the other fields of a feature stay (tiles 4.2)
 abbrev pub tags_go : List Field → List (Fate Field)
 tags_go fields = map (λ field. goes_if (is_tags field)) fields
+
+-- the pairs of a key go from the tags fields, and the other fields of a feature stay, in a layer of these items
+-- (tiles 4.4)
+abbrev pub pairs_go : List ℕ → List LayerItem → List Field → List (Fate Field)
+pairs_go key items fields = field_fates 2 (removals key items fields) fields
