@@ -1,5 +1,5 @@
 -- A key that is excluded twice is excluded once.
-use Rattle.std.proofs.Common.{◌≡◌, ℕ, zero, suc, ◌+◌, Bool, true, cond, not, is_some, Option, Some, Ok, Err, List, [], ◌∷◌, ◌++◌, length, map, filter, slice_get, nat_lt, option_map, refl, sym, ap, ◌∙◌, subst, inl, inr}
+use Rattle.std.proofs.Common.{◌≡◌, ℕ, zero, suc, ◌+◌, Bool, true, false, cond, not, is_some, Option, Some, None, Ok, Err, List, [], ◌∷◌, ◌++◌, length, map, filter, slice_get, nat_lt, option_map, refl, sym, ap, ◌∙◌, subst, inl, inr}
 use Rattle.std.proofs.lemmas.Bool.{cases_Bool}
 use Rattle.std.proofs.lemmas.List.{length-map}
 use Rattle.std.proofs.lemmas.Simd.{map-map}
@@ -43,7 +43,7 @@ module _ (goes : ℕ → Bool) where
   all_stay (pair ∷ pairs) =
       elim (cases_Bool (goes pair.0)) [
         | inl gone ↦ rw gone (all_stay pairs)
-        | inr stays ↦ rw stays (ap (λ rest. Some pair.0 ∷ Some pair.1 ∷ rest) (all_stay pairs))
+        | inr stays ↦ rw stays (rw stays (ap (λ rest. Some pair.0 ∷ Some pair.1 ∷ rest) (all_stay pairs)))
       ]
 
   fields_same : (key_count value_count : ℕ) (fields : List Field) (pairs : List (ℕ × ℕ)) → pairs_in key_count value_count (numbers 2 fields) ≡ Some (staying goes pairs) → renumber 2 (without_pairs goes (staying goes pairs)) fields ≡ fields
