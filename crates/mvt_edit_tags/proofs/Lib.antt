@@ -7,4 +7,5 @@ pub mod Deciding
 pub mod TagsLeft
 pub mod Unset
 pub mod Unreadable
+pub mod NoStep
 pub mod Excluded

@@ -37,7 +37,7 @@ bad_among layer ordinal found = map (λ (f : ℕ × (ℕ × Feature)). (ordinal,
 pub readable_more : (layer : Layer) (ordinal : ℕ) (found : ℕ × (ℕ × Feature)) (more : List (ℕ × (ℕ × Feature))) → is_some (pairs_of layer found.1.1) ≡ true → bad_among layer ordinal (found ∷ more) ≡ bad_among layer ordinal more
 readable_more layer ordinal found more readable = rw readable refl
 
-pub bad_first : (layer : Layer) (ordinal : ℕ) (found : ℕ × (ℕ × Feature)) (more : List (ℕ × (ℕ × Feature))) → pairs_of layer found.1.1 ≡ None → bad_among layer ordinal (found ∷ more) ≡ (ordinal, found.0) ∷ bad_among layer ordinal more
+pub bad_first : (layer : Layer) (ordinal : ℕ) (found : ℕ × (ℕ × Feature)) (more : List (ℕ × (ℕ × Feature))) → is_some (pairs_of layer found.1.1) ≡ false → bad_among layer ordinal (found ∷ more) ≡ (ordinal, found.0) ∷ bad_among layer ordinal more
 bad_first layer ordinal found more none = rw none refl
 
 -- those of one layer

@@ -1,6 +1,6 @@
 -- The steps by which the fields of many features change.
-use Rattle.std.specs.Prelude.{ℕ, List, map}
-use Rattle.std.specs.List.{flat_map}
+use Rattle.std.specs.Prelude.{ℕ, Bool, not, List, Option, is_some, map}
+use Rattle.std.specs.List.{flat_map, list_any}
 use Rattle.mvt_document.specs.Plain.{Field, Feature, LayerItem, Layer}
 use Rattle.mvt_change.specs.Changes.{Change, FeatureStep}
 use Rattle.mvt_view.specs.Found.{found_features}
@@ -26,3 +26,7 @@ tags_go fields = map (λ field. goes_if (is_tags field)) fields
 -- (tiles 4.4)
 abbrev pub pairs_go : List ℕ → List LayerItem → List Field → List (Fate Field)
 pairs_go key items fields = field_fates 2 (removals key items fields) fields
+
+-- some number goes, by a decision for each
+abbrev pub is_any_gone : List (Option ℕ) → Bool
+is_any_gone decisions = list_any (λ decision. not (is_some decision)) decisions

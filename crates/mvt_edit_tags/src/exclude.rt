@@ -1,27 +1,22 @@
 //! The attributes of one key go.
 
-ghost use Rattle.std.specs.Prelude.{◌≡◌, ◌⊎◌, ◌++◌, [], ◌∷◌, false, None, Some, Err, IfErr, IfOk, map, option_map, slice_get};
-ghost use Rattle.std.specs.Option.{unwrap_or};
-ghost use Rattle.std.specs.Str.{bytes_eq};
+ghost use Rattle.std.specs.Prelude.{◌≡◌, ◌⊎◌, ◌++◌, [], ◌∷◌, Err, IfErr, IfOk, map};
 ghost use Rattle.mvt_document.specs.Stands.{document_of};
-ghost use Rattle.mvt_numbers.specs.Numbers.{numbers};
 ghost use Rattle.mvt_change.specs.ChangeStands.{step_of};
 ghost use Rattle.mvt_command.specs.Command.{Exclude};
 ghost use Rattle.mvt_command.specs.CommandStands.{layers_choice_of};
 ghost use Rattle.mvt_meaning.specs.Meaning.{refuse_first};
-ghost use Rattle.mvt_meaning.specs.Tagging.{unreadable, without_pairs};
-ghost use Rattle.mvt_meaning.specs.declared.refusal.Refusal.TheVariants.{BadTags, NoMemory};
-ghost use Rattle.mvt_view.specs.Seen.{feature_seen, found_feature_seen, found_layer_seen};
-ghost use Rattle.mvt_view.specs.Tags.{plain_pairs, tag_pairs};
+ghost use Rattle.mvt_meaning.specs.Tagging.{unreadable};
+ghost use Rattle.mvt_meaning.specs.declared.refusal.Refusal.TheVariants.{NoMemory};
+ghost use Rattle.mvt_view.specs.Seen.{found_layer_seen};
 ghost use Rattle.mvt_edit_steps.specs.Prepared.{Prepares};
-ghost use Rattle.mvt_edit_tags.specs.EachFeature.{layer_steps, pairs_go};
+ghost use Rattle.mvt_edit_tags.specs.EachFeature.{is_any_gone, layer_steps, pairs_go};
 
-use crate::decide::{decide, named_keys};
+use crate::decide::{decide_or_refuse, named_keys};
 use crate::unset::renumber_tags;
 use mvt_change::{Change, Step};
 use mvt_document::{Document, Items};
-use mvt_select::{FoundFeature, FoundLayer, LayersChoice, Refusal, find_layers};
-use mvt_view::{PairsError, PoolSizes};
+use mvt_select::{FoundLayer, LayersChoice, Refusal, find_layers};
 use std::alloc::Global;
 
 /// Each feature of the layers that are meant loses each pair of the key, whichever of its layer's
@@ -63,28 +58,16 @@ fn exclude_from(
     let sizes = layer.pool_sizes();
     for feature in layer.features() {
         decide_or_refuse(found.ordinal, feature, sizes, named.as_slice(), decisions)?;
-        renumber_tags(alloc, found.position, feature, decisions.as_slice(), steps)?;
+        if is_any_gone(decisions.as_slice()) {
+            renumber_tags(alloc, found.position, feature, decisions.as_slice(), steps)?;
+        }
     }
     Ok(())
 }
 
-/// Decides on the tags of a feature, or refuses the feature, which is in the layer of this ordinal.
-fn decide_or_refuse(
-    layer: usize,
-    found: FoundFeature<'_>,
-    sizes: PoolSizes,
-    named: &[bool],
-    decisions: &mut Vec<Option<u64>>,
-) -> Result<(), Refusal>
-    ensures decided { IfOk result (λ done. option_map (without_pairs (λ key. unwrap_or (slice_get named.now key) false)) (plain_pairs (tag_pairs sizes.keys sizes.values (numbers 2 (found_feature_seen found.entry).1.1.fields))) ≡ Some decisions.new.items) }
-    ensures refused { IfErr result (λ refusal. (refusal ≡ NoMemory) ⊎ ((refusal ≡ BadTags layer found.entry.ordinal) × (plain_pairs (tag_pairs sizes.keys sizes.values (numbers 2 (found_feature_seen found.entry).1.1.fields)) ≡ None))) }
+/// Some number goes. Where none does there is no step, and the tags are not read again.
+fn is_any_gone(decisions: &[Option<u64>]) -> bool
+    ensures { result ≡ is_any_gone decisions.now }
 {
-    match decide(found.view(), sizes, named, decisions) {
-        Ok(()) => Ok(()),
-        Err(PairsError::BadTags) => Err(Refusal::BadTags {
-            layer,
-            feature: found.ordinal,
-        }),
-        Err(PairsError::NoMemory) => Err(Refusal::NoMemory),
-    }
+    decisions.iter().any(Option::is_none)
 }
