@@ -1,5 +1,5 @@
 -- A key that is excluded twice is excluded once.
-use Rattle.std.proofs.Common.{◌≡◌, ℕ, zero, suc, ◌+◌, Bool, true, false, cond, not, is_some, Option, Some, None, Ok, Err, List, [], ◌∷◌, ◌++◌, length, map, filter, slice_get, nat_lt, option_map, refl, sym, ap, ◌∙◌, subst, inl, inr}
+use Rattle.std.proofs.Common.{◌≡◌, ℕ, zero, suc, ◌+◌, Bool, true, false, cond, not, is_some, Some, None, Ok, Err, List, [], ◌∷◌, ◌++◌, length, map, filter, slice_get, nat_lt, option_map, refl, sym, ap, ◌∙◌, subst, inl, inr}
 use Rattle.std.proofs.lemmas.Bool.{cases_Bool}
 use Rattle.std.proofs.lemmas.List.{length-map}
 use Rattle.std.proofs.lemmas.Simd.{map-map}
@@ -17,7 +17,7 @@ use Rattle.mvt_numbers.proofs.Redone.{kept_stays}
 use Rattle.mvt_numbers.proofs.Reread.{read_of_fields}
 use Rattle.mvt_view.specs.Attributes.{pairs_in, pairs_of}
 use Rattle.mvt_view.specs.Found.{with_position}
-use Rattle.mvt_view.specs.Views.{contents, features_in, key_field, layer_in, layers, ordinals_of, plain_fields, the_one, value_field}
+use Rattle.mvt_view.specs.Views.{contents, features_in, key_field, layer_in, layers, plain_fields, the_one, value_field}
 use Rattle.mvt_meaning.specs.Selection.{selected, selected_layers}
 use Rattle.mvt_meaning.specs.Tagging.{excluded, is_key_at, pairs_among, unreadable, without_attribute, without_pairs}
 use Rattle.mvt_meaning.specs.Meaning.{◌>>=◌, applied, change_layer, change_layers, refuse_first}
@@ -168,9 +168,9 @@ same_meant (Named name) one other same =
     let view = λ (layer : Layer). plain_fields layer.items in
     let passes = λ (fields : List Field). option_map_or (bytes_eq name) (last_or None (contents 1 fields)) false in
     ap (the_one NoLayer AmbiguousLayer) (
-      tested_by view passes 0 (layers one)
-      ∙ ap (λ (list : List (List Field)). map (λ (p : ℕ × List Field). p.0) (filter (λ (p : ℕ × List Field). passes p.1) (enumerate_from 0 list))) same
-      ∙ sym (tested_by view passes 0 (layers other))
+    tested_by view passes 0 (layers one)
+    ∙ ap (λ (list : List (List Field)). map (λ (p : ℕ × List Field). p.0) (filter (λ (p : ℕ × List Field). passes p.1) (enumerate_from 0 list))) same
+    ∙ sym (tested_by view passes 0 (layers other))
     )
 
 module _ (change : List LayerItem → List LayerItem) where
