@@ -12,6 +12,7 @@ use Rattle.mvt_view.proofs.Placing.{placed_items}
 use Rattle.mvt_meaning.specs.Meaning.{refuse_first}
 use Rattle.mvt_meaning.specs.Tagging.{unreadable}
 use Rattle.mvt_meaning.specs.declared.refusal.Refusal.{Refusal}
+use Rattle.mvt_meaning.specs.declared.refusal.Refusal.TheVariants.{BadTags}
 
 -- ---- the ordinals of those among what is found
 
@@ -49,6 +50,11 @@ unreadable_in ordinal position layer =
     ∙ ap (λ list. map (λ (feature : ℕ). (ordinal, feature)) (ordinals_of bad list)) (sym (placed_items feature_in 0 layer.items))
     ∙ ap (map (λ (feature : ℕ). (ordinal, feature))) (numbered_ordinals bad 0 placed)
     ∙ map-map (λ (feature : ℕ). (ordinal, feature)) (λ (f : ℕ × (ℕ × Feature)). f.0) (filter (λ (f : ℕ × (ℕ × Feature)). bad f.1.1) (found_features layer.items))
+
+-- the first of them is refused
+pub feature_refused : (ordinal position : ℕ) (layer : Layer) (found : ℕ × (ℕ × Feature)) (more : List (ℕ × (ℕ × Feature))) (refusal : Refusal) → bad_among layer ordinal (found ∷ more) ≡ bad_among layer ordinal (found_features layer.items) → is_some (pairs_of layer found.1.1) ≡ false → refusal ≡ BadTags ordinal found.0 → refuse_first (unreadable ((ordinal, (position, layer)) ∷ [])) ≡ Err refusal
+feature_refused ordinal position layer found more refusal left none is =
+    ap refuse_first (unreadable_in ordinal position layer ∙ sym left ∙ bad_first layer ordinal found more none) ∙ ap Err (sym is)
 
 -- ---- the layers
 

@@ -8,6 +8,6 @@ use Rattle.mvt_edit_tags.proofs.exclude.exclude.Given as goal
 
 abbrev pub invariant-loop-found : goal.invariant-loop-found
 invariant-loop-found l = record {
-  steps : map step_of l.steps.items ++ flat_map (layer_steps (pairs_go l.key)) (layers_left l.found-iterator) ≡ flat_map (layer_steps (pairs_go l.key)) (layers_left l.layers);
-  readable : unreadable (layers_left l.found-iterator) ≡ unreadable (layers_left l.layers);
+  steps : map step_of l.steps.items ++ flat_map (layer_steps (pairs_go l.key)) (layers_left l.found-iterator) ≡ flat_map (layer_steps (pairs_go l.key)) (layers_left l.initial.found-iterator);
+  readable : unreadable (layers_left l.found-iterator) ≡ unreadable (layers_left l.initial.found-iterator);
 }

@@ -8,7 +8,7 @@ use Rattle.mvt_meaning.specs.Tagging.{is_key}
 use Rattle.mvt_meaning.proofs.Removals.{removals_short}
 use Rattle.mvt_edit_tags.proofs.Deciding.{has_named, no_pairs, on_pairs}
 use Rattle.mvt_edit_tags.proofs.TagsLeft.{tags_left}
-use Rattle.mvt_edit_tags.proofs.Unset.{key_lacks, no_feature_loses, pairs_lack, tags_lose}
+use Rattle.mvt_edit_tags.proofs.PairsLost.{key_lacks, no_feature_loses, pairs_lack, tags_lose}
 use Rattle.mvt_edit_tags.proofs.unset.unset.Goals as goal
 
 pub returns-in_err-found : goal.returns-in_err-found

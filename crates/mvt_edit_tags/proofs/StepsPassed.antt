@@ -1,5 +1,6 @@
--- A feature that loses no pair has no steps.
-use Rattle.std.proofs.Common.{◌≡◌, ℕ, ◌+◌, ◌==◌, true, false, Option, Some, None, List, [], ◌∷◌, ◌++◌, length, drop, map, refl, ap}
+-- The steps of features and of layers that come one after the other; a feature that loses no pair has none.
+use Rattle.std.proofs.Common.{◌≡◌, ℕ, ◌+◌, ◌==◌, true, false, Option, Some, None, List, [], ◌∷◌, ◌++◌, append_assoc, length, drop, map, refl, sym, ap, ◌∙◌}
+use Rattle.std.proofs.lemmas.List.{append-nil}
 use Rattle.std.proofs.lemmas.Bool.{eq-eqb}
 use Rattle.std.specs.List.{flat_map}
 use Rattle.mvt_document.specs.Plain.{Number, Field, Feature, LayerItem}
@@ -11,6 +12,17 @@ use Rattle.mvt_edit_steps.specs.Decided.{field_fates}
 use Rattle.mvt_edit_steps.specs.Fates.{splices_from}
 use Rattle.mvt_edit_steps.proofs.Carrying.{in_feature_at}
 use Rattle.mvt_edit_tags.specs.EachFeature.{feature_steps, is_any_gone, pairs_go}
+
+-- ---- one after the other
+
+-- behind the steps so far come those of an item, and then those of the rest
+pub steps_more : {A B : Type 0} (steps : A → List B) (front mid all : List B) (x : A) (rest : List A) → mid ≡ front ++ steps x → front ++ flat_map steps (x ∷ rest) ≡ all → mid ++ flat_map steps rest ≡ all
+steps_more steps front mid all x rest is so_far = ap (λ m. m ++ flat_map steps rest) is ∙ append_assoc front (steps x) (flat_map steps rest) ∙ so_far
+
+pub none_more : {A B : Type 0} (steps : A → List B) (front : List B) (x : A) → steps x ≡ [] → front ≡ front ++ steps x
+none_more steps front x none = sym (append-nil front) ∙ ap (λ more. front ++ more) (sym none)
+
+-- ---- a feature that loses nothing
 
 -- of the decisions none goes, and what is decided on some numbers changes none of them; the same holds behind these
 record Kept (decisions : List (Option ℕ)) (own rest : List Number) : Type 0 where
