@@ -64,7 +64,7 @@ pub record OnPairs (key : List ℕ) (items : List LayerItem) (fields : List Fiel
 
 pub on_pairs : (key : List ℕ) (layer : Layer) (feature : Feature) (key_count value_count : ℕ) (named : List Bool) (decisions : List (Option ℕ)) → named ≡ map (bytes_eq key) (keys layer) → key_count ≡ length (keys layer) → value_count ≡ length (values layer) → option_map (without_pairs (λ ordinal. unwrap_or (slice_get named ordinal) false)) (plain_pairs (tag_pairs key_count value_count (numbers 2 feature.fields))) ≡ Some decisions → OnPairs key layer.items feature.fields decisions
 on_pairs key layer feature key_count value_count named decisions is_named is_keys is_values is =
-    let goes = λ ordinal. unwrap_or (slice_get (map (bytes_eq key) (keys layer)) ordinal) false in
+    let goes : ℕ → Bool = λ ordinal. unwrap_or (slice_get (map (bytes_eq key) (keys layer)) ordinal) false in
     let by_layer : option_map (without_pairs goes) (plain_pairs (tag_pairs (length (keys layer)) (length (values layer)) (numbers 2 feature.fields))) ≡ Some decisions = rw (is_named, is_keys, is_values) at is in
     let decided : option_map (without_pairs goes) (pairs_among layer.items feature.fields) ≡ Some decisions = ap (option_map (without_pairs goes)) (sym (tags_are_pairs layer feature)) ∙ by_layer in
     record { decided = removals_decided key layer.items feature.fields decisions decided; readable = then_pairs (without_pairs goes) (pairs_among layer.items feature.fields) decisions decided }

@@ -5,4 +5,4 @@ pub mod KeyFields
 pub mod KeysRenamed
 pub mod Deciding
 pub mod TagsLeft
-pub mod Unset
+pub mod PairsLost

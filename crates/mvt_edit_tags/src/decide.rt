@@ -21,7 +21,7 @@ pub(crate) fn named_keys(
     layer: LayerView<'_>,
     key: &[u8],
 ) -> Result<Vec<bool>, AllocError>
-    ensures { IfOk result (λ named. named.items ≡ map (bytes_eq key.now) (keys (layer_seen layer))) }
+    ensures { IfOk result (λ named. named.items ≡ map (bytes_eq key.now) (keys (layer_seen layer.entry))) }
 {
     let mut named = Vec::new(alloc);
     for other in layer.keys() {
@@ -38,8 +38,8 @@ fn decide(
     named: &[bool],
     decisions: &mut Vec<Option<u64>>,
 ) -> Result<(), PairsError>
-    ensures decided { IfOk result (λ done. option_map (without_pairs (λ key. unwrap_or (slice_get named.now key) false)) (plain_pairs (tag_pairs sizes.keys sizes.values (numbers 2 (feature_seen feature).fields))) ≡ Some decisions.new.items) }
-    ensures bad_tags { IsErrOf result PairsError.BadTags → plain_pairs (tag_pairs sizes.keys sizes.values (numbers 2 (feature_seen feature).fields)) ≡ None }
+    ensures decided { IfOk result (λ done. option_map (without_pairs (λ key. unwrap_or (slice_get named.now key) false)) (plain_pairs (tag_pairs sizes.keys sizes.values (numbers 2 (feature_seen feature.entry).fields))) ≡ Some decisions.new.items) }
+    ensures bad_tags { IsErrOf result PairsError.BadTags → plain_pairs (tag_pairs sizes.keys sizes.values (numbers 2 (feature_seen feature.entry).fields)) ≡ None }
 {
     decisions.clear();
     for tags in feature.tag_pairs(sizes) {

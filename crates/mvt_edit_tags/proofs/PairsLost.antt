@@ -72,7 +72,7 @@ module _ (choice : LayerChoice) (key : List ℕ) (document : Document) (ordinal 
           rw steps (record {
             fits = done.fits;
             means = rw (chosen, selected_here, yes, pairs, items) (ap Ok (sym makes));
-            puts = rw (chosen, selected_here, items, fields) (omega (arith, puts));
-            takes = rw (chosen, selected_here, items, fields) (omega (arith, takes));
-            steps = rw (chosen, selected_here, items, fields) (omega (arith, few, length-map splices (in_feature_at position item)));
+            puts = rw (chosen, selected_here, fields, items) (omega (arith, puts));
+            takes = rw (chosen, selected_here, fields, items) (omega (arith, takes));
+            steps = rw (chosen, selected_here, fields, items) (omega (arith, few, length-map splices (in_feature_at position item)));
           })
