@@ -72,10 +72,10 @@ returns-in_err-decide_or_refuse c =
     let sizes = c.pool_sizes.ensures in
     let passed = err_from_is_err_and c.from_residual-in_err-decide_or_refuse.result c.from_residual-in_err-decide_or_refuse.ensures.1 in
     rw (passed.1, passed.2) (
-      elim c.in_err-decide_or_refuse.ensures.refused [
-        | inl memory ↦ inl memory
-        | inr bad ↦ (
-            let none = no_pairs layer feature c.pool_sizes.result.keys c.pool_sizes.result.values (sizes.keys ∙ ap (λ l. length (keys l)) c.view-layer.ensures) (sizes.values ∙ ap (λ l. length (values l)) c.view-layer.ensures) bad.1 in
-            inr (pairs_lack choice key (document_of c.args.document.now) holder.ordinal holder.position layer is.meant is.placed is.there (feature_choice_of c.args.feature.now) found.ordinal found.position feature here.meant here.placed here.there has none ∙ ap Err (sym bad.0))
-            )
-      ])
+    elim c.in_err-decide_or_refuse.ensures.refused [
+      | inl memory ↦ inl memory
+      | inr bad ↦ (
+          let none = no_pairs layer feature c.pool_sizes.result.keys c.pool_sizes.result.values (sizes.keys ∙ ap (λ l. length (keys l)) c.view-layer.ensures) (sizes.values ∙ ap (λ l. length (values l)) c.view-layer.ensures) bad.1 in
+          inr (pairs_lack choice key (document_of c.args.document.now) holder.ordinal holder.position layer is.meant is.placed is.there (feature_choice_of c.args.feature.now) found.ordinal found.position feature here.meant here.placed here.there has none ∙ ap Err (sym bad.0))
+          )
+    ])
