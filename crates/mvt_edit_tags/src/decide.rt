@@ -83,9 +83,5 @@ fn is_named(named: &[bool], key: u32) -> bool
 fn decided(goes: bool, ordinal: u32) -> Option<u64>
     ensures { result ≡ (if goes then None else Some ordinal) }
 {
-    if goes {
-        None
-    } else {
-        Some(u64::from(ordinal))
-    }
+    if goes { None } else { Some(u64::from(ordinal)) }
 }

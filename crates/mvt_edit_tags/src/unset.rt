@@ -37,9 +37,21 @@ pub fn unset(
         return Err(Refusal::NoKey);
     }
     let mut decisions = Vec::new(alloc);
-    decide_or_refuse(holder.ordinal, found, layer.pool_sizes(), named.as_slice(), &mut decisions)?;
+    decide_or_refuse(
+        holder.ordinal,
+        found,
+        layer.pool_sizes(),
+        named.as_slice(),
+        &mut decisions,
+    )?;
     let mut steps = Vec::new(alloc);
-    renumber_tags(alloc, holder.position, found, decisions.as_slice(), &mut steps)?;
+    renumber_tags(
+        alloc,
+        holder.position,
+        found,
+        decisions.as_slice(),
+        &mut steps,
+    )?;
     Ok(Change {
         steps: Items::from_vec(steps),
     })
