@@ -1,5 +1,5 @@
 -- The pairs of a key go from each feature.
-use Rattle.std.proofs.Common.{◌≡◌, ℕ, ◌*◌, ◌≤◌, Ok, Err, List, [], ◌∷◌, ◌++◌, length, map, refl, sym, ap, ◌∙◌, arith}
+use Rattle.std.proofs.Common.{◌≡◌, ℕ, Ok, Err, List, [], ◌∷◌, ◌++◌, length, map, refl, sym, ap, ◌∙◌, arith}
 use Rattle.std.proofs.lemmas.List.{map-append}
 use Rattle.std.proofs.lemmas.List.Concat.{flat_map-append}
 use Rattle.std.proofs.lemmas.List.Folds.{flat_map-map}
@@ -29,7 +29,7 @@ use Rattle.mvt_edit_steps.specs.Prepared.{IsPrepared}
 use Rattle.mvt_edit_steps.proofs.CarriedOut.{put_all, taken_all}
 use Rattle.mvt_edit_tags.specs.EachFeature.{layer_steps, pairs_go}
 use Rattle.mvt_edit_tags.proofs.Come.{Carries, CarriesIn, CarriesInTile, puts_in, takes_in}
-use Rattle.mvt_edit_tags.proofs.EachFeature.{layers_made, none_made}
+use Rattle.mvt_edit_tags.proofs.EachFeature.{layers_made}
 use Rattle.mvt_edit_tags.proofs.TagsLeft.{tags_left, tags_put, tags_taken}
 
 -- ---- lists of lists

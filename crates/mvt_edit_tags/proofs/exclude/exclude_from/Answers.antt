@@ -1,4 +1,4 @@
-use Rattle.std.proofs.Common.{◌≡◌, ◌++◌, inl, inr, length, map, sym, ap, ◌∙◌}
+use Rattle.std.proofs.Common.{◌++◌, inl, inr, length, map, sym, ap, ◌∙◌}
 use Rattle.std.proofs.lemmas.Result.{err_from_is_err_and}
 use Rattle.std.specs.List.{flat_map}
 use Rattle.std.specs.Str.{bytes_eq}
@@ -20,13 +20,13 @@ returns-in_err-decide_or_refuse-clause-refused c =
     let sizes = c.pool_sizes-sizes in
     let passed = err_from_is_err_and c.from_residual-in_err-decide_or_refuse.result c.from_residual-in_err-decide_or_refuse.ensures.1 in
     rw (passed.1, passed.2) (
-      elim c.in_err-decide_or_refuse.ensures.refused [
-        | inl memory ↦ inl memory
-        | inr bad ↦ inr (feature_refused c.args.found.ordinal c.args.found.position layer found c.next.new.self _
+    elim c.in_err-decide_or_refuse.ensures.refused [
+      | inl memory ↦ inl memory
+      | inr bad ↦ inr (feature_refused c.args.found.ordinal c.args.found.position layer found c.next.new.self _
           (ap (bad_among layer c.args.found.ordinal) (sym c.in-Some.ensures.steps) ∙ c.loop-feature.invariant.readable)
           (no_pairs layer found.1.1 sizes.result.keys sizes.result.values (sizes.ensures.keys ∙ ap (λ seen. length (keys seen)) c.view-layer.ensures) (sizes.ensures.values ∙ ap (λ seen. length (values seen)) c.view-layer.ensures) bad.1)
           bad.0)
-      ])
+    ])
 
 pub loop-feature-preserved-in-Continue-branch-3 : goal.loop-feature-preserved-in-Continue-branch-3
 loop-feature-preserved-in-Continue-branch-3 c =
