@@ -1,5 +1,5 @@
 -- The pairs of a key go from each feature.
-use Rattle.std.proofs.Common.{◌≡◌, ℕ, Ok, Err, List, [], ◌∷◌, ◌++◌, length, map, refl, sym, ap, ◌∙◌, arith}
+use Rattle.std.proofs.Common.{◌≡◌, ℕ, Ok, List, [], ◌∷◌, ◌++◌, length, map, refl, sym, ap, ◌∙◌, arith}
 use Rattle.std.proofs.lemmas.List.{map-append}
 use Rattle.std.proofs.lemmas.List.Concat.{flat_map-append}
 use Rattle.std.proofs.lemmas.List.Folds.{flat_map-map}
@@ -18,11 +18,9 @@ use Rattle.mvt_view.specs.Views.{feature_in, features}
 use Rattle.mvt_view.proofs.Placing.{found_items}
 use Rattle.mvt_change.specs.Changes.{Change}
 use Rattle.mvt_command.specs.Command.{LayersChoice, Exclude}
-use Rattle.mvt_meaning.specs.Meaning.{applied, refuse_first}
 use Rattle.mvt_meaning.specs.Selection.{selected_layers}
 use Rattle.mvt_meaning.specs.Tagging.{losing, losing_in, removals, unreadable, without_attribute}
 use Rattle.mvt_meaning.specs.Weights.{as_after, as_before}
-use Rattle.mvt_meaning.specs.declared.refusal.Refusal.{Refusal}
 use Rattle.mvt_meaning.proofs.Removals.{removals_short}
 use Rattle.mvt_edit_steps.specs.Fates.{splices_of}
 use Rattle.mvt_edit_steps.specs.Prepared.{IsPrepared}
@@ -120,9 +118,3 @@ module _ (key : List ℕ) where
         takes = rw meant (omega (arith, takes));
         steps = rw meant (omega (arith, come.few_so, come.takes_so, come.puts_so, takes, puts));
       })
-
-  pub no_layer_excluded : (choice : LayersChoice) (document : plain.Document) (refusal : Refusal) → selected_layers choice document ≡ Err refusal → applied (Exclude choice key) document ≡ Err refusal
-  no_layer_excluded choice document refusal refused = rw refused refl
-
-  pub first_unreadable : (choice : LayersChoice) (document : plain.Document) (found : List (ℕ × (ℕ × plain.Layer))) (refusal : Refusal) → selected_layers choice document ≡ Ok found → refuse_first (unreadable found) ≡ Err refusal → applied (Exclude choice key) document ≡ Err refusal
-  first_unreadable choice document found refusal meant refused = rw (meant, refused) refl

@@ -1,5 +1,5 @@
 -- The features whose tags make no pairs, as they are found one after the other.
-use Rattle.std.proofs.Common.{◌≡◌, ℕ, ◌+◌, Bool, true, false, not, is_some, Err, List, [], ◌∷◌, ◌++◌, map, filter, refl, sym, ap, ◌∙◌, inl, inr}
+use Rattle.std.proofs.Common.{◌≡◌, ℕ, ◌+◌, Bool, true, false, not, is_some, Err, List, [], ◌∷◌, map, filter, refl, sym, ap, ◌∙◌, inl, inr}
 use Rattle.std.proofs.lemmas.Bool.{cases_Bool}
 use Rattle.std.proofs.lemmas.List.{append-nil}
 use Rattle.std.proofs.lemmas.Simd.{map-map}
@@ -55,15 +55,3 @@ unreadable_in ordinal position layer =
 pub feature_refused : (ordinal position : ℕ) (layer : Layer) (found : ℕ × (ℕ × Feature)) (more : List (ℕ × (ℕ × Feature))) (refusal : Refusal) → bad_among layer ordinal (found ∷ more) ≡ bad_among layer ordinal (found_features layer.items) → is_some (pairs_of layer found.1.1) ≡ false → refusal ≡ BadTags ordinal found.0 → refuse_first (unreadable ((ordinal, (position, layer)) ∷ [])) ≡ Err refusal
 feature_refused ordinal position layer found more refusal left none is =
     ap refuse_first (unreadable_in ordinal position layer ∙ sym left ∙ bad_first layer ordinal found more none) ∙ ap Err (sym is)
-
--- ---- the layers
-
-pub layer_readable : (found : ℕ × (ℕ × Layer)) (more : List (ℕ × (ℕ × Layer))) → unreadable (found ∷ []) ≡ [] → unreadable (found ∷ more) ≡ unreadable more
-layer_readable found more none = ap (λ first. first ++ unreadable more) (sym (append-nil _) ∙ none)
-
-first_of : (list more : List (ℕ × ℕ)) (refusal : Refusal) → refuse_first list ≡ Err refusal → refuse_first (list ++ more) ≡ Err refusal
-first_of [] more refusal refused = absurd cc
-first_of (at ∷ list) more refusal refused = refused
-
-pub layer_refused : (found : ℕ × (ℕ × Layer)) (more : List (ℕ × (ℕ × Layer))) (refusal : Refusal) → refuse_first (unreadable (found ∷ [])) ≡ Err refusal → refuse_first (unreadable (found ∷ more)) ≡ Err refusal
-layer_refused found more refusal refused = first_of _ (unreadable more) refusal (ap refuse_first (sym (append-nil _)) ∙ refused)
