@@ -1,6 +1,8 @@
 -- The commands that change a tile, as plain values.
 use Rattle.std.specs.Prelude.{ℕ, ◌^◌, ◌<◌, List}
 use Rattle.mvt_geometry.specs.Shapes.{Geometry}
+use Rattle.mvt_value.specs.Messages.{IsWritable}
+use Rattle.mvt_value.specs.Values.{Value}
 
 -- how a layer is selected: by its ordinal among the layers, or by its name
 pub data LayerChoice : Type 0 where
@@ -28,12 +30,15 @@ pub data Command : Type 0 where
   DropFeature : (layer : LayerChoice) (feature : FeatureChoice) → Command
   SetId : (layer : LayerChoice) (feature : FeatureChoice) (id : ℕ) → Command
   ClearId : (layer : LayerChoice) (feature : FeatureChoice) → Command
+  SetAttribute : (layer : LayerChoice) (feature : FeatureChoice) (key : List ℕ) (value : Value) → Command
   UnsetAttribute : (layer : LayerChoice) (feature : FeatureChoice) (key : List ℕ) → Command
   RenameKey : (layer : LayerChoice) (old new : List ℕ) → Command
   Exclude : (layers : LayersChoice) (key : List ℕ) → Command
   ExcludeAll : (layers : LayersChoice) → Command
 
--- a valid command: the id that it sets, where it sets one, can be spelled, as it is below 2 ^ 64 (tiles 4.2)
+-- a valid command: the id that it sets, where it sets one, can be spelled, as it is below 2 ^ 64 (tiles 4.2); and the
+-- value of an attribute that it sets can be written (tiles 4.1)
 abbrev pub IsCommand : Command → Type 0
 IsCommand (SetId layer feature id) = id < 2 ^ 64
+IsCommand (SetAttribute layer feature key value) = IsWritable value
 IsCommand command = Unit {0}
