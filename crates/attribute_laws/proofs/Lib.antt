@@ -3,4 +3,8 @@ pub mod EachFeature
 pub mod Untagged
 pub mod Renamed
 pub mod Readable
+pub mod PairsRead
 pub mod Excluded
+pub mod MoreTags
+pub mod Grown
+pub mod Setting
