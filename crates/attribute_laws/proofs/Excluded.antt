@@ -2,18 +2,16 @@
 use Rattle.std.proofs.Common.{◌≡◌, ℕ, zero, suc, ◌/◌, ◌==◌, Bool, true, false, not, is_some, Option, Some, None, option_map, Ok, List, [], ◌∷◌, ◌++◌, length, map, filter, drop, slice_get, get_or, refl, sym, ap, ◌∙◌, inl, inr, subst}
 use Rattle.std.proofs.lemmas.Bool.{and_from, and_parts, cases_Bool, not-false}
 use Rattle.std.proofs.lemmas.List.Elements.{filter-append}
-use Rattle.std.proofs.lemmas.Simd.{map-map}
 use Rattle.std.specs.List.{AllByRecursion, list_all}
-use Rattle.std.specs.Option.{option_and_then, option_map_or, unwrap_or}
+use Rattle.std.specs.Option.{option_map_or, unwrap_or}
 use Rattle.std.specs.Str.{bytes_eq}
 use Rattle.mvt_document.specs.Plain.{Number, Body, Spelled, Eight, Four, Delimited, Group, Field, Feature, LayerItem, OfFeature, PlainInLayer, Layer, Document}
 use Rattle.mvt_document.specs.Places.{fields_in, in_feature}
 use Rattle.mvt_command.specs.Command.{FeatureChoice}
-use Rattle.mvt_numbers.specs.Numbers.{Placed, all_good, and_more, numbers}
+use Rattle.mvt_numbers.specs.Numbers.{Placed, all_good, numbers}
 use Rattle.mvt_numbers.specs.Renumbering.{field_numbers, renumber, renumbered, renumbered_field, with_left, with_number, with_numbers}
-use Rattle.mvt_numbers.specs.Laws.{read_numbers}
 use Rattle.mvt_numbers.proofs.Redone.{left_is_read}
-use Rattle.mvt_view.specs.Attributes.{attribute_at, attributes, if_pairs, in_pairs, is_pair, pairs_in, pairs_of, values_in}
+use Rattle.mvt_view.specs.Attributes.{attribute_at, attributes, is_pair, pairs_in, pairs_of}
 use Rattle.mvt_view.specs.Laws.{Names}
 use Rattle.mvt_view.specs.Views.{contents, features, features_in, key_field, keys, layers, plain_fields, value_field, values}
 use Rattle.mvt_view.proofs.Pairing.{pairs_are_named}
@@ -26,7 +24,7 @@ use Rattle.mvt_meaning.specs.declared.refusal.Refusal.TheVariants.{BadTags, NoKe
 use Rattle.mvt_meaning.proofs.Accepted.{accepted, feature_meant, not_refused}
 use Rattle.mvt_meaning.proofs.FeatureCommands.{number_given}
 use Rattle.mvt_meaning.proofs.Parts.{changes_feature, changes_layer, items_there, with_fields, with_items}
-use Rattle.mvt_meaning.proofs.Removals.{flat, head_same, make_pairs, pairs_short}
+use Rattle.mvt_meaning.proofs.Removals.{flat, head_same, pairs_short}
 use Rattle.attribute_laws.specs.Laws.{ExcludeExcludes, ExcludesKey, LosesAttribute, UnsetUnsets, of_other_keys}
 use Rattle.attribute_laws.proofs.EachFeature.{features_changed, fields_stay, positions_stay}
 use Rattle.attribute_laws.proofs.MeantLayers.{got_mapped, layers_change}
@@ -150,18 +148,25 @@ loses key layer present feature same readable =
 
 -- ---- the feature that is meant
 
-pub fields_there : (items : List LayerItem) (index : ℕ) (feature : Feature) → slice_get (features_in items) index ≡ Some feature → option_map_or (λ item. option_map_or (λ (fields : List Field). fields) (fields_in item) []) (slice_get (filter is_feature items) index) [] ≡ feature.fields
+fields_there : (items : List LayerItem) (index : ℕ) (feature : Feature) → slice_get (features_in items) index ≡ Some feature → option_map_or (λ item. option_map_or (λ (fields : List Field). fields) (fields_in item) []) (slice_get (filter is_feature items) index) [] ≡ feature.fields
 fields_there [] index feature is = absurd cc
 fields_there (OfFeature first ∷ items) zero feature is = let same : first ≡ feature = cc in ap (λ (f : Feature). f.fields) same
 fields_there (OfFeature first ∷ items) (suc index) feature is = fields_there items index feature is
 fields_there (PlainInLayer field ∷ items) index feature is = fields_there items index feature is
 
+pub fields_found : (document : Document) (ordinal index : ℕ) (layer : Layer) (feature : Feature) → slice_get (layers document) ordinal ≡ Some layer → slice_get (features layer) index ≡ Some feature → fields_of ordinal index document ≡ feature.fields
+fields_found document ordinal index layer feature there is =
+    ap (λ (list : List LayerItem). option_map_or (λ item. option_map_or (λ (fields : List Field). fields) (fields_in item) []) (slice_get (filter is_feature list) index) []) (items_there document ordinal layer there)
+    ∙ fields_there layer.items index feature is
+
+pub pairs_found : (document : Document) (ordinal index : ℕ) (layer : Layer) (feature : Feature) → slice_get (layers document) ordinal ≡ Some layer → slice_get (features layer) index ≡ Some feature → pairs_among (items_of ordinal document) (fields_of ordinal index document) ≡ pairs_of layer feature
+pairs_found document ordinal index layer feature there is =
+    ap (λ (list : List LayerItem). pairs_among list (fields_of ordinal index document)) (items_there document ordinal layer there)
+    ∙ ap (pairs_among layer.items) (fields_found document ordinal index layer feature there is)
+
 pub read_there : (document : Document) (ordinal index : ℕ) (layer : Layer) (feature : Feature) → slice_get (layers document) ordinal ≡ Some layer → slice_get (features layer) index ≡ Some feature → has_pairs ordinal index document ≡ true → is_some (pairs_of layer feature) ≡ true
 read_there document ordinal index layer feature there is has =
-    let items = items_there document ordinal layer there in
-    let fields : fields_of ordinal index document ≡ feature.fields =
-    ap (λ (list : List LayerItem). option_map_or (λ item. option_map_or (λ (fields : List Field). fields) (fields_in item) []) (slice_get (filter is_feature list) index) []) items ∙ fields_there layer.items index feature is in
-    sym (ap (λ (list : List LayerItem). is_some (pairs_among list (fields_of ordinal index document))) items ∙ ap (λ (list : List Field). is_some (pairs_among layer.items list)) fields) ∙ has
+    sym (ap (λ (found : Option (List (ℕ × ℕ))). is_some found) (pairs_found document ordinal index layer feature there is)) ∙ has
 
 -- the fields of a layer that are no features stay where one feature changes
 fields_kept : (choice : FeatureChoice) (change : List Field → List Field) (layer : Layer) (ordinal : ℕ) → selected_feature choice layer ≡ Ok ordinal → plain_fields (change_nth is_feature (in_feature change) ordinal layer.items) ≡ plain_fields layer.items

@@ -8,3 +8,4 @@ pub mod Excluded
 pub mod MoreTags
 pub mod Grown
 pub mod Setting
+pub mod SetUnset

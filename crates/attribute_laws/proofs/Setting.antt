@@ -1,19 +1,19 @@
 -- A feature that gets a value for a key: its attributes, and what stays of its layer.
-use Rattle.std.proofs.Common.{◌≡◌, ℕ, zero, suc, ◌+◌, ◌<◌, ◌≤◌, ◌^◌, Bool, true, false, ◌&&◌, not, cond, ◌==◌, is_some, Option, Some, None, option_map, Ok, List, [], ◌∷◌, ◌++◌, length, length-append, append-nil, get_or, map, filter, slice_get, refl, sym, ap, ◌∙◌, inl, inr, subst, arith}
+use Rattle.std.proofs.Common.{◌≡◌, ℕ, zero, suc, ◌+◌, ◌<◌, ◌≤◌, ◌^◌, Bool, true, false, not, cond, ◌==◌, is_some, Option, Some, option_map, Ok, List, [], ◌∷◌, ◌++◌, length, length-append, append-nil, get_or, map, slice_get, refl, sym, ap, ◌∙◌, inl, inr, subst, arith}
 use Rattle.std.specs.Prelude.{nat_lt}
-use Rattle.std.proofs.lemmas.Bool.{and_from, and_parts, cases_Bool, cond-false, cond-true, eqb-true, lt-ltb, ltb-false, ne_eqb, not-false}
+use Rattle.std.proofs.lemmas.Bool.{and_from, and_parts, cases_Bool, cond-false, cond-true, lt-ltb, ltb-false, ne_eqb, not-false}
 use Rattle.std.proofs.lemmas.List.{get_or_push, map-append}
 use Rattle.std.proofs.lemmas.List.Concat.{flat_map-append}
 use Rattle.std.proofs.lemmas.List.Elements.{filter_map-append}
 use Rattle.std.proofs.lemmas.List.Folds.{list_all-append}
 use Rattle.std.proofs.lemmas.Slice.Eq.{bytes_eq-Decides}
-use Rattle.std.specs.List.{AllByRecursion, filter_map, flat_map, list_all, list_any}
+use Rattle.std.specs.List.{AllByRecursion, flat_map, list_all, list_any}
 use Rattle.std.specs.Option.{option_map_or}
 use Rattle.std.specs.Str.{bytes_eq}
 use Rattle.mvt_document.specs.declared.TheConstants.{MAX_FILE}
 use Rattle.mvt_document.specs.Groups.{IsNumber}
-use Rattle.mvt_document.specs.Places.{fields_in, in_feature}
-use Rattle.mvt_document.specs.Plain.{Number, Field, Feature, LayerItem, OfFeature, PlainInLayer, Layer, TileItem, OfLayer, PlainInTile, Document}
+use Rattle.mvt_document.specs.Places.{in_feature}
+use Rattle.mvt_document.specs.Plain.{Number, Field, Feature, LayerItem, PlainInLayer, Layer, OfLayer, PlainInTile, Document}
 use Rattle.mvt_document.specs.Wire.{bytes_of, layer_item_bytes, minimal, shortest, spelling, tile_item_bytes}
 use Rattle.mvt_document.proofs.Sizes.{length-message}
 use Rattle.mvt_document.proofs.Spelling.{minimal_spelling}
@@ -27,11 +27,10 @@ use Rattle.mvt_view.specs.Laws.{Names}
 use Rattle.mvt_view.specs.Views.{content_in, contents, features, features_in, key_field, keys, layer_in, layers, plain_fields, plain_in, value_field, values}
 use Rattle.mvt_view.proofs.Pairing.{pairs_are_named}
 use Rattle.mvt_meaning.specs.Fields.{new_content}
-use Rattle.mvt_meaning.specs.Kept.{ChangesFeature, ChangesLayer}
 use Rattle.mvt_meaning.specs.Ordinals.{change_nth, count}
 use Rattle.mvt_meaning.specs.Selection.{is_feature, selected, selected_feature, selected_in}
-use Rattle.mvt_meaning.specs.Tagging.{attributed, entry_ordinal, is_key_at, key_ordinal, missing_entries, new_pair, pairs_among, pairs_with, replacements, revalued, value_ordinal, with_attribute, with_more_tags, without_tags}
-use Rattle.mvt_meaning.specs.Meaning.{◌>>=◌, change_layer, fields_of, has_pairs, items_of, refuse_if, repeats_key, within_limit}
+use Rattle.mvt_meaning.specs.Tagging.{attributed, entry_ordinal, is_key_at, key_ordinal, missing_entries, new_pair, pairs_with, replacements, revalued, value_ordinal, with_attribute, with_more_tags, without_tags}
+use Rattle.mvt_meaning.specs.Meaning.{◌>>=◌, change_layer, fields_of, has_pairs, refuse_if, repeats_key, within_limit}
 use Rattle.mvt_meaning.specs.Weights.{weigh}
 use Rattle.mvt_meaning.specs.declared.refusal.Refusal.TheVariants.{BadTags, RepeatedKey}
 use Rattle.mvt_meaning.proofs.Accepted.{accepted, feature_meant, not_refused, within_is}
@@ -43,7 +42,7 @@ use Rattle.mvt_meaning.proofs.Removals.{flat, head_same}
 use Rattle.mvt_meaning.proofs.Replacements.{entry_low, plain_stay, replacements_short, value_short}
 use Rattle.mvt_meaning.proofs.Selecting.{selected_within}
 use Rattle.attribute_laws.specs.Laws.{GetsAttribute, SetSets, SetsAttribute, is_entry, is_of, valued, with_entry, with_value}
-use Rattle.attribute_laws.proofs.Excluded.{fields_there, others_stay, read_there, some_of}
+use Rattle.attribute_laws.proofs.Excluded.{fields_found, others_stay, read_there, some_of}
 use Rattle.attribute_laws.proofs.Grown.{all_stay, attribute_stays, attributes_stay, key_stays, keys_grow, pairs_grow, values_grow}
 use Rattle.attribute_laws.proofs.MoreTags.{more_apart, more_is_read}
 use Rattle.attribute_laws.proofs.PairsRead.{pairs_again, pairs_read, value_list}
@@ -423,10 +422,10 @@ layer_weighs (PlainInTile field ∷ document) ordinal layer is =
 -- how often the key is there, in the feature that is meant
 once_there : (key : List ℕ) (document : Document) (ordinal index : ℕ) (layer : Layer) (feature : Feature) → slice_get (layers document) ordinal ≡ Some layer → slice_get (features layer) index ≡ Some feature → repeats_key key ordinal index document ≡ false → nat_lt 1 (pairs_with key layer.items feature.fields) ≡ false
 once_there key document ordinal index layer feature there is once =
-    let items = items_there document ordinal layer there in
-    let fields : fields_of ordinal index document ≡ feature.fields =
-    ap (λ (list : List LayerItem). option_map_or (λ item. option_map_or (λ (fields : List Field). fields) (fields_in item) []) (slice_get (filter is_feature list) index) []) items ∙ fields_there layer.items index feature is in
-    sym (ap (λ (list : List LayerItem). nat_lt 1 (pairs_with key list (fields_of ordinal index document))) items ∙ ap (λ (list : List Field). nat_lt 1 (pairs_with key layer.items list)) fields) ∙ once
+    sym
+    (ap (λ (list : List LayerItem). nat_lt 1 (pairs_with key list (fields_of ordinal index document))) (items_there document ordinal layer there)
+    ∙ ap (λ (list : List Field). nat_lt 1 (pairs_with key layer.items list)) (fields_found document ordinal index layer feature there is))
+    ∙ once
 
 layer_same : (one other : Layer) (found : Option Layer) → found ≡ Some one → found ≡ Some other → one ≡ other
 layer_same one other found is is_too = let both = sym is ∙ is_too in cc
