@@ -314,33 +314,62 @@ module _ (key value : List ℕ) (index : ℕ) (layer : Layer) (within : weigh la
         ∙ ap (option_map (map (attribute_at set_layer))) pairs_so
         ∙ ap Some (all_revalued pairs names)
 
+    -- the pair that comes
+    abbrev new_numbers : List Number
+    new_numbers = minimal key_place ∷ minimal value_place ∷ []
+
+    abbrev more_pairs : List (ℕ × ℕ)
+    more_pairs = pairs ++ (key_place, value_place) ∷ []
+
+    numbers_valid : AllByRecursion IsNumber new_numbers
+    numbers_valid =
+        let low = entry_low key_field key key value index layer.items within in
+        (minimal_spelling key_place (omega (arith, low)), (minimal_spelling value_place (value_short key value index layer.items within), tt))
+
+    pair_bytes : new_pair key value layer.items ≡ flat_map spelling new_numbers
+    pair_bytes = ap (λ (behind : List ℕ). shortest key_place ++ behind) (sym (append-nil (shortest value_place)))
+
+    abbrev is_set_pair : ℕ × ℕ → Bool
+    is_set_pair = is_pair (length (keys set_layer)) (length (values set_layer))
+
+    new_is_pair : list_all is_set_pair ((key_place, value_place) ∷ []) ≡ true
+    new_is_pair =
+        and_from (is_set_pair (key_place, value_place)) true (and_from (is_ordinal (length (keys set_layer)) key_place) (is_ordinal (length (values set_layer)) value_place) key_within value_within) refl
+
+    are_pairs : list_all is_set_pair more_pairs ≡ true
+    are_pairs =
+        list_all-append is_set_pair pairs ((key_place, value_place) ∷ [])
+        ∙ and_from (list_all is_set_pair pairs) (list_all is_set_pair ((key_place, value_place) ∷ [])) each_grown new_is_pair
+
+    numbers_are : (list : List Number) → value_list list ≡ flat pairs → value_list (list ++ new_numbers) ≡ flat more_pairs
+    numbers_are list are =
+        map-append (λ (n : Number). n.value) list new_numbers
+        ∙ ap (λ (front : List ℕ). front ++ key_place ∷ value_place ∷ []) are
+        ∙ sym (flat_map-append (λ (pair : ℕ × ℕ). pair.0 ∷ pair.1 ∷ []) pairs ((key_place, value_place) ∷ []))
+
+    new_attribute : attribute_at set_layer (key_place, value_place) ≡ (key, value)
+    new_attribute = ap (λ (k : List ℕ). (k, get_or (values set_layer) value_place [])) key_there ∙ ap (λ (v : List ℕ). (key, v)) value_there
+
+    more_attributes : map (attribute_at set_layer) more_pairs ≡ found ++ (key, value) ∷ []
+    more_attributes =
+        map-append (attribute_at set_layer) pairs ((key_place, value_place) ∷ [])
+        ∙ ap (λ (front : List (List ℕ × List ℕ)). front ++ attribute_at set_layer (key_place, value_place) ∷ []) (all_stay layer set_layer more_keys more_values keys_more values_more pairs names)
+        ∙ ap (λ (last : List ℕ × List ℕ). found ++ last ∷ []) new_attribute
+
+    more_fields : (pairs_with key layer.items feature.fields == 0) ≡ true → set_feature.fields ≡ with_more_tags (flat_map spelling new_numbers) feature.fields
+    more_fields none =
+        cond-true (pairs_with key layer.items feature.fields == 0) (with_more_tags (new_pair key value layer.items) feature.fields) (renumber 2 (replacements key value layer.items feature.fields) feature.fields) none
+        ∙ ap (λ (bytes : List ℕ). with_more_tags bytes feature.fields) pair_bytes
+
     none_has : (pairs_with key layer.items feature.fields == 0) ≡ true → attributes set_layer set_feature ≡ Some (found ++ (key, value) ∷ [])
     none_has none =
         let r = pairs_read (length (keys layer)) (length (values layer)) feature.fields pairs is in
-        let more : List Number = minimal key_place ∷ minimal value_place ∷ [] in
-        let low = entry_low key_field key key value index layer.items within in
-        let valid : AllByRecursion IsNumber more = (minimal_spelling key_place (omega (arith, low)), (minimal_spelling value_place (value_short key value index layer.items within), tt)) in
-        let bytes : new_pair key value layer.items ≡ flat_map spelling more = ap (λ (behind : List ℕ). shortest key_place ++ behind) (sym (append-nil (shortest value_place))) in
-        let fields : set_feature.fields ≡ with_more_tags (flat_map spelling more) feature.fields =
-        cond-true (pairs_with key layer.items feature.fields == 0) (with_more_tags (new_pair key value layer.items) feature.fields) (renumber 2 (replacements key value layer.items feature.fields) feature.fields) none
-        ∙ ap (λ (list : List ℕ). with_more_tags list feature.fields) bytes in
-        let all = pairs ++ (key_place, value_place) ∷ [] in
-        let are : value_list (r.list ++ more) ≡ flat all =
-        map-append (λ (n : Number). n.value) r.list more ∙ ap (λ (front : List ℕ). front ++ key_place ∷ value_place ∷ []) r.are ∙ sym (flat_map-append (λ (pair : ℕ × ℕ). pair.0 ∷ pair.1 ∷ []) pairs ((key_place, value_place) ∷ [])) in
-        let last : list_all (is_pair (length (keys set_layer)) (length (values set_layer))) ((key_place, value_place) ∷ []) ≡ true =
-        and_from (is_pair (length (keys set_layer)) (length (values set_layer)) (key_place, value_place)) true (and_from (is_ordinal (length (keys set_layer)) key_place) (is_ordinal (length (values set_layer)) value_place) key_within value_within) refl in
-        let each : list_all (is_pair (length (keys set_layer)) (length (values set_layer))) all ≡ true =
-        list_all-append (is_pair (length (keys set_layer)) (length (values set_layer))) pairs ((key_place, value_place) ∷ [])
-        ∙ and_from (list_all (is_pair (length (keys set_layer)) (length (values set_layer))) pairs) (list_all (is_pair (length (keys set_layer)) (length (values set_layer))) ((key_place, value_place) ∷ [])) each_grown last in
-        let pairs_so = pairs_again (length (keys set_layer)) (length (values set_layer)) (with_more_tags (flat_map spelling more) feature.fields) (r.list ++ more) all (more_is_read more valid feature.fields r.list r.read) are each in
-        let attribute : attribute_at set_layer (key_place, value_place) ≡ (key, value) =
-        ap (λ (k : List ℕ). (k, get_or (values set_layer) value_place [])) key_there ∙ ap (λ (v : List ℕ). (key, v)) value_there in
-        ap (λ (list : List Field). attributes set_layer (record { tag = feature.tag; width = feature.width; fields = list })) fields
-        ∙ ap (option_map (map (attribute_at set_layer))) pairs_so
-        ∙ ap Some
-        (map-append (attribute_at set_layer) pairs ((key_place, value_place) ∷ [])
-        ∙ ap (λ (front : List (List ℕ × List ℕ)). front ++ attribute_at set_layer (key_place, value_place) ∷ []) (all_stay layer set_layer more_keys more_values keys_more values_more pairs names)
-        ∙ ap (λ (last : List ℕ × List ℕ). found ++ last ∷ []) attribute)
+        let fields = with_more_tags (flat_map spelling new_numbers) feature.fields in
+        let read = more_is_read new_numbers numbers_valid feature.fields r.list r.read in
+        let made = pairs_again (length (keys set_layer)) (length (values set_layer)) fields (r.list ++ new_numbers) more_pairs read (numbers_are r.list r.are) are_pairs in
+        ap (λ (list : List Field). attributes set_layer (record { tag = feature.tag; width = feature.width; fields = list })) (more_fields none)
+        ∙ ap (option_map (map (attribute_at set_layer))) made
+        ∙ ap Some more_attributes
 
     any_is : (some : Bool) → (pairs_with key layer.items feature.fields == 0) ≡ not some → list_any (is_of key) found ≡ some
     any_is some e =
