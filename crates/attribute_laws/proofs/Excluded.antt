@@ -137,7 +137,7 @@ left_apart field (number ∷ more) list none =
       | inr other ↦ absurd (let e = none other in cc)
     ]
 
-others_stay : (decisions : List (Option ℕ)) (fields : List Field) → without_tags (renumber 2 decisions fields) ≡ without_tags fields
+pub others_stay : (decisions : List (Option ℕ)) (fields : List Field) → without_tags (renumber 2 decisions fields) ≡ without_tags fields
 others_stay decisions [] = refl
 others_stay decisions (field ∷ fields) =
     let rest = renumber 2 (drop (length (field_numbers 2 field)) decisions) fields in

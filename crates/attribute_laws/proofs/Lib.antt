@@ -4,4 +4,5 @@ pub mod Untagged
 pub mod Renamed
 pub mod Readable
 pub mod Excluded
-mod Twice
+pub mod Twice
+pub mod UnsetTwice

@@ -57,11 +57,11 @@ module _ (goes : ℕ → Bool) where
       ∙ kept_stays 2 fields
 
 -- a feature that has lost the pairs of a key has pairs, and has none to lose
-record IsDone (key : List ℕ) (items : List LayerItem) (fields : List Field) : Type 0 where
-  readable : is_some (pairs_among items (without_attribute key items fields)) ≡ true
-  once : without_attribute key items (without_attribute key items fields) ≡ without_attribute key items fields
+pub record IsDone (key : List ℕ) (items : List LayerItem) (fields : List Field) : Type 0 where
+  pub readable : is_some (pairs_among items (without_attribute key items fields)) ≡ true
+  pub once : without_attribute key items (without_attribute key items fields) ≡ without_attribute key items fields
 
-done : (key : List ℕ) (items : List LayerItem) (fields : List Field) → is_some (pairs_among items fields) ≡ true → IsDone key items fields
+pub done : (key : List ℕ) (items : List LayerItem) (fields : List Field) → is_some (pairs_among items fields) ≡ true → IsDone key items fields
 done key items fields readable =
     let key_count = length (contents key_field (plain_fields items)) in
     let value_count = length (contents value_field (plain_fields items)) in
@@ -100,10 +100,10 @@ module _ (key : List ℕ) (all : List LayerItem) where
 
 -- what is read, and what goes, hangs on the fields of a layer that are no features
 module _ (one other : List LayerItem) (same : plain_fields one ≡ plain_fields other) where
-  pairs_by_fields : (fields : List Field) → pairs_among one fields ≡ pairs_among other fields
+  pub pairs_by_fields : (fields : List Field) → pairs_among one fields ≡ pairs_among other fields
   pairs_by_fields fields = ap (λ (list : List Field). pairs_in (length (contents key_field list)) (length (contents value_field list)) (numbers 2 fields)) same
 
-  without_by_fields : (key : List ℕ) → without_attribute key one ≡ without_attribute key other
+  pub without_by_fields : (key : List ℕ) → without_attribute key one ≡ without_attribute key other
   without_by_fields key =
       ap (λ (list : List Field). λ (fields : List Field). renumber 2 (option_map_or (without_pairs (λ ordinal. option_map_or (bytes_eq key) (slice_get (contents key_field list) ordinal) false)) (pairs_in (length (contents key_field list)) (length (contents value_field list)) (numbers 2 fields)) []) fields) same
 
@@ -148,10 +148,10 @@ all_found_read k n (PlainInTile field ∷ document) read = all_found_read k (n +
 -- ---- the same layer is meant
 
 -- the fields of the layers that are no features
-abbrev fields_of_layers : Document → List (List Field)
+abbrev pub fields_of_layers : Document → List (List Field)
 fields_of_layers document = map (λ (layer : Layer). plain_fields layer.items) (layers document)
 
-tested_by : {A B : Type 0} (view : A → B) (passes : B → Bool) (n : ℕ) (list : List A) → map (λ (p : ℕ × A). p.0) (filter (λ (p : ℕ × A). passes (view p.1)) (enumerate_from n list)) ≡ map (λ (p : ℕ × B). p.0) (filter (λ (p : ℕ × B). passes p.1) (enumerate_from n (map view list)))
+pub tested_by : {A B : Type 0} (view : A → B) (passes : B → Bool) (n : ℕ) (list : List A) → map (λ (p : ℕ × A). p.0) (filter (λ (p : ℕ × A). passes (view p.1)) (enumerate_from n list)) ≡ map (λ (p : ℕ × B). p.0) (filter (λ (p : ℕ × B). passes p.1) (enumerate_from n (map view list)))
 tested_by view passes n [] = refl
 tested_by view passes n (x ∷ list) =
     elim (cases_Bool (passes (view x))) [
@@ -159,7 +159,7 @@ tested_by view passes n (x ∷ list) =
       | inr skip ↦ rw skip (tested_by view passes (n + 1) list)
     ]
 
-same_meant : (choice : LayerChoice) (one other : Document) → fields_of_layers one ≡ fields_of_layers other → selected choice one ≡ selected choice other
+pub same_meant : (choice : LayerChoice) (one other : Document) → fields_of_layers one ≡ fields_of_layers other → selected choice one ≡ selected choice other
 same_meant (AtOrdinal ordinal) one other same =
     let view = λ (layer : Layer). plain_fields layer.items in
     let count : length (layers one) ≡ length (layers other) = sym (length-map (layers one) view) ∙ ap length same ∙ length-map (layers other) view in
@@ -175,14 +175,14 @@ same_meant (Named name) one other same =
 
 module _ (change : List LayerItem → List LayerItem) where
   module _ (keeps : (items : List LayerItem) → plain_fields (change items) ≡ plain_fields items) where
-    fields_beside : (position : ℕ) (document : Document) → fields_of_layers (change_at (in_layer change) position document) ≡ fields_of_layers document
+    pub fields_beside : (position : ℕ) (document : Document) → fields_of_layers (change_at (in_layer change) position document) ≡ fields_of_layers document
     fields_beside position [] = refl
     fields_beside zero (OfLayer layer ∷ document) = ap (λ first. first ∷ fields_of_layers document) (keeps layer.items)
     fields_beside zero (PlainInTile field ∷ document) = refl
     fields_beside (suc position) (OfLayer layer ∷ document) = ap (λ rest. plain_fields layer.items ∷ rest) (fields_beside position document)
     fields_beside (suc position) (PlainInTile field ∷ document) = fields_beside position document
 
-  stays_at : (position : ℕ) (document : Document) (layer : Layer) → slice_get document position ≡ Some (OfLayer layer) → change layer.items ≡ layer.items → change_at (in_layer change) position document ≡ document
+  pub stays_at : (position : ℕ) (document : Document) (layer : Layer) → slice_get document position ≡ Some (OfLayer layer) → change layer.items ≡ layer.items → change_at (in_layer change) position document ≡ document
   stays_at position [] layer is same = refl
   stays_at zero (item ∷ document) layer is same =
       let with_items : List LayerItem → TileItem = λ items. OfLayer (record { tag = layer.tag; width = layer.width; items = items }) in
