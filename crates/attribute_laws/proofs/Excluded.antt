@@ -35,7 +35,7 @@ use Rattle.attribute_laws.proofs.Untagged.{none_of}
 -- ---- the pairs of other keys
 
 -- the pairs of the keys that stay
-abbrev staying : (ℕ → Bool) → List (ℕ × ℕ) → List (ℕ × ℕ)
+abbrev pub staying : (ℕ → Bool) → List (ℕ × ℕ) → List (ℕ × ℕ)
 staying goes pairs = filter (λ (pair : ℕ × ℕ). not (goes pair.0)) pairs
 
 values_staying : (goes : ℕ → Bool) (pairs : List (ℕ × ℕ)) (list : List Number) → value_list list ≡ flat pairs → value_list (renumbered (without_pairs goes pairs) list) ≡ flat (staying goes pairs)
@@ -67,7 +67,7 @@ still_pairs key_count value_count goes (pair ∷ pairs) is =
     ]
 
 -- the pairs of the keys that go are those that are no longer read
-pairs_staying : (key_count value_count : ℕ) (goes : ℕ → Bool) (fields : List Field) (pairs : List (ℕ × ℕ)) → pairs_in key_count value_count (numbers 2 fields) ≡ Some pairs → pairs_in key_count value_count (numbers 2 (renumber 2 (without_pairs goes pairs) fields)) ≡ Some (staying goes pairs)
+pub pairs_staying : (key_count value_count : ℕ) (goes : ℕ → Bool) (fields : List Field) (pairs : List (ℕ × ℕ)) → pairs_in key_count value_count (numbers 2 fields) ≡ Some pairs → pairs_in key_count value_count (numbers 2 (renumber 2 (without_pairs goes pairs) fields)) ≡ Some (staying goes pairs)
 pairs_staying key_count value_count goes fields pairs is =
     let r = pairs_read key_count value_count fields pairs is in
     pairs_again key_count value_count (renumber 2 (without_pairs goes pairs) fields) (renumbered (without_pairs goes pairs) r.list) (staying goes pairs)

@@ -5,6 +5,10 @@ pub mod Renamed
 pub mod Readable
 pub mod PairsRead
 pub mod Excluded
+pub mod Ids
+pub mod SameMeant
+pub mod Twice
+pub mod UnsetTwice
 pub mod MoreTags
 pub mod Grown
 pub mod Setting

@@ -1,28 +1,28 @@
 -- A key that gets a value and is unset then: both are accepted, and the attributes of other keys are left.
-use Rattle.std.proofs.Common.{◌≡◌, ◌≢◌, ℕ, suc, ◌+◌, ◌/◌, Bool, true, false, ◌||◌, not, cond, ◌==◌, is_some, Option, Some, None, option_map, Result, Ok, Err, List, [], ◌∷◌, ◌++◌, length, append-nil, map, slice_get, refl, sym, ap, ◌∙◌, inl, inr, arith}
-use Rattle.std.specs.Prelude.{nat_lt}
+use Rattle.std.proofs.Common.{◌≡◌, ◌≢◌, ℕ, suc, ◌/◌, Bool, true, false, ◌||◌, not, ◌==◌, is_some, Option, Some, None, option_map, Result, Ok, Err, List, [], ◌∷◌, ◌++◌, append-nil, map, slice_get, refl, sym, ap, ◌∙◌, inl, inr, arith}
 use Rattle.std.proofs.lemmas.Bool.{cases_Bool, eq-eqb, eqb-true, ne_eqb}
 use Rattle.std.proofs.lemmas.List.Elements.{filter-append, filter_map-append}
 use Rattle.std.proofs.lemmas.List.Folds.{list_any-append}
 use Rattle.std.proofs.lemmas.Bool.{and_parts}
 use Rattle.std.proofs.lemmas.Slice.Eq.{bytes_eq-Decides}
-use Rattle.std.specs.List.{cons_option, filter_map, last_or, list_all, list_any}
+use Rattle.std.specs.List.{cons_option, last_or, list_all, list_any}
 use Rattle.std.specs.Option.{option_map_or}
 use Rattle.std.specs.Str.{bytes_eq}
 use Rattle.mvt_document.specs.Plain.{Field, Feature, LayerItem, OfFeature, PlainInLayer, Layer, Document}
 use Rattle.mvt_value.specs.Messages.{encoded_value}
-use Rattle.mvt_command.specs.Command.{LayerChoice, AtOrdinal, Named, FeatureChoice, FeatureAtOrdinal, WithId, UnsetAttribute}
+use Rattle.mvt_command.specs.Command.{LayerChoice, FeatureChoice, UnsetAttribute}
 use Rattle.mvt_view.specs.Attributes.{attribute_at, attributes, pairs_of}
-use Rattle.mvt_view.specs.Views.{content_in, contents, features, has_id, id_of, is_named, key_field, keys, layers, name_of, plain_fields, the_one, value_in}
+use Rattle.mvt_view.specs.Views.{content_in, contents, features, id_of, key_field, keys, layers, name_of, plain_fields}
 use Rattle.mvt_meaning.specs.Selection.{selected, selected_feature, selected_in}
-use Rattle.mvt_meaning.specs.Tagging.{is_key, is_tags, without_attribute, without_tags}
+use Rattle.mvt_meaning.specs.Tagging.{is_key, without_attribute, without_tags}
 use Rattle.mvt_meaning.specs.Meaning.{applied, change_feature, has_key, has_pairs, items_of}
 use Rattle.mvt_meaning.specs.declared.refusal.Refusal.{Refusal}
-use Rattle.mvt_meaning.specs.declared.refusal.Refusal.TheVariants.{AmbiguousFeature, AmbiguousLayer, NoFeature, NoLayer}
+use Rattle.mvt_meaning.specs.declared.refusal.Refusal.TheVariants.{NoLayer}
 use Rattle.mvt_meaning.proofs.Parts.{items_there}
-use Rattle.mvt_meaning.proofs.Positions.{positions_from, positions_pass, positions_skip}
 use Rattle.attribute_laws.specs.Laws.{FeatureBecomes, GetsAttribute, LosesAttribute, SetThenUnset, is_entry, is_of, of_other_keys, valued, with_entry, with_value}
 use Rattle.attribute_laws.proofs.Excluded.{pairs_found, unset_unsets}
+use Rattle.attribute_laws.proofs.Ids.{id_same}
+use Rattle.attribute_laws.proofs.SameMeant.{same_feature, same_layer}
 use Rattle.attribute_laws.proofs.Setting.{set_sets}
 
 -- ---- lists of which one item differs
@@ -43,39 +43,23 @@ module _ {A B : Type 0} (f : A → B) (xs ys : List A) (at : ℕ) (x y : A) (was
         | inr apart ↦ ap (option_map f) (others n (λ e. let here = eq-eqb n at e in cc))
       ]
 
-lengths_same : {A B : Type 0} (f : A → B) (xs ys : List A) → ((n : ℕ) → option_map f (slice_get ys n) ≡ option_map f (slice_get xs n)) → length ys ≡ length xs
-lengths_same f [] [] same = refl
-lengths_same f [] (y ∷ ys) same = absurd (let first = same 0 in cc)
-lengths_same f (x ∷ xs) [] same = absurd (let first = same 0 in cc)
-lengths_same f (x ∷ xs) (y ∷ ys) same = ap suc (lengths_same f xs ys (λ n. same (suc n)))
-
-positions_same : {A : Type 0} (passes : A → Bool) (n : ℕ) (xs ys : List A) → ((i : ℕ) → option_map passes (slice_get ys i) ≡ option_map passes (slice_get xs i)) → positions_from passes n ys ≡ positions_from passes n xs
-positions_same passes n [] [] same = refl
-positions_same passes n [] (y ∷ ys) same = absurd (let first = same 0 in cc)
-positions_same passes n (x ∷ xs) [] same = absurd (let first = same 0 in cc)
-positions_same passes n (x ∷ xs) (y ∷ ys) same =
-    let first : passes y ≡ passes x = let both = same 0 in cc in
-    let more = positions_same passes (n + 1) xs ys (λ i. same (suc i)) in
-    elim (cases_Bool (passes x)) [
-      | inl pass ↦ positions_pass passes n y ys (first ∙ pass) ∙ ap (λ rest. n ∷ rest) more ∙ sym (positions_pass passes n x xs pass)
-      | inr skip ↦ positions_skip passes n y ys (first ∙ skip) ∙ more ∙ sym (positions_skip passes n x xs skip)
-    ]
+maps_same : {A B : Type 0} (f : A → B) (xs ys : List A) → ((n : ℕ) → option_map f (slice_get ys n) ≡ option_map f (slice_get xs n)) → map f ys ≡ map f xs
+maps_same f [] [] same = refl
+maps_same f [] (y ∷ ys) same = absurd (let first = same 0 in cc)
+maps_same f (x ∷ xs) [] same = absurd (let first = same 0 in cc)
+maps_same f (x ∷ xs) (y ∷ ys) same =
+    let first : f y ≡ f x = let both = same 0 in cc in
+    ap (λ z. z ∷ map f ys) first ∙ ap (λ rest. f x ∷ rest) (maps_same f xs ys (λ n. same (suc n)))
 
 -- ---- the same layer and the same feature are selected
 
 layer_again : (choice : LayerChoice) (old new : Document) (ordinal : ℕ) (former present : Layer) → slice_get (layers old) ordinal ≡ Some former → slice_get (layers new) ordinal ≡ Some present → ((other : ℕ) → other ≢ ordinal → slice_get (layers new) other ≡ slice_get (layers old) other) → name_of present ≡ name_of former → selected choice new ≡ selected choice old
-layer_again (AtOrdinal n) old new ordinal former present was is others same =
-    ap (λ (count : ℕ). cond {A = Result ℕ Refusal} (nat_lt n count) (Ok n) (Err NoLayer)) (lengths_same name_of (layers old) (layers new) (each_same name_of (layers old) (layers new) ordinal former present was is others same))
-layer_again (Named name) old new ordinal former present was is others same =
-    let named : is_named name present ≡ is_named name former = ap (λ found. option_map_or (bytes_eq name) found false) same in
-    ap (the_one NoLayer AmbiguousLayer) (positions_same (is_named name) 0 (layers old) (layers new) (each_same (is_named name) (layers old) (layers new) ordinal former present was is others named))
+layer_again choice old new ordinal former present was is others same =
+    same_layer choice new old (maps_same name_of (layers old) (layers new) (each_same name_of (layers old) (layers new) ordinal former present was is others same))
 
 feature_again : (choice : FeatureChoice) (old new : Layer) (ordinal : ℕ) (former present : Feature) → slice_get (features old) ordinal ≡ Some former → slice_get (features new) ordinal ≡ Some present → ((other : ℕ) → other ≢ ordinal → slice_get (features new) other ≡ slice_get (features old) other) → id_of present ≡ id_of former → selected_feature choice new ≡ selected_feature choice old
-feature_again (FeatureAtOrdinal n) old new ordinal former present was is others same =
-    ap (λ (count : ℕ). cond {A = Result ℕ Refusal} (nat_lt n count) (Ok n) (Err NoFeature)) (lengths_same id_of (features old) (features new) (each_same id_of (features old) (features new) ordinal former present was is others same))
-feature_again (WithId id) old new ordinal former present was is others same =
-    let has : has_id id present ≡ has_id id former = ap (λ found. option_map_or (λ (n : ℕ). n == id) found false) same in
-    ap (the_one NoFeature AmbiguousFeature) (positions_same (has_id id) 0 (features old) (features new) (each_same (has_id id) (features old) (features new) ordinal former present was is others has))
+feature_again choice old new ordinal former present was is others same =
+    same_feature choice new old (maps_same id_of (features old) (features new) (each_same id_of (features old) (features new) ordinal former present was is others same))
 
 -- keys and values are no names
 no_name : (field : Field) → is_entry field ≡ true → content_in 1 field ≡ None
@@ -103,30 +87,6 @@ name_same old new more fields entries =
     ∙ filter_map-append (content_in 1) (plain_fields old.items) more
     ∙ ap (λ (list : List (List ℕ)). contents 1 (plain_fields old.items) ++ list) (no_names more entries)
     ∙ append-nil (contents 1 (plain_fields old.items)))
-
--- tags are no ids
-no_id : (field : Field) → is_tags field ≡ true → value_in 1 field ≡ None
-no_id field tags =
-    elim (cases_Bool (field.tag.value / 8 == 1)) [
-      | inl one ↦ absurd (
-          let two : (field.tag.value / 8 == 2) ≡ false = ne_eqb (field.tag.value / 8) 2 (λ e. omega (arith, e, eqb-true (field.tag.value / 8) 1 one)) in
-          let none = rw two at tags in
-          cc
-          )
-      | inr other ↦ rw other refl
-    ]
-
-ids_apart : (fields : List Field) → filter_map (value_in 1) (without_tags fields) ≡ filter_map (value_in 1) fields
-ids_apart [] = refl
-ids_apart (field ∷ fields) =
-    elim (cases_Bool (is_tags field)) [
-      | inl tags ↦ rw tags (ids_apart fields ∙ sym (ap (λ (found : Option ℕ). cons_option found (filter_map (value_in 1) fields)) (no_id field tags)))
-      | inr other ↦ rw other (ap (cons_option (value_in 1 field)) (ids_apart fields))
-    ]
-
-id_same : (old new : Feature) → without_tags new.fields ≡ without_tags old.fields → id_of new ≡ id_of old
-id_same old new others =
-    ap (last_or None) (sym (ids_apart new.fields) ∙ ap (filter_map (value_in 1)) others ∙ ids_apart old.fields)
 
 -- ---- the key is there
 

@@ -1,7 +1,7 @@
 //! Laws of the commands on attributes. Each function does nothing: its contract is the law.
 #![tactic(auto)]
 
-ghost use Rattle.attribute_laws.specs.Laws.{ExcludeAllExcludes, ExcludeExcludes, RenameKeyRenames, SetSets, SetThenUnset, UnsetUnsets};
+ghost use Rattle.attribute_laws.specs.Laws.{ExcludeAgainChangesNothing, ExcludeAllExcludes, ExcludeExcludes, RenameKeyRenames, SetSets, SetThenUnset, UnsetAgainChangesNothing, UnsetUnsets};
 
 /// Where a value for a key is accepted, at most one attribute of the selected feature had the key. It
 /// has the value in place of the old one, or the key and the value behind its attributes. Its fields
@@ -26,6 +26,11 @@ pub fn unset_unsets()
     ensures { UnsetUnsets }
 {}
 
+/// Where it is accepted that a key is unset, the same command is accepted again, and changes nothing.
+pub fn unset_again_changes_nothing()
+    ensures { UnsetAgainChangesNothing }
+{}
+
 /// An accepted rename of a key renames it in the selected layer wherever it is a key, and so in the
 /// attributes of every feature of that layer. The values, the features and all other fields of the
 /// layer are as they were, and so are the other layers.
@@ -38,6 +43,12 @@ pub fn rename_key_renames()
 /// values and the other layers are as they were.
 pub fn exclude_excludes()
     ensures { ExcludeExcludes }
+{}
+
+/// Where it is accepted that a key is excluded, the same command is accepted again, and changes
+/// nothing.
+pub fn exclude_again_changes_nothing()
+    ensures { ExcludeAgainChangesNothing }
 {}
 
 /// Where it is accepted that all attributes are excluded, no feature of the layers that are meant has

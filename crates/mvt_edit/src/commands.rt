@@ -15,8 +15,10 @@ use mvt_edit_lists::move_feature::move_feature;
 use mvt_edit_lists::move_layer::move_layer;
 use mvt_edit_lists::rename_layer::rename_layer;
 use mvt_edit_lists::set_id::set_id;
+use mvt_edit_tags::exclude::exclude;
 use mvt_edit_tags::exclude_all::exclude_all;
 use mvt_edit_tags::rename_key::rename_key;
+use mvt_edit_tags::unset::unset;
 use mvt_meaning::{Command, Refusal};
 use std::alloc::Global;
 
@@ -47,6 +49,11 @@ pub fn prepare(alloc: Global, document: &Document, command: &Command) -> Result<
         Command::DropFeature { layer, feature } => drop_feature(alloc, document, layer, feature),
         Command::SetId { layer, feature, id } => set_id(alloc, document, layer, feature, *id),
         Command::ClearId { layer, feature } => clear_id(alloc, document, layer, feature),
+        Command::UnsetAttribute {
+            layer,
+            feature,
+            key,
+        } => unset(alloc, document, layer, feature, key.as_slice()),
         Command::RenameKey { layer, old, new } => rename_key(
             alloc,
             document,
@@ -54,6 +61,7 @@ pub fn prepare(alloc: Global, document: &Document, command: &Command) -> Result<
             old.as_slice(),
             new.as_slice(),
         ),
+        Command::Exclude { layers, key } => exclude(alloc, document, layers, key.as_slice()),
         Command::ExcludeAll { layers } => exclude_all(alloc, document, layers),
     }
 }

@@ -5,4 +5,7 @@ pub mod KeyFields
 pub mod KeysRenamed
 pub mod Deciding
 pub mod TagsLeft
-pub mod Unset
+pub mod PairsLost
+pub mod Unreadable
+pub mod StepsPassed
+pub mod Excluded
