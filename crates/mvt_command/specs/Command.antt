@@ -1,6 +1,7 @@
 -- The commands that change a tile, as plain values.
 use Rattle.std.specs.Prelude.{ℕ, ◌^◌, ◌<◌, List}
 use Rattle.mvt_geometry.specs.Shapes.{Geometry}
+use Rattle.mvt_value.specs.Values.{Value}
 
 -- how a layer is selected: by its ordinal among the layers, or by its name
 pub data LayerChoice : Type 0 where
@@ -28,6 +29,7 @@ pub data Command : Type 0 where
   DropFeature : (layer : LayerChoice) (feature : FeatureChoice) → Command
   SetId : (layer : LayerChoice) (feature : FeatureChoice) (id : ℕ) → Command
   ClearId : (layer : LayerChoice) (feature : FeatureChoice) → Command
+  SetAttribute : (layer : LayerChoice) (feature : FeatureChoice) (key : List ℕ) (value : Value) → Command
   UnsetAttribute : (layer : LayerChoice) (feature : FeatureChoice) (key : List ℕ) → Command
   RenameKey : (layer : LayerChoice) (old new : List ℕ) → Command
   Exclude : (layers : LayersChoice) (key : List ℕ) → Command

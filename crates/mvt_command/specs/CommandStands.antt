@@ -1,5 +1,6 @@
 -- Which plain command a command of the program stands for.
 use Rattle.std.specs.Prelude.{map}
+use Rattle.mvt_value.specs.Stands.{new_value_of}
 use Rattle.mvt_command.specs.Command as plain
 use Rattle.mvt_command.specs.declared.command.LayerChoice.{LayerChoice}
 use Rattle.mvt_command.specs.declared.command.LayerChoice.TheVariants.{Ordinal, Name}
@@ -8,7 +9,7 @@ use Rattle.mvt_command.specs.declared.command.LayersChoice.TheVariants.{One, All
 use Rattle.mvt_command.specs.declared.command.FeatureChoice.{FeatureChoice}
 use Rattle.mvt_command.specs.declared.command.FeatureChoice.TheVariants as features
 use Rattle.mvt_command.specs.declared.command.Command.{Command}
-use Rattle.mvt_command.specs.declared.command.Command.TheVariants.{RenameLayer, MoveLayer, DropLayer, KeepLayers, InsertFeature, MoveFeature, DropFeature, SetId, ClearId, UnsetAttribute, RenameKey, Exclude, ExcludeAll}
+use Rattle.mvt_command.specs.declared.command.Command.TheVariants.{RenameLayer, MoveLayer, DropLayer, KeepLayers, InsertFeature, MoveFeature, DropFeature, SetId, ClearId, SetAttribute, UnsetAttribute, RenameKey, Exclude, ExcludeAll}
 
 -- the plain choice that a choice of a layer stands for
 abbrev pub layer_choice_of : LayerChoice → plain.LayerChoice
@@ -36,6 +37,7 @@ command_of (MoveFeature layer feature index) = plain.MoveFeature (layer_choice_o
 command_of (DropFeature layer feature) = plain.DropFeature (layer_choice_of layer) (feature_choice_of feature)
 command_of (SetId layer feature id) = plain.SetId (layer_choice_of layer) (feature_choice_of feature) id
 command_of (ClearId layer feature) = plain.ClearId (layer_choice_of layer) (feature_choice_of feature)
+command_of (SetAttribute layer feature key value) = plain.SetAttribute (layer_choice_of layer) (feature_choice_of feature) key.items (new_value_of value)
 command_of (UnsetAttribute layer feature key) = plain.UnsetAttribute (layer_choice_of layer) (feature_choice_of feature) key.items
 command_of (RenameKey layer old new) = plain.RenameKey (layer_choice_of layer) old.items new.items
 command_of (Exclude layers key) = plain.Exclude (layers_choice_of layers) key.items

@@ -5,6 +5,7 @@ ghost use Rattle.mvt_command.specs.CommandStands.{command_of};
 
 use mvt_document::Items;
 use mvt_geometry::Geometry;
+use mvt_value::NewValue;
 
 /// The layer that is meant.
 #[derive(Debug, Drop)]
@@ -71,6 +72,12 @@ pub enum Command {
     ClearId {
         layer: LayerChoice,
         feature: FeatureChoice,
+    },
+    SetAttribute {
+        layer: LayerChoice,
+        feature: FeatureChoice,
+        key: Items<u8>,
+        value: NewValue,
     },
     UnsetAttribute {
         layer: LayerChoice,

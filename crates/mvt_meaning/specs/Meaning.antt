@@ -9,6 +9,7 @@ use Rattle.std.specs.Str.{bytes_eq}
 use Rattle.mvt_document.specs.declared.TheConstants.{MAX_FILE}
 use Rattle.mvt_document.specs.Plain.{Field, LayerItem, OfFeature, PlainInLayer, TileItem, OfLayer, PlainInTile, Document}
 use Rattle.mvt_document.specs.Wire.{bytes_of, minimal}
+use Rattle.mvt_value.specs.Messages.{encoded_value}
 use Rattle.mvt_geometry.specs.Shapes.{Geometry, kind_number}
 use Rattle.mvt_geometry.specs.Integers.{encoded}
 use Rattle.mvt_geometry.specs.Checks.{is_in_range}
@@ -16,13 +17,13 @@ use Rattle.mvt_geometry.specs.declared.faults.EncodeError.{EncodeError}
 use Rattle.mvt_geometry.specs.declared.faults.EncodeError.TheVariants as encode_errors
 use Rattle.mvt_view.specs.Views.{content_in, features_in, is_named, layers, ordinals_of, value_in}
 use Rattle.mvt_document.specs.Places.{fields_in, in_feature, in_layer}
-use Rattle.mvt_command.specs.Command.{LayersChoice, TheLayer, EachLayer, Command, RenameLayer, MoveLayer, DropLayer, KeepLayers, InsertFeature, MoveFeature, DropFeature, SetId, ClearId, UnsetAttribute, RenameKey, Exclude, ExcludeAll}
+use Rattle.mvt_command.specs.Command.{LayersChoice, TheLayer, EachLayer, Command, RenameLayer, MoveLayer, DropLayer, KeepLayers, InsertFeature, MoveFeature, DropFeature, SetId, ClearId, SetAttribute, UnsetAttribute, RenameKey, Exclude, ExcludeAll}
 use Rattle.mvt_meaning.specs.Ordinals.{change_nth, without, move_nth, insert_nth, put_last}
 use Rattle.mvt_meaning.specs.Selection.{is_feature, is_layer, selected, selected_in, selected_layers}
-use Rattle.mvt_meaning.specs.Tagging.{excluded, is_key, pairs_among, renamed_keys, unreadable, untagged, without_attribute}
+use Rattle.mvt_meaning.specs.Tagging.{attributed, excluded, is_key, pairs_among, pairs_with, renamed_keys, unreadable, untagged, without_attribute}
 pub use Rattle.mvt_meaning.specs.Fields.{new_content, new_number, with_content, with_number, with_text, with_value}
 use Rattle.mvt_meaning.specs.declared.refusal.Refusal.{Refusal}
-use Rattle.mvt_meaning.specs.declared.refusal.Refusal.TheVariants.{BadPlace, BadTags, KeyTaken, NameTaken, NoKey, NoLayer, NoMemory, OutOfRange, TooLarge}
+use Rattle.mvt_meaning.specs.declared.refusal.Refusal.TheVariants.{BadPlace, BadTags, KeyTaken, NameTaken, NoKey, NoLayer, NoMemory, OutOfRange, RepeatedKey, TooLarge}
 
 -- what follows a step that was accepted; the refusal of one that was refused
 infixl 10 ◌>>=◌
@@ -125,6 +126,10 @@ has_key key ordinal document = list_any (is_key key) (items_of ordinal document)
 abbrev pub has_pairs : ℕ → ℕ → Document → Bool
 has_pairs ordinal feature document = is_some (pairs_among (items_of ordinal document) (fields_of ordinal feature document))
 
+-- several pairs of the feature of this ordinal have the key, in the layer of that ordinal (tiles 4.4)
+abbrev pub repeats_key : List ℕ → ℕ → ℕ → Document → Bool
+repeats_key key ordinal feature document = nat_lt 1 (pairs_with key (items_of ordinal document) (fields_of ordinal feature document))
+
 -- ---- refusals
 
 -- the refusal, where it applies
@@ -185,6 +190,12 @@ applied (ClearId choice feature) document = do
   ordinal ← selected choice document
   meant ← selected_in feature ordinal document
   Ok (change_feature without_id ordinal meant document)
+applied (SetAttribute choice feature key value) document = do
+  ordinal ← selected choice document
+  meant ← selected_in feature ordinal document
+  readable ← refuse_if (not (has_pairs ordinal meant document)) (BadTags ordinal meant)
+  once ← refuse_if (repeats_key key ordinal meant document) (RepeatedKey ordinal meant)
+  within_limit (change_layer (attributed key (encoded_value value) meant) ordinal document)
 applied (UnsetAttribute choice feature key) document = do
   ordinal ← selected choice document
   meant ← selected_in feature ordinal document

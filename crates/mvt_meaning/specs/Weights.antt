@@ -1,13 +1,14 @@
 -- How many bytes a command takes out of a document, and how many it puts in: those of whole items.
-use Rattle.std.specs.Prelude.{ℕ, Bool, not, List, length, map, filter, slice_get, Option, None, Result, Ok, Err}
+use Rattle.std.specs.Prelude.{ℕ, ◌+◌, ◌==◌, Bool, not, List, length, map, filter, slice_get, Option, None, Result, Ok, Err, if◌then◌else◌}
 use Rattle.std.specs.List.{flat_map, last_or}
 use Rattle.std.specs.Option.{option_map_or}
-use Rattle.mvt_document.specs.Plain.{Field, Document}
+use Rattle.mvt_document.specs.Plain.{Field, LayerItem, Document}
 use Rattle.mvt_document.specs.Wire.{field_bytes, layer_item_bytes, tile_item_bytes}
 use Rattle.mvt_numbers.specs.Renumbering.{renumbered_field}
-use Rattle.mvt_command.specs.Command.{LayerChoice, LayersChoice, FeatureChoice, Command, RenameLayer, DropLayer, KeepLayers, InsertFeature, DropFeature, SetId, ClearId, UnsetAttribute, RenameKey, Exclude, ExcludeAll}
+use Rattle.mvt_value.specs.Messages.{encoded_value}
+use Rattle.mvt_command.specs.Command.{LayerChoice, LayersChoice, FeatureChoice, Command, RenameLayer, DropLayer, KeepLayers, InsertFeature, DropFeature, SetId, ClearId, SetAttribute, UnsetAttribute, RenameKey, Exclude, ExcludeAll}
 use Rattle.mvt_meaning.specs.Selection.{is_feature, is_layer, selected, selected_in, selected_layers}
-use Rattle.mvt_meaning.specs.Tagging.{is_key, losing, losing_in, tags_fields}
+use Rattle.mvt_meaning.specs.Tagging.{is_key, is_packed_last, is_tags, losing, losing_in, missing_entries, pairs_with, revaluing, tags_fields, with_attribute}
 use Rattle.mvt_meaning.specs.Meaning.{after, fields_of, is_id, is_kept, is_name, items_of, new_feature}
 use Rattle.mvt_meaning.specs.declared.refusal.Refusal.{Refusal}
 
@@ -62,6 +63,25 @@ unset_weight seen choice feature key document = of_meant (selected choice docume
 abbrev pub excluded_weight : (List (List (Option ℕ) × Field) → List Field) → LayersChoice → List ℕ → Document → ℕ
 excluded_weight seen choice key document = of_meant (selected_layers choice document) (λ meant. weigh field_bytes (seen (flat_map (λ found. losing_in key found.1.1) meant)))
 
+-- the bytes of the tags field that changes where a feature of these fields gets the value for the key, in a layer of
+-- these items; 0 where it gets a new one
+abbrev pub set_takes : List ℕ → List ℕ → List LayerItem → List Field → ℕ
+set_takes key value items fields =
+    if pairs_with key items fields == 0
+    then (if is_packed_last fields then weigh_last field_bytes is_tags fields else 0)
+    else weigh field_bytes (as_before (revaluing key value items fields))
+
+-- the bytes of what the layer lacks of the key and of the value, and of the tags field that changes or is new
+abbrev pub set_puts : List ℕ → List ℕ → List LayerItem → List Field → ℕ
+set_puts key value items fields = weigh layer_item_bytes (missing_entries key value items) + (
+    if pairs_with key items fields == 0
+    then weigh_last field_bytes is_tags (with_attribute key value items fields)
+    else weigh field_bytes (as_after (revaluing key value items fields)))
+
+-- the weight by the items of the layer and the fields of the feature that are selected
+abbrev pub set_weight : (List LayerItem → List Field → ℕ) → LayerChoice → FeatureChoice → Document → ℕ
+set_weight weight choice feature document = of_meant (selected choice document) (λ ordinal. of_meant (selected_in feature ordinal document) (λ meant. weight (items_of ordinal document) (fields_of ordinal meant document)))
+
 -- ---- commands
 
 -- the bytes of the items that a command takes out or replaces, as they stand before it
@@ -72,6 +92,7 @@ taken_by (KeepLayers names) document = weigh tile_item_bytes (filter (λ item. n
 taken_by (DropFeature choice feature) document = of_meant (selected choice document) (λ ordinal. of_meant (selected_in feature ordinal document) (λ going. weigh_nth layer_item_bytes is_feature going (items_of ordinal document)))
 taken_by (SetId choice feature id) document = id_weight choice feature document document
 taken_by (ClearId choice feature) document = of_meant (selected choice document) (λ ordinal. of_meant (selected_in feature ordinal document) (λ meant. weigh field_bytes (filter is_id (fields_of ordinal meant document))))
+taken_by (SetAttribute choice feature key value) document = set_weight (set_takes key (encoded_value value)) choice feature document
 taken_by (UnsetAttribute choice feature key) document = unset_weight as_before choice feature key document
 taken_by (RenameKey choice old new) document = key_weight old choice document document
 taken_by (Exclude choice key) document = excluded_weight as_before choice key document
@@ -83,6 +104,7 @@ abbrev pub put_by : Command → Document → ℕ
 put_by (RenameLayer choice name) document = name_weight choice document (after (RenameLayer choice name) document)
 put_by (InsertFeature choice index geometry) document = length (layer_item_bytes (new_feature geometry))
 put_by (SetId choice feature id) document = id_weight choice feature document (after (SetId choice feature id) document)
+put_by (SetAttribute choice feature key value) document = set_weight (set_puts key (encoded_value value)) choice feature document
 put_by (UnsetAttribute choice feature key) document = unset_weight as_after choice feature key document
 put_by (RenameKey choice old new) document = key_weight new choice document (after (RenameKey choice old new) document)
 put_by (Exclude choice key) document = excluded_weight as_after choice key document

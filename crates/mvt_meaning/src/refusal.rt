@@ -25,6 +25,8 @@ pub enum Refusal {
     BadPlace,
     #[error("the tags of feature {feature} of layer {layer} cannot be read")]
     BadTags { layer: usize, feature: usize },
+    #[error("the tags of feature {feature} of layer {layer} have the key more than once")]
+    RepeatedKey { layer: usize, feature: usize },
     #[error("another layer has the name")]
     NameTaken,
     #[error("the layer has the key already")]
