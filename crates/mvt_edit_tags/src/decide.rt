@@ -50,6 +50,36 @@ pub(crate) fn decide(
     Ok(())
 }
 
+/// Decides on each number of the tags of a feature, in place of what was decided before: the pairs
+/// of the keys that are named get the value of this ordinal, and all others stay. How many are
+/// named.
+pub(crate) fn decide_values(
+    feature: FeatureView<'_>,
+    sizes: PoolSizes,
+    named: &[bool],
+    value: u64,
+    decisions: &mut Vec<Option<u64>>,
+) -> Result<usize, PairsError>
+    ensures decided { IfOk result (λ count. option_map (λ pairs. (revalued (λ key. unwrap_or (slice_get named.now key) false) value pairs, length (filter (λ pair. unwrap_or (slice_get named.now pair.0) false) pairs)))
+        (plain_pairs (tag_pairs sizes.keys sizes.values (numbers 2 (feature_seen feature.entry).fields))) ≡ Some (decisions.new.items, count)) }
+    ensures bad_tags { IsErrOf result PairsError.BadTags → plain_pairs (tag_pairs sizes.keys sizes.values (numbers 2 (feature_seen feature.entry).fields)) ≡ None }
+{
+    decisions.clear();
+    let mut count = 0_usize;
+    for tags in feature.tag_pairs(sizes) {
+        let pair = tags?.pair;
+        let is_meant = is_named(named, pair.key);
+        decisions.push(Some(u64::from(pair.key)))?;
+        decisions.push(Some(if is_meant {
+            value
+        } else {
+            u64::from(pair.value)
+        }))?;
+        count += usize::from(is_meant);
+    }
+    Ok(count)
+}
+
 /// The key of this ordinal is named.
 fn is_named(named: &[bool], key: u32) -> bool
     ensures { result ≡ unwrap_or (slice_get named.now key) false }
