@@ -1,7 +1,6 @@
 -- The commands that change a tile, as plain values.
 use Rattle.std.specs.Prelude.{ℕ, ◌^◌, ◌<◌, List}
 use Rattle.mvt_geometry.specs.Shapes.{Geometry}
-use Rattle.mvt_value.specs.Messages.{IsWritable}
 use Rattle.mvt_value.specs.Values.{Value}
 
 -- how a layer is selected: by its ordinal among the layers, or by its name
@@ -36,9 +35,7 @@ pub data Command : Type 0 where
   Exclude : (layers : LayersChoice) (key : List ℕ) → Command
   ExcludeAll : (layers : LayersChoice) → Command
 
--- a valid command: the id that it sets, where it sets one, can be spelled, as it is below 2 ^ 64 (tiles 4.2); and the
--- value of an attribute that it sets can be written (tiles 4.1)
+-- a valid command: the id that it sets, where it sets one, can be spelled, as it is below 2 ^ 64 (tiles 4.2)
 abbrev pub IsCommand : Command → Type 0
 IsCommand (SetId layer feature id) = id < 2 ^ 64
-IsCommand (SetAttribute layer feature key value) = IsWritable value
 IsCommand command = Unit {0}

@@ -1,33 +1,38 @@
 -- An accepted command makes a document of a document.
-use Rattle.std.proofs.Common.{ℕ, ◌^◌, ◌<◌, ◌&&◌, not, cond, ltb, ◌==◌, IfOk, Err, Ok, List, length, refl, arith}
-use Rattle.std.specs.List.{AllByRecursion, list_any}
+use Rattle.std.proofs.Common.{ℕ, ◌^◌, ◌<◌, ◌≤◌, ◌&&◌, not, cond, ltb, ◌==◌, IfOk, Err, Ok, List, [], ◌∷◌, ◌++◌, length, refl, arith}
+use Rattle.std.specs.List.{AllByRecursion, flat_map, list_any}
 use Rattle.std.specs.Str.{bytes_eq}
-use Rattle.std.proofs.lemmas.Bool.{cond_both}
+use Rattle.std.proofs.lemmas.Bool.{cond_both, ltb-false}
 use Rattle.mvt_document.specs.declared.TheConstants.{MAX_FILE}
 use Rattle.mvt_document.specs.Plain.{Number, Body, Spelled, Eight, Four, Delimited, Group, Field, LayerItem, OfFeature, PlainInLayer, TileItem, OfLayer, PlainInTile, Document}
 use Rattle.mvt_document.specs.Opens.{IsField, IsLayerItem, IsTileItem, IsDocument}
 use Rattle.mvt_document.specs.Groups.{IsNumber}
 use Rattle.mvt_document.specs.Shape.{IsTag}
 use Rattle.mvt_document.specs.Places.{in_feature, in_layer}
-use Rattle.mvt_document.specs.Wire.{bytes_of, minimal}
+use Rattle.mvt_document.specs.Wire.{bytes_of, layer_item_bytes, minimal, tile_item_bytes}
+use Rattle.mvt_document.proofs.Sizes.{length-message}
 use Rattle.mvt_document.proofs.Spelling.{minimal_spelling}
+use Rattle.mvt_value.specs.Messages.{encoded_value}
 use Rattle.mvt_geometry.specs.Shapes.{Geometry, kind_number}
 use Rattle.mvt_geometry.specs.declared.Kind.{Kind}
 use Rattle.mvt_geometry.specs.declared.Kind.TheVariants.{Dots, Lines, Areas}
 use Rattle.mvt_geometry.specs.Integers.{encoded}
-use Rattle.mvt_command.specs.Command.{LayersChoice, TheLayer, EachLayer, Command, IsCommand, RenameLayer, MoveLayer, DropLayer, KeepLayers, InsertFeature, MoveFeature, DropFeature, SetId, ClearId, UnsetAttribute, RenameKey, Exclude, ExcludeAll}
-use Rattle.mvt_view.specs.Views.{layers}
-use Rattle.mvt_meaning.specs.Ordinals.{change_nth, without, move_nth, insert_nth}
+use Rattle.mvt_command.specs.Command.{LayersChoice, TheLayer, EachLayer, Command, IsCommand, RenameLayer, MoveLayer, DropLayer, KeepLayers, InsertFeature, MoveFeature, DropFeature, SetId, ClearId, SetAttribute, UnsetAttribute, RenameKey, Exclude, ExcludeAll}
+use Rattle.mvt_view.specs.Views.{contents, key_field, layers, plain_fields, value_field}
+use Rattle.mvt_meaning.specs.Ordinals.{change_last, change_nth, without, move_nth, insert_nth}
 use Rattle.mvt_meaning.specs.Selection.{is_feature, is_layer, selected, selected_in, selected_layers}
-use Rattle.mvt_meaning.specs.Tagging.{excluded, is_key, is_tags, removals, renamed_keys, unreadable, untagged, without_attribute, without_tags}
+use Rattle.mvt_meaning.specs.Tagging.{attributed, excluded, is_key, is_packed_last, is_tags, missing_entries, missing_entry, new_pair, pairs_with, removals, renamed_keys, replacements, unreadable, untagged, value_ordinal, with_attribute, with_more, with_more_content, with_more_tags, without_attribute, without_tags}
 use Rattle.mvt_geometry.specs.Checks.{is_in_range}
-use Rattle.mvt_meaning.specs.Meaning.{applied, refuse_if, layer_count, feature_count, has_key, has_pairs, is_id, items_of, refuse_first, is_kept, is_name, is_taken, within_limit, change_layer, change_layers, change_feature, identified, named_items, new_content, new_feature, new_number, with_content, with_id, with_number, with_text, with_value, without_id}
-use Rattle.mvt_meaning.specs.declared.refusal.Refusal.TheVariants.{BadPlace, BadTags, KeyTaken, NameTaken, NoKey, NoLayer, OutOfRange, TooLarge}
+use Rattle.mvt_meaning.specs.Meaning.{applied, refuse_if, layer_count, feature_count, has_key, has_pairs, is_id, items_of, refuse_first, repeats_key, is_kept, is_name, is_taken, within_limit, change_layer, change_layers, change_feature, identified, named_items, new_content, new_feature, new_number, with_content, with_id, with_number, with_text, with_value, without_id}
+use Rattle.mvt_meaning.specs.declared.refusal.Refusal.TheVariants.{BadPlace, BadTags, KeyTaken, NameTaken, NoKey, NoLayer, OutOfRange, RepeatedKey, TooLarge}
 use Rattle.mvt_meaning.specs.DocumentLaws.{CommandMakesDocument}
+use Rattle.mvt_numbers.specs.Renumbering.{renumber}
+use Rattle.mvt_numbers.proofs.Decisions.{all_joined}
 use Rattle.mvt_numbers.proofs.Redone.{stays_valid}
 use Rattle.mvt_meaning.proofs.Accepted.{ok_so, then_so}
-use Rattle.mvt_meaning.proofs.Elements.{all_changed, all_filtered, all_inserted, all_mapped, all_moved, all_put, all_without}
+use Rattle.mvt_meaning.proofs.Elements.{all_changed, all_changed_within, all_filtered, all_inserted, all_last, all_mapped, all_moved, all_pushed, all_put, all_without}
 use Rattle.mvt_meaning.proofs.Removals.{removals_short}
+use Rattle.mvt_meaning.proofs.Replacements.{replacements_short, value_short}
 
 -- ---- a new name
 
@@ -135,10 +140,68 @@ excluded_valid : (key : List ℕ) (items : List LayerItem) → AllByRecursion Is
 excluded_valid key items all =
     all_mapped IsLayerItem (in_feature (without_attribute key items)) (in_feature_valid (without_attribute key items) (unset_valid key items)) items all
 
+-- ---- a value for a key
+
+more_valid : (more : List ℕ) (tag : Number) (body : Body) → IsField (record { tag = tag; body = body }) → IsField (record { tag = tag; body = with_more more body })
+more_valid more tag (Spelled number) valid = valid
+more_valid more tag (Eight bytes) valid = valid
+more_valid more tag (Four bytes) valid = valid
+more_valid more tag (Group bytes) valid = valid
+more_valid more tag (Delimited width bytes) valid = record { number = valid.number; tag = valid.tag; body = valid.body }
+
+new_tags : (bytes : List ℕ) → IsField (new_content 18 bytes)
+new_tags bytes = content_field 18 bytes (omega arith) (record { numbered = omega arith; short = omega arith; typed = refl })
+
+more_tags_valid : (more : List ℕ) (fields : List Field) → AllByRecursion IsField fields → AllByRecursion IsField (with_more_tags more fields)
+more_tags_valid more fields all =
+    cond_both (is_packed_last fields) (change_last is_tags (with_more_content more) fields) (fields ++ new_content 18 more ∷ []) (AllByRecursion IsField)
+    (λ _. all_last IsField is_tags (with_more_content more) (λ field valid. more_valid more field.tag field.body valid) fields all)
+    (λ _. all_pushed IsField (new_content 18 more) (new_tags more) fields all)
+
+set_valid : (key value : List ℕ) (items : List LayerItem) → value_ordinal value items < 2 ^ 64 → (fields : List Field) → AllByRecursion IsField fields → AllByRecursion IsField (with_attribute key value items fields)
+set_valid key value items short fields all =
+    cond_both (pairs_with key items fields == 0) (with_more_tags (new_pair key value items) fields) (renumber 2 (replacements key value items fields) fields) (AllByRecursion IsField)
+    (λ _. more_tags_valid (new_pair key value items) fields all)
+    (λ _. stays_valid 2 (replacements key value items fields) fields (replacements_short key value items fields short) all)
+
+missing_valid : (tag : ℕ) (bytes : List ℕ) (entries : List (List ℕ)) → IsLayerItem (PlainInLayer (new_content tag bytes)) → AllByRecursion IsLayerItem (missing_entry tag bytes entries)
+missing_valid tag bytes entries valid =
+    cond_both (list_any (bytes_eq bytes) entries) [] (PlainInLayer (new_content tag bytes) ∷ []) (AllByRecursion IsLayerItem) (λ _. tt) (λ _. (valid, tt))
+
+new_key : (key : List ℕ) → IsLayerItem (PlainInLayer (new_content 26 key))
+new_key key = (content_field 26 key (omega arith) (record { numbered = omega arith; short = omega arith; typed = refl }), λ same. omega (arith, same))
+
+new_value : (value : List ℕ) → IsLayerItem (PlainInLayer (new_content 34 value))
+new_value value = (content_field 34 value (omega arith) (record { numbered = omega arith; short = omega arith; typed = refl }), λ same. omega (arith, same))
+
+attributed_valid : (key value : List ℕ) (feature : ℕ) (items : List LayerItem) → AllByRecursion IsLayerItem items → length (flat_map layer_item_bytes (attributed key value feature items)) ≤ MAX_FILE → AllByRecursion IsLayerItem (attributed key value feature items)
+attributed_valid key value feature items all within =
+    let keys = contents key_field (plain_fields items) in
+    let values = contents value_field (plain_fields items) in
+    all_joined IsLayerItem (change_nth is_feature (in_feature (with_attribute key value items)) feature items) (missing_entries key value items)
+    (all_changed IsLayerItem is_feature (in_feature (with_attribute key value items)) (in_feature_valid (with_attribute key value items) (set_valid key value items (value_short key value feature items within))) feature items all)
+    (all_joined IsLayerItem (missing_entry 26 key keys) (missing_entry 34 value values) (missing_valid 26 key keys (new_key key)) (missing_valid 34 value values (new_value value)))
+
+layer_attributed : (key value : List ℕ) (feature : ℕ) (item : TileItem) → IsTileItem item → length (tile_item_bytes (in_layer (attributed key value feature) item)) ≤ MAX_FILE → IsTileItem (in_layer (attributed key value feature) item)
+layer_attributed key value feature (OfLayer layer) valid within =
+    let content = flat_map layer_item_bytes (attributed key value feature layer.items) in
+    record {
+      number = valid.number;
+      tag = valid.tag;
+      width = valid.width;
+      items = attributed_valid key value feature layer.items valid.items (omega (arith, within, length-message layer.tag.value layer.tag.width layer.width content));
+    }
+layer_attributed key value feature (PlainInTile field) valid within = valid
+
 -- ---- accepted commands
 
+-- a document that is valid where it is within the limit
+within_valid : (document : Document) → (length (bytes_of document) ≤ MAX_FILE → IsDocument document) → IfOk (within_limit document) IsDocument
+within_valid document valid =
+    cond_both (ltb MAX_FILE (length (bytes_of document))) (Err TooLarge) (Ok document) (λ r. IfOk r IsDocument) (λ _. tt) (λ e. valid (ltb-false MAX_FILE (length (bytes_of document)) e))
+
 limited_valid : (document : Document) → IsDocument document → IfOk (within_limit document) IsDocument
-limited_valid document valid = cond_both (ltb MAX_FILE (length (bytes_of document))) (Err TooLarge) (Ok document) (λ r. IfOk r IsDocument) (λ _. tt) (λ _. valid)
+limited_valid document valid = within_valid document (λ _. valid)
 
 made_valid : (command : Command) (document : Document) → IsCommand command → IsDocument document → IfOk (applied command document) IsDocument
 made_valid (RenameLayer choice name) document fits valid =
@@ -175,6 +238,13 @@ made_valid (SetId choice feature id) document fits valid =
 made_valid (ClearId choice feature) document fits valid =
     then_so IsDocument (selected choice document) _ (λ ordinal.
     then_so IsDocument (selected_in feature ordinal document) _ (λ meant. feature_valid without_id (all_filtered IsField (λ field. not (is_id field))) ordinal meant document valid))
+made_valid (SetAttribute choice feature key value) document fits valid =
+    then_so IsDocument (selected choice document) _ (λ ordinal.
+    then_so IsDocument (selected_in feature ordinal document) _ (λ meant.
+    then_so IsDocument (refuse_if (not (has_pairs ordinal meant document)) (BadTags ordinal meant)) _ (λ readable.
+    then_so IsDocument (refuse_if (repeats_key key ordinal meant document) (RepeatedKey ordinal meant)) _ (λ once.
+    within_valid (change_layer (attributed key (encoded_value value) meant) ordinal document)
+    (all_changed_within IsTileItem tile_item_bytes MAX_FILE is_layer (in_layer (attributed key (encoded_value value) meant)) (layer_attributed key (encoded_value value) meant) ordinal document valid)))))
 made_valid (UnsetAttribute choice feature key) document fits valid =
     then_so IsDocument (selected choice document) _ (λ ordinal.
     then_so IsDocument (selected_in feature ordinal document) _ (λ meant.

@@ -1,14 +1,14 @@
 -- What holds of each item of a list holds of each after a change of it.
-use Rattle.std.proofs.Common.{◌≡◌, ℕ, zero, suc, ◌-◌, Bool, ◌&&◌, not, cond, ltb, ◌==◌, Option, Some, None, List, [], ◌∷◌, ◌++◌, take, drop, map, filter, slice_get, refl, subst, inl, inr}
-use Rattle.std.specs.List.{AllByRecursion, list_any}
+use Rattle.std.proofs.Common.{◌≡◌, ℕ, zero, suc, ◌-◌, ◌≤◌, Bool, ◌&&◌, not, cond, ltb, ◌==◌, Option, Some, None, List, [], ◌∷◌, ◌++◌, length, length-append, take, drop, map, filter, slice_get, refl, subst, inl, inr, arith}
+use Rattle.std.specs.List.{AllByRecursion, flat_map, list_any}
 use Rattle.std.specs.Option.{option_map_or}
 use Rattle.std.proofs.lemmas.Bool.{cases_Bool, cond_both}
+use Rattle.mvt_numbers.proofs.Decisions.{all_joined}
 use Rattle.mvt_meaning.specs.Ordinals.{from_nth, change_first, change_nth, change_last, put_last, count, without, before, behind, move_nth, insert_nth}
 
 module _ {A : Type 0} (P : A → Type 0) where
-  all_pushed : (new : A) → P new → (xs : List A) → AllByRecursion P xs → AllByRecursion P (xs ++ new ∷ [])
-  all_pushed new valid [] all = (valid, tt)
-  all_pushed new valid (x ∷ xs) all = (all.0, all_pushed new valid xs all.1)
+  pub all_pushed : (new : A) → P new → (xs : List A) → AllByRecursion P xs → AllByRecursion P (xs ++ new ∷ [])
+  all_pushed new valid xs all = all_joined P xs (new ∷ []) all (valid, tt)
 
   pub all_filtered : (passes : A → Bool) (xs : List A) → AllByRecursion P xs → AllByRecursion P (filter passes xs)
   all_filtered passes [] all = tt
@@ -77,7 +77,7 @@ module _ {A : Type 0} (P : A → Type 0) where
       (λ _. all_before passes ordinal new xs valid all)
       (λ _. cond_both (list_any passes xs) last (xs ++ new ∷ []) (AllByRecursion P) (λ _. all_behind passes (count passes xs - 1) new xs valid all) (λ _. all_pushed new valid xs all))
 
-  all_last : (passes : A → Bool) (change : A → A) → ((x : A) → P x → P (change x)) → (xs : List A) → AllByRecursion P xs → AllByRecursion P (change_last passes change xs)
+  pub all_last : (passes : A → Bool) (change : A → A) → ((x : A) → P x → P (change x)) → (xs : List A) → AllByRecursion P xs → AllByRecursion P (change_last passes change xs)
   all_last passes change keeps [] all = tt
   all_last passes change keeps (x ∷ xs) all =
       cond_both (passes x && not (list_any passes xs)) (change x ∷ xs) (x ∷ change_last passes change xs) (AllByRecursion P)
@@ -89,3 +89,14 @@ module _ {A : Type 0} (P : A → Type 0) where
       cond_both (list_any passes xs) (change_last passes change xs) (xs ++ new ∷ []) (AllByRecursion P)
       (λ _. all_last passes change keeps xs all)
       (λ _. all_pushed new valid xs all)
+
+-- the item of an ordinal changed, where the change keeps what holds of those that are within a limit then
+pub all_changed_within : {A : Type 0} (P : A → Type 0) (bytes : A → List ℕ) (limit : ℕ) (passes : A → Bool) (change : A → A) → ((x : A) → P x → length (bytes (change x)) ≤ limit → P (change x)) → (ordinal : ℕ) (xs : List A) → AllByRecursion P xs → length (flat_map bytes (change_nth passes change ordinal xs)) ≤ limit → AllByRecursion P (change_nth passes change ordinal xs)
+all_changed_within P bytes limit passes change keeps ordinal [] all within = tt
+all_changed_within P bytes limit passes change keeps ordinal (x ∷ xs) all within =
+    let next = cond (passes x) (ordinal - 1) ordinal in
+    let rest = change_nth passes change next xs in
+    cond_both (passes x && (ordinal == 0)) (change x ∷ xs) (x ∷ rest) (λ ys. length (flat_map bytes ys) ≤ limit → AllByRecursion P ys)
+    (λ _ within. (keeps x all.0 (omega (arith, within, length-append (bytes (change x)) (flat_map bytes xs))), all.1))
+    (λ _ within. (all.0, all_changed_within P bytes limit passes change keeps next xs all.1 (omega (arith, within, length-append (bytes x) (flat_map bytes rest)))))
+    within

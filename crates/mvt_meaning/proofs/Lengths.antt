@@ -10,16 +10,17 @@ use Rattle.mvt_document.specs.Plain.{Field, LayerItem, OfFeature, PlainInLayer, 
 use Rattle.mvt_document.specs.Wire.{field_bytes, layer_item_bytes, tile_item_bytes, bytes_of}
 use Rattle.mvt_document.proofs.Sizes.{length-message_grows}
 use Rattle.mvt_document.specs.Places.{in_layer, in_feature}
-use Rattle.mvt_command.specs.Command.{LayersChoice, TheLayer, EachLayer, Command, RenameLayer, MoveLayer, DropLayer, KeepLayers, InsertFeature, MoveFeature, DropFeature, SetId, ClearId, UnsetAttribute, RenameKey, Exclude, ExcludeAll}
+use Rattle.mvt_command.specs.Command.{LayersChoice, TheLayer, EachLayer, Command, RenameLayer, MoveLayer, DropLayer, KeepLayers, InsertFeature, MoveFeature, DropFeature, SetId, ClearId, SetAttribute, UnsetAttribute, RenameKey, Exclude, ExcludeAll}
 use Rattle.mvt_meaning.specs.Ordinals.{from_nth, change_first, change_nth, without, before, behind, move_nth, insert_nth}
 use Rattle.mvt_meaning.specs.Selection.{is_feature, is_layer, selected, selected_in, selected_layers}
 use Rattle.mvt_view.specs.Views.{layers}
+use Rattle.mvt_value.specs.Messages.{encoded_value}
 use Rattle.mvt_geometry.specs.Checks.{is_in_range}
-use Rattle.mvt_meaning.specs.Tagging.{excluded, is_tags, removals, renamed_keys, unreadable, untagged, without_attribute, without_tags}
-use Rattle.mvt_meaning.specs.Meaning.{applied, refuse_if, layer_count, feature_count, has_key, has_pairs, items_of, refuse_first, within_limit, change_layer, change_layers, change_feature, is_id, is_kept, is_taken, without_id, identified, named_items, new_feature}
+use Rattle.mvt_meaning.specs.Tagging.{attributed, excluded, is_tags, removals, renamed_keys, unreadable, untagged, without_attribute, without_tags}
+use Rattle.mvt_meaning.specs.Meaning.{applied, refuse_if, layer_count, feature_count, has_key, has_pairs, items_of, refuse_first, repeats_key, within_limit, change_layer, change_layers, change_feature, is_id, is_kept, is_taken, without_id, identified, named_items, new_feature}
 use Rattle.mvt_meaning.specs.Weights.{weigh}
 use Rattle.mvt_meaning.specs.SizeLaws.{CommandFits, NeverLonger, may_lengthen}
-use Rattle.mvt_meaning.specs.declared.refusal.Refusal.TheVariants.{BadPlace, BadTags, KeyTaken, NameTaken, NoKey, NoLayer, OutOfRange, TooLarge}
+use Rattle.mvt_meaning.specs.declared.refusal.Refusal.TheVariants.{BadPlace, BadTags, KeyTaken, NameTaken, NoKey, NoLayer, OutOfRange, RepeatedKey, TooLarge}
 use Rattle.mvt_numbers.proofs.Redone.{no_longer}
 use Rattle.mvt_meaning.proofs.Accepted.{ok_so, then_so}
 use Rattle.mvt_meaning.proofs.Removals.{none_new}
@@ -173,6 +174,7 @@ kept_no_longer (SetId choice feature id) document kind = absurd cc
 kept_no_longer (ClearId choice feature) document kind =
     then_so (IsNoLonger document) (selected choice document) _ (λ ordinal.
     then_so (IsNoLonger document) (selected_in feature ordinal document) _ (λ meant. feature_no_longer without_id (λ fields. filter_no_longer field_bytes (λ field. not (is_id field)) fields) ordinal meant document))
+kept_no_longer (SetAttribute choice feature key value) document kind = absurd cc
 kept_no_longer (UnsetAttribute choice feature key) document kind =
     then_so (IsNoLonger document) (selected choice document) _ (λ ordinal.
     then_so (IsNoLonger document) (selected_in feature ordinal document) _ (λ meant.
@@ -214,6 +216,11 @@ lengthens_within (DropFeature choice feature) document kind = absurd cc
 lengthens_within (SetId choice feature id) document kind =
     then_so IsWithin (selected choice document) _ (λ ordinal. then_so IsWithin (selected_in feature ordinal document) _ (λ meant. limited (change_feature (identified id) ordinal meant document)))
 lengthens_within (ClearId choice feature) document kind = absurd cc
+lengthens_within (SetAttribute choice feature key value) document kind =
+    then_so IsWithin (selected choice document) _ (λ ordinal.
+    then_so IsWithin (selected_in feature ordinal document) _ (λ meant.
+    then_so IsWithin (refuse_if (not (has_pairs ordinal meant document)) (BadTags ordinal meant)) _ (λ readable.
+    then_so IsWithin (refuse_if (repeats_key key ordinal meant document) (RepeatedKey ordinal meant)) _ (λ once. limited (change_layer (attributed key (encoded_value value) meant) ordinal document)))))
 lengthens_within (UnsetAttribute choice feature key) document kind = absurd cc
 lengthens_within (RenameKey choice old new) document kind =
     then_so IsWithin (selected choice document) _ (λ ordinal.

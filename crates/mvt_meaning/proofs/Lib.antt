@@ -10,6 +10,7 @@ pub mod Positions
 pub mod Selecting
 pub mod SelectionLemmas
 pub mod Removals
+pub mod Replacements
 pub mod Lengths
 pub mod Elements
 pub mod Documents

@@ -8,16 +8,16 @@ use Rattle.std.specs.Str.{bytes_eq}
 use Rattle.mvt_document.specs.declared.TheConstants.{MAX_FILE}
 use Rattle.mvt_document.specs.Plain.{Document, Layer, LayerItem, OfLayer}
 use Rattle.mvt_document.specs.Wire.{bytes_of}
-use Rattle.mvt_command.specs.Command.{LayerChoice, AtOrdinal, Named, LayersChoice, TheLayer, EachLayer, FeatureChoice, FeatureAtOrdinal, WithId, Command, RenameLayer, MoveLayer, DropLayer, KeepLayers, InsertFeature, MoveFeature, DropFeature, SetId, ClearId, UnsetAttribute, RenameKey, Exclude, ExcludeAll}
+use Rattle.mvt_command.specs.Command.{LayerChoice, AtOrdinal, Named, LayersChoice, TheLayer, EachLayer, FeatureChoice, FeatureAtOrdinal, WithId, Command, RenameLayer, MoveLayer, DropLayer, KeepLayers, InsertFeature, MoveFeature, DropFeature, SetId, ClearId, SetAttribute, UnsetAttribute, RenameKey, Exclude, ExcludeAll}
 use Rattle.mvt_command.proofs.Others.{Other, either}
 use Rattle.mvt_view.specs.Views.{features, has_id, is_named, layers, ordinals_of, the_one}
 use Rattle.mvt_meaning.specs.MemoryLaws.{NoCommandIsOutOfMemory}
 use Rattle.mvt_meaning.specs.Selection.{selected, selected_feature, selected_in, selected_layers}
 use Rattle.mvt_geometry.specs.Checks.{is_in_range}
 use Rattle.mvt_meaning.specs.Tagging.{excluded, unreadable, untagged}
-use Rattle.mvt_meaning.specs.Meaning.{◌>>=◌, applied, change_layers, has_pairs, refuse_first, refuse_if, within_limit, is_taken, is_kept, has_key, layer_count, feature_count}
+use Rattle.mvt_meaning.specs.Meaning.{◌>>=◌, applied, change_layers, has_pairs, refuse_first, repeats_key, refuse_if, within_limit, is_taken, is_kept, has_key, layer_count, feature_count}
 use Rattle.mvt_meaning.specs.declared.refusal.Refusal.{Refusal}
-use Rattle.mvt_meaning.specs.declared.refusal.Refusal.TheVariants.{NoMemory, NoLayer, AmbiguousLayer, NoFeature, AmbiguousFeature, NoKey, BadPlace, BadTags, NameTaken, KeyTaken, OutOfRange, TooLarge}
+use Rattle.mvt_meaning.specs.declared.refusal.Refusal.TheVariants.{NoMemory, NoLayer, AmbiguousLayer, NoFeature, AmbiguousFeature, NoKey, BadPlace, BadTags, NameTaken, KeyTaken, OutOfRange, RepeatedKey, TooLarge}
 
 abbrev NeverOutOfMemory : {A : Type 0} → Result A Refusal → Type 0
 NeverOutOfMemory result = Other NoMemory result
@@ -102,6 +102,13 @@ applied_other (SetId choice feature id) document =
 applied_other (ClearId choice feature) document =
     then (selected choice document) _ (layer_meant choice document) (λ ordinal.
     then (selected_in feature ordinal document) _ (feature_meant feature ordinal document) (λ meant. tt))
+applied_other (SetAttribute choice feature key value) document =
+    then (selected choice document) _ (layer_meant choice document) (λ ordinal.
+    then (selected_in feature ordinal document) _ (feature_meant feature ordinal document) (λ meant.
+    let bad = not (has_pairs ordinal meant document) in
+    let several = repeats_key key ordinal meant document in
+    then (refuse_if bad (BadTags ordinal meant)) _ (either NoMemory bad (Err (BadTags ordinal meant)) (Ok tt) (λ e. cc) tt) (λ readable.
+    then (refuse_if several (RepeatedKey ordinal meant)) _ (either NoMemory several (Err (RepeatedKey ordinal meant)) (Ok tt) (λ e. cc) tt) (λ once. limited _))))
 applied_other (UnsetAttribute choice feature key) document =
     then (selected choice document) _ (layer_meant choice document) (λ ordinal.
     then (selected_in feature ordinal document) _ (feature_meant feature ordinal document) (λ meant.

@@ -62,7 +62,7 @@ make_pairs key_count value_count chunks pairs is = pairs_by key_count value_coun
 
 -- ---- the decisions
 
-ordinal_short : (count ordinal : ℕ) → is_ordinal count ordinal ≡ true → ordinal < 2 ^ 64
+pub ordinal_short : (count ordinal : ℕ) → is_ordinal count ordinal ≡ true → ordinal < 2 ^ 64
 ordinal_short count ordinal is =
     let short : ordinal < 2 ^ 32 = ltb-true ordinal (2 ^ 32) (and_parts (nat_lt ordinal count) (nat_lt ordinal (2 ^ 32)) is).1 in
     omega arith

@@ -11,7 +11,7 @@ use Rattle.mvt_numbers.specs.Renumbering.{field_numbers, renumber}
 use Rattle.mvt_view.specs.Attributes.{pairs_in, pairs_of}
 use Rattle.mvt_view.specs.Views.{content_in, contents, features, key_field, ordinals_of, plain_fields, value_field, value_in}
 use Rattle.mvt_meaning.specs.Fields.{new_content, with_text}
-use Rattle.mvt_meaning.specs.Ordinals.{change_last, change_nth}
+use Rattle.mvt_meaning.specs.Ordinals.{change_last, change_nth, count}
 use Rattle.mvt_meaning.specs.Selection.{is_feature}
 
 -- ---- the tags of a feature: field 2, VARINT or LEN
@@ -106,6 +106,14 @@ losing_in key layer = flat_map (λ feature. losing key layer.items feature.field
 abbrev pub entry_ordinal : List ℕ → List (List ℕ) → ℕ
 entry_ordinal bytes entries = slice_index_or (ordinals_of (bytes_eq bytes) entries) 0 (length entries)
 
+-- the ordinal of a key in a layer of these items, or the one that it gets as a further key (tiles 4.1, 4.4)
+abbrev pub key_ordinal : List ℕ → List LayerItem → ℕ
+key_ordinal key items = entry_ordinal key (contents key_field (plain_fields items))
+
+-- the ordinal of a value in a layer of these items, or the one that it gets as a further value (tiles 4.1, 4.4)
+abbrev pub value_ordinal : List ℕ → List LayerItem → ℕ
+value_ordinal value items = entry_ordinal value (contents value_field (plain_fields items))
+
 -- the new entry of these bytes, behind this tag, where there is none (tiles 4.1)
 abbrev pub missing_entry : ℕ → List ℕ → List (List ℕ) → List LayerItem
 missing_entry tag bytes entries = if list_any (bytes_eq bytes) entries then [] else PlainInLayer (new_content tag bytes) ∷ []
@@ -117,17 +125,17 @@ missing_entries key value items = missing_entry 26 key (contents key_field (plai
 
 -- how many pairs have the key, among those that the tags of these fields make, in a layer of these items (tiles 4.4)
 abbrev pub pairs_with : List ℕ → List LayerItem → List Field → ℕ
-pairs_with key items fields = option_map_or (λ pairs. length (filter (λ pair. is_key_at items key pair.0) pairs)) (pairs_among items fields) 0
+pairs_with key items fields = option_map_or (count (λ pair. is_key_at items key pair.0)) (pairs_among items fields) 0
 
 -- what is decided on each number of these pairs, where the pairs of some keys get this value, and all others stay
 -- (tiles 4.4)
 abbrev pub revalued : (ℕ → Bool) → ℕ → List (ℕ × ℕ) → List (Option ℕ)
 revalued meant value pairs = flat_map (λ pair. Some pair.0 ∷ Some (if meant pair.0 then value else pair.1) ∷ []) pairs
 
--- what is decided on each number of the tags of a feature, where the pairs of a key get the value of this ordinal
--- (tiles 4.4)
-abbrev pub replacements : List ℕ → ℕ → List LayerItem → List Field → List (Option ℕ)
-replacements key value items fields = option_map_or (revalued (is_key_at items key) value) (pairs_among items fields) []
+-- what is decided on each number of the tags of a feature, where the pairs of a key get a value; nothing where they make
+-- no pairs (tiles 4.4)
+abbrev pub replacements : List ℕ → List ℕ → List LayerItem → List Field → List (Option ℕ)
+replacements key value items fields = option_map_or (revalued (is_key_at items key) (value_ordinal value items)) (pairs_among items fields) []
 
 -- the last tags field, where there is one, is a LEN field (guide, Packed Repeated Fields)
 abbrev pub is_packed_last : List Field → Bool
@@ -138,18 +146,26 @@ abbrev pub with_more : List ℕ → Body → Body
 with_more more (Delimited width bytes) = Delimited width (bytes ++ more)
 with_more more body = body
 
+-- the field with these bytes behind its own, where it is a LEN field
+abbrev pub with_more_content : List ℕ → Field → Field
+with_more_content more field = record field { body = with_more more field.body }
+
 -- the fields of a feature with these bytes behind those of the last tags field, where that is a LEN field, and else in a
 -- new one at the end (tiles 4.2)
 abbrev pub with_more_tags : List ℕ → List Field → List Field
-with_more_tags more fields = if is_packed_last fields then change_last is_tags (λ field. record field { body = with_more more field.body }) fields else fields ++ new_content 18 more ∷ []
+with_more_tags more fields = if is_packed_last fields then change_last is_tags (with_more_content more) fields else fields ++ new_content 18 more ∷ []
+
+-- the bytes of a further pair: the ordinals of the key and of the value, each in its shortest spelling (tiles 4.4)
+abbrev pub new_pair : List ℕ → List ℕ → List LayerItem → List ℕ
+new_pair key value items = shortest (key_ordinal key items) ++ shortest (value_ordinal value items)
 
 -- the fields of a feature with this value for the pairs of the key, or with a further pair where there is none, in a
 -- layer of these items (tiles 4.2, 4.4)
 abbrev pub with_attribute : List ℕ → List ℕ → List LayerItem → List Field → List Field
 with_attribute key value items fields =
     if pairs_with key items fields == 0
-    then with_more_tags (shortest (entry_ordinal key (contents key_field (plain_fields items))) ++ shortest (entry_ordinal value (contents value_field (plain_fields items)))) fields
-    else renumber 2 (replacements key (entry_ordinal value (contents value_field (plain_fields items))) items fields) fields
+    then with_more_tags (new_pair key value items) fields
+    else renumber 2 (replacements key value items fields) fields
 
 -- the items of a layer with this value for the key in the feature of this ordinal, and at the end what the layer lacks
 -- of both (tiles 4.1, 4.4)
@@ -159,4 +175,4 @@ attributed key value feature items = change_nth is_feature (in_feature (with_att
 -- the tags fields of a feature in which a number gets another value, where the pairs of the key get this value, each
 -- with what is decided on its numbers (tiles 4.4)
 abbrev pub revaluing : List ℕ → List ℕ → List LayerItem → List Field → List (List (Option ℕ) × Field)
-revaluing key value items fields = differing (replacements key (entry_ordinal value (contents value_field (plain_fields items))) items fields) fields
+revaluing key value items fields = differing (replacements key value items fields) fields

@@ -83,8 +83,8 @@ pub fn command_fits()
     ensures { CommandFits }
 {}
 
-/// An accepted command other than a rename of a layer or of a key, an insertion and a new id makes no
-/// document longer.
+/// An accepted command other than a rename of a layer or of a key, an insertion, a new id and a value
+/// for a key makes no document longer.
 pub fn never_longer()
     ensures { NeverLonger }
 {}
