@@ -18,6 +18,7 @@ use mvt_edit_lists::set_id::set_id;
 use mvt_edit_tags::exclude_all::exclude_all;
 use mvt_edit_tags::rename_key::rename_key;
 use mvt_edit_tags::set_attribute::set_attribute;
+use mvt_edit_tags::unset::unset;
 use mvt_meaning::{Command, Refusal};
 use std::alloc::Global;
 
@@ -54,6 +55,11 @@ pub fn prepare(alloc: Global, document: &Document, command: &Command) -> Result<
             key,
             value,
         } => set_attribute(alloc, document, layer, feature, key.as_slice(), value),
+        Command::UnsetAttribute {
+            layer,
+            feature,
+            key,
+        } => unset(alloc, document, layer, feature, key.as_slice()),
         Command::RenameKey { layer, old, new } => rename_key(
             alloc,
             document,

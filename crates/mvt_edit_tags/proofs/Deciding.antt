@@ -1,12 +1,14 @@
 -- The decisions on the numbers of pairs, one pair after the other; and the keys of a layer that have some bytes.
-use Rattle.std.proofs.Common.{◌≡◌, ℕ, zero, suc, Bool, true, false, ◌||◌, cond, Option, Some, None, Result, List, [], ◌∷◌, ◌++◌, is_some, length, map, option_map, slice_get, append_assoc, refl, sym, ap, ◌∙◌, inl, inr}
+use Rattle.std.proofs.Common.{◌≡◌, ℕ, zero, suc, Bool, true, false, ◌||◌, cond, Option, Some, None, List, [], ◌∷◌, ◌++◌, is_some, length, map, option_map, slice_get, append_assoc, refl, sym, ap, ◌∙◌, inl, inr}
 use Rattle.std.proofs.lemmas.Bool.{cases_Bool}
-use Rattle.std.specs.List.{cons_option, flat_map, list_any}
+use Rattle.std.specs.List.{cons_option, list_any}
 use Rattle.std.specs.Option.{option_map_or, unwrap_or}
 use Rattle.std.specs.Str.{bytes_eq}
-use Rattle.mvt_document.specs.Plain.{Field, LayerItem, OfFeature, PlainInLayer}
-use Rattle.mvt_numbers.specs.Numbers.{and_more}
-use Rattle.mvt_view.specs.Views.{content_in, contents, key_field, plain_fields}
+use Rattle.mvt_document.specs.Plain.{Feature, Field, Layer, LayerItem, OfFeature, PlainInLayer}
+use Rattle.mvt_numbers.specs.Numbers.{and_more, numbers}
+use Rattle.mvt_view.specs.Tags.{plain_pairs, tag_pairs}
+use Rattle.mvt_view.specs.Views.{content_in, contents, key_field, keys, plain_fields, values}
+use Rattle.mvt_view.proofs.Pairing.{tags_are_pairs}
 use Rattle.mvt_meaning.specs.Tagging.{is_key, is_key_at, pairs_among, removals, without_pairs}
 
 -- two decisions more
@@ -55,6 +57,24 @@ pub then_pairs : {A B : Type 0} (f : A → B) (found : Option A) (made : B) → 
 then_pairs f None made is = absurd cc
 then_pairs f (Some x) made is = refl
 
+-- the decisions by the keys of a layer and by its sizes are those on the pairs of the key, and the tags make pairs
+pub record OnPairs (key : List ℕ) (items : List LayerItem) (fields : List Field) (decisions : List (Option ℕ)) : Type 0 where
+  pub decided : decisions ≡ removals key items fields
+  pub readable : is_some (pairs_among items fields) ≡ true
+
+pub on_pairs : (key : List ℕ) (layer : Layer) (feature : Feature) (key_count value_count : ℕ) (named : List Bool) (decisions : List (Option ℕ)) → named ≡ map (bytes_eq key) (keys layer) → key_count ≡ length (keys layer) → value_count ≡ length (values layer) → option_map (without_pairs (λ ordinal. unwrap_or (slice_get named ordinal) false)) (plain_pairs (tag_pairs key_count value_count (numbers 2 feature.fields))) ≡ Some decisions → OnPairs key layer.items feature.fields decisions
+on_pairs key layer feature key_count value_count named decisions is_named is_keys is_values is =
+    let goes : ℕ → Bool = λ ordinal. unwrap_or (slice_get (map (bytes_eq key) (keys layer)) ordinal) false in
+    let by_layer : option_map (without_pairs goes) (plain_pairs (tag_pairs (length (keys layer)) (length (values layer)) (numbers 2 feature.fields))) ≡ Some decisions = rw (is_named, is_keys, is_values) at is in
+    let decided : option_map (without_pairs goes) (pairs_among layer.items feature.fields) ≡ Some decisions = ap (option_map (without_pairs goes)) (sym (tags_are_pairs layer feature)) ∙ by_layer in
+    record { decided = removals_decided key layer.items feature.fields decisions decided; readable = then_pairs (without_pairs goes) (pairs_among layer.items feature.fields) decisions decided }
+
+-- where tags by the sizes of a layer are bad they make no pairs
+pub no_pairs : (layer : Layer) (feature : Feature) (key_count value_count : ℕ) → key_count ≡ length (keys layer) → value_count ≡ length (values layer) → plain_pairs (tag_pairs key_count value_count (numbers 2 feature.fields)) ≡ None → is_some (pairs_among layer.items feature.fields) ≡ false
+no_pairs layer feature key_count value_count is_keys is_values bad =
+    let by_layer : plain_pairs (tag_pairs (length (keys layer)) (length (values layer)) (numbers 2 feature.fields)) ≡ None = rw (is_keys, is_values) at bad in
+    ap (λ found. is_some found) (sym (tags_are_pairs layer feature) ∙ by_layer)
+
 -- a key is among the items where it is among the keys
 any_key : (key : List ℕ) (content : Option (List ℕ)) (rest : List (List ℕ)) → list_any (λ same. same) (map (bytes_eq key) (cons_option content rest)) ≡ (option_map_or (bytes_eq key) content false || list_any (λ same. same) (map (bytes_eq key) rest))
 any_key key None rest = refl
@@ -71,7 +91,7 @@ pub two_pushed : (goes : ℕ → Bool) (front : List (Option ℕ)) (pair : ℕ �
 two_pushed goes front pair half whole first second is_half is_whole is_gone is_first is_second =
     is_whole ∙ ap (λ list. list ++ second ∷ []) is_half ∙ append_assoc front (first ∷ []) (second ∷ [])
     ∙ ap (λ list. front ++ list) (
-      elim (cases_Bool (goes pair.0)) [
-        | inl gone ↦ rw gone (ap (λ x. x ∷ second ∷ []) (is_first ∙ ap (λ b. cond b None (Some pair.0)) (is_gone ∙ gone)) ∙ ap (λ x. None ∷ x ∷ []) (is_second ∙ ap (λ b. cond b None (Some pair.1)) (is_gone ∙ gone)))
-        | inr stays ↦ rw stays (ap (λ x. x ∷ second ∷ []) (is_first ∙ ap (λ b. cond b None (Some pair.0)) (is_gone ∙ stays)) ∙ ap (λ x. Some pair.0 ∷ x ∷ []) (is_second ∙ ap (λ b. cond b None (Some pair.1)) (is_gone ∙ stays)))
-      ])
+    elim (cases_Bool (goes pair.0)) [
+      | inl gone ↦ rw gone (ap (λ x. x ∷ second ∷ []) (is_first ∙ ap (λ b. cond b None (Some pair.0)) (is_gone ∙ gone)) ∙ ap (λ x. None ∷ x ∷ []) (is_second ∙ ap (λ b. cond b None (Some pair.1)) (is_gone ∙ gone)))
+      | inr stays ↦ rw stays (ap (λ x. x ∷ second ∷ []) (is_first ∙ ap (λ b. cond b None (Some pair.0)) (is_gone ∙ stays)) ∙ ap (λ x. Some pair.0 ∷ x ∷ []) (is_second ∙ ap (λ b. cond b None (Some pair.1)) (is_gone ∙ stays)))
+    ])

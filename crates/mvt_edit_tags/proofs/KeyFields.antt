@@ -1,8 +1,8 @@
 -- A key of a layer as the program holds it: it has two bytes or more, and is valid with other bytes too.
-use Rattle.std.proofs.Common.{◌≡◌, ℕ, ◌+◌, ◌/◌, ◌≤◌, ◌==◌, Bool, true, List, [], ◌∷◌, length, map, refl, inl, inr, arith}
+use Rattle.std.proofs.Common.{◌≡◌, ℕ, ◌/◌, ◌≤◌, ◌==◌, true, List, [], ◌∷◌, length, map, inl, inr, arith}
 use Rattle.std.proofs.lemmas.Bool.{cases_Bool, eqb-true}
 use Rattle.std.specs.List.{AllByRecursion, flat_map}
-use Rattle.mvt_document.specs.Plain.{PlainInLayer, Delimited}
+use Rattle.mvt_document.specs.Plain.{PlainInLayer}
 use Rattle.mvt_document.specs.Opens.{IsLayerItem}
 use Rattle.mvt_document.specs.Shape.{IsTag, IsWidth}
 use Rattle.mvt_document.specs.BodyShape.{stored_width_of, wire_type_of}

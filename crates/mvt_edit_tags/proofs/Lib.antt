@@ -5,4 +5,8 @@ pub mod KeyFields
 pub mod KeysRenamed
 pub mod Deciding
 pub mod TagsLeft
-pub mod Unset
+pub mod PairsLost
+mod EntryOrdinals
+mod OneDiffers
+mod PairPut
+mod Valuing

@@ -1,5 +1,5 @@
 -- The fields of a feature whose numbers of tags are decided on: what their splices come to.
-use Rattle.std.proofs.Common.{◌≡◌, ℕ, zero, suc, ◌+◌, ◌*◌, ◌<◌, ◌≤◌, ◌^◌, ◌/◌, ◌==◌, Bool, true, false, ◌||◌, not, cond, List, [], ◌∷◌, ◌++◌, Option, Some, None, length, length-append, take, drop, map, filter, append-nil, refl, sym, ap, ◌∙◌, subst, inl, inr, arith}
+use Rattle.std.proofs.Common.{◌≡◌, ℕ, zero, suc, ◌*◌, ◌<◌, ◌≤◌, ◌^◌, ◌/◌, ◌==◌, Bool, true, false, ◌||◌, not, cond, List, [], ◌∷◌, ◌++◌, Option, Some, None, length, length-append, take, drop, map, filter, append-nil, refl, sym, ap, ◌∙◌, subst, inl, inr, arith}
 use Rattle.std.proofs.lemmas.Bool.{cases_Bool, eqb-true, or_parts}
 use Rattle.std.specs.Prelude.{IfSome}
 use Rattle.std.specs.List.{AllByRecursion, cons_option, flat_map, list_any, zip}
@@ -20,7 +20,7 @@ use Rattle.mvt_numbers.specs.declared.fate.Fate.TheVariants.{Stays}
 use Rattle.mvt_numbers.specs.Laws.{AreShort, keeping}
 use Rattle.mvt_numbers.specs.Renumbering.{decided, field_numbers, is_changed, renumber, renumbered, renumbered_field, some_changed, with_left}
 use Rattle.mvt_numbers.proofs.Decisions.{renumbered-none, renumbered_more, with_number-same}
-use Rattle.mvt_numbers.proofs.Redone.{HasRead, one, packed, kept_stays, numbers_reads, stays_valid}
+use Rattle.mvt_numbers.proofs.Redone.{kept_stays, stays_valid}
 use Rattle.mvt_meaning.specs.Tagging.{differing, differs, with_decisions}
 use Rattle.mvt_meaning.specs.Weights.{as_after, as_before}
 use Rattle.mvt_edit_steps.specs.Decided.{field_fates}
@@ -112,7 +112,7 @@ module _ (decisions : List (Option ℕ)) (field : plain.Field) where
         | inr same ↦ rw same (sym (ap (with_left field own) (all_same decisions own same) ∙ own_left field))
       ]
 
-  changes_one : changes (field_fate 2 decisions field) ≡ some_changed decisions own
+  pub changes_one : changes (field_fate 2 decisions field) ≡ some_changed decisions own
   changes_one =
       elim (cases_Bool (some_changed decisions own)) [ inl some ↦ rw some (fate_changes (renumbered_field 2 decisions field)) | inr same ↦ rw same refl ]
 
@@ -185,9 +185,12 @@ Packs (plain.Spelled number) = Unit {0}
 Packs (plain.Delimited width bytes) = Unit {0}
 Packs other = ⊥
 
-packs : {body : plain.Body} {list : List plain.Number} → HasRead body list → Packs body
-packs one = tt
-packs (packed e) = tt
+packs : (tag : plain.Number) (body : plain.Body) (first : plain.Number) (more : List plain.Number) → field_numbers 2 (record { tag = tag; body = body }) ≡ first ∷ more → Packs body
+packs tag (plain.Spelled number) first more is = tt
+packs tag (plain.Delimited width bytes) first more is = tt
+packs tag (plain.Eight bytes) first more is = absurd (elim (cases_Bool (tag.value / 8 == 2)) [ inl two ↦ let none = rw two at is in cc | inr other ↦ let none = rw other at is in cc ])
+packs tag (plain.Four bytes) first more is = absurd (elim (cases_Bool (tag.value / 8 == 2)) [ inl two ↦ let none = rw two at is in cc | inr other ↦ let none = rw other at is in cc ])
+packs tag (plain.Group bytes) first more is = absurd (elim (cases_Bool (tag.value / 8 == 2)) [ inl two ↦ let none = rw two at is in cc | inr other ↦ let none = rw other at is in cc ])
 
 record IsGood (field : plain.Field) : Type 0 where
   valid : IsField field
@@ -208,7 +211,7 @@ good tag (body.Bytes width bytes) typed wide packs = record {
 
 numbers_good : (field : Field) (decisions : List (Option ℕ)) (list : List plain.Number) → field_numbers 2 (field_of field) ≡ list → some_changed decisions list ≡ true → IsGood (field_of field)
 numbers_good field decisions [] is some = absurd cc
-numbers_good field decisions (first ∷ more) is some = good field.tag field.body field.is_tag field.is_width (packs (numbers_reads 2 (field_of field) first more is).body)
+numbers_good field decisions (first ∷ more) is some = good field.tag field.body field.is_tag field.is_width (packs (number_of field.tag) (body_of field.body) first more is)
 
 changed_good : (field : Field) (decisions : List (Option ℕ)) → some_changed decisions (field_numbers 2 (field_of field)) ≡ true → IsGood (field_of field)
 changed_good field decisions some = numbers_good field decisions (field_numbers 2 (field_of field)) refl some
@@ -271,8 +274,11 @@ pub tags_left : (decisions : List (Option ℕ)) (fields : List Field) → AreSho
 tags_left decisions fields small =
     let plain_list = map field_of fields in
     let list = with_decisions decisions plain_list in
-    let all = subst (λ fates. CarriesOut fates (map field_at list) _ _ _) (fates_same decisions plain_list) (carries_beside field_at fate list) in
-    let here = subst (λ items. CarriesOut (field_fates 2 decisions plain_list) items (flat_map (λ at. left_of_fate (λ y. y) (field_at at) (fate at)) list) (map field_at (filter (λ at. changes (fate at)) list)) (flat_map (λ at. new_in (fate at)) list)) (fields_same decisions plain_list) all in
+    let left : List plain.Field = flat_map (λ at. left_of_fate (λ y. y) (field_at at) (fate at)) list in
+    let taken : List plain.Field = map field_at (filter (λ at. changes (fate at)) list) in
+    let put : List plain.Field = flat_map (λ at. new_in (fate at)) list in
+    let all : CarriesOut (field_fates 2 decisions plain_list) (map field_at list) left taken put = subst (λ fates. CarriesOut fates (map field_at list) left taken put) (fates_same decisions plain_list) (carries_beside field_at fate list) in
+    let here : CarriesOut (field_fates 2 decisions plain_list) plain_list left taken put = subst (λ items. CarriesOut (field_fates 2 decisions plain_list) items left taken put) (fields_same decisions plain_list) all in
     let few = here.few in
     let gone = ap (map field_at) (taken_same list) in
     record {

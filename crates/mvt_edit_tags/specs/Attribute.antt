@@ -12,7 +12,8 @@ use Rattle.mvt_change.specs.Changes.{Change, LayerStep}
 use Rattle.mvt_view.specs.Views.{keys, values}
 use Rattle.mvt_meaning.specs.Fields.{new_content}
 use Rattle.mvt_meaning.specs.Meaning.{◌>>=◌, refuse_if}
-use Rattle.mvt_meaning.specs.Tagging.{entry_ordinal, is_packed_last, is_tags, missing_entries, pairs_among, pairs_with, with_attribute, with_more, with_more_tags}
+use Rattle.mvt_meaning.specs.Ordinals.{count}
+use Rattle.mvt_meaning.specs.Tagging.{is_packed_last, key_ordinal, is_tags, missing_entries, pairs_among, pairs_with, revalued, value_ordinal, with_attribute, with_more_tags}
 use Rattle.mvt_meaning.specs.Weights.{set_puts, set_takes, weigh, weigh_last}
 use Rattle.mvt_meaning.specs.declared.refusal.Refusal.{Refusal}
 use Rattle.mvt_meaning.specs.declared.refusal.Refusal.TheVariants.{BadTags, RepeatedKey}
@@ -44,10 +45,6 @@ run_for index Stays = None
 run_for index Goes = Some (record { index = index; taken = 1; put = [] })
 run_for index (Becomes field) = Some (record { index = index; taken = 1; put = field ∷ [] })
 
--- a LEN field with these bytes behind its own; another field as it is
-abbrev pub longer_tags : List ℕ → Field → Field
-longer_tags more field = record field { body = with_more more field.body }
-
 -- the run puts these bytes behind those of the last tags field, where that is a LEN field, and else in a new one at the
 -- end; it takes out and puts that field alone (tiles 4.2)
 pub record PutsPair (more : List ℕ) (fields : List Field) (run : Splice Field) : Type 0 where
@@ -64,7 +61,12 @@ pub record GivesAttribute (key value : List ℕ) (items : List LayerItem) (field
   pub takes : bytes_taken fields run ≡ set_takes key value items fields
   pub puts : weigh layer_item_bytes (missing_entries key value items) + bytes_put run ≡ set_puts key value items fields
 
--- ---- what is refused of a feature
+-- ---- the pairs of a feature
+
+-- what is decided on each number of these pairs, where the pairs of the keys that are meant get a value, and how many
+-- these are (tiles 4.4)
+abbrev pub valued : (ℕ → Bool) → ℕ → List (ℕ × ℕ) → List (Option ℕ) × ℕ
+valued meant value pairs = (revalued meant value pairs, count (λ pair. meant pair.0) pairs)
 
 -- nothing, where the tags of a feature of these fields make pairs of which at most one has the key, in a layer of these
 -- items; else the refusal, with the ordinals of both (tiles 4.4)
@@ -76,9 +78,9 @@ attribute_checked key ordinal feature items fields =
 
 -- the ordinals of the key and of the value are told, and whether the layer has them (tiles 4.1, 4.4)
 pub record AreFound (key value : List ℕ) (layer : Layer) (places : Places) : Type 0 where
-  pub key_at : places.key ≡ entry_ordinal key (keys layer)
+  pub key_at : places.key ≡ key_ordinal key layer.items
   pub key_there : places.has_key ≡ list_any (bytes_eq key) (keys layer)
-  pub value_at : places.value ≡ entry_ordinal value (values layer)
+  pub value_at : places.value ≡ value_ordinal value layer.items
   pub value_there : places.has_value ≡ list_any (bytes_eq value) (values layer)
 
 -- a new entry of these bytes, behind this tag, unless there is one (tiles 4.1)

@@ -11,11 +11,11 @@ ghost use Rattle.mvt_change.specs.FileSizes.{IsFileSize};
 ghost use Rattle.mvt_numbers.specs.Fates.{changes, fate_seen};
 ghost use Rattle.mvt_view.specs.Views.{content_in};
 ghost use Rattle.mvt_meaning.specs.Fields.{new_content};
-ghost use Rattle.mvt_meaning.specs.Tagging.{is_packed_last, is_tags};
+ghost use Rattle.mvt_meaning.specs.Tagging.{is_packed_last, is_tags, with_more_content};
 ghost use Rattle.mvt_meaning.specs.Ordinals.{positions_of};
 ghost use Rattle.mvt_edit_steps.specs.Decided.{field_fates};
 ghost use Rattle.mvt_edit_steps.specs.Fates.{seen, splice_of, splices_of};
-ghost use Rattle.mvt_edit_tags.specs.Attribute.{PutsPair, fields_with, longer_tags, run_for};
+ghost use Rattle.mvt_edit_tags.specs.Attribute.{PutsPair, fields_with, run_for};
 
 use crate::exclude_all::is_tags;
 use mvt_document::tags::{LEN, TAGS};
@@ -53,10 +53,18 @@ fn last_packed(fields: &[Field]) -> Option<usize>
     ensures { result ≡ (if is_packed_last (map field_of fields.now) then last_or None (positions_of is_tags (map field_of fields.now)) else None) }
 {
     let position = last_tags(fields)?;
-    match fields[position].body {
-        Body::Bytes { .. } => Some(position),
-        _ => None,
+    if is_packed(fields.get(position)?) {
+        Some(position)
+    } else {
+        None
     }
+}
+
+/// A field of tags that is packed.
+fn is_packed(field: &Field) -> bool
+    ensures { result ≡ is_some (content_in 2 (field_of field.now)) }
+{
+    field.tag.value / 8 == TAGS && matches!(field.body, Body::Bytes { .. })
 }
 
 /// The position of the last tags field.
@@ -81,7 +89,7 @@ fn longer_tags(
     value: u64,
 ) -> Result<Field, AllocError>
     requires { IfSome old (λ field. is_some (content_in 2 (field_of field.now)) ≡ true) }
-    ensures field { IfOk result (λ field. field_of field ≡ option_map_or (λ old. longer_tags (shortest key ++ shortest value) (field_of old.now)) old.entry (new_content 18 (shortest key ++ shortest value))) }
+    ensures field { IfOk result (λ field. field_of field ≡ option_map_or (λ old. with_more_content (shortest key ++ shortest value) (field_of old.now)) old.entry (new_content 18 (shortest key ++ shortest value))) }
     ensures valid { IfOk result (λ field. IsField (field_of field)) }
 {
     Ok(match old {

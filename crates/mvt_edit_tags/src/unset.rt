@@ -11,13 +11,12 @@ ghost use Rattle.mvt_edit_steps.specs.Decided.{field_fates};
 ghost use Rattle.mvt_edit_steps.specs.Prepared.{Prepares};
 ghost use Rattle.mvt_edit_tags.specs.EachFeature.{feature_steps};
 
-use crate::decide::{decide, named_keys};
+use crate::decide::{decide_or_refuse, named_keys};
 use mvt_change::{Change, Step};
 use mvt_document::tags::TAGS;
 use mvt_document::{Document, Items};
 use mvt_edit_steps::renumber_fields;
 use mvt_select::{FeatureChoice, FoundFeature, LayerChoice, Refusal, find_feature, find_layer};
-use mvt_view::PairsError;
 use std::alloc::{AllocError, Global};
 
 /// The feature loses each pair of the key, whichever of the layer's keys of these bytes it names.
@@ -32,24 +31,27 @@ pub fn unset(
 {
     let holder = find_layer(document, choice)?;
     let found = find_feature(holder.layer, feature)?;
-    let named = named_keys(alloc, holder.view(), key)?;
+    let layer = holder.view();
+    let named = named_keys(alloc, layer, key)?;
     if !is_any(named.as_slice()) {
         return Err(Refusal::NoKey);
     }
     let mut decisions = Vec::new(alloc);
-    let sizes = holder.view().pool_sizes();
-    match decide(found.view(), sizes, named.as_slice(), &mut decisions) {
-        Ok(()) => {}
-        Err(PairsError::BadTags) => {
-            return Err(Refusal::BadTags {
-                layer: holder.ordinal,
-                feature: found.ordinal,
-            });
-        }
-        Err(PairsError::NoMemory) => return Err(Refusal::NoMemory),
-    }
+    decide_or_refuse(
+        holder.ordinal,
+        found,
+        layer.pool_sizes(),
+        named.as_slice(),
+        &mut decisions,
+    )?;
     let mut steps = Vec::new(alloc);
-    renumber_tags(alloc, holder.position, found, decisions.as_slice(), &mut steps)?;
+    renumber_tags(
+        alloc,
+        holder.position,
+        found,
+        decisions.as_slice(),
+        &mut steps,
+    )?;
     Ok(Change {
         steps: Items::from_vec(steps),
     })

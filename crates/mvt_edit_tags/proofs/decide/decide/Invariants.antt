@@ -9,4 +9,4 @@ use Rattle.mvt_edit_tags.proofs.decide.decide.Given as goal
 abbrev pub invariant-loop-tags : goal.invariant-loop-tags
 invariant-loop-tags l =
     option_map (λ rest. l.decisions.items ++ without_pairs (λ key. unwrap_or (slice_get l.named key) false) rest) (plain_pairs l.tags-iterator)
-    ≡ option_map (without_pairs (λ key. unwrap_or (slice_get l.named key) false)) (plain_pairs (tag_pairs l.sizes.keys l.sizes.values (numbers 2 (feature_seen l.feature).fields)))
+    ≡ option_map (without_pairs (λ key. unwrap_or (slice_get l.named key) false)) (plain_pairs (tag_pairs l.fn.sizes.keys l.fn.sizes.values (numbers 2 (feature_seen l.feature).fields)))

@@ -1,4 +1,4 @@
-use Rattle.std.proofs.Common.{◌≡◌, ◌+◌, ◌++◌, [], true, max, length, sym, ap, ◌∙◌, append-nil}
+use Rattle.std.proofs.Common.{◌≡◌, true, length, sym, ap, ◌∙◌, append-nil}
 use Rattle.mvt_document.specs.declared.TheConstants.{MAX_FILE}
 use Rattle.mvt_document.specs.Plain.{PlainInLayer, Delimited}
 use Rattle.mvt_document.specs.Stands.{layer_item_of, number_of}

@@ -1,14 +1,14 @@
 -- The pairs of a key that a feature loses.
-use Rattle.std.proofs.Common.{◌≡◌, ℕ, List, ◌*◌, ◌≤◌, true, false, is_some, length, map, slice_get, Some, Ok, Err, refl, sym, ap, ◌∙◌, arith}
+use Rattle.std.proofs.Common.{◌≡◌, ℕ, List, true, false, is_some, length, map, slice_get, Some, Ok, Err, refl, sym, ap, ◌∙◌, arith}
 use Rattle.std.proofs.lemmas.List.{length-map}
 use Rattle.std.specs.List.{flat_map, list_any}
-use Rattle.mvt_document.specs.Plain.{Field, Feature, OfFeature, Layer, OfLayer, Document}
+use Rattle.mvt_document.specs.Plain.{Feature, OfFeature, Layer, OfLayer, Document}
 use Rattle.mvt_document.specs.Wire.{field_bytes}
 use Rattle.mvt_change.specs.Changes.{Change}
 use Rattle.mvt_command.specs.Command.{LayerChoice, FeatureChoice, UnsetAttribute}
 use Rattle.mvt_meaning.specs.Meaning.{applied, fields_of, has_key, has_pairs, items_of}
 use Rattle.mvt_meaning.specs.Selection.{feature_positions, layer_positions, selected, selected_feature, selected_in}
-use Rattle.mvt_meaning.specs.Tagging.{is_key, losing, pairs_among, removals, without_attribute}
+use Rattle.mvt_meaning.specs.Tagging.{is_key, pairs_among, removals, without_attribute}
 use Rattle.mvt_meaning.specs.declared.refusal.Refusal.{Refusal}
 use Rattle.mvt_meaning.specs.declared.refusal.Refusal.TheVariants.{BadTags, NoKey}
 use Rattle.mvt_meaning.proofs.Found.{change_feature_found, fields_at_found, fields_of_found, items_of_found, selected_in_found}
@@ -72,7 +72,7 @@ module _ (choice : LayerChoice) (key : List ℕ) (document : Document) (ordinal 
           rw steps (record {
             fits = done.fits;
             means = rw (chosen, selected_here, yes, pairs, items) (ap Ok (sym makes));
-            puts = rw (chosen, selected_here, items, fields) (omega (arith, puts));
-            takes = rw (chosen, selected_here, items, fields) (omega (arith, takes));
-            steps = rw (chosen, selected_here, items, fields) (omega (arith, few, length-map splices (in_feature_at position item)));
+            puts = rw (chosen, selected_here, fields, items) (omega (arith, puts));
+            takes = rw (chosen, selected_here, fields, items) (omega (arith, takes));
+            steps = rw (chosen, selected_here, fields, items) (omega (arith, few, length-map splices (in_feature_at position item)));
           })
