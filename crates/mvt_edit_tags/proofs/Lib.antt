@@ -10,3 +10,5 @@ mod EntryOrdinals
 mod OneDiffers
 mod PairPut
 mod Valuing
+mod AttributeGiven
+mod AttributeSet

@@ -19,4 +19,4 @@ returns-else-is_packed c =
 pub returns-in_err-get : goal.returns-in_err-get
 returns-in_err-get c =
     let other = packed_told c.args.fields.now c.in_ok-position.position None (sym c.in_ok-position.ensures) c.in_err-get.ensures.lookup in
-    rw other ?
+    rw other c.from_residual-in_err-get.ensures
