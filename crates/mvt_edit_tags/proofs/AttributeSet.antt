@@ -1,5 +1,5 @@
 -- What the steps come to that give a feature an attribute.
-use Rattle.std.proofs.Common.{◌≡◌, ◌≢◌, ◌⊎◌, ℕ, ◌+◌, ◌*◌, ◌<◌, ◌≤◌, ◌%◌, ◌^◌, zero, suc, Bool, true, false, not, cond, Option, Some, None, Result, Ok, Err, is_some, List, [], ◌∷◌, ◌++◌, length, length-append, map, take, drop, nat_lt, option_map, slice_get, append-nil, refl, sym, ap, ◌∙◌, subst, inl, inr, arith}
+use Rattle.std.proofs.Common.{◌≡◌, ℕ, ◌+◌, ◌*◌, ◌<◌, ◌≤◌, ◌^◌, zero, suc, true, false, not, Option, Some, None, Result, Ok, Err, is_some, List, [], ◌∷◌, ◌++◌, length, length-append, map, take, drop, nat_lt, option_map, slice_get, append-nil, refl, sym, ap, ◌∙◌, subst, inl, inr, arith}
 use Rattle.std.proofs.lemmas.Bool.{cases_Bool}
 use Rattle.std.proofs.lemmas.List.{drop_all, length-map, take_all}
 use Rattle.std.proofs.lemmas.List.Concat.{flat_map-append}
@@ -12,7 +12,7 @@ use Rattle.mvt_document.specs.Lists.{change_at}
 use Rattle.mvt_document.specs.Opens.{IsField, IsLayerItem}
 use Rattle.mvt_document.specs.Places.{change_fields, change_items, in_feature, items_at}
 use Rattle.mvt_document.specs.Plain.{Feature, Field, Layer, LayerItem, OfFeature, OfLayer, PlainInLayer, Document}
-use Rattle.mvt_document.specs.Splicing.{part, splice}
+use Rattle.mvt_document.specs.Splicing.{part}
 use Rattle.mvt_document.specs.Wire.{bytes_of, field_bytes, layer_item_bytes, minimal_width}
 use Rattle.mvt_document.proofs.Spelling.{minimal_spelling}
 use Rattle.mvt_numbers.proofs.Decisions.{all_joined}
@@ -26,17 +26,18 @@ use Rattle.mvt_meaning.specs.Fields.{new_content}
 use Rattle.mvt_meaning.specs.Meaning.{◌>>=◌, applied, change_layer, fields_of, has_pairs, items_of, refuse_if, repeats_key, within_limit}
 use Rattle.mvt_meaning.specs.Selection.{feature_positions, is_feature, layer_positions, selected, selected_feature, selected_in}
 use Rattle.mvt_meaning.specs.Tagging.{attributed, missing_entries, missing_entry, pairs_among, pairs_with, with_attribute}
-use Rattle.mvt_meaning.specs.Weights.{of_meant, put_by, set_puts, set_takes, set_weight, taken_by, weigh}
+use Rattle.mvt_meaning.specs.Weights.{of_meant, set_puts, set_takes, set_weight, weigh}
 use Rattle.mvt_meaning.specs.declared.refusal.Refusal.{Refusal}
 use Rattle.mvt_meaning.specs.declared.refusal.Refusal.TheVariants.{BadTags, RepeatedKey, TooLarge}
 use Rattle.mvt_meaning.proofs.Found.{change_layer_found, change_nth_found, fields_at_found, fields_of_found, items_at_found, items_of_found, selected_in_found}
 use Rattle.mvt_edit_steps.specs.Fates.{Splice}
 use Rattle.mvt_edit_steps.specs.Prepared.{IsPrepared}
 use Rattle.mvt_edit_steps.proofs.CarriedOut.{AreThere, put_all, spliced_all, taken_all}
-use Rattle.mvt_edit_steps.proofs.Carrying.{Carried, carried, in_feature_at, in_layer_at, in_the_feature, in_the_layer, makes_alike}
+use Rattle.mvt_edit_steps.proofs.Carrying.{carried, in_feature_at, in_layer_at, in_the_feature, in_the_layer, makes_alike}
 use Rattle.mvt_edit_steps.proofs.Heavy.{tag_and_content}
 use Rattle.mvt_edit_steps.proofs.ListPlaces.{of_the_layer}
-use Rattle.mvt_edit_tags.specs.Attribute.{GivesAttribute, attribute_checked, behind_all, bytes_put}
+use Rattle.mvt_edit_tags.specs.Attribute.{AreFound, GivesAttribute, attribute_checked, behind_all, bytes_put, entries_for, entry_unless}
+use Rattle.mvt_edit_tags.specs.declared.pools.Places.{Places}
 
 -- ---- the entries that a layer lacks
 
@@ -136,6 +137,16 @@ run_spliced key value items fields (Some s) is = record {
 
 -- ---- the command
 
+-- the items of a layer, which were these before, once the feature at this position has the attribute
+abbrev pub attributed_at : List ℕ → List ℕ → List LayerItem → ℕ → List LayerItem → List LayerItem
+attributed_at key value before item items = change_at (in_feature (with_attribute key value before)) item items ++ missing_entries key value before
+
+-- the entries that are put are those that the layer lacks
+pub entries_lacked : (key value : List ℕ) (layer : Layer) (places : Places) → AreFound key value layer places → entries_for key value places ≡ missing_entries key value layer.items
+entries_lacked key value layer places are =
+    ap (λ there. entry_unless there 26 key ++ entry_unless places.has_value 34 value) are.key_there
+    ∙ ap (λ there. missing_entry 26 key (contents key_field (plain_fields layer.items)) ++ entry_unless there 34 value) are.value_there
+
 -- what comes first of two checks and of what follows
 first_check : {A : Type 0} (first second : Result (Unit {0}) Refusal) (last : Result A Refusal) (refusal : Refusal) → (first >>= λ ok. second) ≡ Err refusal → (first >>= λ ok. (second >>= λ ok. last)) ≡ Err refusal
 first_check (Ok ok) (Ok fine) last refusal is = absurd cc
@@ -176,9 +187,8 @@ module _ (choice : LayerChoice) (key : List ℕ) (value : Value) (document : Doc
     abbrev entries : List LayerItem
     entries = missing_entries key (encoded_value value) layer.items
 
-    -- the items of the layer once the feature has the attribute
-    abbrev pub whole : List LayerItem → List LayerItem
-    whole items = change_at (in_feature given) item items ++ entries
+    abbrev whole : List LayerItem → List LayerItem
+    whole items = attributed_at key (encoded_value value) layer.items item items
 
     made_there : change_layer (attributed key (encoded_value value) meant) ordinal document ≡ change_items whole position document
     made_there =

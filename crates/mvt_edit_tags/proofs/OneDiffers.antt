@@ -1,6 +1,6 @@
 -- Where at most one pair has a key, at most one tags field changes as these pairs get another value; and the splices of
 -- fates of which at most one changes.
-use Rattle.std.proofs.Common.{◌≡◌, ℕ, suc, ◌+◌, ◌≤◌, ◌==◌, Bool, true, false, not, cond, Option, Some, None, is_some, List, [], ◌∷◌, ◌++◌, length, length-append, drop, map, filter, option_map, refl, sym, ap, ◌∙◌, inl, inr, arith}
+use Rattle.std.proofs.Common.{◌≡◌, ℕ, ◌+◌, ◌≤◌, ◌==◌, Bool, true, false, not, cond, Option, Some, None, is_some, List, [], ◌∷◌, ◌++◌, length, length-append, drop, map, filter, option_map, refl, sym, ap, ◌∙◌, inl, inr, arith}
 use Rattle.std.proofs.lemmas.Bool.{cases_Bool, eq-eqb}
 use Rattle.std.proofs.lemmas.List.Elements.{filter-append}
 use Rattle.std.proofs.lemmas.Simd.{map-map}
@@ -8,13 +8,12 @@ use Rattle.std.specs.List.{cons_option, flat_map, list_all, list_any, zip}
 use Rattle.std.specs.Option.{option_and_then}
 use Rattle.mvt_document.specs.Plain.{Field, Number}
 use Rattle.mvt_numbers.specs.Fates.{changes, field_fate}
-use Rattle.mvt_numbers.specs.Laws.{read_numbers}
 use Rattle.mvt_numbers.specs.Numbers.{Placed, all_good, and_more, numbers}
 use Rattle.mvt_numbers.specs.Renumbering.{field_numbers, is_changed}
 use Rattle.mvt_numbers.specs.declared.fate.Fate.{Fate}
 use Rattle.mvt_numbers.specs.declared.fate.Fate.TheVariants.{Stays, Goes, Becomes}
 use Rattle.mvt_numbers.proofs.Reread.{read_of_fields}
-use Rattle.mvt_view.specs.Attributes.{if_pairs, in_pairs, is_pair, pairs_in, values_in}
+use Rattle.mvt_view.specs.Attributes.{if_pairs, in_pairs, is_pair, pairs_in}
 use Rattle.mvt_edit_steps.specs.Decided.{field_fates}
 use Rattle.mvt_edit_steps.specs.Fates.{splices_from}
 use Rattle.mvt_edit_tags.specs.Attribute.{run_for}

@@ -1,5 +1,5 @@
 -- The tags field that a further pair is put into: the last, where it is packed, or a new one.
-use Rattle.std.proofs.Common.{◌≡◌, ℕ, ◌+◌, ◌/◌, ◌==◌, Bool, true, false, cond, Bor, Option, Some, None, is_some, List, [], ◌∷◌, ◌++◌, length, map, filter, slice_get, option_map, refl, sym, ap, ◌∙◌, subst, inl, inr, arith}
+use Rattle.std.proofs.Common.{◌≡◌, ℕ, ◌+◌, ◌/◌, ◌==◌, Bool, true, false, cond, Bor, Option, Some, None, is_some, List, [], ◌∷◌, ◌++◌, length, map, filter, slice_get, refl, sym, ap, ◌∙◌, subst, inl, inr, arith}
 use Rattle.std.proofs.lemmas.Bool.{cases_Bool}
 use Rattle.std.proofs.lemmas.List.{length-map}
 use Rattle.std.proofs.lemmas.Option.{slice_get-map, slice_get_past}
@@ -16,7 +16,7 @@ use Rattle.mvt_meaning.specs.Fields.{new_content}
 use Rattle.mvt_meaning.specs.Ordinals.{put_last}
 use Rattle.mvt_meaning.specs.Tagging.{is_packed_last, is_tags, with_more_content, with_more_tags}
 use Rattle.mvt_meaning.specs.Weights.{weigh_last}
-use Rattle.mvt_edit_steps.proofs.PutLast.{IsPutLast, around, end_spliced, get_there, index_of, last_filtered, last_of, none_filtered, put_last_at, put_of, taken_of, weighed}
+use Rattle.mvt_edit_steps.proofs.PutLast.{around, end_spliced, get_there, index_of, last_filtered, last_of, none_filtered, put_last_at, put_of, taken_of, weighed}
 use Rattle.mvt_edit_steps.proofs.Putting.{item_seen, old_or_new}
 use Rattle.mvt_edit_tags.specs.Attribute.{PutsPair}
 

@@ -1,5 +1,5 @@
 -- The decisions by which the pairs of some keys get a value, one pair after the other, and how many these are.
-use Rattle.std.proofs.Common.{◌≡◌, ℕ, ◌+◌, Bool, true, false, cond, Option, Some, None, List, [], ◌∷◌, ◌++◌, length, filter, option_map, append-nil, append_assoc, refl, sym, ap, ◌∙◌, inl, inr, arith}
+use Rattle.std.proofs.Common.{◌≡◌, ℕ, ◌+◌, Bool, cond, Option, Some, None, List, [], ◌∷◌, ◌++◌, length, filter, option_map, append-nil, append_assoc, refl, sym, ap, inl, inr, arith}
 use Rattle.std.proofs.lemmas.Bool.{cases_Bool}
 use Rattle.mvt_numbers.specs.Numbers.{and_more}
 use Rattle.mvt_meaning.specs.Ordinals.{count}

@@ -31,12 +31,7 @@ pub(crate) struct Places {
 }
 
 /// Looks for the first entries that are this key and this value.
-pub(crate) fn look_for(
-    layer: LayerView<'_>,
-    sizes: PoolSizes,
-    key: &[u8],
-    value: &[u8],
-) -> Places
+pub(crate) fn look_for(layer: LayerView<'_>, sizes: PoolSizes, key: &[u8], value: &[u8]) -> Places
     requires keys { sizes.keys ≡ length (keys (layer_seen layer)) }
     requires values { sizes.values ≡ length (values (layer_seen layer)) }
     ensures { AreFound key.now value.now (layer_seen layer.entry) result }

@@ -116,7 +116,12 @@ fn longer_tags(
 }
 
 /// The bytes with both numbers behind them, each in its shortest spelling.
-fn and_numbers(alloc: Global, bytes: &[u8], first: u64, second: u64) -> Result<Items<u8>, AllocError>
+fn and_numbers(
+    alloc: Global,
+    bytes: &[u8],
+    first: u64,
+    second: u64,
+) -> Result<Items<u8>, AllocError>
     ensures { IfOk result (λ more. more.items ≡ bytes.now ++ (shortest first ++ shortest second)) }
 {
     let (first, second) = (Varint::minimal(first), Varint::minimal(second));

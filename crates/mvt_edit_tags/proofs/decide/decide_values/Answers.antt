@@ -1,4 +1,4 @@
-use Rattle.std.proofs.Common.{◌≡◌, ℕ, ◌+◌, Bool, List, [], ◌∷◌, ◌++◌, Option, Some, ◌≤◌, Ok, false, true, cond, length, length-append, option_map, slice_get, append_assoc, inl, inr, sym, ap, ◌∙◌, arith}
+use Rattle.std.proofs.Common.{◌≡◌, ℕ, ◌+◌, Bool, List, [], ◌∷◌, ◌++◌, Option, Some, ◌≤◌, Ok, false, cond, length, length-append, option_map, slice_get, append_assoc, inl, inr, sym, ap, ◌∙◌, arith}
 use Rattle.std.proofs.lemmas.Bool.{cases_Bool}
 use Rattle.std.specs.Option.{unwrap_or}
 use Rattle.mvt_numbers.specs.Numbers.{and_more}
@@ -7,7 +7,7 @@ use Rattle.mvt_view.specs.Seen.{pair_seen}
 use Rattle.mvt_view.specs.Tags.{plain_pairs}
 use Rattle.mvt_view.proofs.Pairing.{plain_more}
 use Rattle.mvt_edit_tags.specs.Attribute.{valued}
-use Rattle.mvt_edit_tags.proofs.Valuing.{valued_behind, valued_first, valued_last, valued_more}
+use Rattle.mvt_edit_tags.proofs.Valuing.{valued_behind, valued_first, valued_more}
 use Rattle.mvt_edit_tags.proofs.decide.decide_values.Goals as goal
 
 pub loop-tags-init : goal.loop-tags-init
@@ -15,8 +15,8 @@ loop-tags-init c =
     let meant : ℕ → Bool = λ key. unwrap_or (slice_get c.args.named.now key) false in
     record {
       decided = ap (λ (list : List (Option ℕ)). option_map (valued_behind meant c.args.value list 0) (plain_pairs c.into_iter-tags-iterator.result)) c.clear.ensures.items
-      ∙ valued_first meant c.args.value (plain_pairs c.into_iter-tags-iterator.result)
-      ∙ ap (λ found. option_map (valued meant c.args.value) (plain_pairs found)) (c.into_iter-tags-iterator.ensures.into_iter_gives ∙ c.tag_pairs-tags-items.ensures);
+          ∙ valued_first meant c.args.value (plain_pairs c.into_iter-tags-iterator.result)
+          ∙ ap (λ found. option_map (valued meant c.args.value) (plain_pairs found)) (c.into_iter-tags-iterator.ensures.into_iter_gives ∙ c.tag_pairs-tags-items.ensures);
       few = omega arith;
     }
 
@@ -40,14 +40,14 @@ loop-tags-preserved c =
     ] in
     record {
       decided = ap (λ (list : List (Option ℕ)). option_map (valued_behind meant value list (c.loop-tags.count + c.from-in-loop-tags.result)) rest) pushed
-      ∙ ap (λ n. option_map (valued_behind meant value (front ++ two) (c.loop-tags.count + n)) rest) counted
-      ∙ sym (valued_more meant value front c.loop-tags.count pair rest)
-      ∙ ap (option_map (valued_behind meant value front c.loop-tags.count)) (sym step)
-      ∙ c.loop-tags.invariant.decided;
+          ∙ ap (λ n. option_map (valued_behind meant value (front ++ two) (c.loop-tags.count + n)) rest) counted
+          ∙ sym (valued_more meant value front c.loop-tags.count pair rest)
+          ∙ ap (option_map (valued_behind meant value front c.loop-tags.count)) (sym step)
+          ∙ c.loop-tags.invariant.decided;
       few = (
-        let long = ap length pushed ∙ length-append front two in
-        let most : cond (meant pair.0) 1 0 ≤ 1 = elim (cases_Bool (meant pair.0)) [ inl named ↦ rw named (omega arith) | inr other ↦ rw other (omega arith) ] in
-        let so_far = c.loop-tags.invariant.few in
-        omega (arith, long, counted, most, so_far)
-        );
+          let long = ap length pushed ∙ length-append front two in
+          let most : cond (meant pair.0) 1 0 ≤ 1 = elim (cases_Bool (meant pair.0)) [ inl named ↦ rw named (omega arith) | inr other ↦ rw other (omega arith) ] in
+          let so_far = c.loop-tags.invariant.few in
+          omega (arith, long, counted, most, so_far)
+          );
     }

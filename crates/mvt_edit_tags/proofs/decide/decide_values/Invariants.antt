@@ -10,6 +10,6 @@ use Rattle.mvt_edit_tags.proofs.decide.decide_values.Given as goal
 abbrev pub invariant-loop-tags : goal.invariant-loop-tags
 invariant-loop-tags l = record {
   decided : option_map (valued_behind (λ key. unwrap_or (slice_get l.named key) false) l.value l.decisions.items l.count) (plain_pairs l.tags-iterator)
-  ≡ option_map (valued (λ key. unwrap_or (slice_get l.named key) false) l.value) (plain_pairs (tag_pairs l.fn.sizes.keys l.fn.sizes.values (numbers 2 (feature_seen l.feature).fields)));
+      ≡ option_map (valued (λ key. unwrap_or (slice_get l.named key) false) l.value) (plain_pairs (tag_pairs l.fn.sizes.keys l.fn.sizes.values (numbers 2 (feature_seen l.feature).fields)));
   few : l.count ≤ length l.decisions.items;
 }

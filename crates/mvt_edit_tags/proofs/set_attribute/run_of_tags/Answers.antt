@@ -10,7 +10,7 @@ use Rattle.mvt_view.specs.Seen.{feature_seen}
 use Rattle.mvt_view.specs.Tags.{plain_pairs, tag_pairs}
 use Rattle.mvt_view.specs.Views.{keys, values}
 use Rattle.mvt_view.specs.declared.attributes.PairsError.TheVariants.{BadTags}
-use Rattle.mvt_meaning.specs.Tagging.{is_key_at, key_ordinal, pairs_among, replacements, revalued, value_ordinal}
+use Rattle.mvt_meaning.specs.Tagging.{is_key_at, key_ordinal, replacements, revalued, value_ordinal}
 use Rattle.mvt_meaning.proofs.Replacements.{replacements_short}
 use Rattle.mvt_edit_tags.proofs.AttributeGiven.{gives_pair, gives_value, nothing_refused, on_values, repeated_refused, unreadable_refused}
 use Rattle.mvt_edit_tags.proofs.Deciding.{no_pairs}
