@@ -36,10 +36,10 @@ use Rattle.attribute_laws.proofs.Untagged.{none_of}
 -- ---- the pairs of other keys
 
 -- the pairs of the keys that stay
-abbrev staying : (ℕ → Bool) → List (ℕ × ℕ) → List (ℕ × ℕ)
+abbrev pub staying : (ℕ → Bool) → List (ℕ × ℕ) → List (ℕ × ℕ)
 staying goes pairs = filter (λ (pair : ℕ × ℕ). not (goes pair.0)) pairs
 
-abbrev value_list : List Number → List ℕ
+abbrev pub value_list : List Number → List ℕ
 value_list list = map (λ (n : Number). n.value) list
 
 values_staying : (goes : ℕ → Bool) (pairs : List (ℕ × ℕ)) (list : List Number) → value_list list ≡ flat pairs → value_list (renumbered (without_pairs goes pairs) list) ≡ flat (staying goes pairs)
@@ -82,7 +82,7 @@ are_pairs : (key_count value_count : ℕ) (pairs : List (ℕ × ℕ)) → list_a
 are_pairs key_count value_count pairs is = rw is refl
 
 -- the pairs of the keys that go are those that are no longer read
-pairs_staying : (key_count value_count : ℕ) (goes : ℕ → Bool) (fields : List Field) (pairs : List (ℕ × ℕ)) → pairs_in key_count value_count (numbers 2 fields) ≡ Some pairs → pairs_in key_count value_count (numbers 2 (renumber 2 (without_pairs goes pairs) fields)) ≡ Some (staying goes pairs)
+pub pairs_staying : (key_count value_count : ℕ) (goes : ℕ → Bool) (fields : List Field) (pairs : List (ℕ × ℕ)) → pairs_in key_count value_count (numbers 2 fields) ≡ Some pairs → pairs_in key_count value_count (numbers 2 (renumber 2 (without_pairs goes pairs) fields)) ≡ Some (staying goes pairs)
 pairs_staying key_count value_count goes fields pairs is =
     let made = make_pairs key_count value_count (numbers 2 fields) pairs is in
     let list = map (λ (p : Placed). p.number) made.placed in
@@ -137,7 +137,7 @@ left_apart field (number ∷ more) list none =
       | inr other ↦ absurd (let e = none other in cc)
     ]
 
-others_stay : (decisions : List (Option ℕ)) (fields : List Field) → without_tags (renumber 2 decisions fields) ≡ without_tags fields
+pub others_stay : (decisions : List (Option ℕ)) (fields : List Field) → without_tags (renumber 2 decisions fields) ≡ without_tags fields
 others_stay decisions [] = refl
 others_stay decisions (field ∷ fields) =
     let rest = renumber 2 (drop (length (field_numbers 2 field)) decisions) fields in
@@ -149,7 +149,7 @@ others_stay decisions (field ∷ fields) =
 
 -- ---- a feature
 
-some_of : {A : Type 0} (found : Option A) → is_some found ≡ true → (x : A) × (found ≡ Some x)
+pub some_of : {A : Type 0} (found : Option A) → is_some found ≡ true → (x : A) × (found ≡ Some x)
 some_of None e = absurd cc
 some_of (Some x) e = (x, refl)
 

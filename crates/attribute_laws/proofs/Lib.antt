@@ -4,3 +4,5 @@ pub mod Untagged
 pub mod Renamed
 pub mod Readable
 pub mod Excluded
+pub mod Twice
+pub mod UnsetTwice

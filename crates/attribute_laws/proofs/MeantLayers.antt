@@ -19,7 +19,7 @@ use Rattle.attribute_laws.specs.MeantLayers.{Becomes, ChangesLayers, IsMeant}
 one_meant : (choice : LayerChoice) (document : Document) (ordinal other : ℕ) → selected choice document ≡ Ok ordinal → selected choice document ≡ Ok other → other ≡ ordinal
 one_meant choice document ordinal other meant is = let both = sym is ∙ meant in cc
 
-some_same : {A : Type 0} (x y : A) (o : Option A) → o ≡ Some x → o ≡ Some y → x ≡ y
+pub some_same : {A : Type 0} (x y : A) (o : Option A) → o ≡ Some x → o ≡ Some y → x ≡ y
 some_same x y o is is_too = let both = sym is ∙ is_too in cc
 
 -- what is got of a list of which each item is changed

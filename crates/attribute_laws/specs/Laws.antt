@@ -50,6 +50,10 @@ pub record LosesAttribute (key : List ℕ) (former present : Layer) (old new : F
 abbrev pub UnsetUnsets : Type 0
 UnsetUnsets = (choice : LayerChoice) (feature : FeatureChoice) (key : List ℕ) (old new : Document) → applied (UnsetAttribute choice feature key) old ≡ Ok new → ChangesLayer choice (λ former present. ChangesFeature feature (LosesAttribute key former present) former present) old new
 
+-- where it is accepted that a key is unset, the same is accepted of what is made, and changes nothing
+abbrev pub UnsetAgainChangesNothing : Type 0
+UnsetAgainChangesNothing = (choice : LayerChoice) (feature : FeatureChoice) (key : List ℕ) (old new : Document) → applied (UnsetAttribute choice feature key) old ≡ Ok new → applied (UnsetAttribute choice feature key) new ≡ Ok new
+
 -- the feature has become another in this way, with its tag and its stored width
 pub record FeatureBecomes (way : Feature → Feature → Type 0) (former present : Feature) : Type 0 where
   pub tag : present.tag ≡ former.tag
@@ -67,6 +71,10 @@ pub record ExcludesKey (key : List ℕ) (old new : Layer) : Type 0 where
 -- key, and nothing else differs
 abbrev pub ExcludeExcludes : Type 0
 ExcludeExcludes = (choice : LayersChoice) (key : List ℕ) (old new : Document) → applied (Exclude choice key) old ≡ Ok new → ChangesLayers choice (ExcludesKey key) old new
+
+-- where it is accepted that a key is excluded, the same is accepted of what is made, and changes nothing
+abbrev pub ExcludeAgainChangesNothing : Type 0
+ExcludeAgainChangesNothing = (choice : LayersChoice) (key : List ℕ) (old new : Document) → applied (Exclude choice key) old ≡ Ok new → applied (Exclude choice key) new ≡ Ok new
 
 -- ---- no attributes
 

@@ -1,13 +1,18 @@
 //! Laws of the commands on attributes. Each function does nothing: its contract is the law.
 #![tactic(auto)]
 
-ghost use Rattle.attribute_laws.specs.Laws.{ExcludeAllExcludes, ExcludeExcludes, RenameKeyRenames, UnsetUnsets};
+ghost use Rattle.attribute_laws.specs.Laws.{ExcludeAgainChangesNothing, ExcludeAllExcludes, ExcludeExcludes, RenameKeyRenames, UnsetAgainChangesNothing, UnsetUnsets};
 
 /// Where it is accepted that a key is unset, the selected feature has its attributes of other keys,
 /// in their order, and all its fields that are no tags. The keys, the values, the other features and
 /// the other layers are as they were.
 pub fn unset_unsets()
     ensures { UnsetUnsets }
+{}
+
+/// Where it is accepted that a key is unset, the same command is accepted again, and changes nothing.
+pub fn unset_again_changes_nothing()
+    ensures { UnsetAgainChangesNothing }
 {}
 
 /// An accepted rename of a key renames it in the selected layer wherever it is a key, and so in the
@@ -22,6 +27,12 @@ pub fn rename_key_renames()
 /// values and the other layers are as they were.
 pub fn exclude_excludes()
     ensures { ExcludeExcludes }
+{}
+
+/// Where it is accepted that a key is excluded, the same command is accepted again, and changes
+/// nothing.
+pub fn exclude_again_changes_nothing()
+    ensures { ExcludeAgainChangesNothing }
 {}
 
 /// Where it is accepted that all attributes are excluded, no feature of the layers that are meant has

@@ -15,6 +15,7 @@ use mvt_edit_lists::move_feature::move_feature;
 use mvt_edit_lists::move_layer::move_layer;
 use mvt_edit_lists::rename_layer::rename_layer;
 use mvt_edit_lists::set_id::set_id;
+use mvt_edit_tags::exclude::exclude;
 use mvt_edit_tags::exclude_all::exclude_all;
 use mvt_edit_tags::rename_key::rename_key;
 use mvt_edit_tags::set_attribute::set_attribute;
@@ -67,6 +68,7 @@ pub fn prepare(alloc: Global, document: &Document, command: &Command) -> Result<
             old.as_slice(),
             new.as_slice(),
         ),
+        Command::Exclude { layers, key } => exclude(alloc, document, layers, key.as_slice()),
         Command::ExcludeAll { layers } => exclude_all(alloc, document, layers),
     }
 }

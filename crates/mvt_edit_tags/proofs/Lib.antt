@@ -6,6 +6,9 @@ pub mod KeysRenamed
 pub mod Deciding
 pub mod TagsLeft
 pub mod PairsLost
+pub mod Unreadable
+pub mod StepsPassed
+pub mod Excluded
 mod EntryOrdinals
 mod OneDiffers
 mod PairPut

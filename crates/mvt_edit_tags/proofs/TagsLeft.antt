@@ -260,8 +260,35 @@ taken_heavy decisions (field ∷ fields) =
       | inr stays ↦ rw stays more
     ]
 
--- what the splices of the fields come to: the numbers are those that are decided on, and the fields that differ are taken
--- out and put
+-- ---- what the splices of the fields come to
+
+module _ (decisions : List (Option ℕ)) (fields : List plain.Field) where
+  abbrev left : List plain.Field
+  left = flat_map (λ at. left_of_fate (λ y. y) (field_at at) (fate at)) (with_decisions decisions fields)
+
+  abbrev taken : List plain.Field
+  taken = map field_at (filter (λ at. changes (fate at)) (with_decisions decisions fields))
+
+  abbrev put : List plain.Field
+  put = flat_map (λ at. new_in (fate at)) (with_decisions decisions fields)
+
+  carried : CarriesOut (field_fates 2 decisions fields) fields left taken put
+  carried =
+      subst (λ items. CarriesOut (field_fates 2 decisions fields) items left taken put) (fields_same decisions fields)
+      (subst (λ fates. CarriesOut fates (map field_at (with_decisions decisions fields)) left taken put) (fates_same decisions fields) (carries_beside field_at fate (with_decisions decisions fields)))
+
+  differ_taken : taken ≡ as_before (differing decisions fields)
+  differ_taken = ap (map field_at) (taken_same (with_decisions decisions fields))
+
+  -- the fields that differ are taken out, and what comes of them is put
+  pub tags_taken : taken_all (splices_of (field_fates 2 decisions fields)) fields ≡ as_before (differing decisions fields)
+  tags_taken = carried.takes ∙ differ_taken
+
+  pub tags_put : put_all (splices_of (field_fates 2 decisions fields)) ≡ as_after (differing decisions fields)
+  tags_put = carried.puts ∙ put_same (with_decisions decisions fields)
+
+-- the splices can be carried out on the fields of a message of the program, the numbers are those that are decided on, and
+-- the fields that differ are taken out and put
 pub record TagsLeft (decisions : List (Option ℕ)) (fields : List plain.Field) : Type 0 where
   pub there : AreThere (splices_of (field_fates 2 decisions fields)) fields
   pub valid : AllByRecursion IsField (put_all (splices_of (field_fates 2 decisions fields)))
@@ -273,19 +300,13 @@ pub record TagsLeft (decisions : List (Option ℕ)) (fields : List plain.Field) 
 pub tags_left : (decisions : List (Option ℕ)) (fields : List Field) → AreShort decisions → TagsLeft decisions (map field_of fields)
 tags_left decisions fields small =
     let plain_list = map field_of fields in
-    let list = with_decisions decisions plain_list in
-    let left : List plain.Field = flat_map (λ at. left_of_fate (λ y. y) (field_at at) (fate at)) list in
-    let taken : List plain.Field = map field_at (filter (λ at. changes (fate at)) list) in
-    let put : List plain.Field = flat_map (λ at. new_in (fate at)) list in
-    let all : CarriesOut (field_fates 2 decisions plain_list) (map field_at list) left taken put = subst (λ fates. CarriesOut fates (map field_at list) left taken put) (fates_same decisions plain_list) (carries_beside field_at fate list) in
-    let here : CarriesOut (field_fates 2 decisions plain_list) plain_list left taken put = subst (λ items. CarriesOut (field_fates 2 decisions plain_list) items left taken put) (fields_same decisions plain_list) all in
+    let here = carried decisions plain_list in
     let few = here.few in
-    let gone = ap (map field_at) (taken_same list) in
     record {
       there = here.there;
       valid = subst (AllByRecursion IsField) (sym here.puts) (put_valid decisions fields small);
       leaves = here.leaves ∙ left_same decisions plain_list;
-      takes = here.takes ∙ gone;
-      puts = here.puts ∙ put_same list;
-      few = omega (arith, taken_heavy decisions fields, ap (λ taken. length (flat_map field_bytes taken)) gone);
+      takes = tags_taken decisions plain_list;
+      puts = tags_put decisions plain_list;
+      few = omega (arith, taken_heavy decisions fields, ap (λ gone. length (flat_map field_bytes gone)) (differ_taken decisions plain_list));
     }

@@ -1,10 +1,11 @@
 -- The steps by which the fields of many features change.
-use Rattle.std.specs.Prelude.{ℕ, List, map}
-use Rattle.std.specs.List.{flat_map}
+use Rattle.std.specs.Prelude.{ℕ, Bool, not, List, Option, is_some, map}
+use Rattle.std.specs.List.{flat_map, list_any}
 use Rattle.mvt_document.specs.Plain.{Field, Feature, LayerItem, Layer}
 use Rattle.mvt_change.specs.Changes.{Change, FeatureStep}
 use Rattle.mvt_view.specs.Found.{found_features}
-use Rattle.mvt_meaning.specs.Tagging.{is_tags}
+use Rattle.mvt_meaning.specs.Tagging.{is_tags, removals}
+use Rattle.mvt_edit_steps.specs.Decided.{field_fates}
 use Rattle.mvt_edit_steps.specs.Fates.{goes_if, splices_of}
 use Rattle.mvt_numbers.specs.declared.fate.Fate.{Fate}
 
@@ -20,3 +21,12 @@ layer_steps fates found = flat_map (feature_steps (fates found.1.1.items) found.
 -- the tags fields go, and the other fields of a feature stay (tiles 4.2)
 abbrev pub tags_go : List Field → List (Fate Field)
 tags_go fields = map (λ field. goes_if (is_tags field)) fields
+
+-- the pairs of a key go from the tags fields, and the other fields of a feature stay, in a layer of these items
+-- (tiles 4.4)
+abbrev pub pairs_go : List ℕ → List LayerItem → List Field → List (Fate Field)
+pairs_go key items fields = field_fates 2 (removals key items fields) fields
+
+-- some number goes, by a decision for each
+abbrev pub is_any_gone : List (Option ℕ) → Bool
+is_any_gone decisions = list_any (λ decision. not (is_some decision)) decisions

@@ -1,0 +1,73 @@
+//! The attributes of one key go.
+
+ghost use Rattle.std.specs.Prelude.{◌≡◌, ◌⊎◌, ◌++◌, [], ◌∷◌, Err, IfErr, IfOk, map};
+ghost use Rattle.mvt_document.specs.Stands.{document_of};
+ghost use Rattle.mvt_change.specs.ChangeStands.{step_of};
+ghost use Rattle.mvt_command.specs.Command.{Exclude};
+ghost use Rattle.mvt_command.specs.CommandStands.{layers_choice_of};
+ghost use Rattle.mvt_meaning.specs.Meaning.{refuse_first};
+ghost use Rattle.mvt_meaning.specs.Tagging.{unreadable};
+ghost use Rattle.mvt_meaning.specs.declared.refusal.Refusal.TheVariants.{NoMemory};
+ghost use Rattle.mvt_view.specs.Seen.{found_layer_seen};
+ghost use Rattle.mvt_edit_steps.specs.Prepared.{Prepares};
+ghost use Rattle.mvt_edit_tags.specs.EachFeature.{is_any_gone, layer_steps, pairs_go};
+
+use crate::decide::{decide_or_refuse, named_keys};
+use crate::unset::renumber_tags;
+use mvt_change::{Change, Step};
+use mvt_document::{Document, Items};
+use mvt_select::{FoundLayer, LayersChoice, Refusal, find_layers};
+use std::alloc::Global;
+
+/// Each feature of the layers that are meant loses each pair of the key, whichever of its layer's
+/// keys of these bytes it names.
+pub fn exclude(
+    alloc: Global,
+    document: &Document,
+    choice: &LayersChoice,
+    key: &[u8],
+) -> Result<Change, Refusal>
+    ensures { Prepares (Exclude (layers_choice_of choice.now) key.now) (document_of document.now) result }
+{
+    let layers = find_layers(document, choice)?;
+    let mut decisions = Vec::new(alloc);
+    let mut steps = Vec::new(alloc);
+    for found in layers {
+        exclude_from(alloc, found, key, &mut decisions, &mut steps)?;
+    }
+    Ok(Change {
+        steps: Items::from_vec(steps),
+    })
+}
+
+/// Puts the steps by which each feature of the layer loses the pairs of the key behind the others.
+/// The first feature whose tags make no pairs is refused.
+fn exclude_from(
+    alloc: Global,
+    found: FoundLayer<'_>,
+    key: &[u8],
+    decisions: &mut Vec<Option<u64>>,
+    steps: &mut Vec<Step>,
+) -> Result<(), Refusal>
+    ensures steps { IfOk result (λ done. map step_of steps.new.items ≡ map step_of steps.old.items ++ layer_steps (pairs_go key.now) (found_layer_seen found.entry)) }
+    ensures readable { IfOk result (λ done. unreadable (found_layer_seen found.entry ∷ []) ≡ []) }
+    ensures refused { IfErr result (λ refusal. (refusal ≡ NoMemory) ⊎ (refuse_first (unreadable (found_layer_seen found.entry ∷ [])) ≡ Err refusal)) }
+{
+    let layer = found.view();
+    let named = named_keys(alloc, layer, key)?;
+    let sizes = layer.pool_sizes();
+    for feature in layer.features() {
+        decide_or_refuse(found.ordinal, feature, sizes, named.as_slice(), decisions)?;
+        if is_any_gone(decisions.as_slice()) {
+            renumber_tags(alloc, found.position, feature, decisions.as_slice(), steps)?;
+        }
+    }
+    Ok(())
+}
+
+/// Some number goes. Where none does there is no step, and the tags are not read again.
+fn is_any_gone(decisions: &[Option<u64>]) -> bool
+    ensures { result ≡ is_any_gone decisions.now }
+{
+    decisions.iter().any(Option::is_none)
+}
