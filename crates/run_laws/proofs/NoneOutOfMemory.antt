@@ -81,9 +81,10 @@ name_uncut (refused.History history.NoMemory) = refl
 
 place_uncut : (layer feature : ℕ) → HasNoLineFeed (place_told layer feature)
 place_uncut layer feature =
-    uncut-append (codes " layer ") (decimal layer ++ codes " feature " ++ decimal feature) (uncut_by_test (codes " layer ") refl)
-    (uncut-append (decimal layer) (codes " feature " ++ decimal feature) (decimal_uncut layer)
-    (uncut-append (codes " feature ") (decimal feature) (uncut_by_test (codes " feature ") refl) (decimal_uncut feature)))
+    let front = codes " layer " ++ decimal layer in
+    let first = uncut-append (codes " layer ") (decimal layer) (uncut_by_test (codes " layer ") refl) (decimal_uncut layer) in
+    let second = uncut-append front (codes " feature ") first (uncut_by_test (codes " feature ") refl) in
+    uncut-append (front ++ codes " feature ") (decimal feature) second (decimal_uncut feature)
 
 behind_uncut : (reason : Refused) → HasNoLineFeed (behind_name reason)
 behind_uncut (refused.Parse parse.BadUtf8) = tt
