@@ -18,6 +18,7 @@ use mvt_edit_lists::set_id::set_id;
 use mvt_edit_tags::exclude::exclude;
 use mvt_edit_tags::exclude_all::exclude_all;
 use mvt_edit_tags::rename_key::rename_key;
+use mvt_edit_tags::set_attribute::set_attribute;
 use mvt_edit_tags::unset::unset;
 use mvt_meaning::{Command, Refusal};
 use std::alloc::Global;
@@ -49,6 +50,12 @@ pub fn prepare(alloc: Global, document: &Document, command: &Command) -> Result<
         Command::DropFeature { layer, feature } => drop_feature(alloc, document, layer, feature),
         Command::SetId { layer, feature, id } => set_id(alloc, document, layer, feature, *id),
         Command::ClearId { layer, feature } => clear_id(alloc, document, layer, feature),
+        Command::SetAttribute {
+            layer,
+            feature,
+            key,
+            value,
+        } => set_attribute(alloc, document, layer, feature, key.as_slice(), value),
         Command::UnsetAttribute {
             layer,
             feature,

@@ -14,16 +14,16 @@ use Rattle.mvt_meaning.proofs.Positions.{change_here, change_later, last_here, l
 -- ---- the list around its last item that passes
 
 -- the item that stands at k, where the list begins at n, and what is before and behind it
-record Around {A : Type 0} (passes : A → Bool) (n : ℕ) (xs : List A) (k : ℕ) : Type 0 where
-  front : List A
-  item : A
-  rest : List A
-  whole : xs ≡ front ++ item ∷ rest
-  place : n + length front ≡ k
-  passing : passes item ≡ true
-  last : list_any passes rest ≡ false
+pub record Around {A : Type 0} (passes : A → Bool) (n : ℕ) (xs : List A) (k : ℕ) : Type 0 where
+  pub front : List A
+  pub item : A
+  pub rest : List A
+  pub whole : xs ≡ front ++ item ∷ rest
+  pub place : n + length front ≡ k
+  pub passing : passes item ≡ true
+  pub last : list_any passes rest ≡ false
 
-around : {A : Type 0} (passes : A → Bool) (n : ℕ) (xs : List A) (k : ℕ) → last_or None (positions_from passes n xs) ≡ Some k → Around passes n xs k
+pub around : {A : Type 0} (passes : A → Bool) (n : ℕ) (xs : List A) (k : ℕ) → last_or None (positions_from passes n xs) ≡ Some k → Around passes n xs k
 around passes n [] k e = absurd cc
 around passes n (x ∷ xs) k e =
     elim (cases_Bool (list_any passes xs)) [
@@ -49,7 +49,7 @@ changed_there passes change [] item rest pass none = change_here passes change i
 changed_there passes change (x ∷ front) item rest pass none =
     change_later passes change x (front ++ item ∷ rest) (any_there passes front item rest pass) ∙ ap (λ ys. x ∷ ys) (changed_there passes change front item rest pass none)
 
-none_filtered : {A : Type 0} (passes : A → Bool) (xs : List A) → list_any passes xs ≡ false → filter passes xs ≡ []
+pub none_filtered : {A : Type 0} (passes : A → Bool) (xs : List A) → list_any passes xs ≡ false → filter passes xs ≡ []
 none_filtered passes [] none = refl
 none_filtered passes (x ∷ xs) none =
     elim (cases_Bool (passes x)) [
@@ -61,7 +61,7 @@ last_behind : {A : Type 0} (o : Option A) (xs : List A) (x : A) → last_or o (x
 last_behind o [] x = refl
 last_behind o (y ∷ xs) x = last_behind (Some y) xs x
 
-last_filtered : {A : Type 0} (passes : A → Bool) (front : List A) (item : A) (rest : List A) → passes item ≡ true → list_any passes rest ≡ false → last_or None (filter passes (front ++ item ∷ rest)) ≡ Some item
+pub last_filtered : {A : Type 0} (passes : A → Bool) (front : List A) (item : A) (rest : List A) → passes item ≡ true → list_any passes rest ≡ false → last_or None (filter passes (front ++ item ∷ rest)) ≡ Some item
 last_filtered passes front item rest pass none =
     let here : filter passes (item ∷ rest) ≡ item ∷ [] = rw pass (ap (λ ys. item ∷ ys) (none_filtered passes rest none)) in
     ap (last_or None) (filter-append passes front (item ∷ rest) ∙ ap (λ ys. filter passes front ++ ys) here) ∙ last_behind None (filter passes front) item
@@ -89,10 +89,10 @@ get_front : {A : Type 0} (front : List A) (item : A) (rest : List A) → slice_g
 get_front [] item rest = refl
 get_front (x ∷ front) item rest = get_front front item rest
 
-get_there : {A : Type 0} (front : List A) (item : A) (rest : List A) (k : ℕ) → length front ≡ k → slice_get (front ++ item ∷ rest) k ≡ Some item
+pub get_there : {A : Type 0} (front : List A) (item : A) (rest : List A) (k : ℕ) → length front ≡ k → slice_get (front ++ item ∷ rest) k ≡ Some item
 get_there front item rest k place = subst (λ (at : ℕ). slice_get (front ++ item ∷ rest) at ≡ Some item) place (get_front front item rest)
 
-end_spliced : {A : Type 0} (xs : List A) (put : A) → splice (length xs) 0 (put ∷ []) xs ≡ xs ++ put ∷ []
+pub end_spliced : {A : Type 0} (xs : List A) (put : A) → splice (length xs) 0 (put ∷ []) xs ≡ xs ++ put ∷ []
 end_spliced xs put =
     let none : drop (length xs + 0) xs ≡ [] = drop_all (length xs + 0) xs (omega arith) in
     let all : take (length xs) xs ≡ xs = take_all (length xs) xs (omega arith) in
@@ -126,7 +126,7 @@ pub record IsPutLast {A : Type 0} (passes : A → Bool) (change : A → A) (new 
 one_bytes : {A : Type 0} (bytes : A → List ℕ) (x : A) → length (flat_map bytes (x ∷ [])) ≡ length (bytes x)
 one_bytes bytes x = ap length (append-nil (bytes x))
 
-weighed : {A : Type 0} (bytes : A → List ℕ) (passes : A → Bool) (xs : List A) (x : A) → last_or None (filter passes xs) ≡ Some x → length (flat_map bytes (x ∷ [])) ≡ weigh_last bytes passes xs
+pub weighed : {A : Type 0} (bytes : A → List ℕ) (passes : A → Bool) (xs : List A) (x : A) → last_or None (filter passes xs) ≡ Some x → length (flat_map bytes (x ∷ [])) ≡ weigh_last bytes passes xs
 weighed bytes passes xs x last = one_bytes bytes x ∙ ap (λ found. option_map_or (λ item. length (bytes item)) found 0) (sym last)
 
 put_at_end : {A : Type 0} (passes : A → Bool) (change : A → A) (new : A) (bytes : A → List ℕ) (xs : List A) → passes new ≡ true → last_of passes xs ≡ None → IsPutLast passes change new bytes xs None

@@ -30,7 +30,7 @@ item_seen xs i None is = sym (slice_get_past xs i is.3)
 item_seen xs i (Some x) is = sym (slice_get_read xs (length xs) i x.now refl is.3.0 is.1)
 
 module _ {X A : Type 0} (view : X → A) (passes : A → Bool) (change : A → A) (new : A) (given : passes new ≡ true) (kept : (x : A) → passes x ≡ true → passes (change x) ≡ true) (bytes : A → List ℕ) where
-  old_or_new : (xs : List X) (i : ℕ) (o : Option (Bor X)) → option_copied o ≡ slice_get xs i → option_map_or (λ old. change (view old.now)) o new ≡ option_map_or change (slice_get (map view xs) i) new
+  pub old_or_new : (xs : List X) (i : ℕ) (o : Option (Bor X)) → option_copied o ≡ slice_get xs i → option_map_or (λ old. change (view old.now)) o new ≡ option_map_or change (slice_get (map view xs) i) new
   old_or_new xs i None e = rw (slice_get-map view xs i, ← e) refl
   old_or_new xs i (Some old) e = rw (slice_get-map view xs i, ← e) refl
 

@@ -26,7 +26,7 @@ decided_none goes (Some more) = refl
 
 -- ---- keys that have these bytes
 
-named_at : (key : List ℕ) (keys : List (List ℕ)) (ordinal : ℕ) → unwrap_or (slice_get (map (bytes_eq key) keys) ordinal) false ≡ option_map_or (bytes_eq key) (slice_get keys ordinal) false
+pub named_at : (key : List ℕ) (keys : List (List ℕ)) (ordinal : ℕ) → unwrap_or (slice_get (map (bytes_eq key) keys) ordinal) false ≡ option_map_or (bytes_eq key) (slice_get keys ordinal) false
 named_at key [] zero = refl
 named_at key [] (suc ordinal) = refl
 named_at key (first ∷ keys) zero = refl

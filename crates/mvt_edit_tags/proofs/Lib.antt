@@ -9,3 +9,9 @@ pub mod PairsLost
 pub mod Unreadable
 pub mod StepsPassed
 pub mod Excluded
+mod EntryOrdinals
+mod OneDiffers
+mod PairPut
+mod Valuing
+mod AttributeGiven
+mod AttributeSet

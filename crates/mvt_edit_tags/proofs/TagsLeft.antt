@@ -112,7 +112,7 @@ module _ (decisions : List (Option ℕ)) (field : plain.Field) where
         | inr same ↦ rw same (sym (ap (with_left field own) (all_same decisions own same) ∙ own_left field))
       ]
 
-  changes_one : changes (field_fate 2 decisions field) ≡ some_changed decisions own
+  pub changes_one : changes (field_fate 2 decisions field) ≡ some_changed decisions own
   changes_one =
       elim (cases_Bool (some_changed decisions own)) [ inl some ↦ rw some (fate_changes (renumbered_field 2 decisions field)) | inr same ↦ rw same refl ]
 

@@ -7,6 +7,7 @@ ghost use Rattle.std.specs.Str.{bytes_eq};
 ghost use Rattle.mvt_numbers.specs.Numbers.{numbers};
 ghost use Rattle.mvt_meaning.specs.Tagging.{without_pairs};
 ghost use Rattle.mvt_meaning.specs.declared.refusal.Refusal.TheVariants.{BadTags, NoMemory};
+ghost use Rattle.mvt_edit_tags.specs.Attribute.{valued};
 ghost use Rattle.mvt_view.specs.Tags.{plain_pairs, tag_pairs};
 ghost use Rattle.mvt_view.specs.Seen.{feature_seen, found_feature_seen, layer_seen};
 ghost use Rattle.mvt_view.specs.Views.{keys};
@@ -84,4 +85,36 @@ fn decided(goes: bool, ordinal: u32) -> Option<u64>
     ensures { result ≡ (if goes then None else Some ordinal) }
 {
     if goes { None } else { Some(u64::from(ordinal)) }
+}
+
+/// Decides on each number of the tags of a feature, in place of what was decided before: the pairs
+/// of the keys that are named get the value of this ordinal, and all others stay. How many are
+/// named.
+pub(crate) fn decide_values(
+    feature: FeatureView<'_>,
+    sizes: PoolSizes,
+    named: &[bool],
+    value: u64,
+    decisions: &mut Vec<Option<u64>>,
+) -> Result<usize, PairsError>
+    ensures decided { IfOk result (λ count. option_map (valued (λ key. unwrap_or (slice_get named.now key) false) value) (plain_pairs (tag_pairs sizes.keys sizes.values (numbers 2 (feature_seen feature.entry).fields))) ≡ Some (decisions.new.items, count)) }
+    ensures bad_tags { IsErrOf result PairsError.BadTags → plain_pairs (tag_pairs sizes.keys sizes.values (numbers 2 (feature_seen feature.entry).fields)) ≡ None }
+{
+    decisions.clear();
+    let mut count = 0_usize;
+    for tags in feature.tag_pairs(sizes) {
+        let pair = tags?.pair;
+        let is_meant = is_named(named, pair.key);
+        decisions.push(Some(u64::from(pair.key)))?;
+        decisions.push(Some(chosen(is_meant, value, pair.value)))?;
+        count += usize::from(is_meant);
+    }
+    Ok(count)
+}
+
+/// The value where the pair is meant, and else the old one.
+fn chosen(is_meant: bool, value: u64, old: u32) -> u64
+    ensures { result ≡ (if is_meant then value else old) }
+{
+    if is_meant { value } else { u64::from(old) }
 }

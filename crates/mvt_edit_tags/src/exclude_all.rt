@@ -52,7 +52,8 @@ fn has_tags(feature: &Feature) -> bool {
     feature.fields.as_slice().iter().any(|field| is_tags(field))
 }
 
-fn is_tags(field: &Field) -> bool
+/// A field of tags, packed or not.
+pub(crate) fn is_tags(field: &Field) -> bool
     ensures { result ≡ is_tags (field_of field.now) }
 {
     field.tag.value / 8 == TAGS && matches!(field.body, Body::Number(_) | Body::Bytes { .. })
