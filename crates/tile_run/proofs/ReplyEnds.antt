@@ -103,9 +103,9 @@ ends_with_ok ends = (ends.0 == 111) && (ends.1 == 107)
 -- those behind the name of a refusal of tags or of a repeated key
 place_last : (ends : ℕ × ℕ) (layer feature : ℕ) → last_two ends (codes " layer " ++ decimal layer ++ codes " feature " ++ decimal feature) ≡ (101, 32)
 place_last ends layer feature =
-    last_two-append ends (codes " layer ") (decimal layer ++ codes " feature " ++ decimal feature)
-    ∙ last_two-append (114, 32) (decimal layer) (codes " feature " ++ decimal feature)
-    ∙ last_two-append (last_two (114, 32) (decimal layer)) (codes " feature ") (decimal feature)
+    let front = codes " layer " ++ decimal layer in
+    last_two-append ends (front ++ codes " feature ") (decimal feature)
+    ∙ ap (λ (ends : ℕ × ℕ). last_two ends (decimal feature)) (last_two-append ends front (codes " feature "))
     ∙ last_two-decimal (101, 32) feature
 
 -- the reply to a refusal with the number of out of memory is the same for each; and the text tells whether memory was
