@@ -55,8 +55,8 @@ def targets(results, lists, kept):
         (f"{few.tile.name} to {many.tile.name}, {UNTAGGED}: exponent of time", exponent(few, many, OURS, time), 1 + SLOWER),
         (f"{large.tile.name}, {UNTAGGED}: time to protozero's",
          time_to(of_job(results, large.tile, UNTAGGED), "protozero"), 1.2),
-        *((f"{each.tile.name}, {EXCLUDED}: time to protozero's", time_to(each, "protozero"), 1.2)
-          for each in [of_job(results, large.tile, EXCLUDED), most]),
+        (f"{large.tile.name}, {EXCLUDED}: time to protozero's",
+         time_to(of_job(results, large.tile, EXCLUDED), "protozero"), 1.2),
         (f"{fewer.tile.name} to {most.tile.name}, {EXCLUDED}: exponent of time", exponent(fewer, most, OURS, time), 1 + NOISE),
         (f"{most.tile.name}, {EXCLUDED}: memory to that of an {EMPTY}",
          divided(most.figure(OURS, peak), of_job(results, most.tile, EMPTY).figure(OURS, peak)), 1.6),
