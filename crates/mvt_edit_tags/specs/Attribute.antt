@@ -12,8 +12,7 @@ use Rattle.mvt_change.specs.Changes.{Change, LayerStep}
 use Rattle.mvt_view.specs.Views.{keys, values}
 use Rattle.mvt_meaning.specs.Fields.{new_content}
 use Rattle.mvt_meaning.specs.Meaning.{◌>>=◌, refuse_if}
-use Rattle.mvt_meaning.specs.Ordinals.{count}
-use Rattle.mvt_meaning.specs.Tagging.{is_packed_last, key_ordinal, is_tags, missing_entries, pairs_among, pairs_with, revalued, value_ordinal, with_attribute, with_more_tags}
+use Rattle.mvt_meaning.specs.Tagging.{is_packed_last, key_ordinal, is_tags, missing_entries, pairs_among, pairs_with, value_ordinal, with_attribute, with_more_tags}
 use Rattle.mvt_meaning.specs.Weights.{set_puts, set_takes, weigh, weigh_last}
 use Rattle.mvt_meaning.specs.declared.refusal.Refusal.{Refusal}
 use Rattle.mvt_meaning.specs.declared.refusal.Refusal.TheVariants.{BadTags, RepeatedKey}
@@ -61,12 +60,7 @@ pub record GivesAttribute (key value : List ℕ) (items : List LayerItem) (field
   pub takes : bytes_taken fields run ≡ set_takes key value items fields
   pub puts : weigh layer_item_bytes (missing_entries key value items) + bytes_put run ≡ set_puts key value items fields
 
--- ---- the pairs of a feature
-
--- what is decided on each number of these pairs, where the pairs of the keys that are meant get a value, and how many
--- these are (tiles 4.4)
-abbrev pub valued : (ℕ → Bool) → ℕ → List (ℕ × ℕ) → List (Option ℕ) × ℕ
-valued meant value pairs = (revalued meant value pairs, count (λ pair. meant pair.0) pairs)
+-- ---- what is refused of a feature
 
 -- nothing, where the tags of a feature of these fields make pairs of which at most one has the key, in a layer of these
 -- items; else the refusal, with the ordinals of both (tiles 4.4)

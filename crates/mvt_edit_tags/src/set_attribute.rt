@@ -14,7 +14,7 @@ ghost use Rattle.mvt_edit_steps.specs.Fates.{seen, splice_of};
 ghost use Rattle.mvt_edit_steps.specs.Prepared.{Prepares};
 ghost use Rattle.mvt_edit_tags.specs.Attribute.{AreFound, GivesAttribute, attribute_checked, behind_all};
 
-use crate::decide::{decide_values, named_keys};
+use crate::decide::{decide_or_refuse, named_keys};
 use crate::pools::{Places, look_for, missing_entries};
 use crate::tags_run::{and_pair, first_renumbered, size_with};
 use mvt_change::{Change, Step, fits_with_items, size_with_fields};
@@ -24,7 +24,7 @@ use mvt_select::{
     FeatureChoice, FoundFeature, FoundLayer, LayerChoice, Refusal, find_feature, find_layer,
 };
 use mvt_value::{NewValue, encode_value};
-use mvt_view::{PairsError, PoolSizes};
+use mvt_view::PoolSizes;
 use std::alloc::{AllocError, Global};
 
 /// The feature's one pair of the key gets the value, or a further pair comes where there is none.
@@ -75,21 +75,22 @@ fn run_of_tags(
 {
     let named = named_keys(alloc, holder.view(), key)?;
     let mut decisions = Vec::new(alloc);
-    let decided = decide_values(
-        found.view(),
+    let count = decide_or_refuse(
+        holder.ordinal,
+        found,
         sizes,
         named.as_slice(),
-        places.value,
+        Some(places.value),
         &mut decisions,
-    );
-    let (layer, feature) = (holder.ordinal, found.ordinal);
+    )?;
     let fields = found.feature.fields.as_slice();
-    match decided {
-        Ok(0) => Ok(Some(and_pair(alloc, fields, places.key, places.value)?)),
-        Ok(1) => Ok(first_renumbered(alloc, fields, decisions.as_slice())?),
-        Ok(_) => Err(Refusal::RepeatedKey { layer, feature }),
-        Err(PairsError::BadTags) => Err(Refusal::BadTags { layer, feature }),
-        Err(PairsError::NoMemory) => Err(Refusal::NoMemory),
+    match count {
+        0 => Ok(Some(and_pair(alloc, fields, places.key, places.value)?)),
+        1 => Ok(first_renumbered(alloc, fields, decisions.as_slice())?),
+        _ => Err(Refusal::RepeatedKey {
+            layer: holder.ordinal,
+            feature: found.ordinal,
+        }),
     }
 }
 
