@@ -45,9 +45,8 @@ pages:
 check: toolchain
 	tools/lint
 	tools/pages --check
-	rt ci
 	tools/wrong-bodies --self-test
-	tools/wrong-bodies
+	tools/wrong-bodies --with-proofs
 	mkdir -p build
 	cp crates/tileshell_program/out/tileshell_program build/tileshell
 	tools/transcripts

@@ -11,7 +11,7 @@ from measure import (COUNTED_MILLISECONDS, RUNS, RUNS_OF_LARGE, Program, costlie
                      measure_alone, run_once, script_of)
 from report import Kept, Listed, Result, comparison, endings, growth, instructions, memory, put_section, shown, table, time
 from sessions import sessions, stepped
-from targets import EMPTY, IDS, JOB, KEPT, MANY, OURS, UNTAGGED, session_targets, targets, verdicts
+from targets import ATTRIBUTES, EMPTY, EXCLUDED, IDS, JOB, KEPT, MANY, OURS, UNTAGGED, session_targets, targets, verdicts
 from tiles import LARGE, MEBIBYTE, alternating_layers, generated_tiles, real_tiles, smallest_map, smallest_maps
 
 RESULTS = peers.HERE / "RESULTS.md"
@@ -26,15 +26,17 @@ JOBS = {
     KEPT: 'keep "{layer}"\n',
     "one layer dropped": 'drop-layer "{layer}"\n',
     IDS: "".join(f'set-id "{{layer}}" {turn % 100} {10**9 + turn}\n' for turn in range(1000)),
+    ATTRIBUTES: "".join(f'set "{{layer}}" {turn % 100} "new" uint {10**9 + turn}\n' for turn in range(1000)),
+    EXCLUDED: 'exclude * "key:0"\n',
     UNTAGGED: "exclude-all *\n",
 }
 
 # Jobs that are left out on a large tile, and jobs of the smallest map alone.
-LONG_JOBS = [MANY, IDS]
-SMALL_JOBS = [IDS]
+LONG_JOBS = [MANY, IDS, ATTRIBUTES]
+SMALL_JOBS = [IDS, ATTRIBUTES]
 
-# The jobs of tiles of one kind, which have no others. protobuf loses an empty packed field, where it is not to go.
-JOBS_OF_KIND = {"empty tags": [UNTAGGED]}
+# The jobs of tiles of one kind, which have no others: all features of the one have the key that goes. protobuf loses an empty packed field, where it is not to go.
+JOBS_OF_KIND = {"common key": [EMPTY, EXCLUDED], "empty tags": [UNTAGGED]}
 
 # The job `alternating layers`, of tileshell alone: layers of one name in turns with layers of another, of which one
 # kind goes, and comes back. The first script is what it is held against.

@@ -1,5 +1,5 @@
 #!/usr/bin/env python3
-"""Makes tiles from a seed: 'map', as a basemap has; 'crumbs', of the smallest fields; features of empty tags; two kinds of groups; layers of two names in turns."""
+"""Makes tiles from a seed: 'map', as a basemap has; 'common key', a map whose features all have one key; 'crumbs', of the smallest fields; features of empty tags; two kinds of groups; layers of two names in turns."""
 import argparse
 import random
 from pathlib import Path
@@ -55,8 +55,9 @@ def geometry(draw, kind):
     return b"".join(parts)
 
 
-def feature(draw, identifier, kind):
-    tags = b"".join(draw.choices(INDICES, k=2 * draw.randrange(2, 9)))
+def feature(draw, identifier, kind, is_keyed):
+    first = INDICES[0] + draw.choice(INDICES) if is_keyed else b""
+    tags = first + b"".join(draw.choices(INDICES, k=2 * draw.randrange(2, 9)))
     return bytes_field(2, number_field(1, identifier) + bytes_field(2, tags)
                        + number_field(3, kind) + bytes_field(4, geometry(draw, kind)))
 
@@ -82,22 +83,22 @@ def layer(name, features, rest):
                        + rest + number_field(5, 4096) + number_field(15, 2))
 
 
-def map_layer(draw, name, size):
-    """A layer of at most so many bytes."""
+def map_layer(draw, name, size, is_keyed):
+    """A layer of at most so many bytes; of one that is keyed each feature has the first key."""
     kind = draw.choice([LINE, POLYGON])
     rest = pools(draw)
     room = size - len(layer(name, b"", rest)) - len(varint(size))
     features = []
     while True:
-        last = feature(draw, len(features), kind)
+        last = feature(draw, len(features), kind, is_keyed)
         room -= len(last)
         if room < 0:
             return layer(name, b"".join(features), rest)
         features.append(last)
 
 
-def map_tile(draw, size):
-    return b"".join(map_layer(draw, name, size // len(LAYERS)) for name in LAYERS)
+def map_tile(draw, size, is_keyed=False):
+    return b"".join(map_layer(draw, name, size // len(LAYERS), is_keyed) for name in LAYERS)
 
 
 def crumbs_tile(draw, size):
@@ -129,6 +130,7 @@ def alternating_tile(size):
 
 MAKERS = {
     "map": map_tile,
+    "common key": lambda draw, size: map_tile(draw, size, is_keyed=True),
     "crumbs": crumbs_tile,
     "empty tags": lambda draw, size: empty_tags_tile(size),
     "nested groups": lambda draw, size: groups_tile(MOST_OPEN, size),

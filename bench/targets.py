@@ -8,6 +8,8 @@ JOB = "one rename"
 MANY = "1,000 renames and undos"
 KEPT = "one layer kept"
 IDS = "1,000 ids set"
+ATTRIBUTES = "1,000 attributes set"
+EXCLUDED = "one key excluded"
 UNTAGGED = "all attributes excluded"
 
 # Two measurements of the same growth differ by less.
@@ -35,6 +37,7 @@ def targets(results, lists, kept):
     small, large = ends(results, "map", JOB)
     crumbs = ends(results, "crumbs", JOB)[1].tile
     few, many = ends(results, "empty tags", UNTAGGED)
+    fewer, most = ends(results, "common key", EXCLUDED)
     return [
         (f"{large.tile.name}, {JOB}: time to protozero's", time_to(large, "protozero"), 0.8),
         (f"{large.tile.name}, {JOB}: time to protobuf's", time_to(large, "protobuf"), 0.3),
@@ -43,6 +46,7 @@ def targets(results, lists, kept):
         (f"{large.tile.name}, in any job: peak memory to the tile", highest_peak(results, large.tile), 3.7),
         *((f"{result.tile.name}, {MANY}: time to protozero's", time_to(result, "protozero"), 2.5)
           for result in results if result.job == MANY and result.tile in [small.tile, *real(results)]),
+        (f"{small.tile.name}, {ATTRIBUTES}: time to protozero's", time_to(of_job(results, small.tile, ATTRIBUTES), "protozero"), 3),
         (f"{small.tile.name} to {large.tile.name}, {JOB}: exponent of time",
          exponent(small, large, OURS, time), 1 + NOISE),
         *((f"{each.tile.name}, its largest layer listed: time to that of reading", each.ratio, 2)
@@ -51,6 +55,11 @@ def targets(results, lists, kept):
         (f"{few.tile.name} to {many.tile.name}, {UNTAGGED}: exponent of time", exponent(few, many, OURS, time), 1 + SLOWER),
         (f"{large.tile.name}, {UNTAGGED}: time to protozero's",
          time_to(of_job(results, large.tile, UNTAGGED), "protozero"), 1.2),
+        *((f"{each.tile.name}, {EXCLUDED}: time to protozero's", time_to(each, "protozero"), 1.2)
+          for each in [of_job(results, large.tile, EXCLUDED), most]),
+        (f"{fewer.tile.name} to {most.tile.name}, {EXCLUDED}: exponent of time", exponent(fewer, most, OURS, time), 1 + NOISE),
+        (f"{most.tile.name}, {EXCLUDED}: memory to that of an {EMPTY}",
+         divided(most.figure(OURS, peak), of_job(results, most.tile, EMPTY).figure(OURS, peak)), 1.6),
     ]
 
 

@@ -16,6 +16,9 @@ LARGE = 16 * MEBIBYTE
 # The kinds of tiles of groups, each at one size.
 GROUPS = {"nested groups": 16, "flat groups": 64}
 
+# The sizes of the map whose features all have one key.
+COMMON_KEY = [1, 64]
+
 # The sizes of the tile of empty tags, whose features are the smallest that have some.
 EMPTY_TAGS = [1, 16]
 
@@ -70,6 +73,7 @@ def alternating_layers():
 def generated_tiles():
     tiles = [generated("map", size, "roads") for size in SIZES]
     tiles += [generated("crumbs", size, "crumbs") for size in SIZES]
+    tiles += [generated("common key", size, "roads") for size in COMMON_KEY]
     tiles += [generated("empty tags", size, "tags") for size in EMPTY_TAGS]
     return tiles + [generated(kind, size, "groups") for kind, size in GROUPS.items()]
 

@@ -291,8 +291,13 @@ def readable(tile, place, feature):
     try:
         return pairs_in(layer, layer[feature].content)
     except ValueError:
-        at = places(tile, LAYER).index(place), places(layer, FEATURE).index(feature)
-        return refuse(30, f" layer {at[0]} feature {at[1]}")
+        return refuse(30, told(tile, place, feature))
+
+
+def told(tile, place, feature):
+    """What a reply tells of the feature at this position of the layer at that one: the ordinals of both."""
+    at = places(tile, LAYER).index(place), places(tile[place].content, FEATURE).index(feature)
+    return f" layer {at[0]} feature {at[1]}"
 
 
 def without_key(tile, place, feature, key):
@@ -308,6 +313,53 @@ def without_key(tile, place, feature, key):
         if left or not numbers:
             fields.append(replace(field, content=b"".join(left)) if numbers else field)
     return in_feature(tile, place, feature, tuple(fields))
+
+
+def set_attribute(tile, chosen, feature, key, value):
+    """The feature has the value, which is its bytes, for the key."""
+    place = layer_place(tile, chosen)
+    found = feature_place(tile[place], feature)
+    pairs = readable(tile, place, found)
+    layer = tile[place].content
+    (key_at, keys), (value_at, values) = entry(layer, KEY, key), entry(layer, VALUE, value)
+    of_key = [layer[at].content == key for at in places(layer, KEY)]
+    times = sum(of_key[pair[0]] for pair in pairs)
+    if times > 1:
+        refuse(31, told(tile, place, found))
+    fields = layer[found].content
+    if times:
+        wanted = [number for pair in pairs for number in (pair[0], value_at if of_key[pair[0]] else pair[1])]
+        fields = with_numbers(fields, wanted)
+    else:
+        fields = with_pair(fields, spelled(key_at) + spelled(value_at))
+    changed = in_feature(tile, place, found, fields)
+    return in_layer(changed, place, (*changed[place].content, *keys, *values))
+
+
+def entry(layer, tag, content):
+    """The ordinal of the first of a layer's keys or values that has the content, and what it lacks of it."""
+    contents = [layer[at].content for at in places(layer, tag)]
+    if content in contents:
+        return contents.index(content), []
+    return len(contents), [Item(spelled(tag), 1, content)]
+
+
+def with_numbers(fields, wanted):
+    """The fields of a feature, with these numbers of tags."""
+    left, changed = iter(wanted), []
+    for field in fields:
+        numbers = numbers_in(field)
+        new = [old if number_at(old, 0)[0] == number else spelled(number) for old, number in zip(numbers, left)] if numbers else []
+        changed.append(replace(field, content=b"".join(new)) if numbers else field)
+    return tuple(changed)
+
+
+def with_pair(fields, pair):
+    """The fields of a feature, with a further pair of tags, behind those of the last field where that is packed."""
+    tags = [place for place, field in enumerate(fields) if field.key in (TAG, TAGS)]
+    if not tags or fields[tags[-1]].key == TAG:
+        return (*fields, Item(spelled(TAGS), 1, pair))
+    return put(fields, tags[-1], replace(fields[tags[-1]], content=fields[tags[-1]].content + pair))
 
 
 def unset(tile, chosen, feature, key):

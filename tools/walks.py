@@ -16,10 +16,10 @@ MAX_COORDINATE = 2**31 - 1
 MAX_MARKS = 256
 
 NAMES = {
-    11: "BadWord", 12: "UnknownCommand", 13: "BadArguments", 14: "BadNumber", 16: "BadGeometryText",
+    11: "BadWord", 12: "UnknownCommand", 13: "BadArguments", 14: "BadNumber", 15: "BadValue", 16: "BadGeometryText",
     20: "NoLayer", 21: "AmbiguousLayer", 22: "NoFeature", 23: "NoKey", 24: "BadPlace", 25: "AmbiguousFeature",
-    30: "BadTags", 40: "NameTaken", 41: "KeyTaken", 50: "NothingToUndo", 51: "NothingToRedo", 52: "NoMark", 53: "TooManyMarks",
-    54: "Stopped", 55: "GroupOpen", 56: "NoGroup", 60: "NoMemory",
+    30: "BadTags", 31: "RepeatedKey", 40: "NameTaken", 41: "KeyTaken", 50: "NothingToUndo", 51: "NothingToRedo",
+    52: "NoMark", 53: "TooManyMarks", 54: "Stopped", 55: "GroupOpen", 56: "NoGroup", 60: "NoMemory",
 }
 
 WORD = re.compile(r'[ \t\r]*(?:"((?:[^"\\]|\\["\\]|\\x[0-7][0-9a-fA-F])*)"|([^ \t\r"]+))(?=[ \t\r]|$)')
@@ -103,6 +103,35 @@ def feature(word):
     return [number(Word(word.text[1:], False))] if is_id else number(word)
 
 
+# The types of values that a bare word says: what it looks like, and the bytes of the value.
+VALUES = {
+    "float": ("[0-9a-fA-F]{8}", lambda digits: b"\x15" + bytes.fromhex(digits)),
+    "double": ("[0-9a-fA-F]{16}", lambda digits: b"\x19" + bytes.fromhex(digits)),
+    "int": ("-?[0-9]+", lambda digits: b"\x20" + tiles.spelled(within(digits, -2**63, 2**63 - 1) % 2**64)),
+    "uint": ("[0-9]+", lambda digits: b"\x28" + tiles.spelled(within(digits, 0, MAX_NUMBER))),
+    "sint": ("-?[0-9]+", lambda digits: b"\x30" + tiles.spelled(tiles.zigzag(within(digits, -2**63, 2**63 - 1)))),
+    "bool": ("true|false", lambda truth: b"\x38\x01" if truth == "true" else b"\x38\x00"),
+}
+
+
+def within(digits, least, most):
+    return int(digits) if least <= int(digits) <= most else refuse(15)
+
+
+def value(kind, word):
+    """The bytes of the value that a word says, of the type that the word before it names."""
+    if kind == Word("string", False):
+        try:
+            said = text(word)
+        except Refused:
+            refuse(15)
+        return b"\x0a" + tiles.spelled(len(said)) + said
+    if kind.is_quoted or word.is_quoted or kind.text not in VALUES:
+        refuse(15)
+    form, bytes_of = VALUES[kind.text]
+    return bytes_of(word.text) if re.fullmatch(form, word.text) else refuse(15)
+
+
 def geometry(words):
     """The kind, and the parts in points."""
     if any(word.is_quoted for word in words):
@@ -147,6 +176,9 @@ def command_of(request, words):
     if request == "insert":
         place, index, *rest = words if len(words) > 2 else refuse(13)
         return tiles.insert, [layer(place), number(index), geometry(rest)]
+    if request == "set":
+        place, of, key, kind, said = words if len(words) == 5 else refuse(13)
+        return tiles.set_attribute, [layer(place), feature(of), text(key), value(kind, said)]
     if request not in COMMANDS:
         return None
     command, kinds = COMMANDS[request]

@@ -2,18 +2,16 @@
 use Rattle.std.proofs.Common.{◌≡◌, ℕ, zero, suc, ◌/◌, ◌==◌, Bool, true, false, not, is_some, Option, Some, None, option_map, Ok, List, [], ◌∷◌, ◌++◌, length, map, filter, drop, slice_get, get_or, refl, sym, ap, ◌∙◌, inl, inr, subst}
 use Rattle.std.proofs.lemmas.Bool.{and_from, and_parts, cases_Bool, not-false}
 use Rattle.std.proofs.lemmas.List.Elements.{filter-append}
-use Rattle.std.proofs.lemmas.Simd.{map-map}
 use Rattle.std.specs.List.{AllByRecursion, list_all}
-use Rattle.std.specs.Option.{option_and_then, option_map_or, unwrap_or}
+use Rattle.std.specs.Option.{option_map_or, unwrap_or}
 use Rattle.std.specs.Str.{bytes_eq}
 use Rattle.mvt_document.specs.Plain.{Number, Body, Spelled, Eight, Four, Delimited, Group, Field, Feature, LayerItem, OfFeature, PlainInLayer, Layer, Document}
 use Rattle.mvt_document.specs.Places.{fields_in, in_feature}
 use Rattle.mvt_command.specs.Command.{FeatureChoice}
-use Rattle.mvt_numbers.specs.Numbers.{Placed, all_good, and_more, numbers}
+use Rattle.mvt_numbers.specs.Numbers.{Placed, all_good, numbers}
 use Rattle.mvt_numbers.specs.Renumbering.{field_numbers, renumber, renumbered, renumbered_field, with_left, with_number, with_numbers}
-use Rattle.mvt_numbers.specs.Laws.{read_numbers}
 use Rattle.mvt_numbers.proofs.Redone.{left_is_read}
-use Rattle.mvt_view.specs.Attributes.{attribute_at, attributes, if_pairs, in_pairs, is_pair, pairs_in, pairs_of, values_in}
+use Rattle.mvt_view.specs.Attributes.{attribute_at, attributes, is_pair, pairs_in, pairs_of}
 use Rattle.mvt_view.specs.Laws.{Names}
 use Rattle.mvt_view.specs.Views.{contents, features, features_in, key_field, keys, layers, plain_fields, value_field, values}
 use Rattle.mvt_view.proofs.Pairing.{pairs_are_named}
@@ -26,10 +24,11 @@ use Rattle.mvt_meaning.specs.declared.refusal.Refusal.TheVariants.{BadTags, NoKe
 use Rattle.mvt_meaning.proofs.Accepted.{accepted, feature_meant, not_refused}
 use Rattle.mvt_meaning.proofs.FeatureCommands.{number_given}
 use Rattle.mvt_meaning.proofs.Parts.{changes_feature, changes_layer, items_there, with_fields, with_items}
-use Rattle.mvt_meaning.proofs.Removals.{flat, head_same, make_pairs, pairs_short}
+use Rattle.mvt_meaning.proofs.Removals.{flat, head_same, pairs_short}
 use Rattle.attribute_laws.specs.Laws.{ExcludeExcludes, ExcludesKey, LosesAttribute, UnsetUnsets, of_other_keys}
 use Rattle.attribute_laws.proofs.EachFeature.{features_changed, fields_stay, positions_stay}
 use Rattle.attribute_laws.proofs.MeantLayers.{got_mapped, layers_change}
+use Rattle.attribute_laws.proofs.PairsRead.{pairs_again, pairs_read, value_list}
 use Rattle.attribute_laws.proofs.Readable.{meant_read}
 use Rattle.attribute_laws.proofs.Untagged.{none_of}
 
@@ -38,9 +37,6 @@ use Rattle.attribute_laws.proofs.Untagged.{none_of}
 -- the pairs of the keys that stay
 abbrev pub staying : (ℕ → Bool) → List (ℕ × ℕ) → List (ℕ × ℕ)
 staying goes pairs = filter (λ (pair : ℕ × ℕ). not (goes pair.0)) pairs
-
-abbrev pub value_list : List Number → List ℕ
-value_list list = map (λ (n : Number). n.value) list
 
 values_staying : (goes : ℕ → Bool) (pairs : List (ℕ × ℕ)) (list : List Number) → value_list list ≡ flat pairs → value_list (renumbered (without_pairs goes pairs) list) ≡ flat (staying goes pairs)
 values_staying goes [] list is = is
@@ -60,10 +56,6 @@ values_staying goes (pair ∷ pairs) (key ∷ value ∷ list) is =
           )
     ]
 
-in_pairs-flat : (pairs : List (ℕ × ℕ)) → in_pairs (flat pairs) ≡ Some pairs
-in_pairs-flat [] = refl
-in_pairs-flat (pair ∷ pairs) = ap (and_more (pair.0, pair.1)) (in_pairs-flat pairs)
-
 still_pairs : (key_count value_count : ℕ) (goes : ℕ → Bool) (pairs : List (ℕ × ℕ)) → list_all (is_pair key_count value_count) pairs ≡ true → list_all (is_pair key_count value_count) (staying goes pairs) ≡ true
 still_pairs key_count value_count goes [] is = refl
 still_pairs key_count value_count goes (pair ∷ pairs) is =
@@ -74,27 +66,14 @@ still_pairs key_count value_count goes (pair ∷ pairs) is =
       | inr stays ↦ rw stays (and_from (is_pair key_count value_count pair) (list_all (is_pair key_count value_count) (staying goes pairs)) parts.0 more)
     ]
 
-values_read : (good : Option (List Placed)) → option_map (map (λ (p : Placed). p.number.value)) good ≡ option_map value_list (option_map (map (λ (p : Placed). p.number)) good)
-values_read None = refl
-values_read (Some placed) = ap Some (sym (map-map (λ (n : Number). n.value) (λ (p : Placed). p.number) placed))
-
-are_pairs : (key_count value_count : ℕ) (pairs : List (ℕ × ℕ)) → list_all (is_pair key_count value_count) pairs ≡ true → if_pairs key_count value_count pairs ≡ Some pairs
-are_pairs key_count value_count pairs is = rw is refl
-
 -- the pairs of the keys that go are those that are no longer read
 pub pairs_staying : (key_count value_count : ℕ) (goes : ℕ → Bool) (fields : List Field) (pairs : List (ℕ × ℕ)) → pairs_in key_count value_count (numbers 2 fields) ≡ Some pairs → pairs_in key_count value_count (numbers 2 (renumber 2 (without_pairs goes pairs) fields)) ≡ Some (staying goes pairs)
 pairs_staying key_count value_count goes fields pairs is =
-    let made = make_pairs key_count value_count (numbers 2 fields) pairs is in
-    let list = map (λ (p : Placed). p.number) made.placed in
-    let left = renumber 2 (without_pairs goes pairs) fields in
-    let read : read_numbers 2 fields ≡ Some list = ap (option_map (map (λ (p : Placed). p.number))) made.good in
-    let reread = left_is_read 2 (without_pairs goes pairs) fields list (pairs_short goes key_count value_count pairs made.each) read in
-    let were : value_list list ≡ flat pairs = map-map (λ (n : Number). n.value) (λ (p : Placed). p.number) made.placed ∙ made.values in
-    let are : values_in (numbers 2 left) ≡ Some (flat (staying goes pairs)) =
-    values_read (all_good (numbers 2 left)) ∙ ap (option_map value_list) reread ∙ ap Some (values_staying goes pairs list were) in
-    ap (λ (found : Option (List ℕ)). option_and_then (if_pairs key_count value_count) (option_and_then in_pairs found)) are
-    ∙ ap (option_and_then (if_pairs key_count value_count)) (in_pairs-flat (staying goes pairs))
-    ∙ are_pairs key_count value_count (staying goes pairs) (still_pairs key_count value_count goes pairs made.each)
+    let r = pairs_read key_count value_count fields pairs is in
+    pairs_again key_count value_count (renumber 2 (without_pairs goes pairs) fields) (renumbered (without_pairs goes pairs) r.list) (staying goes pairs)
+    (left_is_read 2 (without_pairs goes pairs) fields r.list (pairs_short goes key_count value_count pairs r.each) r.read)
+    (values_staying goes pairs r.list r.are)
+    (still_pairs key_count value_count goes pairs r.each)
 
 -- ---- the attributes of other keys
 
@@ -175,12 +154,19 @@ fields_there (OfFeature first ∷ items) zero feature is = let same : first ≡ 
 fields_there (OfFeature first ∷ items) (suc index) feature is = fields_there items index feature is
 fields_there (PlainInLayer field ∷ items) index feature is = fields_there items index feature is
 
-read_there : (document : Document) (ordinal index : ℕ) (layer : Layer) (feature : Feature) → slice_get (layers document) ordinal ≡ Some layer → slice_get (features layer) index ≡ Some feature → has_pairs ordinal index document ≡ true → is_some (pairs_of layer feature) ≡ true
+pub fields_found : (document : Document) (ordinal index : ℕ) (layer : Layer) (feature : Feature) → slice_get (layers document) ordinal ≡ Some layer → slice_get (features layer) index ≡ Some feature → fields_of ordinal index document ≡ feature.fields
+fields_found document ordinal index layer feature there is =
+    ap (λ (list : List LayerItem). option_map_or (λ item. option_map_or (λ (fields : List Field). fields) (fields_in item) []) (slice_get (filter is_feature list) index) []) (items_there document ordinal layer there)
+    ∙ fields_there layer.items index feature is
+
+pub pairs_found : (document : Document) (ordinal index : ℕ) (layer : Layer) (feature : Feature) → slice_get (layers document) ordinal ≡ Some layer → slice_get (features layer) index ≡ Some feature → pairs_among (items_of ordinal document) (fields_of ordinal index document) ≡ pairs_of layer feature
+pairs_found document ordinal index layer feature there is =
+    ap (λ (list : List LayerItem). pairs_among list (fields_of ordinal index document)) (items_there document ordinal layer there)
+    ∙ ap (pairs_among layer.items) (fields_found document ordinal index layer feature there is)
+
+pub read_there : (document : Document) (ordinal index : ℕ) (layer : Layer) (feature : Feature) → slice_get (layers document) ordinal ≡ Some layer → slice_get (features layer) index ≡ Some feature → has_pairs ordinal index document ≡ true → is_some (pairs_of layer feature) ≡ true
 read_there document ordinal index layer feature there is has =
-    let items = items_there document ordinal layer there in
-    let fields : fields_of ordinal index document ≡ feature.fields =
-    ap (λ (list : List LayerItem). option_map_or (λ item. option_map_or (λ (fields : List Field). fields) (fields_in item) []) (slice_get (filter is_feature list) index) []) items ∙ fields_there layer.items index feature is in
-    sym (ap (λ (list : List LayerItem). is_some (pairs_among list (fields_of ordinal index document))) items ∙ ap (λ (list : List Field). is_some (pairs_among layer.items list)) fields) ∙ has
+    sym (ap (λ (found : Option (List (ℕ × ℕ))). is_some found) (pairs_found document ordinal index layer feature there is)) ∙ has
 
 -- the fields of a layer that are no features stay where one feature changes
 fields_kept : (choice : FeatureChoice) (change : List Field → List Field) (layer : Layer) (ordinal : ℕ) → selected_feature choice layer ≡ Ok ordinal → plain_fields (change_nth is_feature (in_feature change) ordinal layer.items) ≡ plain_fields layer.items

@@ -3,6 +3,13 @@ pub mod EachFeature
 pub mod Untagged
 pub mod Renamed
 pub mod Readable
+pub mod PairsRead
 pub mod Excluded
+pub mod Ids
+pub mod SameMeant
 pub mod Twice
 pub mod UnsetTwice
+pub mod MoreTags
+pub mod Grown
+pub mod Setting
+pub mod SetUnset

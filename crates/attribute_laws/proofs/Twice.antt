@@ -1,7 +1,6 @@
 -- A key that is excluded twice is excluded once.
-use Rattle.std.proofs.Common.{◌≡◌, ℕ, zero, suc, ◌+◌, Bool, true, false, cond, not, is_some, Some, None, Ok, Err, List, [], ◌∷◌, ◌++◌, length, map, filter, slice_get, nat_lt, option_map, refl, sym, ap, ◌∙◌, subst, inl, inr}
+use Rattle.std.proofs.Common.{◌≡◌, ℕ, zero, suc, ◌+◌, Bool, true, false, not, is_some, Option, Some, None, Ok, List, [], ◌∷◌, ◌++◌, length, map, filter, slice_get, option_map, refl, sym, ap, ◌∙◌, subst, inl, inr}
 use Rattle.std.proofs.lemmas.Bool.{cases_Bool}
-use Rattle.std.proofs.lemmas.List.{length-map}
 use Rattle.std.proofs.lemmas.Simd.{map-map}
 use Rattle.std.specs.List.{AllByRecursion, enumerate_from, filter_map, flat_map, last_or}
 use Rattle.std.specs.Option.{option_map_or}
@@ -9,7 +8,7 @@ use Rattle.std.specs.Str.{bytes_eq}
 use Rattle.mvt_document.specs.Plain.{Number, Field, Feature, LayerItem, OfFeature, PlainInLayer, Layer, TileItem, OfLayer, PlainInTile, Document}
 use Rattle.mvt_document.specs.Lists.{change_at}
 use Rattle.mvt_document.specs.Places.{in_feature, in_layer}
-use Rattle.mvt_command.specs.Command.{LayerChoice, AtOrdinal, Named, LayersChoice, TheLayer, EachLayer, Exclude}
+use Rattle.mvt_command.specs.Command.{LayerChoice, LayersChoice, TheLayer, EachLayer, Exclude}
 use Rattle.mvt_numbers.specs.Laws.{keeping}
 use Rattle.mvt_numbers.specs.Numbers.{Placed, numbers}
 use Rattle.mvt_numbers.specs.Renumbering.{field_numbers, renumber}
@@ -17,11 +16,10 @@ use Rattle.mvt_numbers.proofs.Redone.{kept_stays}
 use Rattle.mvt_numbers.proofs.Reread.{read_of_fields}
 use Rattle.mvt_view.specs.Attributes.{pairs_in, pairs_of}
 use Rattle.mvt_view.specs.Found.{with_position}
-use Rattle.mvt_view.specs.Views.{contents, features_in, key_field, layer_in, layers, plain_fields, the_one, value_field}
+use Rattle.mvt_view.specs.Views.{contents, features_in, key_field, layer_in, layers, plain_fields, value_field}
 use Rattle.mvt_meaning.specs.Selection.{selected, selected_layers}
 use Rattle.mvt_meaning.specs.Tagging.{excluded, is_key_at, pairs_among, unreadable, without_attribute, without_pairs}
 use Rattle.mvt_meaning.specs.Meaning.{◌>>=◌, applied, change_layer, change_layers, refuse_first}
-use Rattle.mvt_meaning.specs.declared.refusal.Refusal.TheVariants.{AmbiguousLayer, NoLayer}
 use Rattle.mvt_meaning.proofs.Accepted.{accepted}
 use Rattle.mvt_meaning.proofs.Found.{change_layer_found, layer_found}
 use Rattle.mvt_meaning.proofs.Parts.{with_items}
@@ -30,9 +28,11 @@ use Rattle.mvt_select.proofs.Chosen.{the_one_meant}
 use Rattle.attribute_laws.specs.Laws.{ExcludeAgainChangesNothing}
 use Rattle.attribute_laws.specs.MeantLayers.{IsMeant}
 use Rattle.attribute_laws.proofs.EachFeature.{fields_stay}
-use Rattle.attribute_laws.proofs.Excluded.{pairs_staying, some_of, staying, value_list}
+use Rattle.attribute_laws.proofs.Excluded.{pairs_staying, some_of, staying}
 use Rattle.attribute_laws.proofs.MeantLayers.{layers_change, some_same}
+use Rattle.attribute_laws.proofs.PairsRead.{value_list}
 use Rattle.attribute_laws.proofs.Readable.{meant_read}
+use Rattle.attribute_laws.proofs.SameMeant.{same_layer}
 
 -- ---- the fields of a feature
 
@@ -151,27 +151,14 @@ all_found_read k n (PlainInTile field ∷ document) read = all_found_read k (n +
 abbrev pub fields_of_layers : Document → List (List Field)
 fields_of_layers document = map (λ (layer : Layer). plain_fields layer.items) (layers document)
 
-pub tested_by : {A B : Type 0} (view : A → B) (passes : B → Bool) (n : ℕ) (list : List A) → map (λ (p : ℕ × A). p.0) (filter (λ (p : ℕ × A). passes (view p.1)) (enumerate_from n list)) ≡ map (λ (p : ℕ × B). p.0) (filter (λ (p : ℕ × B). passes p.1) (enumerate_from n (map view list)))
-tested_by view passes n [] = refl
-tested_by view passes n (x ∷ list) =
-    elim (cases_Bool (passes (view x))) [
-      | inl pass ↦ rw pass (ap (λ more. n ∷ more) (tested_by view passes (n + 1) list))
-      | inr skip ↦ rw skip (tested_by view passes (n + 1) list)
-    ]
+-- the name among the fields of a layer
+abbrev name_among : List Field → Option (List ℕ)
+name_among fields = last_or None (contents 1 fields)
 
 pub same_meant : (choice : LayerChoice) (one other : Document) → fields_of_layers one ≡ fields_of_layers other → selected choice one ≡ selected choice other
-same_meant (AtOrdinal ordinal) one other same =
+same_meant choice one other same =
     let view = λ (layer : Layer). plain_fields layer.items in
-    let count : length (layers one) ≡ length (layers other) = sym (length-map (layers one) view) ∙ ap length same ∙ length-map (layers other) view in
-    ap (λ (n : ℕ). cond (nat_lt ordinal n) (Ok ordinal) (Err NoLayer)) count
-same_meant (Named name) one other same =
-    let view = λ (layer : Layer). plain_fields layer.items in
-    let passes = λ (fields : List Field). option_map_or (bytes_eq name) (last_or None (contents 1 fields)) false in
-    ap (the_one NoLayer AmbiguousLayer) (
-    tested_by view passes 0 (layers one)
-    ∙ ap (λ (list : List (List Field)). map (λ (p : ℕ × List Field). p.0) (filter (λ (p : ℕ × List Field). passes p.1) (enumerate_from 0 list))) same
-    ∙ sym (tested_by view passes 0 (layers other))
-    )
+    same_layer choice one other (sym (map-map name_among view (layers one)) ∙ ap (map name_among) same ∙ map-map name_among view (layers other))
 
 module _ (change : List LayerItem → List LayerItem) where
   module _ (keeps : (items : List LayerItem) → plain_fields (change items) ≡ plain_fields items) where

@@ -1,23 +1,21 @@
 -- A key that is unset twice is unset once.
-use Rattle.std.proofs.Common.{◌≡◌, ℕ, zero, suc, ◌<◌, ◌/◌, ◌==◌, true, false, ◌||◌, cond, not, is_some, Option, Some, None, Ok, Err, List, [], ◌∷◌, length, map, filter, slice_get, get_or, nat_lt, refl, sym, ap, ◌∙◌, inl, inr, arith}
-use Rattle.std.proofs.lemmas.Bool.{cases_Bool, not-false}
-use Rattle.std.proofs.lemmas.Bool.Decides.{nat_tests}
-use Rattle.std.proofs.lemmas.List.{length-map}
+use Rattle.std.proofs.Common.{◌≡◌, ℕ, zero, suc, ◌<◌, true, ◌||◌, not, is_some, Option, Some, None, Ok, List, [], ◌∷◌, length, map, slice_get, get_or, refl, sym, ap, ◌∙◌, arith}
+use Rattle.std.proofs.lemmas.Bool.{not-false}
 use Rattle.std.proofs.lemmas.Option.{slice_get-get_or}
-use Rattle.std.specs.List.{cons_option, enumerate_from, filter_map, last_or, list_any}
-use Rattle.std.specs.Option.{option_and_then, option_map_or}
+use Rattle.std.specs.List.{list_any}
+use Rattle.std.specs.Option.{option_and_then}
 use Rattle.mvt_document.specs.Plain.{Field, Feature, LayerItem, OfFeature, PlainInLayer, Layer}
 use Rattle.mvt_document.specs.Lists.{change_at}
 use Rattle.mvt_document.specs.Places.{in_feature, in_layer}
-use Rattle.mvt_command.specs.Command.{FeatureChoice, FeatureAtOrdinal, WithId}
+use Rattle.mvt_command.specs.Command.{FeatureChoice}
 use Rattle.mvt_view.specs.Found.{found_features}
-use Rattle.mvt_view.specs.Views.{feature_in, features, features_in, id_of, plain_fields, the_one, value_in}
+use Rattle.mvt_view.specs.Views.{feature_in, features, features_in, id_of, plain_fields}
 use Rattle.mvt_view.proofs.Placing.{found_count}
 use Rattle.mvt_meaning.specs.Ordinals.{change_nth}
 use Rattle.mvt_meaning.specs.Selection.{feature_positions, is_feature, selected, selected_feature, selected_in}
-use Rattle.mvt_meaning.specs.Tagging.{is_key, is_tags, pairs_among, removals, without_attribute, without_tags}
+use Rattle.mvt_meaning.specs.Tagging.{is_key, pairs_among, removals, without_attribute}
 use Rattle.mvt_meaning.specs.Meaning.{◌>>=◌, change_feature, fields_of, has_key, has_pairs, items_of, refuse_if}
-use Rattle.mvt_meaning.specs.declared.refusal.Refusal.TheVariants.{AmbiguousFeature, BadTags, NoFeature, NoKey}
+use Rattle.mvt_meaning.specs.declared.refusal.Refusal.TheVariants.{BadTags, NoKey}
 use Rattle.mvt_meaning.proofs.Accepted.{accepted, not_refused}
 use Rattle.mvt_meaning.proofs.Found.{change_feature_found, change_layer_found, change_nth_found, fields_changed, fields_of_found, items_changed, items_of_found, selected_in_found}
 use Rattle.mvt_meaning.proofs.Parts.{changes_feature, with_fields}
@@ -26,28 +24,14 @@ use Rattle.mvt_select.proofs.Chosen.{the_one_meant}
 use Rattle.mvt_select.proofs.Meant.{stands}
 use Rattle.attribute_laws.specs.Laws.{UnsetAgainChangesNothing}
 use Rattle.attribute_laws.proofs.Excluded.{others_stay}
-use Rattle.attribute_laws.proofs.Twice.{done, fields_beside, pairs_by_fields, same_meant, stays_at, tested_by, without_by_fields}
+use Rattle.attribute_laws.proofs.Ids.{id_same}
+use Rattle.attribute_laws.proofs.SameMeant.{same_feature}
+use Rattle.attribute_laws.proofs.Twice.{done, fields_beside, pairs_by_fields, same_meant, stays_at, without_by_fields}
 
 -- ---- the id of a feature
 
-no_id : (field : Field) → is_tags field ≡ true → value_in 1 field ≡ None
-no_id field tags =
-    elim (cases_Bool (field.tag.value / 8 == 2)) [
-      | inl two ↦ (let other : (field.tag.value / 8 == 1) ≡ false = grind (arith, nat_tests) in rw other refl)
-      | inr other ↦ absurd (let none = rw other at tags in cc)
-    ]
-
-ids_apart : (fields : List Field) → filter_map (value_in 1) (without_tags fields) ≡ filter_map (value_in 1) fields
-ids_apart [] = refl
-ids_apart (field ∷ fields) =
-    elim (cases_Bool (is_tags field)) [
-      | inl tags ↦ (let none = no_id field tags in rw (tags, none) (ids_apart fields))
-      | inr other ↦ rw other (ap (λ rest. cons_option (value_in 1 field) rest) (ids_apart fields))
-    ]
-
 id_stays : (key : List ℕ) (items : List LayerItem) (feature : Feature) → id_of (with_fields (without_attribute key items) feature) ≡ id_of feature
-id_stays key items feature =
-    ap (last_or None) (sym (ids_apart (without_attribute key items feature.fields)) ∙ ap (filter_map (value_in 1)) (others_stay (removals key items feature.fields) feature.fields) ∙ ids_apart feature.fields)
+id_stays key items feature = id_same feature (with_fields (without_attribute key items) feature) (others_stay (removals key items feature.fields) feature.fields)
 
 -- ---- a layer with a feature changed
 
@@ -79,18 +63,6 @@ module _ (change : List Field → List Field) where
       let here : item ≡ OfFeature feature = cc in
       ap (λ first. in_feature change (in_feature change first) ∷ items) here ∙ ap (λ fields. with_these fields ∷ items) once ∙ ap (λ first. in_feature change first ∷ items) (sym here)
   at_twice (suc position) (item ∷ items) feature is once = ap (λ rest. item ∷ rest) (at_twice position items feature is once)
-
-same_feature : (choice : FeatureChoice) (one other : Layer) → map id_of (features one) ≡ map id_of (features other) → selected_feature choice one ≡ selected_feature choice other
-same_feature (FeatureAtOrdinal ordinal) one other same =
-    let count : length (features one) ≡ length (features other) = sym (length-map (features one) id_of) ∙ ap length same ∙ length-map (features other) id_of in
-    ap (λ (n : ℕ). cond (nat_lt ordinal n) (Ok ordinal) (Err NoFeature)) count
-same_feature (WithId id) one other same =
-    let passes = λ (found : Option ℕ). option_map_or (λ found. found == id) found false in
-    ap (the_one NoFeature AmbiguousFeature) (
-    tested_by id_of passes 0 (features one)
-    ∙ ap (λ (list : List (Option ℕ)). map (λ (p : ℕ × Option ℕ). p.0) (filter (λ (p : ℕ × Option ℕ). passes p.1) (enumerate_from 0 list))) same
-    ∙ sym (tested_by id_of passes 0 (features other))
-    )
 
 -- the feature that is meant, where it stands
 record TheFeature (layer : Layer) (index : ℕ) : Type 0 where

@@ -1,12 +1,15 @@
 -- Laws of the commands on attributes, in the words of a tile: what an accepted command makes.
-use Rattle.std.specs.Prelude.{◌≡◌, ℕ, not, List, [], Some, Ok, map, filter, option_map, slice_get, if◌then◌else◌}
-use Rattle.std.specs.List.{AllByRecursion}
+use Rattle.std.specs.Prelude.{◌≡◌, ◌≢◌, ℕ, ◌≤◌, Bool, true, ◌||◌, not, List, [], ◌∷◌, ◌++◌, Some, Ok, map, filter, is_some, option_map, slice_get, if◌then◌else◌}
+use Rattle.std.specs.List.{AllByRecursion, list_all, list_any}
 use Rattle.std.specs.Str.{bytes_eq}
-use Rattle.mvt_document.specs.Plain.{Feature, Layer, Document}
-use Rattle.mvt_command.specs.Command.{LayerChoice, LayersChoice, FeatureChoice, UnsetAttribute, RenameKey, Exclude, ExcludeAll}
+use Rattle.mvt_document.specs.Plain.{Field, Feature, Layer, Document}
+use Rattle.mvt_value.specs.Messages.{encoded_value}
+use Rattle.mvt_value.specs.Values.{Value}
+use Rattle.mvt_command.specs.Command.{LayerChoice, LayersChoice, FeatureChoice, SetAttribute, UnsetAttribute, RenameKey, Exclude, ExcludeAll}
 use Rattle.mvt_view.specs.Attributes.{attributes}
-use Rattle.mvt_view.specs.Views.{features, keys, plain_fields, values}
-use Rattle.mvt_meaning.specs.Selection.{feature_positions}
+use Rattle.mvt_view.specs.Views.{content_in, features, key_field, keys, plain_fields, value_field, values}
+use Rattle.mvt_meaning.specs.Ordinals.{count}
+use Rattle.mvt_meaning.specs.Selection.{feature_positions, selected_feature}
 use Rattle.mvt_meaning.specs.Tagging.{is_key, without_tags}
 use Rattle.mvt_meaning.specs.Meaning.{applied}
 use Rattle.mvt_meaning.specs.Kept.{ChangesFeature, ChangesLayer}
@@ -31,6 +34,14 @@ pub record RenamesKey (former present : List ℕ) (old new : Layer) : Type 0 whe
 abbrev pub RenameKeyRenames : Type 0
 RenameKeyRenames = (choice : LayerChoice) (former present : List ℕ) (old new : Document) → applied (RenameKey choice former present) old ≡ Ok new → ChangesLayer choice (RenamesKey former present) old new
 
+-- ---- a feature
+
+-- the feature has become another in this way, with its tag and its stored width
+pub record FeatureBecomes (way : Feature → Feature → Type 0) (former present : Feature) : Type 0 where
+  pub tag : present.tag ≡ former.tag
+  pub width : present.width ≡ former.width
+  pub changed : way former present
+
 -- ---- no attribute of a key
 
 -- the attributes of other keys than this one, in order (tiles 4.4)
@@ -54,11 +65,82 @@ UnsetUnsets = (choice : LayerChoice) (feature : FeatureChoice) (key : List ℕ) 
 abbrev pub UnsetAgainChangesNothing : Type 0
 UnsetAgainChangesNothing = (choice : LayerChoice) (feature : FeatureChoice) (key : List ℕ) (old new : Document) → applied (UnsetAttribute choice feature key) old ≡ Ok new → applied (UnsetAttribute choice feature key) new ≡ Ok new
 
--- the feature has become another in this way, with its tag and its stored width
-pub record FeatureBecomes (way : Feature → Feature → Type 0) (former present : Feature) : Type 0 where
-  pub tag : present.tag ≡ former.tag
-  pub width : present.width ≡ former.width
-  pub changed : way former present
+-- ---- a value for a key
+
+-- the attribute has the key (tiles 4.4)
+abbrev pub is_of : List ℕ → List ℕ × List ℕ → Bool
+is_of key attribute = bytes_eq key attribute.0
+
+-- the attribute, with this value where it has the key (tiles 4.4)
+abbrev pub valued : List ℕ → List ℕ → List ℕ × List ℕ → List ℕ × List ℕ
+valued key value attribute = if is_of key attribute then (attribute.0, value) else attribute
+
+-- the attributes with this value for the key: in place of the one that it had, and at the end where it had none
+-- (tiles 4.4)
+abbrev pub with_value : List ℕ → List ℕ → List (List ℕ × List ℕ) → List (List ℕ × List ℕ)
+with_value key value found =
+    if list_any (is_of key) found
+    then map (valued key value) found
+    else found ++ (key, value) ∷ []
+
+-- the keys or the values of a layer, with these bytes at the end where they lack them (tiles 4.1)
+abbrev pub with_entry : List ℕ → List (List ℕ) → List (List ℕ)
+with_entry bytes entries = if list_any (bytes_eq bytes) entries then entries else entries ++ bytes ∷ []
+
+-- the field is a key or a value of a layer (tiles 4.1)
+abbrev pub is_entry : Field → Bool
+is_entry field = is_some (content_in key_field field) || is_some (content_in value_field field)
+
+-- the feature had attributes in the former layer, of which at most one had the key; in the present one it has them with
+-- the value for the key, and all its fields that are no tags are as they were (tiles 4.2, 4.4)
+pub record GetsAttribute (key value : List ℕ) (former present : Layer) (old new : Feature) : Type 0 where
+  pub found : List (List ℕ × List ℕ)
+  pub had : attributes former old ≡ Some found
+  pub once : count (is_of key) found ≤ 1
+  pub has : attributes present new ≡ Some (with_value key value found)
+  pub others : without_tags new.fields ≡ without_tags old.fields
+
+-- the selected feature gets the value for the key; each other feature, and the attributes of each that had some, are as
+-- they were; the key and the value are those of the layer, at most one more of each, and its other fields and the
+-- positions of its features are as they were (tiles 4.1, 4.2, 4.4)
+pub record SetsAttribute (choice : FeatureChoice) (key value : List ℕ) (old new : Layer) : Type 0 where
+  pub ordinal : ℕ
+  pub meant : selected_feature choice old ≡ Ok ordinal
+  pub former : Feature
+  pub was : slice_get (features old) ordinal ≡ Some former
+  pub present : Feature
+  pub is : slice_get (features new) ordinal ≡ Some present
+  pub becomes : FeatureBecomes (GetsAttribute key value old new) former present
+  pub others : (other : ℕ) → other ≢ ordinal → slice_get (features new) other ≡ slice_get (features old) other
+  pub stay : (feature : Feature) (found : List (List ℕ × List ℕ)) → attributes old feature ≡ Some found → attributes new feature ≡ Some found
+  pub keys_so : keys new ≡ with_entry key (keys old)
+  pub values_so : values new ≡ with_entry value (values old)
+  pub more : List Field
+  pub fields : plain_fields new.items ≡ plain_fields old.items ++ more
+  pub entries : list_all is_entry more ≡ true
+  pub positions : feature_positions new.items ≡ feature_positions old.items
+
+-- where a value for a key is accepted, the selected feature gets it, and no other layer differs
+abbrev pub SetSets : Type 0
+SetSets = (choice : LayerChoice) (feature : FeatureChoice) (key : List ℕ) (value : Value) (old new : Document) → applied (SetAttribute choice feature key value) old ≡ Ok new → ChangesLayer choice (SetsAttribute feature key (encoded_value value)) old new
+
+-- the selected feature loses the attributes of the key
+pub record SelectedLoses (choice : FeatureChoice) (key : List ℕ) (old new : Layer) : Type 0 where
+  pub ordinal : ℕ
+  pub meant : selected_feature choice old ≡ Ok ordinal
+  pub former : Feature
+  pub was : slice_get (features old) ordinal ≡ Some former
+  pub present : Feature
+  pub is : slice_get (features new) ordinal ≡ Some present
+  pub becomes : FeatureBecomes (LosesAttribute key old new) former present
+
+-- where a value for a key is accepted, it is accepted then that the key is unset; of the attributes that the selected
+-- feature had before both, it has those of other keys then, as if the key had been unset alone
+abbrev pub SetThenUnset : Type 0
+SetThenUnset = (choice : LayerChoice) (feature : FeatureChoice) (key : List ℕ) (value : Value) (old between : Document) → applied (SetAttribute choice feature key value) old ≡ Ok between
+    → (new : Document) × (applied (UnsetAttribute choice feature key) between ≡ Ok new) × ChangesLayer choice (SelectedLoses feature key) old new
+
+-- ---- no attribute of a key in any feature
 
 -- each feature of the layer loses the attributes of the key; the other fields of the layer and the positions of the
 -- features are as they were (tiles 4.1, 4.2)

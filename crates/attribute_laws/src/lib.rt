@@ -1,7 +1,23 @@
 //! Laws of the commands on attributes. Each function does nothing: its contract is the law.
 #![tactic(auto)]
 
-ghost use Rattle.attribute_laws.specs.Laws.{ExcludeAgainChangesNothing, ExcludeAllExcludes, ExcludeExcludes, RenameKeyRenames, UnsetAgainChangesNothing, UnsetUnsets};
+ghost use Rattle.attribute_laws.specs.Laws.{ExcludeAgainChangesNothing, ExcludeAllExcludes, ExcludeExcludes, RenameKeyRenames, SetSets, SetThenUnset, UnsetAgainChangesNothing, UnsetUnsets};
+
+/// Where a value for a key is accepted, at most one attribute of the selected feature had the key. It
+/// has the value in place of the old one, or the key and the value behind its attributes. Its fields
+/// that are no tags, the other features, the attributes of all of them, and the other layers are as
+/// they were; the keys and the values are as they were, with the key and the value behind them where
+/// they lacked them.
+pub fn set_sets()
+    ensures { SetSets }
+{}
+
+/// Where a value for a key is accepted, it is accepted then that the key is unset, and the selected
+/// feature has, of the attributes that it had before both, those of other keys: what unset alone
+/// leaves.
+pub fn set_then_unset()
+    ensures { SetThenUnset }
+{}
 
 /// Where it is accepted that a key is unset, the selected feature has its attributes of other keys,
 /// in their order, and all its fields that are no tags. The keys, the values, the other features and

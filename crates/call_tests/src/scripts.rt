@@ -92,7 +92,7 @@ fn put_cut(lines: &mut Vec<u8>, cut: Cut<'_>) -> Result<(), AllocError> {
 }
 
 /// All reasons for which a line is refused.
-const REASONS: [Refused; 32] = [
+const REASONS: [Refused; 33] = [
     Refused::Parse(ParseError::BadUtf8),
     Refused::Parse(ParseError::BadWord),
     Refused::Parse(ParseError::UnknownCommand),
@@ -115,6 +115,10 @@ const REASONS: [Refused; 32] = [
     Refused::Edit(Refusal::BadTags {
         layer: 1,
         feature: 20,
+    }),
+    Refused::Edit(Refusal::RepeatedKey {
+        layer: 2,
+        feature: 300,
     }),
     Refused::Edit(Refusal::NameTaken),
     Refused::Edit(Refusal::KeyTaken),

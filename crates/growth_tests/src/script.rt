@@ -6,9 +6,9 @@
 ghost use Rattle.std.specs.Prelude.{◌≤◌};
 
 use crate::scripts::{
-    BACK_OVER_STEPS, CANCELLED_KEEPS, CANCELLED_STEP, FEATURES, FLOOR, ID_SET_TWICE, IDS_APART,
-    IDS_CLEARED, IDS_LISTED, KEPT_LAYERS, LAYERS, LISTINGS, MARKS, ON_OVER_STEPS, RENAME_AND_UNDO,
-    SIZES, STEP, TWO_MARKS,
+    ATTRIBUTES, BACK_OVER_STEPS, CANCELLED_KEEPS, CANCELLED_STEP, FEATURES, FLOOR, ID_SET_TWICE,
+    IDS_APART, IDS_CLEARED, IDS_LISTED, KEPT_LAYERS, LAYERS, LISTINGS, MARKS, ON_OVER_STEPS,
+    RENAME_AND_UNDO, SIZES, STEP, TWO_MARKS,
 };
 use std::fmt;
 use std::io::{self, Cursor};
@@ -27,6 +27,7 @@ pub enum Script {
     Sizes,
     KeptLayers,
     Features,
+    Attributes,
     Marks,
     TwoMarks,
     Step,
@@ -39,13 +40,14 @@ pub enum Script {
     Floor,
 }
 
-const SCRIPTS: [Script; 16] = [
+const SCRIPTS: [Script; 17] = [
     Script::RenameAndUndo,
     Script::Listings,
     Script::IdsListed,
     Script::Sizes,
     Script::KeptLayers,
     Script::Features,
+    Script::Attributes,
     Script::Marks,
     Script::TwoMarks,
     Script::Step,
@@ -76,6 +78,7 @@ impl Script {
             Script::Sizes => "sizes",
             Script::KeptLayers => "kept-layers",
             Script::Features => "features",
+            Script::Attributes => "attributes",
             Script::Marks => "marks",
             Script::TwoMarks => "two-marks",
             Script::Step => "step",
@@ -97,6 +100,7 @@ impl Script {
             Script::Sizes => SIZES,
             Script::KeptLayers => KEPT_LAYERS,
             Script::Features => FEATURES,
+            Script::Attributes => ATTRIBUTES,
             Script::Marks => MARKS,
             Script::TwoMarks => TWO_MARKS,
             Script::Step => STEP,

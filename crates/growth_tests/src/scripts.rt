@@ -59,6 +59,17 @@ unmark \"m\"
 marks
 ";
 
+/// A feature gets attributes, and loses them.
+pub const ATTRIBUTES: &str = "\
+set #0 0 \"k\" int 6
+set \"a\" @1 \"m\" string \"left\"
+list #0 0
+unset #0 0 \"k\"
+exclude * \"m\"
+undo
+size
+";
+
 pub const MARKS: &str = "\
 mark \"m\"
 rename-layer #0 \"b\"

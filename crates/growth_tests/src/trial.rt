@@ -9,7 +9,7 @@ use std::alloc::{AllocError, Global};
 use std::fmt;
 use test_fixtures::asked::{
     clear_id, drop_feature, drop_layer, exclude, exclude_all, insert_polygon, keep, move_feature,
-    move_layer, rename, rename_key, set_id, unset,
+    move_layer, rename, rename_key, set, set_id, unset,
 };
 use test_fixtures::bytes::joined;
 use test_fixtures::edits::Edit;
@@ -30,6 +30,10 @@ pub enum Trial {
     ClearId,
     /// Two ids that are no neighbours.
     ClearIds,
+    /// A value in place of another.
+    Set,
+    /// A value with a new key.
+    SetNew,
     Unset,
     RenameKey,
     Exclude,
@@ -40,7 +44,7 @@ pub enum Trial {
     Series,
 }
 
-const TRIALS: [Trial; 16] = [
+const TRIALS: [Trial; 18] = [
     Trial::RenameLayer,
     Trial::MoveLayer,
     Trial::DropLayer,
@@ -51,6 +55,8 @@ const TRIALS: [Trial; 16] = [
     Trial::SetId,
     Trial::ClearId,
     Trial::ClearIds,
+    Trial::Set,
+    Trial::SetNew,
     Trial::Unset,
     Trial::RenameKey,
     Trial::Exclude,
@@ -87,6 +93,8 @@ impl Trial {
             Trial::SetId => "set-id",
             Trial::ClearId => "clear-id",
             Trial::ClearIds => "clear-ids",
+            Trial::Set => "set",
+            Trial::SetNew => "set-new",
             Trial::Unset => "unset",
             Trial::RenameKey => "rename-key",
             Trial::Exclude => "exclude",
@@ -120,6 +128,8 @@ impl Trial {
             Trial::SetId => there_and_back(alloc, &T0, set_id(300)),
             Trial::ClearId => there_and_back(alloc, &T0, clear_id()),
             Trial::ClearIds => there_and_back(alloc, IDS_APART, clear_id()),
+            Trial::Set => there_and_back(alloc, &T0, set(alloc, b"k", 6)?),
+            Trial::SetNew => there_and_back(alloc, &T0, set(alloc, b"m", 6)?),
             Trial::Unset => there_and_back(alloc, &T0, unset(alloc, b"k")?),
             Trial::RenameKey => there_and_back(alloc, &T0, rename_key(alloc, b"k", b"kind")?),
             Trial::Exclude => there_and_back(alloc, &four_items(alloc)?, exclude(alloc, b"k")?),

@@ -13,7 +13,7 @@ use Rattle.tile_listing.specs.Told.{MayBeTold, AreLinesToTell}
 use Rattle.tile_listing.proofs.Telling.{uncut-append, decimal_uncut}
 use Rattle.tile_answer.specs.Answering.{Told, carried_out}
 use Rattle.tile_answer.proofs.AnswerLaws.{requests_tell_lines, no_request_is_out_of_memory}
-use Rattle.tile_reply.specs.Replies.{accepted_reply, refused_front, refused_reply, refusal_number, refusal_name, behind_name, IsOutOfMemory, NoneIsOutOfMemory}
+use Rattle.tile_reply.specs.Replies.{accepted_reply, refused_front, refused_reply, refusal_number, refusal_name, place_told, behind_name, IsOutOfMemory, NoneIsOutOfMemory}
 use Rattle.tile_run.specs.Run.{Progress, at_first, ran, settled_by, answered_by, after_line, is_over, after_lines}
 use Rattle.run_laws.specs.RunLaws.{NoRunIsOutOfMemory}
 use Rattle.mvt_meaning.specs.declared.refusal.Refusal.TheVariants as edit
@@ -64,6 +64,7 @@ name_uncut (refused.Edit edit.NoKey) = refl
 name_uncut (refused.Edit edit.BadPlace) = refl
 name_uncut (refused.Edit edit.AmbiguousFeature) = refl
 name_uncut (refused.Edit (edit.BadTags layer feature)) = refl
+name_uncut (refused.Edit (edit.RepeatedKey layer feature)) = refl
 name_uncut (refused.Edit edit.NameTaken) = refl
 name_uncut (refused.Edit edit.KeyTaken) = refl
 name_uncut (refused.Edit edit.OutOfRange) = refl
@@ -77,6 +78,12 @@ name_uncut (refused.History (history.Stopped taken)) = refl
 name_uncut (refused.History history.GroupOpen) = refl
 name_uncut (refused.History history.NoGroup) = refl
 name_uncut (refused.History history.NoMemory) = refl
+
+place_uncut : (layer feature : ℕ) → HasNoLineFeed (place_told layer feature)
+place_uncut layer feature =
+    uncut-append (codes " layer ") (decimal layer ++ codes " feature " ++ decimal feature) (uncut_by_test (codes " layer ") refl)
+    (uncut-append (decimal layer) (codes " feature " ++ decimal feature) (decimal_uncut layer)
+    (uncut-append (codes " feature ") (decimal feature) (uncut_by_test (codes " feature ") refl) (decimal_uncut feature)))
 
 behind_uncut : (reason : Refused) → HasNoLineFeed (behind_name reason)
 behind_uncut (refused.Parse parse.BadUtf8) = tt
@@ -94,10 +101,8 @@ behind_uncut (refused.Edit edit.NoFeature) = tt
 behind_uncut (refused.Edit edit.NoKey) = tt
 behind_uncut (refused.Edit edit.BadPlace) = tt
 behind_uncut (refused.Edit edit.AmbiguousFeature) = tt
-behind_uncut (refused.Edit (edit.BadTags layer feature)) =
-    uncut-append (codes " layer ") (decimal layer ++ codes " feature " ++ decimal feature) (uncut_by_test (codes " layer ") refl)
-    (uncut-append (decimal layer) (codes " feature " ++ decimal feature) (decimal_uncut layer)
-    (uncut-append (codes " feature ") (decimal feature) (uncut_by_test (codes " feature ") refl) (decimal_uncut feature)))
+behind_uncut (refused.Edit (edit.BadTags layer feature)) = place_uncut layer feature
+behind_uncut (refused.Edit (edit.RepeatedKey layer feature)) = place_uncut layer feature
 behind_uncut (refused.Edit edit.NameTaken) = tt
 behind_uncut (refused.Edit edit.KeyTaken) = tt
 behind_uncut (refused.Edit edit.OutOfRange) = tt

@@ -2,6 +2,7 @@
 
 use mvt_edit::{Command, FeatureChoice, LayerChoice, LayersChoice};
 use mvt_geometry::{Geometry, Kind, Part, Point};
+use mvt_value::NewValue;
 use mvt_wire::Items;
 use std::alloc::{AllocError, Global};
 
@@ -106,6 +107,16 @@ pub fn rename_key(alloc: Global, from: &[u8], to: &[u8]) -> Result<Command, Allo
         layer: FIRST,
         old: text(alloc, from)?,
         new: text(alloc, to)?,
+    })
+}
+
+/// The first feature of the first layer gets a number for a key.
+pub fn set(alloc: Global, key: &[u8], number: i64) -> Result<Command, AllocError> {
+    Ok(Command::SetAttribute {
+        layer: FIRST,
+        feature: FIRST_FEATURE,
+        key: text(alloc, key)?,
+        value: NewValue::Int(number),
     })
 }
 

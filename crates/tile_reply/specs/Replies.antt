@@ -27,6 +27,7 @@ number_and_name (refused.Edit edit.NoKey) = (23, codes "NoKey")
 number_and_name (refused.Edit edit.BadPlace) = (24, codes "BadPlace")
 number_and_name (refused.Edit edit.AmbiguousFeature) = (25, codes "AmbiguousFeature")
 number_and_name (refused.Edit (edit.BadTags layer feature)) = (30, codes "BadTags")
+number_and_name (refused.Edit (edit.RepeatedKey layer feature)) = (31, codes "RepeatedKey")
 number_and_name (refused.Edit edit.NameTaken) = (40, codes "NameTaken")
 number_and_name (refused.Edit edit.KeyTaken) = (41, codes "KeyTaken")
 number_and_name (refused.Edit edit.OutOfRange) = (42, codes "OutOfRange")
@@ -57,10 +58,15 @@ accepted_reply lines = lines ++ codes "ok\n"
 abbrev pub refused_front : ℕ → Refused → List ℕ
 refused_front line reason = codes "line " ++ decimal line ++ codes " refused " ++ decimal (refusal_number reason) ++ codes " " ++ refusal_name reason
 
+-- the ordinals of the layer and of its feature that a reply names
+abbrev pub place_told : ℕ → ℕ → List ℕ
+place_told layer feature = codes " layer " ++ decimal layer ++ codes " feature " ++ decimal feature
+
 -- what stands behind the name of a refusal: the ordinals of the layer and the feature whose tags are at fault; how many
 -- steps, or commands of the open step, were taken before a request was stopped; nothing for another refusal
 abbrev pub behind_name : Refused → List ℕ
-behind_name (refused.Edit (edit.BadTags layer feature)) = codes " layer " ++ decimal layer ++ codes " feature " ++ decimal feature
+behind_name (refused.Edit (edit.BadTags layer feature)) = place_told layer feature
+behind_name (refused.Edit (edit.RepeatedKey layer feature)) = place_told layer feature
 behind_name (refused.History (history.Stopped taken)) = codes " taken " ++ decimal taken
 behind_name reason = []
 

@@ -94,7 +94,8 @@ fn write_end<W: Sink>(
         retries.old retries.new (behind_name reason ++ codes "\n") (trouble_of result) }
 {
     match reason {
-        Refused::Edit(Refusal::BadTags { layer, feature }) => {
+        Refused::Edit(Refusal::BadTags { layer, feature })
+        | Refused::Edit(Refusal::RepeatedKey { layer, feature }) => {
             write_place(replies, layer, feature, retries)
         }
         Refused::History(HistoryError::Stopped { taken }) => write_taken(replies, taken, retries),

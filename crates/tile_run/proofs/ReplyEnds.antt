@@ -100,12 +100,12 @@ ends_out_of_memory ends = ((ends.0 == 114) && (ends.1 == 121)) || ((ends.0 == 11
 abbrev ends_with_ok : ℕ × ℕ → Bool
 ends_with_ok ends = (ends.0 == 111) && (ends.1 == 107)
 
--- those behind the name of a refusal of tags
+-- those behind the name of a refusal of tags or of a repeated key
 place_last : (ends : ℕ × ℕ) (layer feature : ℕ) → last_two ends (codes " layer " ++ decimal layer ++ codes " feature " ++ decimal feature) ≡ (101, 32)
 place_last ends layer feature =
-    last_two-append ends (codes " layer ") (decimal layer ++ codes " feature " ++ decimal feature)
-    ∙ last_two-append (114, 32) (decimal layer) (codes " feature " ++ decimal feature)
-    ∙ last_two-append (last_two (114, 32) (decimal layer)) (codes " feature ") (decimal feature)
+    let front = codes " layer " ++ decimal layer in
+    last_two-append ends (front ++ codes " feature ") (decimal feature)
+    ∙ ap (λ (ends : ℕ × ℕ). last_two ends (decimal feature)) (last_two-append ends front (codes " feature "))
     ∙ last_two-decimal (101, 32) feature
 
 -- the reply to a refusal with the number of out of memory is the same for each; and the text tells whether memory was
@@ -133,6 +133,9 @@ tells_memory ends (refused.Edit edit.BadPlace) = record { alike = λ e line. abs
 tells_memory ends (refused.Edit edit.AmbiguousFeature) = record { alike = λ e line. absurd (omega arith); out_of_memory = refl; not_ok = refl }
 tells_memory ends (refused.Edit (edit.BadTags layer feature)) =
     let same = place_last (last_two ends (codes "BadTags")) layer feature in
+    record { alike = λ e line. absurd (omega arith); out_of_memory = ap ends_out_of_memory same; not_ok = ap ends_with_ok same }
+tells_memory ends (refused.Edit (edit.RepeatedKey layer feature)) =
+    let same = place_last (last_two ends (codes "RepeatedKey")) layer feature in
     record { alike = λ e line. absurd (omega arith); out_of_memory = ap ends_out_of_memory same; not_ok = ap ends_with_ok same }
 tells_memory ends (refused.Edit edit.NameTaken) = record { alike = λ e line. absurd (omega arith); out_of_memory = refl; not_ok = refl }
 tells_memory ends (refused.Edit edit.KeyTaken) = record { alike = λ e line. absurd (omega arith); out_of_memory = refl; not_ok = refl }

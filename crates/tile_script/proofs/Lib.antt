@@ -1,4 +1,5 @@
 pub mod Asking
 pub mod ParseRefusals
+mod SetRefusals
 pub mod Silent
 pub mod LongLines

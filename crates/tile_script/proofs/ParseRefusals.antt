@@ -6,12 +6,12 @@ use Rattle.std.specs.Map.{lookup}
 use Rattle.std.specs.Option.{option_map_or}
 use Rattle.std.specs.Str.{bytes_eq, is_utf8}
 use Rattle.tile_words.specs.Words.{Word, Bare, Quoted, words_of}
-use Rattle.tile_arguments.specs.Arguments.{text_of, texts_of, number_in, layer_of, layers_of, feature_of, geometry_of}
-use Rattle.tile_arguments.proofs.Refusals.{then_other, text_other, texts_other, number_in_other, layer_other, layers_other, feature_other, geometry_other}
+use Rattle.tile_arguments.specs.Arguments.{text_of, texts_of, number_in, layer_of, layers_of, feature_of, geometry_of, value_of}
+use Rattle.tile_arguments.proofs.Refusals.{then_other, text_other, texts_other, number_in_other, layer_other, layers_other, feature_other, geometry_other, value_other}
 use Rattle.mvt_command.specs.Requests.{HistoryRequest}
 use Rattle.tile_request.specs.Request.{Request, OnHistory}
 use Rattle.tile_script.specs.Line.{is_remark, requests_alone, requests_by_name, alone_of, name_of, list_of, requests, request_by, asked_by, request_in, answer_to}
-use Rattle.tile_script.specs.Commands.{chosen_of, two_texts_of, rename_layer_of, move_layer_of, drop_layer_of, keep_layers_of, insert_feature_of, move_feature_of, drop_feature_of, set_id_of, clear_id_of, unset_of, rename_key_of, exclude_of, exclude_all_of, commands, read_by, command_by}
+use Rattle.tile_script.specs.Commands.{chosen_of, two_texts_of, rename_layer_of, move_layer_of, drop_layer_of, keep_layers_of, insert_feature_of, move_feature_of, drop_feature_of, set_id_of, clear_id_of, set_of, unset_of, rename_key_of, exclude_of, exclude_all_of, commands, read_by, command_by}
 use Rattle.tile_words.specs.Answers.{◌>>=◌}
 use Rattle.tile_words.specs.declared.parse_error.ParseError.{ParseError}
 use Rattle.tile_words.specs.declared.parse_error.ParseError.TheVariants as parse
@@ -87,6 +87,17 @@ clear_id_other (layer ∷ []) = λ e. cc
 clear_id_other (layer ∷ feature ∷ []) = then_other (chosen_of layer feature) _ (chosen_other layer feature) (λ chosen. tt)
 clear_id_other (layer ∷ feature ∷ more ∷ others) = λ e. cc
 
+set_other : (arguments : List Word) → Other parse.NoMemory (set_of arguments)
+unfolding set_of
+set_other [] = λ e. cc
+set_other (layer ∷ []) = λ e. cc
+set_other (layer ∷ feature ∷ []) = λ e. cc
+set_other (layer ∷ feature ∷ key ∷ []) = λ e. cc
+set_other (layer ∷ feature ∷ key ∷ name ∷ []) = λ e. cc
+set_other (layer ∷ feature ∷ key ∷ name ∷ value ∷ []) =
+    then_other (chosen_of layer feature) _ (chosen_other layer feature) (λ chosen. then_other (text_of key) _ (text_other key) (λ text. then_other (value_of name value) _ (value_other name value) (λ said. tt)))
+set_other (layer ∷ feature ∷ key ∷ name ∷ value ∷ more ∷ others) = λ e. cc
+
 unset_other : (arguments : List Word) → Other parse.NoMemory (unset_of arguments)
 unfolding unset_of
 unset_other [] = λ e. cc
@@ -147,8 +158,11 @@ command_other name arguments = read_other commands (Err parse.UnknownCommand) na
                 (
                   clear_id_other arguments,
                   (
-                    unset_other arguments,
-                    (rename_key_other arguments, (exclude_other arguments, (exclude_all_other arguments, tt))),
+                    set_other arguments,
+                    (
+                      unset_other arguments,
+                      (rename_key_other arguments, (exclude_other arguments, (exclude_all_other arguments, tt))),
+                    ),
                   ),
                 ),
               ),

@@ -3,8 +3,8 @@ use Rattle.std.specs.Prelude.{ℕ, List, [], ◌∷◌, Result, Ok, Err, codes}
 use Rattle.std.specs.Map.{lookup}
 use Rattle.std.specs.Option.{option_map_or}
 use Rattle.std.specs.Str.{bytes_eq}
-use Rattle.mvt_command.specs.Command.{LayerChoice, FeatureChoice, Command, RenameLayer, MoveLayer, DropLayer, KeepLayers, InsertFeature, MoveFeature, DropFeature, SetId, ClearId, UnsetAttribute, RenameKey, Exclude, ExcludeAll}
-use Rattle.tile_arguments.specs.Arguments.{text_of, texts_of, number_in, layer_of, layers_of, feature_of, geometry_of}
+use Rattle.mvt_command.specs.Command.{LayerChoice, FeatureChoice, Command, RenameLayer, MoveLayer, DropLayer, KeepLayers, InsertFeature, MoveFeature, DropFeature, SetId, ClearId, SetAttribute, UnsetAttribute, RenameKey, Exclude, ExcludeAll}
+use Rattle.tile_arguments.specs.Arguments.{text_of, texts_of, number_in, layer_of, layers_of, feature_of, geometry_of, value_of}
 use Rattle.tile_words.specs.Words.{Word}
 use Rattle.tile_words.specs.Answers.{◌>>=◌}
 use Rattle.tile_words.specs.declared.parse_error.ParseError.{ParseError}
@@ -94,6 +94,16 @@ clear_id_of (layer ∷ feature ∷ []) = do
   Ok (ClearId chosen.0 chosen.1)
 clear_id_of words = Err BadArguments
 
+-- the value for a key of these arguments: a layer, a feature, a key as a text, and the value by the name of its type and
+-- a word; or the first refusal
+unfoldable pub set_of : List Word → Result Command ParseError
+set_of (layer ∷ feature ∷ key ∷ name ∷ value ∷ []) = do
+  chosen ← chosen_of layer feature
+  text ← text_of key
+  said ← value_of name value
+  Ok (SetAttribute chosen.0 chosen.1 text said)
+set_of words = Err BadArguments
+
 -- the removal of these arguments: a layer, a feature, and a key as a text; or the first refusal
 unfoldable pub unset_of : List Word → Result Command ParseError
 unset_of (layer ∷ feature ∷ key ∷ []) = do
@@ -137,6 +147,7 @@ commands =
     ∷ (codes "drop-feature", drop_feature_of)
     ∷ (codes "set-id", set_id_of)
     ∷ (codes "clear-id", clear_id_of)
+    ∷ (codes "set", set_of)
     ∷ (codes "unset", unset_of)
     ∷ (codes "rename-key", rename_key_of)
     ∷ (codes "exclude", exclude_of)

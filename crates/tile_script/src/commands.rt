@@ -3,7 +3,7 @@
 ghost use Rattle.std.specs.Prelude.{◌≤◌, length, map};
 ghost use Rattle.std.specs.Result.{IsErrOf};
 ghost use Rattle.mvt_command.specs.CommandStands.{command_of, layer_choice_of, feature_choice_of};
-ghost use Rattle.tile_script.specs.Commands.{chosen_of, two_texts_of, rename_layer_of, move_layer_of, drop_layer_of, keep_layers_of, insert_feature_of, move_feature_of, drop_feature_of, set_id_of, clear_id_of, unset_of, rename_key_of, exclude_of, exclude_all_of, command_by};
+ghost use Rattle.tile_script.specs.Commands.{chosen_of, two_texts_of, rename_layer_of, move_layer_of, drop_layer_of, keep_layers_of, insert_feature_of, move_feature_of, drop_feature_of, set_id_of, clear_id_of, set_of, unset_of, rename_key_of, exclude_of, exclude_all_of, command_by};
 ghost use Rattle.tile_words.specs.Answers.{Gives};
 ghost use Rattle.tile_words.specs.WordStands.{word_of};
 
@@ -11,8 +11,8 @@ use mvt_command::{Command, FeatureChoice, LayerChoice};
 use mvt_document::Items;
 use std::alloc::Global;
 use tile_arguments::{
-    feature_choice, layer_choice, layers_choice, new_geometry, number_argument, text_argument,
-    text_arguments,
+    feature_choice, layer_choice, layers_choice, new_geometry, new_value, number_argument,
+    text_argument, text_arguments,
 };
 use tile_words::{ParseError, Word};
 
@@ -44,6 +44,8 @@ pub(crate) fn command(
         set_id(alloc, arguments)
     } else if name == b"clear-id".as_slice() {
         clear_id(alloc, arguments)
+    } else if name == b"set".as_slice() {
+        set(alloc, arguments)
     } else if name == b"unset".as_slice() {
         unset(alloc, arguments)
     } else if name == b"rename-key".as_slice() {
@@ -180,6 +182,25 @@ fn clear_id(alloc: Global, arguments: &[Word<'_>]) -> Result<Command, ParseError
     };
     let (layer, feature) = chosen(alloc, *layer, *feature)?;
     Ok(Command::ClearId { layer, feature })
+}
+
+#[tactic(auto, unfolding(crate::specs::Commands::set_of))]
+fn set(alloc: Global, arguments: &[Word<'_>]) -> Result<Command, ParseError>
+    ensures answer { Gives command_of result (set_of (map word_of arguments.now)) }
+    ensures no_memory { IsErrOf result ParseError.NoMemory → 1 ≤ length arguments.now }
+{
+    let [layer, feature, key, name, value] = arguments else {
+        return Err(ParseError::BadArguments);
+    };
+    let (layer, feature) = chosen(alloc, *layer, *feature)?;
+    let key = text_argument(alloc, *key)?;
+    let value = new_value(alloc, *name, *value)?;
+    Ok(Command::SetAttribute {
+        layer,
+        feature,
+        key,
+        value,
+    })
 }
 
 #[tactic(auto, unfolding(crate::specs::Commands::unset_of))]
