@@ -19,7 +19,7 @@ use Rattle.mvt_meaning.specs.declared.refusal.Refusal.TheVariants.{BadTags, Repe
 use Rattle.mvt_edit_steps.specs.Decided.{field_fates}
 use Rattle.mvt_edit_steps.specs.Fates.{Splice, splices_of}
 use Rattle.mvt_edit_steps.proofs.CarriedOut.{AreThere, put_all, spliced_all, taken_all}
-use Rattle.mvt_edit_tags.specs.Attribute.{GivesAttribute, PutsPair, attribute_checked, valued}
+use Rattle.mvt_edit_tags.specs.Attribute.{GivesAttribute, PutsPair, attribute_checked}
 use Rattle.mvt_edit_tags.proofs.Deciding.{named_at}
 use Rattle.mvt_edit_tags.proofs.TagsLeft.{TagsLeft}
 use mathlib.Core.Path.{fun_ext}
@@ -38,26 +38,31 @@ pub record OnValues (key : List ℕ) (value : ℕ) (items : List LayerItem) (fie
   pub counted : n ≡ count (λ pair. is_key_at items key pair.0) pairs
   pub all : pairs_with key items fields ≡ n
 
-by_found : (key : List ℕ) (value : ℕ) (items : List LayerItem) (fields : List Field) (decisions : List (Option ℕ)) (n : ℕ) (found : Option (List (ℕ × ℕ))) → pairs_among items fields ≡ found → option_map (valued (is_key_at items key) value) found ≡ Some (decisions, n) → OnValues key value items fields decisions n
-by_found key value items fields decisions n None read is = absurd cc
-by_found key value items fields decisions n (Some pairs) read is =
-    let both : ◌≡◌ {A = List (Option ℕ) × ℕ} (revalued (is_key_at items key) value pairs, count (λ pair. is_key_at items key pair.0) pairs) (decisions, n) = cc in
-    let counted = ap (λ (at : List (Option ℕ) × ℕ). at.1) both in
+by_found : (key : List ℕ) (value : ℕ) (items : List LayerItem) (fields : List Field) (decisions : List (Option ℕ)) (n : ℕ) (found : Option (List (ℕ × ℕ))) → pairs_among items fields ≡ found → option_map (revalued (is_key_at items key) value) found ≡ Some decisions → option_map (count (λ pair. is_key_at items key pair.0)) found ≡ Some n → OnValues key value items fields decisions n
+by_found key value items fields decisions n None read is so_many = absurd cc
+by_found key value items fields decisions n (Some pairs) read is so_many =
+    let decided : revalued (is_key_at items key) value pairs ≡ decisions = cc in
+    let counted : count (λ pair. is_key_at items key pair.0) pairs ≡ n = cc in
     record {
       pairs = pairs;
       read = read;
-      decided = sym (ap (λ (at : List (Option ℕ) × ℕ). at.0) both);
+      decided = sym decided;
       counted = sym counted;
       all = ap (λ found. option_map_or (count (λ pair. is_key_at items key pair.0)) found 0) read ∙ counted;
     }
 
-pub on_values : (key : List ℕ) (layer : Layer) (feature seen : Feature) (key_count value_count : ℕ) (named : List Bool) (value : ℕ) (decisions : List (Option ℕ)) (n : ℕ) → named ≡ map (bytes_eq key) (keys layer) → key_count ≡ length (keys layer) → value_count ≡ length (values layer) → seen ≡ feature → option_map (valued (λ ordinal. unwrap_or (slice_get named ordinal) false) value) (plain_pairs (tag_pairs key_count value_count (numbers 2 seen.fields))) ≡ Some (decisions, n) → OnValues key value layer.items feature.fields decisions n
-on_values key layer feature seen key_count value_count named value decisions n is_named is_keys is_values is_seen is =
+pub on_values : (key : List ℕ) (layer : Layer) (feature : Feature) (key_count value_count : ℕ) (named : List Bool) (value : ℕ) (decisions : List (Option ℕ)) (n : ℕ) → named ≡ map (bytes_eq key) (keys layer) → key_count ≡ length (keys layer) → value_count ≡ length (values layer)
+    → option_map (revalued (λ ordinal. unwrap_or (slice_get named ordinal) false) value) (plain_pairs (tag_pairs key_count value_count (numbers 2 feature.fields))) ≡ Some decisions → option_map (count (λ pair. unwrap_or (slice_get named pair.0) false)) (plain_pairs (tag_pairs key_count value_count (numbers 2 feature.fields))) ≡ Some n
+    → OnValues key value layer.items feature.fields decisions n
+on_values key layer feature key_count value_count named value decisions n is_named is_keys is_values is so_many =
     let meant : ℕ → Bool = λ ordinal. unwrap_or (slice_get (map (bytes_eq key) (keys layer)) ordinal) false in
-    let of_feature = subst (λ (f : Feature). option_map (valued (λ ordinal. unwrap_or (slice_get named ordinal) false) value) (plain_pairs (tag_pairs key_count value_count (numbers 2 f.fields))) ≡ Some (decisions, n)) is_seen is in
-    let by_layer : option_map (valued meant value) (plain_pairs (tag_pairs (length (keys layer)) (length (values layer)) (numbers 2 feature.fields))) ≡ Some (decisions, n) = rw (is_named, is_keys, is_values) at of_feature in
-    by_found key value layer.items feature.fields decisions n (pairs_among layer.items feature.fields) refl
-    (ap (λ keys_meant. option_map (valued keys_meant value) (pairs_among layer.items feature.fields)) (sym (named_is key layer)) ∙ ap (option_map (valued meant value)) (sym (tags_are_pairs layer feature)) ∙ by_layer)
+    let found = pairs_among layer.items feature.fields in
+    let same = sym (named_is key layer) in
+    let decided : option_map (revalued meant value) (plain_pairs (tag_pairs (length (keys layer)) (length (values layer)) (numbers 2 feature.fields))) ≡ Some decisions = rw (is_named, is_keys, is_values) at is in
+    let counted : option_map (count (λ pair. meant pair.0)) (plain_pairs (tag_pairs (length (keys layer)) (length (values layer)) (numbers 2 feature.fields))) ≡ Some n = rw (is_named, is_keys, is_values) at so_many in
+    by_found key value layer.items feature.fields decisions n found refl
+    (ap (λ keys_meant. option_map (revalued keys_meant value) found) same ∙ ap (option_map (revalued meant value)) (sym (tags_are_pairs layer feature)) ∙ decided)
+    (ap (λ (keys_meant : ℕ → Bool). option_map (count (λ pair. keys_meant pair.0)) found) same ∙ ap (option_map (count (λ pair. meant pair.0))) (sym (tags_are_pairs layer feature)) ∙ counted)
 
 -- ---- what is refused
 

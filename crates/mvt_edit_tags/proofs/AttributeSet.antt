@@ -3,7 +3,6 @@ use Rattle.std.proofs.Common.{◌≡◌, ℕ, ◌+◌, ◌*◌, ◌<◌, ◌≤�
 use Rattle.std.proofs.lemmas.Bool.{cases_Bool}
 use Rattle.std.proofs.lemmas.List.{drop_all, length-map, take_all}
 use Rattle.std.proofs.lemmas.List.Concat.{flat_map-append}
-use Rattle.std.proofs.lemmas.List.Sums.{sum_by-append}
 use Rattle.std.specs.List.{AllByRecursion, cons_option, flat_map, list_any}
 use Rattle.std.specs.Option.{IfSome}
 use Rattle.std.specs.Str.{bytes_eq}
@@ -18,8 +17,7 @@ use Rattle.mvt_document.proofs.Spelling.{minimal_spelling}
 use Rattle.mvt_numbers.proofs.Decisions.{all_joined}
 use Rattle.mvt_value.specs.Messages.{encoded_value}
 use Rattle.mvt_value.specs.Values.{Value}
-use Rattle.mvt_change.specs.Changes.{Change, Fits, go, step_weight, turn, weight}
-use Rattle.mvt_change.proofs.Turning.{fits_joined, go_joined, turn_joined}
+use Rattle.mvt_change.specs.Changes.{Change}
 use Rattle.mvt_command.specs.Command.{FeatureChoice, LayerChoice, SetAttribute}
 use Rattle.mvt_view.specs.Views.{contents, key_field, plain_fields, value_field}
 use Rattle.mvt_meaning.specs.Fields.{new_content}
@@ -36,8 +34,9 @@ use Rattle.mvt_edit_steps.proofs.CarriedOut.{AreThere, put_all, spliced_all, tak
 use Rattle.mvt_edit_steps.proofs.Carrying.{carried, in_feature_at, in_layer_at, in_the_feature, in_the_layer, makes_alike}
 use Rattle.mvt_edit_steps.proofs.Heavy.{tag_and_content}
 use Rattle.mvt_edit_steps.proofs.ListPlaces.{of_the_layer}
+use Rattle.mvt_edit_tags.proofs.Come.{Leads, both_lead}
 use Rattle.mvt_edit_tags.specs.Attribute.{AreFound, GivesAttribute, attribute_checked, behind_all, bytes_put, entries_for, entry_unless}
-use Rattle.mvt_edit_tags.specs.declared.pools.Places.{Places}
+use Rattle.mvt_edit_tags.specs.declared.pools.Ordinals.{Ordinals}
 
 -- ---- the entries that a layer lacks
 
@@ -142,9 +141,9 @@ abbrev pub attributed_at : List ℕ → List ℕ → List LayerItem → ℕ → 
 attributed_at key value before item items = change_at (in_feature (with_attribute key value before)) item items ++ missing_entries key value before
 
 -- the entries that are put are those that the layer lacks
-pub entries_lacked : (key value : List ℕ) (layer : Layer) (places : Places) → AreFound key value layer places → entries_for key value places ≡ missing_entries key value layer.items
-entries_lacked key value layer places are =
-    ap (λ there. entry_unless there 26 key ++ entry_unless places.has_value 34 value) are.key_there
+pub entries_lacked : (key value : List ℕ) (layer : Layer) (ordinals : Ordinals) → AreFound key value layer ordinals → entries_for key value ordinals ≡ missing_entries key value layer.items
+entries_lacked key value layer ordinals are =
+    ap (λ there. entry_unless there 26 key ++ entry_unless ordinals.has_value 34 value) are.key_there
     ∙ ap (λ there. missing_entry 26 key (contents key_field (plain_fields layer.items)) ++ entry_unless there 34 value) are.value_there
 
 -- what comes first of two checks and of what follows
@@ -231,19 +230,24 @@ module _ (choice : LayerChoice) (key : List ℕ) (value : Value) (document : Doc
           let of_run = run_spliced key v layer.items found.fields run gives in
           let of_fields = in_the_feature position item in
           let a = carried of_fields document found.fields fields_at_there (cons_option run []) of_run.there of_run.valid in
-          let a_makes : go first document ≡ half = a.makes ∙ makes_alike of_fields document found.fields fields_at_there given (cons_option run []) of_run.leaves in
+          let to_half : Leads first document half (bytes_put run) (set_takes key v layer.items found.fields) = record {
+            fits = a.fits;
+            makes = a.makes ∙ makes_alike of_fields document found.fields fields_at_there given (cons_option run []) of_run.leaves;
+            puts_so = a.puts ∙ of_run.puts_so;
+            takes_so = a.takes ∙ of_run.takes_so;
+          } in
           let of_items = in_the_layer position in
           let changed_there : items_at position half ≡ Some changed = of_items.found (change_at (in_feature given) item) document ∙ ap (option_map (change_at (in_feature given) item)) (items_at_found document ordinal position layer placed there) in
           let of_entries = behind_spliced entries (length layer.items) changed (changed_long (in_feature given) item layer.items) in
           let b = carried of_items half changed changed_there splices of_entries.there (subst (AllByRecursion IsLayerItem) (sym of_entries.puts) (entries_valid key v layer.items)) in
-          let b_makes : go second half ≡ change_items whole position document = b.makes ∙ makes_alike of_items half changed changed_there (λ items. items ++ entries) splices of_entries.leaves ∙ (of_the_layer position).twice (change_at (in_feature given) item) (λ items. items ++ entries) document in
+          let to_made : Leads second half (change_items whole position document) (weigh layer_item_bytes entries) 0 = record {
+            fits = b.fits;
+            makes = b.makes ∙ makes_alike of_items half changed changed_there (λ items. items ++ entries) splices of_entries.leaves ∙ (of_the_layer position).twice (change_at (in_feature given) item) (λ items. items ++ entries) document;
+            puts_so = b.puts ∙ ap (λ list. length (flat_map layer_item_bytes list)) of_entries.puts;
+            takes_so = b.takes ∙ ap (λ list. length (flat_map layer_item_bytes list)) of_entries.takes;
+          } in
+          let both = both_lead first second document half (change_items whole position document) _ _ _ _ to_half to_made in
           let joined : change ≡ first ++ second = steps ∙ ap (λ more. first ++ more) (behind_steps position layer.items entries) in
-          let makes : go (first ++ second) document ≡ change_items whole position document = go_joined first second document ∙ ap (go second) a_makes ∙ b_makes in
-          let back = ap weight (turn_joined first second document) ∙ ap (λ d. weight (turn second d ++ turn first document)) a_makes in
-          let b_puts = b.puts ∙ ap (λ list. length (flat_map layer_item_bytes list)) of_entries.puts in
-          let b_takes = b.takes ∙ ap (λ list. length (flat_map layer_item_bytes list)) of_entries.takes in
-          let a_takes = a.takes ∙ of_run.takes_so in
-          let a_puts = a.puts ∙ of_run.puts_so in
           let takes = weight_here (set_takes key v) in
           let puts = weight_here (set_puts key v) in
           let given_puts = gives.puts in
@@ -252,9 +256,9 @@ module _ (choice : LayerChoice) (key : List ℕ) (value : Value) (document : Doc
           let heavy = entries_heavy key v layer.items in
           let means : applied (SetAttribute choice feature key value) document ≡ Ok (change_items whole position document) = limited ∙ rw fits refl in
           rw joined (record {
-            fits = fits_joined first second document a.fits (subst (Fits second) (sym a_makes) b.fits);
-            means = means ∙ ap Ok (sym makes);
-            puts = omega (arith, sum_by-append step_weight first second, a_puts, b_puts, given_puts, puts);
-            takes = omega (arith, back, sum_by-append step_weight (turn second half) (turn first document), a_takes, b_takes, takes);
+            fits = both.fits;
+            means = means ∙ ap Ok (sym both.makes);
+            puts = omega (arith, both.puts_so, given_puts, puts);
+            takes = omega (arith, both.takes_so, takes);
             steps = omega (arith, length-append first second, length-map (cons_option run []) (in_feature_at position item), length-map splices (in_layer_at position), few, few_entries, heavy, given_puts, puts);
           })

@@ -23,6 +23,24 @@ use Rattle.mvt_edit_steps.proofs.Carrying.{carried, in_feature_at, in_the_featur
 use Rattle.mvt_edit_steps.proofs.ListPlaces.{of_the_layer}
 use Rattle.mvt_edit_tags.specs.EachFeature.{layer_steps}
 
+-- the steps fit the document and make this of it; what they put has so many bytes, and what they take out so many
+pub record Leads (steps : Change) (document made : Document) (puts takes : ℕ) : Type 0 where
+  pub fits : Fits steps document
+  pub makes : go steps document ≡ made
+  pub puts_so : weight steps ≡ puts
+  pub takes_so : weight (turn steps document) ≡ takes
+
+-- of two changes one after the other
+pub both_lead : (first second : Change) (document half made : Document) (p q t u : ℕ) → Leads first document half p t → Leads second half made q u → Leads (first ++ second) document made (p + q) (t + u)
+both_lead first second document half made p q t u a b =
+    let back = ap weight (turn_joined first second document) ∙ ap (λ d. weight (turn second d ++ turn first document)) a.makes in
+    record {
+      fits = fits_joined first second document a.fits (subst (Fits second) (sym a.makes) b.fits);
+      makes = go_joined first second document ∙ ap (go second) a.makes ∙ b.makes;
+      puts_so = omega (arith, sum_by-append step_weight first second, a.puts_so, b.puts_so);
+      takes_so = omega (arith, back, sum_by-append step_weight (turn second half) (turn first document), a.takes_so, b.takes_so);
+    }
+
 -- the steps fit the document and make this of it; they put fields of so many bytes, and take out such, and they are at
 -- most half as many as these bytes together
 pub record Come (steps : Change) (document made : Document) (puts takes : List Field) : Type 0 where
@@ -40,12 +58,15 @@ none_come document = record { fits = tt; makes = refl; puts_so = refl; takes_so 
 
 pub both_come : (first second : Change) (document half made : Document) (p q t u : List Field) → Come first document half p t → Come second half made q u → Come (first ++ second) document made (p ++ q) (t ++ u)
 both_come first second document half made p q t u a b =
-    let back = ap weight (turn_joined first second document) ∙ ap (λ d. weight (turn second d ++ turn first document)) a.makes in
+    let both =
+    both_lead first second document half made _ _ _ _
+    (record { fits = a.fits; makes = a.makes; puts_so = a.puts_so; takes_so = a.takes_so })
+    (record { fits = b.fits; makes = b.makes; puts_so = b.puts_so; takes_so = b.takes_so }) in
     record {
-      fits = fits_joined first second document a.fits (subst (Fits second) (sym a.makes) b.fits);
-      makes = go_joined first second document ∙ ap (go second) a.makes ∙ b.makes;
-      puts_so = omega (arith, sum_by-append step_weight first second, a.puts_so, b.puts_so, weighs_both p q);
-      takes_so = omega (arith, back, sum_by-append step_weight (turn second half) (turn first document), a.takes_so, b.takes_so, weighs_both t u);
+      fits = both.fits;
+      makes = both.makes;
+      puts_so = both.puts_so ∙ sym (weighs_both p q);
+      takes_so = omega (arith, both.takes_so, weighs_both t u);
       few_so = omega (arith, length-append first second, a.few_so, b.few_so, weighs_both p q, weighs_both t u);
     }
 

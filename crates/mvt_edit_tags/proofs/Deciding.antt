@@ -1,5 +1,5 @@
 -- The decisions on the numbers of pairs, one pair after the other; and the keys of a layer that have some bytes.
-use Rattle.std.proofs.Common.{◌≡◌, ℕ, zero, suc, Bool, true, false, ◌||◌, cond, Option, Some, None, List, [], ◌∷◌, ◌++◌, is_some, length, map, option_map, slice_get, append_assoc, refl, sym, ap, ◌∙◌, inl, inr}
+use Rattle.std.proofs.Common.{◌≡◌, ℕ, zero, suc, Bool, true, false, ◌||◌, cond, Option, Some, None, List, [], ◌∷◌, ◌++◌, is_some, length, map, option_map, slice_get, append_assoc, refl, sym, ap, ◌∙◌, inl, inr, ◌+◌, filter, arith}
 use Rattle.std.proofs.lemmas.Bool.{cases_Bool}
 use Rattle.std.specs.List.{cons_option, list_any}
 use Rattle.std.specs.Option.{option_map_or, unwrap_or}
@@ -9,20 +9,51 @@ use Rattle.mvt_numbers.specs.Numbers.{and_more, numbers}
 use Rattle.mvt_view.specs.Tags.{plain_pairs, tag_pairs}
 use Rattle.mvt_view.specs.Views.{content_in, contents, key_field, keys, plain_fields, values}
 use Rattle.mvt_view.proofs.Pairing.{tags_are_pairs}
+use Rattle.mvt_meaning.specs.Ordinals.{count}
 use Rattle.mvt_meaning.specs.Tagging.{is_key, is_key_at, pairs_among, removals, without_pairs}
+use Rattle.mvt_edit_tags.specs.Decided.{pair_decided, pairs_decided}
 
--- two decisions more
-pub decided_more : (goes : ℕ → Bool) (front : List (Option ℕ)) (pair : ℕ × ℕ) (rest : Option (List (ℕ × ℕ))) → option_map (λ more. front ++ without_pairs goes more) (and_more pair rest) ≡ option_map (λ more. (front ++ without_pairs goes (pair ∷ [])) ++ without_pairs goes more) rest
-decided_more goes front pair None = refl
-decided_more goes front pair (Some more) =
-    elim (cases_Bool (goes pair.0)) [
-      | inl gone ↦ rw gone (ap Some (sym (append_assoc front (None ∷ None ∷ []) (without_pairs goes more))))
-      | inr stays ↦ rw stays (ap Some (sym (append_assoc front (Some pair.0 ∷ Some pair.1 ∷ []) (without_pairs goes more))))
-    ]
+pub counted_first : {A : Type 0} (test : A → Bool) (x : A) (xs : List A) → length (filter test (x ∷ xs)) ≡ cond (test x) 1 0 + length (filter test xs)
+counted_first test x xs = elim (cases_Bool (test x)) [ inl pass ↦ rw pass (omega arith) | inr skip ↦ rw skip (omega arith) ]
 
-pub decided_none : (goes : ℕ → Bool) (rest : Option (List (ℕ × ℕ))) → option_map (λ more. [] ++ without_pairs goes more) rest ≡ option_map (without_pairs goes) rest
-decided_none goes None = refl
-decided_none goes (Some more) = refl
+-- ---- one pair more
+
+pub first_decided : (meant : ℕ → Bool) (to : Option ℕ) (pair : ℕ × ℕ) (more : List (ℕ × ℕ)) → pairs_decided meant to (pair ∷ more) ≡ (pair_decided (meant pair.0) to pair).0 ∷ (pair_decided (meant pair.0) to pair).1 ∷ pairs_decided meant to more
+first_decided meant None pair more = elim (cases_Bool (meant pair.0)) [ inl gone ↦ rw gone refl | inr stays ↦ rw stays refl ]
+first_decided meant (Some value) pair more = elim (cases_Bool (meant pair.0)) [ inl is ↦ rw is refl | inr stays ↦ rw stays refl ]
+
+none_decided : (meant : ℕ → Bool) (to : Option ℕ) → pairs_decided meant to [] ≡ []
+none_decided meant None = refl
+none_decided meant (Some value) = refl
+
+module _ (meant : ℕ → Bool) (to : Option ℕ) where
+  -- behind what is decided so far, of which so many pairs are meant
+  abbrev pub decided_behind : List (Option ℕ) → List (ℕ × ℕ) → List (Option ℕ)
+  decided_behind front pairs = front ++ pairs_decided meant to pairs
+
+  abbrev pub counted_behind : ℕ → List (ℕ × ℕ) → ℕ
+  counted_behind n pairs = n + count (λ pair. meant pair.0) pairs
+
+  pub decided_more : (front : List (Option ℕ)) (pair : ℕ × ℕ) (rest : Option (List (ℕ × ℕ))) → option_map (decided_behind front) (and_more pair rest) ≡ option_map (decided_behind (front ++ (pair_decided (meant pair.0) to pair).0 ∷ (pair_decided (meant pair.0) to pair).1 ∷ [])) rest
+  decided_more front pair None = refl
+  decided_more front pair (Some more) =
+      let two = pair_decided (meant pair.0) to pair in
+      ap (λ all. Some (front ++ all)) (first_decided meant to pair more) ∙ ap Some (sym (append_assoc front (two.0 ∷ two.1 ∷ []) (pairs_decided meant to more)))
+
+  pub decided_none : (rest : Option (List (ℕ × ℕ))) → option_map (decided_behind []) rest ≡ option_map (pairs_decided meant to) rest
+  decided_none None = refl
+  decided_none (Some more) = refl
+
+  pub counted_more : (n : ℕ) (pair : ℕ × ℕ) (rest : Option (List (ℕ × ℕ))) → option_map (counted_behind n) (and_more pair rest) ≡ option_map (counted_behind (n + cond (meant pair.0) 1 0)) rest
+  counted_more n pair None = refl
+  counted_more n pair (Some more) =
+      let first = counted_first (λ (pair : ℕ × ℕ). meant pair.0) pair more in
+      let same : n + count (λ pair. meant pair.0) (pair ∷ more) ≡ n + cond (meant pair.0) 1 0 + count (λ pair. meant pair.0) more = omega (arith, first) in
+      ap Some same
+
+  pub counted_none : (rest : Option (List (ℕ × ℕ))) → option_map (counted_behind 0) rest ≡ option_map (count (λ pair. meant pair.0)) rest
+  counted_none None = refl
+  counted_none (Some more) = let same : 0 + count (λ pair. meant pair.0) more ≡ count (λ pair. meant pair.0) more = omega arith in ap Some same
 
 -- ---- keys that have these bytes
 
@@ -85,13 +116,3 @@ has_named key [] = refl
 has_named key (OfFeature feature ∷ items) = has_named key items
 has_named key (PlainInLayer field ∷ items) =
     any_key key (content_in key_field field) (contents key_field (plain_fields items)) ∙ ap (λ more. option_map_or (bytes_eq key) (content_in key_field field) false || more) (has_named key items)
-
--- the decisions on the two numbers of a pair, one put behind the other
-pub two_pushed : (goes : ℕ → Bool) (front : List (Option ℕ)) (pair : ℕ × ℕ) (half whole : List (Option ℕ)) (first second : Option ℕ) {gone : Bool} → half ≡ front ++ first ∷ [] → whole ≡ half ++ second ∷ [] → gone ≡ goes pair.0 → first ≡ cond gone None (Some pair.0) → second ≡ cond gone None (Some pair.1) → whole ≡ front ++ without_pairs goes (pair ∷ [])
-two_pushed goes front pair half whole first second is_half is_whole is_gone is_first is_second =
-    is_whole ∙ ap (λ list. list ++ second ∷ []) is_half ∙ append_assoc front (first ∷ []) (second ∷ [])
-    ∙ ap (λ list. front ++ list) (
-    elim (cases_Bool (goes pair.0)) [
-      | inl gone ↦ rw gone (ap (λ x. x ∷ second ∷ []) (is_first ∙ ap (λ b. cond b None (Some pair.0)) (is_gone ∙ gone)) ∙ ap (λ x. None ∷ x ∷ []) (is_second ∙ ap (λ b. cond b None (Some pair.1)) (is_gone ∙ gone)))
-      | inr stays ↦ rw stays (ap (λ x. x ∷ second ∷ []) (is_first ∙ ap (λ b. cond b None (Some pair.0)) (is_gone ∙ stays)) ∙ ap (λ x. Some pair.0 ∷ x ∷ []) (is_second ∙ ap (λ b. cond b None (Some pair.1)) (is_gone ∙ stays)))
-    ])

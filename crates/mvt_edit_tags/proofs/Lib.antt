@@ -12,6 +12,5 @@ pub mod Excluded
 mod EntryOrdinals
 mod OneDiffers
 mod PairPut
-mod Valuing
 mod AttributeGiven
 mod AttributeSet

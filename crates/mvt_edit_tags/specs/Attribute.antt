@@ -12,15 +12,14 @@ use Rattle.mvt_change.specs.Changes.{Change, LayerStep}
 use Rattle.mvt_view.specs.Views.{keys, values}
 use Rattle.mvt_meaning.specs.Fields.{new_content}
 use Rattle.mvt_meaning.specs.Meaning.{◌>>=◌, refuse_if}
-use Rattle.mvt_meaning.specs.Ordinals.{count}
-use Rattle.mvt_meaning.specs.Tagging.{is_packed_last, key_ordinal, is_tags, missing_entries, pairs_among, pairs_with, revalued, value_ordinal, with_attribute, with_more_tags}
+use Rattle.mvt_meaning.specs.Tagging.{is_packed_last, key_ordinal, is_tags, missing_entries, pairs_among, pairs_with, value_ordinal, with_attribute, with_more_tags}
 use Rattle.mvt_meaning.specs.Weights.{set_puts, set_takes, weigh, weigh_last}
 use Rattle.mvt_meaning.specs.declared.refusal.Refusal.{Refusal}
 use Rattle.mvt_meaning.specs.declared.refusal.Refusal.TheVariants.{BadTags, RepeatedKey}
 use Rattle.mvt_edit_steps.specs.Fates.{Splice}
 use Rattle.mvt_numbers.specs.declared.fate.Fate.{Fate}
 use Rattle.mvt_numbers.specs.declared.fate.Fate.TheVariants.{Stays, Goes, Becomes}
-use Rattle.mvt_edit_tags.specs.declared.pools.Places.{Places}
+use Rattle.mvt_edit_tags.specs.declared.pools.Ordinals.{Ordinals}
 
 -- ---- a run of fields, where they change
 
@@ -61,12 +60,7 @@ pub record GivesAttribute (key value : List ℕ) (items : List LayerItem) (field
   pub takes : bytes_taken fields run ≡ set_takes key value items fields
   pub puts : weigh layer_item_bytes (missing_entries key value items) + bytes_put run ≡ set_puts key value items fields
 
--- ---- the pairs of a feature
-
--- what is decided on each number of these pairs, where the pairs of the keys that are meant get a value, and how many
--- these are (tiles 4.4)
-abbrev pub valued : (ℕ → Bool) → ℕ → List (ℕ × ℕ) → List (Option ℕ) × ℕ
-valued meant value pairs = (revalued meant value pairs, count (λ pair. meant pair.0) pairs)
+-- ---- what is refused of a feature
 
 -- nothing, where the tags of a feature of these fields make pairs of which at most one has the key, in a layer of these
 -- items; else the refusal, with the ordinals of both (tiles 4.4)
@@ -77,19 +71,19 @@ attribute_checked key ordinal feature items fields =
 -- ---- the entries of a layer
 
 -- the ordinals of the key and of the value are told, and whether the layer has them (tiles 4.1, 4.4)
-pub record AreFound (key value : List ℕ) (layer : Layer) (places : Places) : Type 0 where
-  pub key_at : places.key ≡ key_ordinal key layer.items
-  pub key_there : places.has_key ≡ list_any (bytes_eq key) (keys layer)
-  pub value_at : places.value ≡ value_ordinal value layer.items
-  pub value_there : places.has_value ≡ list_any (bytes_eq value) (values layer)
+pub record AreFound (key value : List ℕ) (layer : Layer) (ordinals : Ordinals) : Type 0 where
+  pub key_at : ordinals.key ≡ key_ordinal key layer.items
+  pub key_there : ordinals.has_key ≡ list_any (bytes_eq key) (keys layer)
+  pub value_at : ordinals.value ≡ value_ordinal value layer.items
+  pub value_there : ordinals.has_value ≡ list_any (bytes_eq value) (values layer)
 
 -- a new entry of these bytes, behind this tag, unless there is one (tiles 4.1)
 abbrev pub entry_unless : Bool → ℕ → List ℕ → List LayerItem
 entry_unless there tag bytes = if there then [] else PlainInLayer (new_content tag bytes) ∷ []
 
 -- the entries of the key and of the value that the layer lacks, as it is told (tiles 4.1)
-abbrev pub entries_for : List ℕ → List ℕ → Places → List LayerItem
-entries_for key value places = entry_unless places.has_key 26 key ++ entry_unless places.has_value 34 value
+abbrev pub entries_for : List ℕ → List ℕ → Ordinals → List LayerItem
+entries_for key value ordinals = entry_unless ordinals.has_key 26 key ++ entry_unless ordinals.has_value 34 value
 
 -- the step that puts these items, where there are any, behind all items of the layer at this position of the tile
 abbrev pub behind_all : ℕ → List LayerItem → List LayerItem → Change

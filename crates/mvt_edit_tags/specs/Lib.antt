@@ -1,3 +1,4 @@
 pub mod Attribute
+pub mod Decided
 pub mod EachFeature
 pub mod KeyFates

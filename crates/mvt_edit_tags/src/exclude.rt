@@ -57,7 +57,14 @@ fn exclude_from(
     let named = named_keys(alloc, layer, key)?;
     let sizes = layer.pool_sizes();
     for feature in layer.features() {
-        decide_or_refuse(found.ordinal, feature, sizes, named.as_slice(), decisions)?;
+        decide_or_refuse(
+            found.ordinal,
+            feature,
+            sizes,
+            named.as_slice(),
+            None,
+            decisions,
+        )?;
         if is_any_gone(decisions.as_slice()) {
             renumber_tags(alloc, found.position, feature, decisions.as_slice(), steps)?;
         }

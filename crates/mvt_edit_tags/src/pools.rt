@@ -23,7 +23,7 @@ const VALUE_TAG: u64 = 8 * VALUES + LEN;
 /// The ordinals of a key and of a value in a layer, those that further entries have where it lacks
 /// them, and whether it has them.
 #[derive(Clone, Copy, Debug)]
-pub(crate) struct Places {
+pub(crate) struct Ordinals {
     pub(crate) key: u64,
     pub(crate) has_key: bool,
     pub(crate) value: u64,
@@ -31,14 +31,14 @@ pub(crate) struct Places {
 }
 
 /// Looks for the first entries that are this key and this value.
-pub(crate) fn look_for(layer: LayerView<'_>, sizes: PoolSizes, key: &[u8], value: &[u8]) -> Places
+pub(crate) fn look_for(layer: LayerView<'_>, sizes: PoolSizes, key: &[u8], value: &[u8]) -> Ordinals
     requires keys { sizes.keys ≡ length (keys (layer_seen layer)) }
     requires values { sizes.values ≡ length (values (layer_seen layer)) }
     ensures { AreFound key.now value.now (layer_seen layer.entry) result }
 {
     let first_key = layer.first_key(key);
     let first_value = layer.first_value(value);
-    Places {
+    Ordinals {
         key: ordinal_of(first_key, sizes.keys),
         has_key: first_key.is_some(),
         value: ordinal_of(first_value, sizes.values),
@@ -59,18 +59,18 @@ fn ordinal_of(entry: Option<FoundEntry<'_>>, count: usize) -> u64
 /// The entries of the key and of the value, those of them that the layer lacks.
 pub(crate) fn missing_entries(
     alloc: Global,
-    places: Places,
+    ordinals: Ordinals,
     key: &[u8],
     value: Items<u8>,
 ) -> Result<Vec<LayerItem>, AllocError>
-    ensures { IfOk result (λ entries. map layer_item_of entries.items ≡ entries_for key.now value.items places) }
+    ensures { IfOk result (λ entries. map layer_item_of entries.items ≡ entries_for key.now value.items ordinals) }
 {
     let mut entries = Vec::new(alloc);
-    if !places.has_key {
+    if !ordinals.has_key {
         let key = Items::from_vec(Vec::from_slice(alloc, key)?);
         entries.push(entry(KEY_TAG, key))?;
     }
-    if !places.has_value {
+    if !ordinals.has_value {
         entries.push(entry(VALUE_TAG, value))?;
     }
     Ok(entries)

@@ -14,8 +14,8 @@ ghost use Rattle.mvt_edit_steps.specs.Fates.{seen, splice_of};
 ghost use Rattle.mvt_edit_steps.specs.Prepared.{Prepares};
 ghost use Rattle.mvt_edit_tags.specs.Attribute.{AreFound, GivesAttribute, attribute_checked, behind_all};
 
-use crate::decide::{decide_values, named_keys};
-use crate::pools::{Places, look_for, missing_entries};
+use crate::decide::{decide_or_refuse, named_keys};
+use crate::pools::{Ordinals, look_for, missing_entries};
 use crate::tags_run::{and_pair, first_renumbered, size_with};
 use mvt_change::{Change, Step, fits_with_items, size_with_fields};
 use mvt_document::{Document, Field, Items, LayerItem, MAX_FILE, size_of_all};
@@ -24,7 +24,7 @@ use mvt_select::{
     FeatureChoice, FoundFeature, FoundLayer, LayerChoice, Refusal, find_feature, find_layer,
 };
 use mvt_value::{NewValue, encode_value};
-use mvt_view::{PairsError, PoolSizes};
+use mvt_view::PoolSizes;
 use std::alloc::{AllocError, Global};
 
 /// The feature's one pair of the key gets the value, or a further pair comes where there is none.
@@ -43,16 +43,16 @@ pub fn set_attribute(
     let found = find_feature(holder.layer, feature)?;
     let value = encode_value(alloc, value)?;
     let sizes = holder.view().pool_sizes();
-    let places = look_for(holder.view(), sizes, key, value.as_slice());
-    let run = run_of_tags(alloc, holder, found, key, sizes, places)?;
-    let entries = missing_entries(alloc, places, key, value)?;
+    let ordinals = look_for(holder.view(), sizes, key, value.as_slice());
+    let run = run_of_tags(alloc, holder, found, key, sizes, ordinals)?;
+    let entries = missing_entries(alloc, ordinals, key, value)?;
     let fields = size_with(found.feature.fields.as_slice(), &run);
     let behind = size_of_all(entries.as_slice(), MAX_FILE);
     let items = size_with_fields(holder.layer, found.position, fields, behind);
     if !fits_with_items(document, holder.position, items) {
         return Err(Refusal::TooLarge);
     }
-    Ok(change_of(alloc, holder, found.position, run, entries)?)
+    Ok(steps_of(alloc, holder, found.position, run, entries)?)
 }
 
 /// What becomes of the fields of the feature. It is refused where its tags make no pairs, and where
@@ -63,11 +63,11 @@ fn run_of_tags(
     found: FoundFeature<'_>,
     key: &[u8],
     sizes: PoolSizes,
-    places: Places,
+    ordinals: Ordinals,
 ) -> Result<Option<Run<Field>>, Refusal>
     requires keys { sizes.keys ≡ length (keys (layer_of holder.layer.now)) }
     requires values { sizes.values ≡ length (values (layer_of holder.layer.now)) }
-    ensures gives { (value : List ℕ) → AreFound key.now value (layer_of holder.entry.layer.now) places →
+    ensures gives { (value : List ℕ) → AreFound key.now value (layer_of holder.entry.layer.now) ordinals →
         IfOk result (λ run. GivesAttribute key.now value (layer_of holder.entry.layer.now).items (feature_of found.entry.feature.now).fields (option_map (λ run. seen field_of (splice_of run)) run)) }
     ensures checked { IfOk result (λ run. attribute_checked key.now holder.entry.ordinal found.entry.ordinal (layer_of holder.entry.layer.now).items (feature_of found.entry.feature.now).fields ≡ Ok tt) }
     ensures refused { IfErr result (λ refusal. (refusal ≡ NoMemory)
@@ -75,27 +75,28 @@ fn run_of_tags(
 {
     let named = named_keys(alloc, holder.view(), key)?;
     let mut decisions = Vec::new(alloc);
-    let decided = decide_values(
-        found.view(),
+    let count = decide_or_refuse(
+        holder.ordinal,
+        found,
         sizes,
         named.as_slice(),
-        places.value,
+        Some(ordinals.value),
         &mut decisions,
-    );
-    let (layer, feature) = (holder.ordinal, found.ordinal);
+    )?;
     let fields = found.feature.fields.as_slice();
-    match decided {
-        Ok(0) => Ok(Some(and_pair(alloc, fields, places.key, places.value)?)),
-        Ok(1) => Ok(first_renumbered(alloc, fields, decisions.as_slice())?),
-        Ok(_) => Err(Refusal::RepeatedKey { layer, feature }),
-        Err(PairsError::BadTags) => Err(Refusal::BadTags { layer, feature }),
-        Err(PairsError::NoMemory) => Err(Refusal::NoMemory),
+    match count {
+        0 => Ok(Some(and_pair(alloc, fields, ordinals.key, ordinals.value)?)),
+        1 => Ok(first_renumbered(alloc, fields, decisions.as_slice())?),
+        _ => Err(Refusal::RepeatedKey {
+            layer: holder.ordinal,
+            feature: found.ordinal,
+        }),
     }
 }
 
 /// The change of the run on the fields of the feature at this position of the layer, and of the
 /// entries at the layer's end, where there are any.
-fn change_of(
+fn steps_of(
     alloc: Global,
     holder: FoundLayer<'_>,
     item: usize,

@@ -42,6 +42,7 @@ pub fn unset(
         found,
         layer.pool_sizes(),
         named.as_slice(),
+        None,
         &mut decisions,
     )?;
     let mut steps = Vec::new(alloc);
