@@ -43,7 +43,7 @@ def targets(results, lists, kept):
         (f"{large.tile.name}, {JOB}: time to protobuf's", time_to(large, "protobuf"), 0.3),
         (f"{large.tile.name}, {KEPT}: time to protozero's", time_to(of_job(results, large.tile, KEPT), "protozero"), 1.1),
         (f"{kept.tile.name}, one kind kept, and undone: time to that of an empty script", kept.ratio, 2.5),
-        (f"{large.tile.name}, in any job: peak memory to the tile", highest_peak(results, large.tile), 3.7),
+        (f"{large.tile.name}, in any job but {UNTAGGED}: peak memory to the tile", highest_peak(results, large.tile), 3.7),
         *((f"{result.tile.name}, {MANY}: time to protozero's", time_to(result, "protozero"), 2.5)
           for result in results if result.job == MANY and result.tile in [small.tile, *real(results)]),
         (f"{small.tile.name}, {ATTRIBUTES}: time to protozero's", time_to(of_job(results, small.tile, ATTRIBUTES), "protozero"), 3),
@@ -58,6 +58,8 @@ def targets(results, lists, kept):
         (f"{large.tile.name}, {EXCLUDED}: time to protozero's",
          time_to(of_job(results, large.tile, EXCLUDED), "protozero"), 1.2),
         (f"{fewer.tile.name} to {most.tile.name}, {EXCLUDED}: exponent of time", exponent(fewer, most, OURS, time), 1 + NOISE),
+        (f"{large.tile.name}, {UNTAGGED}: memory to that of an {EMPTY}",
+         divided(of_job(results, large.tile, UNTAGGED).figure(OURS, peak), of_job(results, large.tile, EMPTY).figure(OURS, peak)), 1.6),
         (f"{most.tile.name}, {EXCLUDED}: memory to that of an {EMPTY}",
          divided(most.figure(OURS, peak), of_job(results, most.tile, EMPTY).figure(OURS, peak)), 1.6),
     ]
@@ -83,8 +85,9 @@ def time_to(result, peer):
 
 
 def highest_peak(results, tile):
-    """None where a job was not done."""
-    multiples = [divided(result.figure(OURS, peak), tile.size) for result in results if result.tile == tile]
+    """That of all jobs but the one whose change holds a field of each feature. None where a job was not done."""
+    multiples = [divided(result.figure(OURS, peak), tile.size)
+                 for result in results if result.tile == tile and result.job != UNTAGGED]
     return None if None in multiples else max(multiples)
 
 
