@@ -51,7 +51,7 @@ def targets(results, lists, kept):
          exponent(small, large, OURS, time), 1 + NOISE),
         *((f"{each.tile.name}, its largest layer listed: time to that of reading", each.ratio, 2)
           for each in lists if each.tile == large.tile),
-        (f"{crumbs.name}, in any job: peak memory to the tile", highest_peak(results, crumbs), 31),
+        (f"{crumbs.name}, in any job but {UNTAGGED}: peak memory to the tile", highest_peak(results, crumbs), 31),
         (f"{few.tile.name} to {many.tile.name}, {UNTAGGED}: exponent of time", exponent(few, many, OURS, time), 1 + SLOWER),
         (f"{large.tile.name}, {UNTAGGED}: time to protozero's",
          time_to(of_job(results, large.tile, UNTAGGED), "protozero"), 1.2),
