@@ -11,6 +11,7 @@ pub mod Selecting
 pub mod SelectionLemmas
 pub mod Removals
 pub mod Replacements
+pub mod Moving
 pub mod Lengths
 pub mod Elements
 pub mod Documents
