@@ -1,15 +1,14 @@
 -- An accepted command makes a document of a document.
-use Rattle.std.proofs.Common.{◌≡◌, ℕ, ◌^◌, ◌<◌, ◌≤◌, true, ◌&&◌, not, cond, ltb, ◌==◌, is_some, Option, Some, IfOk, Err, Ok, List, [], ◌∷◌, ◌++◌, length, filter, slice_get, refl, ap, ◌∙◌, subst, arith}
+use Rattle.std.proofs.Common.{◌≡◌, ℕ, ◌^◌, ◌<◌, ◌≤◌, true, ◌&&◌, not, cond, ltb, ◌==◌, is_some, Some, IfOk, Err, Ok, List, [], ◌∷◌, ◌++◌, length, filter, slice_get, refl, subst, arith}
 use Rattle.std.specs.List.{AllByRecursion, flat_map, list_any}
-use Rattle.std.specs.Option.{option_and_then, option_map_or}
 use Rattle.std.specs.Str.{bytes_eq}
 use Rattle.std.proofs.lemmas.Bool.{cond_both, ltb-false, not-false}
 use Rattle.mvt_document.specs.declared.TheConstants.{MAX_FILE}
-use Rattle.mvt_document.specs.Plain.{Number, Body, Spelled, Eight, Four, Delimited, Group, Field, LayerItem, OfFeature, PlainInLayer, Layer, TileItem, OfLayer, PlainInTile, Document}
+use Rattle.mvt_document.specs.Plain.{Number, Body, Spelled, Eight, Four, Delimited, Group, Field, LayerItem, OfFeature, PlainInLayer, TileItem, OfLayer, PlainInTile, Document}
 use Rattle.mvt_document.specs.Opens.{IsField, IsLayerItem, IsTileItem, IsDocument}
 use Rattle.mvt_document.specs.Groups.{IsNumber}
 use Rattle.mvt_document.specs.Shape.{IsTag}
-use Rattle.mvt_document.specs.Places.{fields_in, in_feature, in_layer}
+use Rattle.mvt_document.specs.Places.{in_feature, in_layer}
 use Rattle.mvt_document.specs.Wire.{bytes_of, layer_item_bytes, minimal, tile_item_bytes}
 use Rattle.mvt_document.proofs.Sizes.{length-message}
 use Rattle.mvt_document.proofs.Spelling.{minimal_spelling}
@@ -19,7 +18,7 @@ use Rattle.mvt_geometry.specs.declared.Kind.{Kind}
 use Rattle.mvt_geometry.specs.declared.Kind.TheVariants.{Dots, Lines, Areas}
 use Rattle.mvt_geometry.specs.Integers.{encoded}
 use Rattle.mvt_command.specs.Command.{LayersChoice, TheLayer, EachLayer, Command, IsCommand, RenameLayer, MoveLayer, DropLayer, KeepLayers, InsertFeature, MoveFeature, DropFeature, SetId, ClearId, SetAttribute, UnsetAttribute, RenameKey, Exclude, ExcludeAll, Shift, SetGeometry}
-use Rattle.mvt_view.specs.Views.{contents, key_field, layer_in, layers, plain_fields, value_field}
+use Rattle.mvt_view.specs.Views.{contents, key_field, layers, plain_fields, value_field}
 use Rattle.mvt_meaning.specs.Ordinals.{change_last, change_nth, without, move_nth, insert_nth}
 use Rattle.mvt_meaning.specs.Selection.{is_feature, is_layer, selected, selected_in, selected_layers}
 use Rattle.mvt_meaning.specs.Geometries.{can_move, geometry_among, is_geometry_field, is_kind, shifted, with_geometry, with_kind}
@@ -33,7 +32,7 @@ use Rattle.mvt_numbers.proofs.Decisions.{all_joined}
 use Rattle.mvt_numbers.proofs.Redone.{stays_valid}
 use Rattle.mvt_meaning.proofs.Accepted.{not_refused, ok_so, then_given, then_so}
 use Rattle.mvt_meaning.proofs.Elements.{all_changed, all_changed_at, all_changed_within, all_filtered, all_inserted, all_last, all_mapped, all_moved, all_pushed, all_put, all_put_once, all_without}
-use Rattle.mvt_meaning.proofs.Found.{picked_at}
+use Rattle.mvt_meaning.proofs.Found.{fields_of_nth, items_of_nth}
 use Rattle.mvt_meaning.proofs.Moving.{shifted_valid}
 use Rattle.mvt_meaning.proofs.Removals.{removals_short}
 use Rattle.mvt_meaning.proofs.Replacements.{replacements_short, value_short}
@@ -135,15 +134,13 @@ module _ (change : List Field → List Field) (ordinal feature : ℕ) (document 
   feature_at : (items : List LayerItem) → items_of ordinal document ≡ items → (item : LayerItem) → slice_get (filter is_feature items) feature ≡ Some item → IsLayerItem item → IsLayerItem (in_feature change item)
   feature_at items is (PlainInLayer field) there valid = valid
   feature_at items is (OfFeature found) there valid =
-      let in_item : Option LayerItem → List Field = λ item. option_map_or (λ item. option_map_or (λ (fields : List Field). fields) (fields_in item) []) item [] in
-      let same : fields_of ordinal feature document ≡ found.fields = ap (λ (items : List LayerItem). in_item (slice_get (filter is_feature items) feature)) is ∙ ap in_item there in
+      let same = fields_of_nth document ordinal feature items found is there in
       record { number = valid.number; tag = valid.tag; width = valid.width; fields = keeps found.fields same valid.fields }
 
   layer_at : (item : TileItem) → slice_get (filter is_layer document) ordinal ≡ Some item → IsTileItem item → IsTileItem (in_layer (change_nth is_feature (in_feature change) feature) item)
   layer_at (PlainInTile field) there valid = valid
   layer_at (OfLayer layer) there valid =
-      let same : items_of ordinal document ≡ layer.items =
-      ap (λ found. option_map_or (λ (layer : Layer). layer.items) found []) (picked_at layer_in document ordinal ∙ ap (option_and_then layer_in) there) in
+      let same = items_of_nth document ordinal layer there in
       record {
         number = valid.number;
         tag = valid.tag;

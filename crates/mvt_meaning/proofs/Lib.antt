@@ -12,6 +12,9 @@ pub mod SelectionLemmas
 pub mod Removals
 pub mod Replacements
 pub mod Moving
+pub mod OtherFields
+pub mod ReadValues
+pub mod SelectedAgain
 pub mod Lengths
 pub mod Elements
 pub mod Documents
