@@ -193,11 +193,13 @@ shift_shifts choice feature dx dy old new valid within e =
 
 -- ---- a shift by nothing
 
+no_way : (z : ℤ) → z +ℤ pos 0 ≡ z
+no_way z = omega (arith, ints)
+
 -- a parameter that leads no further
-pub no_further : (number : Number) → led_further (pos 0) number ≡ number
+no_further : (number : Number) → led_further (pos 0) number ≡ number
 no_further number =
-    let same : unzigzag number.value +ℤ pos 0 ≡ unzigzag number.value = omega (arith, ints) in
-    with_number-same (zigzag (further (pos 0) number.value)) number (sym (ap zigzag same ∙ zigzag-unzigzag number.value))
+    with_number-same (zigzag (further (pos 0) number.value)) number (sym (ap zigzag (no_way (unzigzag number.value)) ∙ zigzag-unzigzag number.value))
 
 nothing_decided : (list : List Number) → renumbered (moved_integers (pos 0) (pos 0) (value_list list)) list ≡ list
 nothing_decided [] = refl

@@ -1,7 +1,7 @@
 -- A shift, and the shift back.
-use Rattle.std.proofs.Common.{◌≡◌, ℕ, zero, suc, ◌-◌, ◌^◌, ◌<◌, ◌≤◌, Bool, true, false, ◌==◌, ℤ, ◌+ℤ◌, is_some, Option, Some, None, Result, Ok, Err, List, [], ◌∷◌, ◌++◌, length, drop, filter, slice_get, nat_lt, refl, sym, ap, ◌∙◌, inl, inr, subst, arith}
+use Rattle.std.proofs.Common.{◌≡◌, ℕ, zero, suc, ◌^◌, ◌<◌, ◌≤◌, Bool, true, false, ◌==◌, ℤ, ◌+ℤ◌, is_some, Option, Some, None, Result, Ok, Err, List, [], ◌∷◌, ◌++◌, length, drop, filter, slice_get, nat_lt, refl, sym, ap, ◌∙◌, inl, inr, subst, arith}
 use Rattle.std.specs.Prelude.{IfSome, neg_ℤ, unsigned_abs}
-use Rattle.std.proofs.lemmas.Bool.{and_from, cases_Bool, cond_both, eqb-true, le-ltb, lt-ltb, ne_eqb}
+use Rattle.std.proofs.lemmas.Bool.{and_from, cases_Bool, cond_both, eqb-true, le-ltb, lt-ltb}
 use Rattle.std.proofs.lemmas.Int.{ints}
 use Rattle.std.proofs.lemmas.List.{append-nil}
 use Rattle.std.specs.List.{flat_map, last_or}
@@ -26,13 +26,13 @@ use Rattle.mvt_view.specs.Attributes.{values_in}
 use Rattle.mvt_view.specs.FeatureGeometry.{HasFeatureGeometry}
 use Rattle.mvt_view.specs.Views.{contents, id_of, kind_of, name_of}
 use Rattle.mvt_meaning.specs.Geometries.{can_move, can_move_integers, further, geometry_among, moves, shifted}
-use Rattle.mvt_meaning.specs.Meaning.{can_shift, change_feature, fields_of, is_drawn, items_of}
-use Rattle.mvt_meaning.specs.Ordinals.{change_nth}
+use Rattle.mvt_meaning.specs.Meaning.{can_shift, change_feature, fields_of, is_drawn, items_of, within_limit}
+use Rattle.mvt_meaning.specs.Ordinals.{change_first, change_nth}
 use Rattle.mvt_meaning.specs.Selection.{is_feature, is_layer, selected, selected_feature, selected_in}
 use Rattle.mvt_meaning.specs.declared.refusal.Refusal.{Refusal}
 use Rattle.mvt_meaning.specs.declared.refusal.Refusal.TheVariants.{NoLayer}
 use Rattle.mvt_meaning.proofs.FeatureCommands.{number_given}
-use Rattle.mvt_meaning.proofs.Found.{fields_of_nth, items_of_nth, still_feature, still_layer}
+use Rattle.mvt_meaning.proofs.Found.{fields_of_nth, from_behind, from_here, from_later, items_of_nth, still_feature, still_layer}
 use Rattle.mvt_meaning.proofs.Moving.{moves_short}
 use Rattle.mvt_meaning.proofs.OtherFields.{values_stay}
 use Rattle.mvt_meaning.proofs.Parts.{fields_found}
@@ -117,10 +117,12 @@ both_back number there back (field ∷ fields) all all_back short e =
 
 -- ---- ways back
 
+there_and_back : (z way : ℤ) → (z +ℤ way) +ℤ neg_ℤ way ≡ z
+there_and_back z way = omega (arith, ints)
+
 way_back : (way : ℤ) (parameter : ℕ) → further (neg_ℤ way) (zigzag (further way parameter)) ≡ unzigzag parameter
 way_back way parameter =
-    let same : (unzigzag parameter +ℤ way) +ℤ neg_ℤ way ≡ unzigzag parameter = omega (arith, ints) in
-    ap (λ (z : ℤ). z +ℤ neg_ℤ way) (unzigzag-zigzag (unzigzag parameter +ℤ way)) ∙ same
+    ap (λ (z : ℤ). z +ℤ neg_ℤ way) (unzigzag-zigzag (unzigzag parameter +ℤ way)) ∙ there_and_back (unzigzag parameter) way
 
 -- a parameter in its shortest spelling is the same again
 led_back : (way : ℤ) (number : Number) → number ≡ minimal number.value → led_further (neg_ℤ way) (led_further way number) ≡ number
@@ -156,32 +158,19 @@ module _ (dx dy : ℤ) where
 
 -- ---- an item that changes, and back
 
-module _ {A : Type 0} (passes : A → Bool) where
-  at_first : (change : A → A) (x : A) (xs : List A) → passes x ≡ true → change_nth passes change 0 (x ∷ xs) ≡ change x ∷ xs
-  at_first change x xs pass = rw pass refl
-
-  at_later : (change : A → A) (ordinal : ℕ) (x : A) (xs : List A) → passes x ≡ true → change_nth passes change (suc ordinal) (x ∷ xs) ≡ x ∷ change_nth passes change ordinal xs
-  at_later change ordinal x xs pass =
-      let less : suc ordinal - 1 ≡ ordinal = omega arith in
-      let later : (suc ordinal == 0) ≡ false = ne_eqb (suc ordinal) 0 (λ e. omega arith) in
-      rw (pass, less, later) refl
-
-  at_other : (change : A → A) (ordinal : ℕ) (x : A) (xs : List A) → passes x ≡ false → change_nth passes change ordinal (x ∷ xs) ≡ x ∷ change_nth passes change ordinal xs
-  at_other change ordinal x xs skip = rw skip refl
-
-  module _ (there back : A → A) (keeps : (x : A) → passes (there x) ≡ passes x) where
-    item_back : (ordinal : ℕ) (xs : List A) → ((x : A) → slice_get (filter passes xs) ordinal ≡ Some x → back (there x) ≡ x) → change_nth passes back ordinal (change_nth passes there ordinal xs) ≡ xs
-    item_back ordinal [] same = refl
-    item_back zero (x ∷ xs) same =
-        elim (cases_Bool (passes x)) [
-          | inl pass ↦ ap (change_nth passes back 0) (at_first there x xs pass) ∙ at_first back (there x) xs (keeps x ∙ pass) ∙ ap (λ y. y ∷ xs) (same x (rw pass refl))
-          | inr skip ↦ ap (change_nth passes back 0) (at_other there 0 x xs skip) ∙ at_other back 0 x (change_nth passes there 0 xs) skip ∙ ap (λ ys. x ∷ ys) (item_back zero xs (λ y is. same y (rw skip is)))
-        ]
-    item_back (suc ordinal) (x ∷ xs) same =
-        elim (cases_Bool (passes x)) [
-          | inl pass ↦ ap (change_nth passes back (suc ordinal)) (at_later there ordinal x xs pass) ∙ at_later back ordinal x (change_nth passes there ordinal xs) pass ∙ ap (λ ys. x ∷ ys) (item_back ordinal xs (λ y is. same y (rw pass is)))
-          | inr skip ↦ ap (change_nth passes back (suc ordinal)) (at_other there (suc ordinal) x xs skip) ∙ at_other back (suc ordinal) x (change_nth passes there (suc ordinal) xs) skip ∙ ap (λ ys. x ∷ ys) (item_back (suc ordinal) xs (λ y is. same y (rw skip is)))
-        ]
+module _ {A : Type 0} (passes : A → Bool) (there back : A → A) (keeps : (x : A) → passes (there x) ≡ passes x) where
+  item_back : (ordinal : ℕ) (xs : List A) → ((x : A) → slice_get (filter passes xs) ordinal ≡ Some x → back (there x) ≡ x) → change_nth passes back ordinal (change_nth passes there ordinal xs) ≡ xs
+  item_back ordinal [] same = refl
+  item_back zero (x ∷ xs) same =
+      elim (cases_Bool (passes x)) [
+        | inl pass ↦ ap (change_nth passes back 0) (from_here passes (change_first there) x xs pass) ∙ from_here passes (change_first back) (there x) xs (keeps x ∙ pass) ∙ ap (λ y. y ∷ xs) (same x (rw pass refl))
+        | inr skip ↦ ap (change_nth passes back 0) (from_behind passes (change_first there) 0 x xs skip) ∙ from_behind passes (change_first back) 0 x (change_nth passes there 0 xs) skip ∙ ap (λ ys. x ∷ ys) (item_back zero xs (λ y is. same y (rw skip is)))
+      ]
+  item_back (suc ordinal) (x ∷ xs) same =
+      elim (cases_Bool (passes x)) [
+        | inl pass ↦ ap (change_nth passes back (suc ordinal)) (from_later passes (change_first there) ordinal x xs pass) ∙ from_later passes (change_first back) ordinal x (change_nth passes there ordinal xs) pass ∙ ap (λ ys. x ∷ ys) (item_back ordinal xs (λ y is. same y (rw pass is)))
+        | inr skip ↦ ap (change_nth passes back (suc ordinal)) (from_behind passes (change_first there) (suc ordinal) x xs skip) ∙ from_behind passes (change_first back) (suc ordinal) x (change_nth passes there (suc ordinal) xs) skip ∙ ap (λ ys. x ∷ ys) (item_back (suc ordinal) xs (λ y is. same y (rw skip is)))
+      ]
 
 module _ (there back : List Field → List Field) (ordinal index : ℕ) (document : Document) (same : (fields : List Field) → fields_of ordinal index document ≡ fields → back (there fields) ≡ fields) where
   feature_back : (items : List LayerItem) → items_of ordinal document ≡ items → (item : LayerItem) → slice_get (filter is_feature items) index ≡ Some item → in_feature back (in_feature there item) ≡ item
@@ -207,6 +196,11 @@ ok_same found one other is is_too = let both = sym is ∙ is_too in cc
 same_values : (found : Option (List ℕ)) (one other : List ℕ) → found ≡ Some one → found ≡ Some other → one ≡ other
 same_values found one other is is_too = let both = sym is ∙ is_too in cc
 
+within_so : (document made : Document) → document ≡ made → length (bytes_of made) ≤ MAX_FILE → within_limit document ≡ Ok made
+within_so document made same within =
+    let fits : nat_lt MAX_FILE (length (bytes_of made)) ≡ false = le-ltb MAX_FILE (length (bytes_of made)) within in
+    ap within_limit same ∙ rw fits refl
+
 drawn_again : (feature : Feature) (geometry : Geometry) → HasFeatureGeometry feature geometry → is_some (geometry_among feature.fields) ≡ true
 drawn_again feature geometry h =
     ap (λ (found : Option Geometry). is_some found) (ap (option_and_then (geometry_in (kind_of feature))) h.read ∙ found_geometry (kind_of feature) h.integers geometry h.has)
@@ -215,7 +209,7 @@ drawn_again feature geometry h =
 can_back : (dx dy : ℤ) (old new : Feature) → Shifts dx dy old new → can_move (neg_ℤ dx) (neg_ℤ dy) new.fields ≡ true
 can_back dx dy old new s =
     let w = first_ways dx dy (kind_of old) s.had.integers s.geometry s.had.has in
-    let values : value_list (s.command ∷ s.along ∷ s.down ∷ s.more) ≡ w.number ∷ w.x ∷ w.y ∷ w.more =
+    let values : s.command.value ∷ s.along.value ∷ s.down.value ∷ value_list s.more ≡ w.number ∷ w.x ∷ w.y ∷ w.more =
     same_values (values_in (numbers 4 old.fields)) _ _ (values_of_read 4 old.fields (s.command ∷ s.along ∷ s.down ∷ s.more) s.were) s.had.read ∙ w.spelled in
     let x : s.along.value ≡ w.x = cc in
     let y : s.down.value ≡ w.y = cc in
@@ -253,7 +247,7 @@ shift_back choice feature dx dy old between valid within shortest e =
     (subst (λ (fs : List Field). is_some (geometry_among fs) ≡ true) are drawn_then)
     (subst (λ (fs : List Field). can_move dx dy fs ≡ true) are can_then)
     (ap (read_numbers 4) (sym are) ∙ read) short.0 short.1 in
-    let returned : change_feature back c.ordinal f.ordinal between ≡ old =
+    let returned : change_feature (shifted (neg_ℤ dx) (neg_ℤ dy)) c.ordinal f.ordinal between ≡ old =
     ap (change_feature back c.ordinal f.ordinal) (sym made) ∙ document_back there back c.ordinal f.ordinal old same in
     let name : name_of c.present ≡ name_of c.former = ap (λ (fields : List Field). last_or None (contents 1 fields)) f.alone.fields in
     let meant : selected choice between ≡ Ok c.ordinal = layer_again choice old between c.ordinal c.former c.present c.was c.is c.alone.others name ∙ c.meant in
@@ -263,5 +257,4 @@ shift_back choice feature dx dy old between valid within shortest e =
     let fields : fields_of c.ordinal f.ordinal between ≡ f.present.fields = fields_found between c.ordinal f.ordinal c.present f.present c.is f.is in
     let drawn : is_drawn c.ordinal f.ordinal between ≡ true = ap (λ (fs : List Field). is_some (geometry_among fs)) fields ∙ drawn_again f.present (moved dx dy s.geometry) s.has in
     let can : can_shift (neg_ℤ dx) (neg_ℤ dy) c.ordinal f.ordinal between ≡ true = ap (can_move (neg_ℤ dx) (neg_ℤ dy)) fields ∙ can_back dx dy f.former f.present s in
-    let fits : nat_lt MAX_FILE (length (bytes_of old)) ≡ false = le-ltb MAX_FILE (length (bytes_of old)) within in
-    rw (meant, found, drawn, can, returned, fits) refl
+    rw (meant, found, drawn, can) (within_so (change_feature (shifted (neg_ℤ dx) (neg_ℤ dy)) c.ordinal f.ordinal between) old returned within)
