@@ -6,11 +6,17 @@ LAYER, FEATURE = 3 << 3 | 2, 2 << 3 | 2
 
 # The tags of single fields.
 NAME, KEY, VALUE, EXTENT, VERSION = 1 << 3 | 2, 3 << 3 | 2, 4 << 3 | 2, 5 << 3, 15 << 3
-ID, TAGS, TAG, KIND, GEOMETRY = 1 << 3, 2 << 3 | 2, 2 << 3, 3 << 3, 4 << 3 | 2
+ID, TAGS, TAG, KIND, GEOMETRY, INTEGER = 1 << 3, 2 << 3 | 2, 2 << 3, 3 << 3, 4 << 3 | 2, 4 << 3
 
 LEN = 2
 SIZES = {1: 8, 5: 4}
 KINDS = ["unknown", "point", "line", "polygon"]
+
+# How far a way goes at most, and how often a command is carried out.
+MAX_WAY, MAX_COUNT = 2**31 - 1, 2**29 - 1
+
+# The commands of a part of each kind: which one, how often at least, and at most.
+PATHS = {1: [(1, 1, MAX_COUNT)], 2: [(1, 1, 1), (2, 1, MAX_COUNT)], 3: [(1, 1, 1), (2, 2, MAX_COUNT), (7, 1, 1)]}
 
 
 class Refused(Exception):
@@ -207,7 +213,7 @@ def encoded(kind, parts):
         for command, points in runs:
             numbers.append(command | len(points) << 3)
             for point in points:
-                numbers += [zigzag(to - at) for to, at in zip(point, cursor)]
+                numbers += [zigzag(in_range(to - at)) for to, at in zip(point, cursor)]
                 cursor = point
         numbers += [7 | 1 << 3] if kind == 3 else []
     return b"".join(map(spelled, numbers))
@@ -215,6 +221,14 @@ def encoded(kind, parts):
 
 def zigzag(number):
     return 2 * number if number >= 0 else -2 * number - 1
+
+
+def unzigzag(number):
+    return number // 2 if number % 2 == 0 else -(number // 2) - 1
+
+
+def in_range(way):
+    return way if abs(way) <= MAX_WAY else refuse(42)
 
 
 def move_feature(tile, chosen, feature, index):
@@ -260,12 +274,15 @@ def rename_key(tile, chosen, old, new):
     return in_layer(tile, place, tuple(renamed.get(at, item) for at, item in enumerate(items)))
 
 
-def numbers_in(field):
-    """The numbers of a tags field, each as it is spelled; none of another. A body that is no such sequence is refused."""
-    if field.key == TAG:
+def numbers_in(field, single=TAG, packed=TAGS):
+    """The numbers of a tags field, or of one with these tags, each as it is spelled; none of another.
+
+    A body that is no such sequence is refused.
+    """
+    if field.key == single:
         return [field.content]
     found, at = [], 0
-    while field.key == TAGS and at < len(field.content):
+    while field.key == packed and at < len(field.content):
         end = next((end for end in range(at, len(field.content)) if field.content[end] < 0x80), len(field.content))
         spelling = field.content[at:end + 1]
         if end == len(field.content) or len(spelling) > 10 or number_at(spelling, 0)[0] >= 2**64:
@@ -344,11 +361,11 @@ def entry(layer, tag, content):
     return len(contents), [Item(spelled(tag), 1, content)]
 
 
-def with_numbers(fields, wanted):
-    """The fields of a feature, with these numbers of tags."""
+def with_numbers(fields, wanted, *keys):
+    """The fields of a feature, with these numbers of tags, or of the fields with these tags."""
     left, changed = iter(wanted), []
     for field in fields:
-        numbers = numbers_in(field)
+        numbers = numbers_in(field, *keys)
         new = [old if number_at(old, 0)[0] == number else spelled(number) for old, number in zip(numbers, left)] if numbers else []
         changed.append(replace(field, content=b"".join(new)) if numbers else field)
     return tuple(changed)
@@ -386,6 +403,56 @@ def exclude_all(tile, chosen):
             fields = tile[place].content[feature].content
             tile = in_feature(tile, place, feature, without(fields, places(fields, TAGS) + places(fields, TAG)))
     return tile
+
+
+def end_of_run(numbers, at, command, least, most):
+    """Where the command ends that is carried out there, so often, with its parameters."""
+    count = numbers[at] >> 3 if at < len(numbers) else 0
+    end = at + 1 + (2 * count if command != 7 else 0)
+    if not least <= count <= most or numbers[at] & 7 != command or end > len(numbers):
+        raise ValueError
+    if max(numbers[at + 1:end], default=0) > zigzag(MAX_WAY):
+        raise ValueError
+    return end
+
+
+def integers_of(fields):
+    """The integers of the geometry of a feature with these fields, which has one."""
+    numbers = [number_at(spelling, 0)[0] for field in fields for spelling in numbers_in(field, INTEGER, GEOMETRY)]
+    kind, at = last(fields, KIND, 0), 0
+    if kind not in PATHS:
+        raise ValueError
+    while at == 0 or at < len(numbers) and kind != 1:
+        for command in PATHS[kind]:
+            at = end_of_run(numbers, at, *command)
+    if at != len(numbers):
+        raise ValueError
+    return numbers
+
+
+def shift(tile, chosen, feature, dx, dy):
+    place = layer_place(tile, chosen)
+    found = feature_place(tile[place], feature)
+    fields = tile[place].content[found].content
+    try:
+        command, x, y, *more = integers_of(fields)
+    except ValueError:
+        refuse(32, told(tile, place, found))
+    ways = [in_range(unzigzag(x) + dx), in_range(unzigzag(y) + dy)]
+    return in_feature(tile, place, found, with_numbers(fields, [command, *map(zigzag, ways), *more], INTEGER, GEOMETRY))
+
+
+def set_geometry(tile, chosen, feature, geometry):
+    place = layer_place(tile, chosen)
+    found = feature_place(tile[place], feature)
+    kind, parts = geometry
+    fields = tile[place].content[found].content
+    drawn = Item(spelled(GEOMETRY), 1, encoded(kind, parts))
+    if last(fields, KIND) != kind:
+        fields = put_last(fields, KIND, spelled(kind))
+    old = sorted(places(fields, GEOMETRY) + places(fields, INTEGER))
+    fields = without(put(fields, old[0], drawn), old[1:]) if old else (*fields, drawn)
+    return in_feature(tile, place, found, fields)
 
 
 def quoted(text):

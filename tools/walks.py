@@ -18,8 +18,9 @@ MAX_MARKS = 256
 NAMES = {
     11: "BadWord", 12: "UnknownCommand", 13: "BadArguments", 14: "BadNumber", 15: "BadValue", 16: "BadGeometryText",
     20: "NoLayer", 21: "AmbiguousLayer", 22: "NoFeature", 23: "NoKey", 24: "BadPlace", 25: "AmbiguousFeature",
-    30: "BadTags", 31: "RepeatedKey", 40: "NameTaken", 41: "KeyTaken", 50: "NothingToUndo", 51: "NothingToRedo",
-    52: "NoMark", 53: "TooManyMarks", 54: "Stopped", 55: "GroupOpen", 56: "NoGroup", 60: "NoMemory",
+    30: "BadTags", 31: "RepeatedKey", 32: "BadGeometry", 40: "NameTaken", 41: "KeyTaken", 42: "OutOfRange",
+    50: "NothingToUndo", 51: "NothingToRedo", 52: "NoMark", 53: "TooManyMarks", 54: "Stopped", 55: "GroupOpen",
+    56: "NoGroup", 60: "NoMemory",
 }
 
 WORD = re.compile(r'[ \t\r]*(?:"((?:[^"\\]|\\["\\]|\\x[0-7][0-9a-fA-F])*)"|([^ \t\r"]+))(?=[ \t\r]|$)')
@@ -153,6 +154,11 @@ def point(word):
     return pair if max(map(abs, pair)) <= MAX_COORDINATE else refuse(16)
 
 
+def distance(word):
+    is_one = not word.is_quoted and re.fullmatch("-?[0-9]+", word.text) and abs(int(word.text)) <= MAX_COORDINATE
+    return int(word.text) if is_one else refuse(14)
+
+
 # The commands: what each argument is.
 COMMANDS = {
     "rename-layer": (tiles.rename_layer, [layer, text]),
@@ -166,6 +172,7 @@ COMMANDS = {
     "rename-key": (tiles.rename_key, [layer, text, text]),
     "exclude": (tiles.exclude, [layers, text]),
     "exclude-all": (tiles.exclude_all, [layers]),
+    "shift": (tiles.shift, [layer, feature, distance, distance]),
 }
 
 
@@ -179,6 +186,9 @@ def command_of(request, words):
     if request == "set":
         place, of, key, kind, said = words if len(words) == 5 else refuse(13)
         return tiles.set_attribute, [layer(place), feature(of), text(key), value(kind, said)]
+    if request == "set-geometry":
+        place, of, *rest = words if len(words) > 2 else refuse(13)
+        return tiles.set_geometry, [layer(place), feature(of), geometry(rest)]
     if request not in COMMANDS:
         return None
     command, kinds = COMMANDS[request]

@@ -92,7 +92,7 @@ fn put_cut(lines: &mut Vec<u8>, cut: Cut<'_>) -> Result<(), AllocError> {
 }
 
 /// All reasons for which a line is refused.
-const REASONS: [Refused; 33] = [
+const REASONS: [Refused; 34] = [
     Refused::Parse(ParseError::BadUtf8),
     Refused::Parse(ParseError::BadWord),
     Refused::Parse(ParseError::UnknownCommand),
@@ -119,6 +119,10 @@ const REASONS: [Refused; 33] = [
     Refused::Edit(Refusal::RepeatedKey {
         layer: 2,
         feature: 300,
+    }),
+    Refused::Edit(Refusal::BadGeometry {
+        layer: 30,
+        feature: 4,
     }),
     Refused::Edit(Refusal::NameTaken),
     Refused::Edit(Refusal::KeyTaken),

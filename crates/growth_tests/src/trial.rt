@@ -9,7 +9,7 @@ use std::alloc::{AllocError, Global};
 use std::fmt;
 use test_fixtures::asked::{
     clear_id, drop_feature, drop_layer, exclude, exclude_all, insert_polygon, keep, move_feature,
-    move_layer, rename, rename_key, set, set_id, unset,
+    move_layer, rename, rename_key, set, set_id, set_polygon, shift, unset,
 };
 use test_fixtures::bytes::joined;
 use test_fixtures::edits::Edit;
@@ -30,6 +30,8 @@ pub enum Trial {
     ClearId,
     /// Two ids that are no neighbours.
     ClearIds,
+    Shift,
+    SetGeometry,
     /// A value in place of another.
     Set,
     /// A value with a new key.
@@ -44,7 +46,7 @@ pub enum Trial {
     Series,
 }
 
-const TRIALS: [Trial; 18] = [
+const TRIALS: [Trial; 20] = [
     Trial::RenameLayer,
     Trial::MoveLayer,
     Trial::DropLayer,
@@ -55,6 +57,8 @@ const TRIALS: [Trial; 18] = [
     Trial::SetId,
     Trial::ClearId,
     Trial::ClearIds,
+    Trial::Shift,
+    Trial::SetGeometry,
     Trial::Set,
     Trial::SetNew,
     Trial::Unset,
@@ -93,6 +97,8 @@ impl Trial {
             Trial::SetId => "set-id",
             Trial::ClearId => "clear-id",
             Trial::ClearIds => "clear-ids",
+            Trial::Shift => "shift",
+            Trial::SetGeometry => "set-geometry",
             Trial::Set => "set",
             Trial::SetNew => "set-new",
             Trial::Unset => "unset",
@@ -128,6 +134,8 @@ impl Trial {
             Trial::SetId => there_and_back(alloc, &T0, set_id(300)),
             Trial::ClearId => there_and_back(alloc, &T0, clear_id()),
             Trial::ClearIds => there_and_back(alloc, IDS_APART, clear_id()),
+            Trial::Shift => there_and_back(alloc, &T0, shift(-30, 3)),
+            Trial::SetGeometry => there_and_back(alloc, &T0, another_polygon(alloc)?),
             Trial::Set => there_and_back(alloc, &T0, set(alloc, b"k", 6)?),
             Trial::SetNew => there_and_back(alloc, &T0, set(alloc, b"m", 6)?),
             Trial::Unset => there_and_back(alloc, &T0, unset(alloc, b"k")?),
@@ -150,6 +158,11 @@ fn there_and_back(alloc: Global, tile: &[u8], command: Command) -> Result<Refuse
 /// A ring comes in behind the first feature.
 fn polygon(alloc: Global) -> Result<Command, Fault> {
     insert_polygon(alloc, 1)?.ok_or(Fault::NoCommand)
+}
+
+/// The first feature becomes a ring.
+fn another_polygon(alloc: Global) -> Result<Command, Fault> {
+    set_polygon(alloc)?.ok_or(Fault::NoCommand)
 }
 
 /// A layer "a", a field that is no layer, and two layers "b".

@@ -1,5 +1,5 @@
 -- The commands that change a tile, as plain values.
-use Rattle.std.specs.Prelude.{ℕ, ◌^◌, ◌<◌, List}
+use Rattle.std.specs.Prelude.{ℕ, ◌^◌, ◌<◌, ℤ, List}
 use Rattle.mvt_geometry.specs.Shapes.{Geometry}
 use Rattle.mvt_value.specs.Values.{Value}
 
@@ -34,6 +34,8 @@ pub data Command : Type 0 where
   RenameKey : (layer : LayerChoice) (old new : List ℕ) → Command
   Exclude : (layers : LayersChoice) (key : List ℕ) → Command
   ExcludeAll : (layers : LayersChoice) → Command
+  Shift : (layer : LayerChoice) (feature : FeatureChoice) (dx dy : ℤ) → Command
+  SetGeometry : (layer : LayerChoice) (feature : FeatureChoice) (geometry : Geometry) → Command
 
 -- a valid command: the id that it sets, where it sets one, can be spelled, as it is below 2 ^ 64 (tiles 4.2)
 abbrev pub IsCommand : Command → Type 0

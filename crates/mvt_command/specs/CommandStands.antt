@@ -9,7 +9,7 @@ use Rattle.mvt_command.specs.declared.command.LayersChoice.TheVariants.{One, All
 use Rattle.mvt_command.specs.declared.command.FeatureChoice.{FeatureChoice}
 use Rattle.mvt_command.specs.declared.command.FeatureChoice.TheVariants as features
 use Rattle.mvt_command.specs.declared.command.Command.{Command}
-use Rattle.mvt_command.specs.declared.command.Command.TheVariants.{RenameLayer, MoveLayer, DropLayer, KeepLayers, InsertFeature, MoveFeature, DropFeature, SetId, ClearId, SetAttribute, UnsetAttribute, RenameKey, Exclude, ExcludeAll}
+use Rattle.mvt_command.specs.declared.command.Command.TheVariants.{RenameLayer, MoveLayer, DropLayer, KeepLayers, InsertFeature, MoveFeature, DropFeature, SetId, ClearId, SetAttribute, UnsetAttribute, RenameKey, Exclude, ExcludeAll, Shift, SetGeometry}
 
 -- the plain choice that a choice of a layer stands for
 abbrev pub layer_choice_of : LayerChoice → plain.LayerChoice
@@ -42,3 +42,5 @@ command_of (UnsetAttribute layer feature key) = plain.UnsetAttribute (layer_choi
 command_of (RenameKey layer old new) = plain.RenameKey (layer_choice_of layer) old.items new.items
 command_of (Exclude layers key) = plain.Exclude (layers_choice_of layers) key.items
 command_of (ExcludeAll layers) = plain.ExcludeAll (layers_choice_of layers)
+command_of (Shift layer feature dx dy) = plain.Shift (layer_choice_of layer) (feature_choice_of feature) dx dy
+command_of (SetGeometry layer feature geometry) = plain.SetGeometry (layer_choice_of layer) (feature_choice_of feature) geometry

@@ -98,6 +98,18 @@ pub enum Command {
     ExcludeAll {
         layers: LayersChoice,
     },
+    /// The geometry moves by these ways.
+    Shift {
+        layer: LayerChoice,
+        feature: FeatureChoice,
+        dx: i64,
+        dy: i64,
+    },
+    SetGeometry {
+        layer: LayerChoice,
+        feature: FeatureChoice,
+        geometry: Geometry,
+    },
 }
 
 impl Command {

@@ -5,6 +5,7 @@ pub mod Single
 pub mod Packs
 pub mod Only
 pub mod Small
+pub mod Reach
 pub mod Mapped
 pub mod Checks
 pub mod Found

@@ -12,14 +12,14 @@ use Rattle.mvt_geometry.specs.Walks.{integers_of_part, integers_from, IsPartInRa
 use Rattle.mvt_geometry.specs.Laws.{PacksIntegers}
 use Rattle.mvt_geometry.proofs.Packs.{integers-from, parts_in_range}
 
-abbrev IsSmall : ℕ → Type 0
+abbrev pub IsSmall : ℕ → Type 0
 IsSmall integer = integer < 2 ^ 32
 
 all_append : (P : ℕ → Type 0) (xs ys : List ℕ) → AllByRecursion P xs → AllByRecursion P ys → AllByRecursion P (xs ++ ys)
 all_append P [] ys p q = q
 all_append P (x ∷ xs) ys p q = (p.0, all_append P xs ys p.1 q)
 
-small_way : (way : ℤ) → IsWay way → IsSmall (zigzag way)
+pub small_way : (way : ℤ) → IsWay way → IsSmall (zigzag way)
 small_way (pos n) h = omega arith
 small_way (negsuc n) h = omega arith
 

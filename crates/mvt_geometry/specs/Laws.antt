@@ -1,10 +1,10 @@
 -- Laws of geometries and their integers, and of the geometry of numbers as a function.
-use Rattle.std.specs.Prelude.{◌≡◌, ◌↔◌, ℕ, ◌^◌, ◌<◌, List, Some, map}
+use Rattle.std.specs.Prelude.{◌≡◌, ◌↔◌, ℕ, ◌*◌, ◌^◌, ◌<◌, ◌≤◌, unsigned_abs, List, Some, length, map}
 use Rattle.std.specs.List.{flat_map, AllByRecursion}
 use Rattle.mvt_document.specs.Plain.{Number}
 use Rattle.mvt_document.specs.Wire.{minimal, spelling}
 use Rattle.mvt_document.specs.Groups.{IsNumber}
-use Rattle.mvt_geometry.specs.Shapes.{Geometry, kind_number, IsGeometry}
+use Rattle.mvt_geometry.specs.Shapes.{Geometry, Point, kind_number, IsGeometry}
 use Rattle.mvt_geometry.specs.Integers.{integers, IsInRange, HasGeometry, encoded}
 use Rattle.mvt_geometry.specs.Found.{geometry_in}
 
@@ -35,3 +35,13 @@ EncodedArePacked = (g : Geometry) → IsGeometry g → IsInRange g → PacksInte
 -- a geometry is found in the numbers of a kind exactly where they have it
 abbrev pub GeometryIn : Type 0
 GeometryIn = (kind : ℕ) (numbers : List ℕ) (g : Geometry) → (geometry_in kind numbers ≡ Some g) ↔ HasGeometry kind numbers g
+
+-- both coordinates are at most so far from 0
+pub record IsWithin (most : ℕ) (p : Point) : Type 0 where
+  pub x : unsigned_abs p.x ≤ most
+  pub y : unsigned_abs p.y ≤ most
+
+-- no coordinate of a geometry in range is further from 0 than 2^31 times as many integers as the geometry has
+-- (tiles 4.3.2)
+abbrev pub IntegersReach : Type 0
+IntegersReach = (g : Geometry) → IsInRange g → AllByRecursion (AllByRecursion (IsWithin (length (integers g) * 2 ^ 31))) g.parts

@@ -1,6 +1,6 @@
 //! Laws of geometries, their integers and their bytes. Each is the contract of a function that does nothing.
 
-ghost use Rattle.mvt_geometry.specs.Laws.{OneGeometry, IntegersHaveTheirs, EncodedArePacked, GeometryIn};
+ghost use Rattle.mvt_geometry.specs.Laws.{OneGeometry, IntegersHaveTheirs, EncodedArePacked, GeometryIn, IntegersReach};
 
 /// Numbers have one geometry of a kind at most.
 pub fn one_geometry()
@@ -21,4 +21,10 @@ pub fn encoded_are_packed()
 /// A geometry is found in the numbers of a kind exactly where they have it.
 pub fn geometry_in()
     ensures { GeometryIn }
+{}
+
+/// No coordinate of a geometry in range is further from 0 than 2^31 times as many integers as the
+/// geometry has: of a tile that a file can hold, none reaches 2^62.
+pub fn integers_reach()
+    ensures { IntegersReach }
 {}

@@ -22,6 +22,11 @@ pub then_so : {A B : Type 0} (P : B → Type 0) (r : Result A Refusal) (f : A �
 then_so P (Ok x) f all = all x
 then_so P (Err e) f all = tt
 
+-- the same, where it is known what the first step gave
+pub then_given : {A B : Type 0} (P : B → Type 0) (r : Result A Refusal) (f : A → Result B Refusal) → ((x : A) → r ≡ Ok x → IfOk (f x) P) → IfOk (r >>= f) P
+then_given P (Ok x) f all = all x refl
+then_given P (Err e) f all = tt
+
 pub ok_so : {A : Type 0} (P : A → Type 0) (r : Result A Refusal) (x : A) → IfOk r P → r ≡ Ok x → P x
 ok_so P r x all is = subst (λ s. IfOk s P) is all
 

@@ -1,8 +1,8 @@
 -- An accepted command makes a document of a document.
-use Rattle.std.proofs.Common.{ℕ, ◌^◌, ◌<◌, ◌≤◌, ◌&&◌, not, cond, ltb, ◌==◌, IfOk, Err, Ok, List, [], ◌∷◌, ◌++◌, length, refl, arith}
+use Rattle.std.proofs.Common.{◌≡◌, ℕ, ◌^◌, ◌<◌, ◌≤◌, true, ◌&&◌, not, cond, ltb, ◌==◌, is_some, Some, IfOk, Err, Ok, List, [], ◌∷◌, ◌++◌, length, filter, slice_get, refl, subst, arith}
 use Rattle.std.specs.List.{AllByRecursion, flat_map, list_any}
 use Rattle.std.specs.Str.{bytes_eq}
-use Rattle.std.proofs.lemmas.Bool.{cond_both, ltb-false}
+use Rattle.std.proofs.lemmas.Bool.{cond_both, ltb-false, not-false}
 use Rattle.mvt_document.specs.declared.TheConstants.{MAX_FILE}
 use Rattle.mvt_document.specs.Plain.{Number, Body, Spelled, Eight, Four, Delimited, Group, Field, LayerItem, OfFeature, PlainInLayer, TileItem, OfLayer, PlainInTile, Document}
 use Rattle.mvt_document.specs.Opens.{IsField, IsLayerItem, IsTileItem, IsDocument}
@@ -17,20 +17,23 @@ use Rattle.mvt_geometry.specs.Shapes.{Geometry, kind_number}
 use Rattle.mvt_geometry.specs.declared.Kind.{Kind}
 use Rattle.mvt_geometry.specs.declared.Kind.TheVariants.{Dots, Lines, Areas}
 use Rattle.mvt_geometry.specs.Integers.{encoded}
-use Rattle.mvt_command.specs.Command.{LayersChoice, TheLayer, EachLayer, Command, IsCommand, RenameLayer, MoveLayer, DropLayer, KeepLayers, InsertFeature, MoveFeature, DropFeature, SetId, ClearId, SetAttribute, UnsetAttribute, RenameKey, Exclude, ExcludeAll}
+use Rattle.mvt_command.specs.Command.{LayersChoice, TheLayer, EachLayer, Command, IsCommand, RenameLayer, MoveLayer, DropLayer, KeepLayers, InsertFeature, MoveFeature, DropFeature, SetId, ClearId, SetAttribute, UnsetAttribute, RenameKey, Exclude, ExcludeAll, Shift, SetGeometry}
 use Rattle.mvt_view.specs.Views.{contents, key_field, layers, plain_fields, value_field}
 use Rattle.mvt_meaning.specs.Ordinals.{change_last, change_nth, without, move_nth, insert_nth}
 use Rattle.mvt_meaning.specs.Selection.{is_feature, is_layer, selected, selected_in, selected_layers}
+use Rattle.mvt_meaning.specs.Geometries.{can_move, geometry_among, is_geometry_field, is_kind, shifted, with_geometry, with_kind}
 use Rattle.mvt_meaning.specs.Tagging.{attributed, excluded, is_key, is_packed_last, is_tags, missing_entries, missing_entry, new_pair, pairs_with, removals, renamed_keys, replacements, unreadable, untagged, value_ordinal, with_attribute, with_more, with_more_content, with_more_tags, without_attribute, without_tags}
 use Rattle.mvt_geometry.specs.Checks.{is_in_range}
-use Rattle.mvt_meaning.specs.Meaning.{applied, refuse_if, layer_count, feature_count, has_key, has_pairs, is_id, items_of, refuse_first, repeats_key, is_kept, is_name, is_taken, within_limit, change_layer, change_layers, change_feature, identified, named_items, new_content, new_feature, new_number, with_content, with_id, with_number, with_text, with_value, without_id}
-use Rattle.mvt_meaning.specs.declared.refusal.Refusal.TheVariants.{BadPlace, BadTags, KeyTaken, NameTaken, NoKey, NoLayer, OutOfRange, RepeatedKey, TooLarge}
+use Rattle.mvt_meaning.specs.Meaning.{applied, refuse_if, can_shift, fields_of, layer_count, feature_count, has_key, has_pairs, is_drawn, is_id, items_of, refuse_first, repeats_key, is_kept, is_name, is_taken, within_limit, change_layer, change_layers, change_feature, identified, named_items, new_content, new_feature, new_number, with_content, with_field_value, with_id, with_number, with_text, with_value, without_id}
+use Rattle.mvt_meaning.specs.declared.refusal.Refusal.TheVariants.{BadGeometry, BadPlace, BadTags, KeyTaken, NameTaken, NoKey, NoLayer, OutOfRange, RepeatedKey, TooLarge}
 use Rattle.mvt_meaning.specs.DocumentLaws.{CommandMakesDocument}
 use Rattle.mvt_numbers.specs.Renumbering.{renumber}
 use Rattle.mvt_numbers.proofs.Decisions.{all_joined}
 use Rattle.mvt_numbers.proofs.Redone.{stays_valid}
-use Rattle.mvt_meaning.proofs.Accepted.{ok_so, then_so}
-use Rattle.mvt_meaning.proofs.Elements.{all_changed, all_changed_within, all_filtered, all_inserted, all_last, all_mapped, all_moved, all_pushed, all_put, all_without}
+use Rattle.mvt_meaning.proofs.Accepted.{not_refused, ok_so, then_given, then_so}
+use Rattle.mvt_meaning.proofs.Elements.{all_changed, all_changed_at, all_changed_within, all_filtered, all_inserted, all_last, all_mapped, all_moved, all_pushed, all_put, all_put_once, all_without}
+use Rattle.mvt_meaning.proofs.Found.{fields_of_nth, items_of_nth}
+use Rattle.mvt_meaning.proofs.Moving.{shifted_valid}
 use Rattle.mvt_meaning.proofs.Removals.{removals_short}
 use Rattle.mvt_meaning.proofs.Replacements.{replacements_short, value_short}
 
@@ -77,8 +80,8 @@ value_valid value fits tag (Four bytes) valid = valid
 value_valid value fits tag (Delimited width bytes) valid = valid
 value_valid value fits tag (Group bytes) valid = valid
 
-identified_valid : (id : ℕ) → id < 2 ^ 64 → (field : Field) → IsField field → IsField (with_id id field)
-identified_valid id fits field valid = value_valid id fits field.tag field.body valid
+field_value_valid : (value : ℕ) → value < 2 ^ 64 → (field : Field) → IsField field → IsField (with_field_value value field)
+field_value_valid value fits field valid = value_valid value fits field.tag field.body valid
 
 new_id : (id : ℕ) → id < 2 ^ 64 → IsField (new_number 8 id)
 new_id id fits = number_field 8 id (omega arith) (record { numbered = omega arith; short = omega arith; typed = refl }) fits
@@ -90,15 +93,19 @@ kind_short Dots = omega arith
 kind_short Lines = omega arith
 kind_short Areas = omega arith
 
+new_kind : (kind : Kind) → IsField (new_number 24 (kind_number kind))
+new_kind kind =
+    number_field 24 (kind_number kind) (omega arith) (record { numbered = omega arith; short = omega arith; typed = refl }) (kind_short kind)
+
+new_geometry : (geometry : Geometry) → IsField (new_content 34 (encoded geometry))
+new_geometry geometry = content_field 34 (encoded geometry) (omega arith) (record { numbered = omega arith; short = omega arith; typed = refl })
+
 pub new_feature_valid : (geometry : Geometry) → IsLayerItem (new_feature geometry)
 new_feature_valid geometry = record {
   number = minimal_spelling 18 (omega arith);
   tag = refl;
   width = record { some = omega arith; short = omega arith };
-  fields = (
-    number_field 24 (kind_number geometry.kind) (omega arith) (record { numbered = omega arith; short = omega arith; typed = refl }) (kind_short geometry.kind),
-    (content_field 34 (encoded geometry) (omega arith) (record { numbered = omega arith; short = omega arith; typed = refl }), tt),
-  );
+  fields = (new_kind geometry.kind, (new_geometry geometry, tt));
 }
 
 -- ---- layers and features whose lists stay valid
@@ -121,6 +128,36 @@ feature_valid change keeps ordinal feature document valid =
 layers_valid : (change : List LayerItem → List LayerItem) → ((items : List LayerItem) → AllByRecursion IsLayerItem items → AllByRecursion IsLayerItem (change items)) → (choice : LayersChoice) (document : Document) → IsDocument document → IfOk (change_layers change choice document) IsDocument
 layers_valid change keeps (TheLayer choice) document valid = then_so IsDocument (selected choice document) _ (λ ordinal. layer_valid change keeps ordinal document valid)
 layers_valid change keeps EachLayer document valid = all_mapped IsTileItem (in_layer change) (in_layer_valid change keeps) document valid
+
+-- a feature of whose fields it is known which they are
+module _ (change : List Field → List Field) (ordinal feature : ℕ) (document : Document) (keeps : (fields : List Field) → fields_of ordinal feature document ≡ fields → AllByRecursion IsField fields → AllByRecursion IsField (change fields)) where
+  feature_at : (items : List LayerItem) → items_of ordinal document ≡ items → (item : LayerItem) → slice_get (filter is_feature items) feature ≡ Some item → IsLayerItem item → IsLayerItem (in_feature change item)
+  feature_at items is (PlainInLayer field) there valid = valid
+  feature_at items is (OfFeature found) there valid =
+      let same = fields_of_nth document ordinal feature items found is there in
+      record { number = valid.number; tag = valid.tag; width = valid.width; fields = keeps found.fields same valid.fields }
+
+  layer_at : (item : TileItem) → slice_get (filter is_layer document) ordinal ≡ Some item → IsTileItem item → IsTileItem (in_layer (change_nth is_feature (in_feature change) feature) item)
+  layer_at (PlainInTile field) there valid = valid
+  layer_at (OfLayer layer) there valid =
+      let same = items_of_nth document ordinal layer there in
+      record {
+        number = valid.number;
+        tag = valid.tag;
+        width = valid.width;
+        items = all_changed_at IsLayerItem is_feature (in_feature change) feature layer.items (feature_at layer.items same) valid.items;
+      }
+
+  feature_valid_at : IsDocument document → IsDocument (change_feature change ordinal feature document)
+  feature_valid_at valid = all_changed_at IsTileItem is_layer (in_layer (change_nth is_feature (in_feature change) feature)) ordinal document layer_at valid
+
+-- ---- another geometry
+
+geometry_valid : (geometry : Geometry) (fields : List Field) → AllByRecursion IsField fields → AllByRecursion IsField (with_geometry geometry fields)
+geometry_valid geometry fields all =
+    let kind = kind_number geometry.kind in
+    all_put_once IsField is_geometry_field (new_content 34 (encoded geometry)) (new_geometry geometry) (with_kind kind fields)
+    (all_put IsField is_kind (with_field_value kind) (new_number 24 kind) (field_value_valid kind (kind_short geometry.kind)) (new_kind geometry.kind) fields all)
 
 -- ---- keys and tags
 
@@ -234,7 +271,7 @@ made_valid (SetId choice feature id) document fits valid =
     then_so IsDocument (selected choice document) _ (λ ordinal.
     then_so IsDocument (selected_in feature ordinal document) _ (λ meant.
     limited_valid (change_feature (identified id) ordinal meant document)
-    (feature_valid (identified id) (all_put IsField is_id (with_id id) (new_number 8 id) (identified_valid id fits) (new_id id fits)) ordinal meant document valid)))
+    (feature_valid (identified id) (all_put IsField is_id (with_id id) (new_number 8 id) (field_value_valid id fits) (new_id id fits)) ordinal meant document valid)))
 made_valid (ClearId choice feature) document fits valid =
     then_so IsDocument (selected choice document) _ (λ ordinal.
     then_so IsDocument (selected_in feature ordinal document) _ (λ meant. feature_valid without_id (all_filtered IsField (λ field. not (is_id field))) ordinal meant document valid))
@@ -260,6 +297,24 @@ made_valid (Exclude choice key) document fits valid =
     then_so IsDocument (selected_layers choice document) _ (λ layers.
     then_so IsDocument (refuse_first (unreadable layers)) _ (λ readable. layers_valid (excluded key) (excluded_valid key) choice document valid))
 made_valid (ExcludeAll choice) document fits valid = layers_valid untagged untagged_valid choice document valid
+made_valid (Shift choice feature dx dy) document fits valid =
+    then_so IsDocument (selected choice document) _ (λ ordinal.
+    then_so IsDocument (selected_in feature ordinal document) _ (λ meant.
+    let bad = not (is_drawn ordinal meant document) in
+    let far = not (can_shift dx dy ordinal meant document) in
+    then_given IsDocument (refuse_if bad (BadGeometry ordinal meant)) _ (λ readable drawn.
+    then_given IsDocument (refuse_if far OutOfRange) _ (λ short can.
+    limited_valid (change_feature (shifted dx dy) ordinal meant document)
+    (feature_valid_at (shifted dx dy) ordinal meant document (λ fields is all.
+    shifted_valid dx dy fields
+    (subst (λ (fs : List Field). is_some (geometry_among fs) ≡ true) is (not-false (is_drawn ordinal meant document) (not_refused bad (BadGeometry ordinal meant) readable drawn)))
+    (subst (λ (fs : List Field). can_move dx dy fs ≡ true) is (not-false (can_shift dx dy ordinal meant document) (not_refused far OutOfRange short can)))
+    all) valid)))))
+made_valid (SetGeometry choice feature geometry) document fits valid =
+    then_so IsDocument (selected choice document) _ (λ ordinal.
+    then_so IsDocument (selected_in feature ordinal document) _ (λ meant.
+    then_so IsDocument (refuse_if (not (is_in_range geometry)) OutOfRange) _ (λ short.
+    limited_valid (change_feature (with_geometry geometry) ordinal meant document) (feature_valid (with_geometry geometry) (geometry_valid geometry) ordinal meant document valid))))
 
 pub command_makes_document : CommandMakesDocument
 command_makes_document command document after fits valid is = ok_so IsDocument (applied command document) after (made_valid command document fits valid) is

@@ -1,10 +1,10 @@
 -- What holds of each item of a list holds of each after a change of it.
-use Rattle.std.proofs.Common.{◌≡◌, ℕ, zero, suc, ◌-◌, ◌≤◌, Bool, ◌&&◌, not, cond, ltb, ◌==◌, Option, Some, None, List, [], ◌∷◌, ◌++◌, length, length-append, take, drop, map, filter, slice_get, refl, subst, inl, inr, arith}
+use Rattle.std.proofs.Common.{◌≡◌, ℕ, zero, suc, ◌-◌, ◌≤◌, Bool, false, ◌&&◌, not, cond, ltb, ◌==◌, Option, Some, None, List, [], ◌∷◌, ◌++◌, length, length-append, take, drop, map, filter, slice_get, refl, subst, inl, inr, arith}
 use Rattle.std.specs.List.{AllByRecursion, flat_map, list_any}
 use Rattle.std.specs.Option.{option_map_or}
-use Rattle.std.proofs.lemmas.Bool.{cases_Bool, cond_both}
+use Rattle.std.proofs.lemmas.Bool.{cases_Bool, cond_both, ne_eqb}
 use Rattle.mvt_numbers.proofs.Decisions.{all_joined}
-use Rattle.mvt_meaning.specs.Ordinals.{from_nth, change_first, change_nth, change_last, put_last, count, without, before, behind, move_nth, insert_nth}
+use Rattle.mvt_meaning.specs.Ordinals.{from_nth, change_first, change_nth, change_last, put_last, put_once, count, without, before, behind, move_nth, insert_nth}
 
 module _ {A : Type 0} (P : A → Type 0) where
   pub all_pushed : (new : A) → P new → (xs : List A) → AllByRecursion P xs → AllByRecursion P (xs ++ new ∷ [])
@@ -46,6 +46,23 @@ module _ {A : Type 0} (P : A → Type 0) where
 
   pub all_changed : (passes : A → Bool) (change : A → A) → ((x : A) → P x → P (change x)) → (ordinal : ℕ) (xs : List A) → AllByRecursion P xs → AllByRecursion P (change_nth passes change ordinal xs)
   all_changed passes change keeps ordinal xs all = all_from_nth passes (change_first change) (all_first change keeps) ordinal xs all
+
+  -- the same, where the change keeps what holds of the item of that ordinal
+  pub all_changed_at : (passes : A → Bool) (change : A → A) (ordinal : ℕ) (xs : List A) → ((x : A) → slice_get (filter passes xs) ordinal ≡ Some x → P x → P (change x)) → AllByRecursion P xs → AllByRecursion P (change_nth passes change ordinal xs)
+  all_changed_at passes change ordinal [] keeps all = tt
+  all_changed_at passes change zero (x ∷ xs) keeps all =
+      elim (cases_Bool (passes x)) [
+        | inl pass ↦ rw pass (keeps x (rw pass refl) all.0, all.1)
+        | inr skip ↦ rw skip (all.0, all_changed_at passes change zero xs (λ y is valid. keeps y (rw skip is) valid) all.1)
+      ]
+  all_changed_at passes change (suc ordinal) (x ∷ xs) keeps all =
+      elim (cases_Bool (passes x)) [
+        | inl pass ↦
+            let less : suc ordinal - 1 ≡ ordinal = omega arith in
+            let later : (suc ordinal == 0) ≡ false = ne_eqb (suc ordinal) 0 (λ e. omega arith) in
+            rw (pass, less, later) (all.0, all_changed_at passes change ordinal xs (λ y is valid. keeps y (rw pass is) valid) all.1)
+        | inr skip ↦ rw skip (all.0, all_changed_at passes change (suc ordinal) xs (λ y is valid. keeps y (rw skip is) valid) all.1)
+      ]
 
   pub all_without : (passes : A → Bool) (ordinal : ℕ) (xs : List A) → AllByRecursion P xs → AllByRecursion P (without passes ordinal xs)
   all_without passes ordinal xs all = all_from_nth passes (λ rest. drop 1 rest) all_rest ordinal xs all
@@ -89,6 +106,13 @@ module _ {A : Type 0} (P : A → Type 0) where
       cond_both (list_any passes xs) (change_last passes change xs) (xs ++ new ∷ []) (AllByRecursion P)
       (λ _. all_last passes change keeps xs all)
       (λ _. all_pushed new valid xs all)
+
+  pub all_put_once : (passes : A → Bool) (new : A) → P new → (xs : List A) → AllByRecursion P xs → AllByRecursion P (put_once passes new xs)
+  all_put_once passes new valid [] all = (valid, tt)
+  all_put_once passes new valid (x ∷ xs) all =
+      cond_both (passes x) (new ∷ filter (λ y. not (passes y)) xs) (x ∷ put_once passes new xs) (AllByRecursion P)
+      (λ _. (valid, all_filtered (λ y. not (passes y)) xs all.1))
+      (λ _. (all.0, all_put_once passes new valid xs all.1))
 
 -- the item of an ordinal changed, where the change keeps what holds of those that are within a limit then
 pub all_changed_within : {A : Type 0} (P : A → Type 0) (bytes : A → List ℕ) (limit : ℕ) (passes : A → Bool) (change : A → A) → ((x : A) → P x → length (bytes (change x)) ≤ limit → P (change x)) → (ordinal : ℕ) (xs : List A) → AllByRecursion P xs → length (flat_map bytes (change_nth passes change ordinal xs)) ≤ limit → AllByRecursion P (change_nth passes change ordinal xs)

@@ -1,5 +1,5 @@
 -- What an accepted command on features makes of a tile.
-use Rattle.std.proofs.Common.{◌≡◌, ℕ, ◌/◌, ◌<◌, ◌≤◌, true, not, ◌==◌, Option, Some, None, Ok, List, [], ◌∷◌, length, slice_get, nat_lt, refl, ap, inl, inr, subst}
+use Rattle.std.proofs.Common.{◌≡◌, ℕ, ◌/◌, ◌<◌, ◌≤◌, true, not, ◌==◌, is_some, Option, Some, None, Ok, List, [], ◌∷◌, length, slice_get, nat_lt, refl, ap, inl, inr, subst}
 use Rattle.std.proofs.lemmas.Bool.{cases_Bool, eqb-true, ltb-false, ltb-true, not-false}
 use Rattle.std.specs.List.{filter_map, last_or}
 use Rattle.mvt_document.specs.Plain.{Number, Body, Spelled, Eight, Four, Delimited, Group, Field, Feature, LayerItem, Layer, Document}
@@ -10,7 +10,7 @@ use Rattle.mvt_view.specs.Views.{feature_in, features, features_in, layers, plai
 use Rattle.mvt_meaning.specs.Ordinals.{change_nth, insert_nth, move_nth, without}
 use Rattle.mvt_meaning.specs.Selection.{is_feature, selected, selected_feature, selected_in}
 use Rattle.mvt_geometry.specs.Checks.{is_in_range}
-use Rattle.mvt_meaning.specs.Meaning.{◌>>=◌, change_feature, change_layer, feature_count, identified, is_id, new_feature, new_number, refuse_if, with_id, with_number, within_limit, without_id}
+use Rattle.mvt_meaning.specs.Meaning.{◌>>=◌, change_feature, change_layer, feature_count, identified, new_feature, new_number, refuse_if, with_field_value, with_id, with_number, within_limit, without_id}
 use Rattle.mvt_meaning.specs.Kept.{ChangesFeature}
 use Rattle.mvt_meaning.specs.FeatureLaws.{ClearIdClears, ClearsId, DropFeatureDrops, DropsFeature, InsertFeatureInserts, InsertsFeature, MoveFeatureMoves, MovesFeature, SetIdSets, SetsId}
 use Rattle.mvt_meaning.specs.declared.refusal.Refusal.TheVariants.{BadPlace, OutOfRange}
@@ -82,21 +82,22 @@ number_given id number =
       | inr other ↦ rw other refl
     ]
 
-id_in_field : (id : ℕ) (tag : Number) (body : Body) → is_id (record { tag = tag; body = body }) ≡ true → value_in 1 (with_id id (record { tag = tag; body = body })) ≡ Some id
-id_in_field id tag (Spelled number) e = elim (cases_Bool (tag.value / 8 == 1)) [ inl one ↦ rw (one, number_given id number) refl | inr other ↦ absurd (let at = rw other at e in cc) ]
-id_in_field id tag (Eight bytes) e = absurd (elim (cases_Bool (tag.value / 8 == 1)) [ inl one ↦ let at = rw one at e in cc | inr other ↦ let at = rw other at e in cc ])
-id_in_field id tag (Four bytes) e = absurd (elim (cases_Bool (tag.value / 8 == 1)) [ inl one ↦ let at = rw one at e in cc | inr other ↦ let at = rw other at e in cc ])
-id_in_field id tag (Group bytes) e = absurd (elim (cases_Bool (tag.value / 8 == 1)) [ inl one ↦ let at = rw one at e in cc | inr other ↦ let at = rw other at e in cc ])
-id_in_field id tag (Delimited width bytes) e = absurd (elim (cases_Bool (tag.value / 8 == 1)) [ inl one ↦ let at = rw one at e in cc | inr other ↦ let at = rw other at e in cc ])
+number_in_field : (number value : ℕ) (tag : Number) (body : Body) → is_some (value_in number (record { tag = tag; body = body })) ≡ true → value_in number (with_field_value value (record { tag = tag; body = body })) ≡ Some value
+number_in_field number value tag (Spelled old) e = elim (cases_Bool (tag.value / 8 == number)) [ inl own ↦ rw (own, number_given value old) refl | inr other ↦ absurd (let at = rw other at e in cc) ]
+number_in_field number value tag (Eight bytes) e = absurd (elim (cases_Bool (tag.value / 8 == number)) [ inl own ↦ let at = rw own at e in cc | inr other ↦ let at = rw other at e in cc ])
+number_in_field number value tag (Four bytes) e = absurd (elim (cases_Bool (tag.value / 8 == number)) [ inl own ↦ let at = rw own at e in cc | inr other ↦ let at = rw other at e in cc ])
+number_in_field number value tag (Group bytes) e = absurd (elim (cases_Bool (tag.value / 8 == number)) [ inl own ↦ let at = rw own at e in cc | inr other ↦ let at = rw other at e in cc ])
+number_in_field number value tag (Delimited width bytes) e = absurd (elim (cases_Bool (tag.value / 8 == number)) [ inl own ↦ let at = rw own at e in cc | inr other ↦ let at = rw other at e in cc ])
 
-id_given : (id : ℕ) (field : Field) → is_id field ≡ true → value_in 1 (with_id id field) ≡ Some id
-id_given id field e = id_in_field id field.tag field.body e
+-- a VARINT field of a number with another value
+pub value_given : (number value : ℕ) (field : Field) → is_some (value_in number field) ≡ true → value_in number (with_field_value value field) ≡ Some value
+value_given number value field e = number_in_field number value field.tag field.body e
 
 sets_id : (id : ℕ) (feature : Feature) → SetsId id feature (with_fields (identified id) feature)
 sets_id id feature = record {
-  has = last_put (value_in 1) (with_id id) id (id_given id) (new_number 8 id) feature.fields refl;
-  last = parts_put (value_in 1) (with_id id) id (id_given id) (new_number 8 id) feature.fields refl;
-  others = others_put (value_in 1) (with_id id) id (id_given id) (new_number 8 id) feature.fields refl;
+  has = last_put (value_in 1) (with_id id) id (value_given 1 id) (new_number 8 id) feature.fields refl;
+  last = parts_put (value_in 1) (with_id id) id (value_given 1 id) (new_number 8 id) feature.fields refl;
+  others = others_put (value_in 1) (with_id id) id (value_given 1 id) (new_number 8 id) feature.fields refl;
 }
 
 pub set_id_sets : SetIdSets

@@ -17,16 +17,16 @@ use Rattle.mvt_meaning.proofs.Positions.{positions_from, positions_pass, positio
 
 -- ---- a list changed from the item of an ordinal on
 
-from_here : {A : Type 0} (passes : A → Bool) (change : List A → List A) (x : A) (xs : List A) → passes x ≡ true → from_nth passes change 0 (x ∷ xs) ≡ change (x ∷ xs)
+pub from_here : {A : Type 0} (passes : A → Bool) (change : List A → List A) (x : A) (xs : List A) → passes x ≡ true → from_nth passes change 0 (x ∷ xs) ≡ change (x ∷ xs)
 from_here passes change x xs pass = rw pass refl
 
-from_later : {A : Type 0} (passes : A → Bool) (change : List A → List A) (ordinal : ℕ) (x : A) (xs : List A) → passes x ≡ true → from_nth passes change (suc ordinal) (x ∷ xs) ≡ x ∷ from_nth passes change ordinal xs
+pub from_later : {A : Type 0} (passes : A → Bool) (change : List A → List A) (ordinal : ℕ) (x : A) (xs : List A) → passes x ≡ true → from_nth passes change (suc ordinal) (x ∷ xs) ≡ x ∷ from_nth passes change ordinal xs
 from_later passes change ordinal x xs pass =
     let less : suc ordinal - 1 ≡ ordinal = omega arith in
     let other : (suc ordinal == 0) ≡ false = grind (arith, nat_tests) in
     rw (pass, less, other) refl
 
-from_behind : {A : Type 0} (passes : A → Bool) (change : List A → List A) (ordinal : ℕ) (x : A) (xs : List A) → passes x ≡ false → from_nth passes change ordinal (x ∷ xs) ≡ x ∷ from_nth passes change ordinal xs
+pub from_behind : {A : Type 0} (passes : A → Bool) (change : List A → List A) (ordinal : ℕ) (x : A) (xs : List A) → passes x ≡ false → from_nth passes change ordinal (x ∷ xs) ≡ x ∷ from_nth passes change ordinal xs
 from_behind passes change ordinal x xs skip = rw skip refl
 
 -- one item more in front, where the place lies behind it
@@ -122,6 +122,16 @@ past_of pick n x (Some y) xs zero e none more = absurd (let here = rw (positions
 past_of pick n x (Some y) xs (suc m) e none more =
     let later = more m (rw (positions_pass (λ y. is_some (pick y)) n x xs (ap (λ picked. is_some picked) e)) at none) in rw e (omega arith)
 
+-- the items of the layer, and the fields of the feature, that are the ones of these ordinals
+pub items_of_nth : (document : Document) (ordinal : ℕ) (layer : Layer) → slice_get (filter is_layer document) ordinal ≡ Some (OfLayer layer) → items_of ordinal document ≡ layer.items
+items_of_nth document ordinal layer there =
+    ap (λ found. option_map_or (λ (layer : Layer). layer.items) found []) (picked_at layer_in document ordinal ∙ ap (option_and_then layer_in) there)
+
+pub fields_of_nth : (document : Document) (ordinal index : ℕ) (items : List LayerItem) (feature : Feature) → items_of ordinal document ≡ items → slice_get (filter is_feature items) index ≡ Some (OfFeature feature) → fields_of ordinal index document ≡ feature.fields
+fields_of_nth document ordinal index items feature is there =
+    let in_item : Option LayerItem → List Field = λ item. option_map_or (λ item. option_map_or (λ (fields : List Field). fields) (fields_in item) []) item [] in
+    ap (λ (items : List LayerItem). in_item (slice_get (filter is_feature items) index)) is ∙ ap in_item there
+
 -- an ordinal without a position is past the last
 pub no_position_past : {A B : Type 0} (pick : A → Option B) (n : ℕ) (xs : List A) (ordinal : ℕ) → slice_get (positions_from (λ y. is_some (pick y)) n xs) ordinal ≡ None → length (filter_map pick xs) ≤ ordinal
 no_position_past pick n [] ordinal none = omega arith
@@ -197,11 +207,11 @@ same_positions passes change n position [] keeps = refl
 same_positions passes change n zero (x ∷ xs) keeps = same_next passes n x (change x) xs xs (keeps x) refl
 same_positions passes change n (suc position) (x ∷ xs) keeps = same_next passes n x x xs (change_at change position xs) refl (same_positions passes change (n + 1) position xs keeps)
 
-still_layer : (change : List LayerItem → List LayerItem) (item : TileItem) → is_layer (in_layer change item) ≡ is_layer item
+pub still_layer : (change : List LayerItem → List LayerItem) (item : TileItem) → is_layer (in_layer change item) ≡ is_layer item
 still_layer change (OfLayer layer) = refl
 still_layer change (PlainInTile field) = refl
 
-still_feature : (change : List Field → List Field) (item : LayerItem) → is_feature (in_feature change item) ≡ is_feature item
+pub still_feature : (change : List Field → List Field) (item : LayerItem) → is_feature (in_feature change item) ≡ is_feature item
 still_feature change (OfFeature feature) = refl
 still_feature change (PlainInLayer field) = refl
 

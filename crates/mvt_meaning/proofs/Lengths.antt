@@ -10,17 +10,18 @@ use Rattle.mvt_document.specs.Plain.{Field, LayerItem, OfFeature, PlainInLayer, 
 use Rattle.mvt_document.specs.Wire.{field_bytes, layer_item_bytes, tile_item_bytes, bytes_of}
 use Rattle.mvt_document.proofs.Sizes.{length-message_grows}
 use Rattle.mvt_document.specs.Places.{in_layer, in_feature}
-use Rattle.mvt_command.specs.Command.{LayersChoice, TheLayer, EachLayer, Command, RenameLayer, MoveLayer, DropLayer, KeepLayers, InsertFeature, MoveFeature, DropFeature, SetId, ClearId, SetAttribute, UnsetAttribute, RenameKey, Exclude, ExcludeAll}
+use Rattle.mvt_command.specs.Command.{LayersChoice, TheLayer, EachLayer, Command, RenameLayer, MoveLayer, DropLayer, KeepLayers, InsertFeature, MoveFeature, DropFeature, SetId, ClearId, SetAttribute, UnsetAttribute, RenameKey, Exclude, ExcludeAll, Shift, SetGeometry}
 use Rattle.mvt_meaning.specs.Ordinals.{from_nth, change_first, change_nth, without, before, behind, move_nth, insert_nth}
 use Rattle.mvt_meaning.specs.Selection.{is_feature, is_layer, selected, selected_in, selected_layers}
 use Rattle.mvt_view.specs.Views.{layers}
 use Rattle.mvt_value.specs.Messages.{encoded_value}
 use Rattle.mvt_geometry.specs.Checks.{is_in_range}
+use Rattle.mvt_meaning.specs.Geometries.{shifted, with_geometry}
 use Rattle.mvt_meaning.specs.Tagging.{attributed, excluded, is_tags, removals, renamed_keys, unreadable, untagged, without_attribute, without_tags}
-use Rattle.mvt_meaning.specs.Meaning.{applied, refuse_if, layer_count, feature_count, has_key, has_pairs, items_of, refuse_first, repeats_key, within_limit, change_layer, change_layers, change_feature, is_id, is_kept, is_taken, without_id, identified, named_items, new_feature}
+use Rattle.mvt_meaning.specs.Meaning.{applied, refuse_if, can_shift, layer_count, feature_count, has_key, has_pairs, is_drawn, items_of, refuse_first, repeats_key, within_limit, change_layer, change_layers, change_feature, is_id, is_kept, is_taken, without_id, identified, named_items, new_feature}
 use Rattle.mvt_meaning.specs.Weights.{weigh}
 use Rattle.mvt_meaning.specs.SizeLaws.{CommandFits, NeverLonger, may_lengthen}
-use Rattle.mvt_meaning.specs.declared.refusal.Refusal.TheVariants.{BadPlace, BadTags, KeyTaken, NameTaken, NoKey, NoLayer, OutOfRange, RepeatedKey, TooLarge}
+use Rattle.mvt_meaning.specs.declared.refusal.Refusal.TheVariants.{BadGeometry, BadPlace, BadTags, KeyTaken, NameTaken, NoKey, NoLayer, OutOfRange, RepeatedKey, TooLarge}
 use Rattle.mvt_numbers.proofs.Redone.{no_longer}
 use Rattle.mvt_meaning.proofs.Accepted.{ok_so, then_so}
 use Rattle.mvt_meaning.proofs.Removals.{none_new}
@@ -186,6 +187,8 @@ kept_no_longer (Exclude choice key) document kind =
     then_so (IsNoLonger document) (selected_layers choice document) _ (λ layers.
     then_so (IsNoLonger document) (refuse_first (unreadable layers)) _ (λ readable. layers_no_longer (excluded key) (excluded_no_longer key) choice document))
 kept_no_longer (ExcludeAll choice) document kind = layers_no_longer untagged untagged_no_longer choice document
+kept_no_longer (Shift choice feature dx dy) document kind = absurd cc
+kept_no_longer (SetGeometry choice feature geometry) document kind = absurd cc
 
 pub never_longer : NeverLonger
 never_longer command document after valid kind is = ok_so (IsNoLonger document) (applied command document) after (kept_no_longer command document kind) is
@@ -228,6 +231,15 @@ lengthens_within (RenameKey choice old new) document kind =
     then_so IsWithin (refuse_if (has_key new ordinal document && not (bytes_eq old new)) KeyTaken) _ (λ free. limited (change_layer (renamed_keys old new) ordinal document))))
 lengthens_within (Exclude choice key) document kind = absurd cc
 lengthens_within (ExcludeAll choice) document kind = absurd cc
+lengthens_within (Shift choice feature dx dy) document kind =
+    then_so IsWithin (selected choice document) _ (λ ordinal.
+    then_so IsWithin (selected_in feature ordinal document) _ (λ meant.
+    then_so IsWithin (refuse_if (not (is_drawn ordinal meant document)) (BadGeometry ordinal meant)) _ (λ readable.
+    then_so IsWithin (refuse_if (not (can_shift dx dy ordinal meant document)) OutOfRange) _ (λ short. limited (change_feature (shifted dx dy) ordinal meant document)))))
+lengthens_within (SetGeometry choice feature geometry) document kind =
+    then_so IsWithin (selected choice document) _ (λ ordinal.
+    then_so IsWithin (selected_in feature ordinal document) _ (λ meant.
+    then_so IsWithin (refuse_if (not (is_in_range geometry)) OutOfRange) _ (λ short. limited (change_feature (with_geometry geometry) ordinal meant document))))
 
 pub command_fits : CommandFits
 command_fits command document after valid within is =

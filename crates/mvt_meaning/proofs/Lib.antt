@@ -11,6 +11,10 @@ pub mod Selecting
 pub mod SelectionLemmas
 pub mod Removals
 pub mod Replacements
+pub mod Moving
+pub mod OtherFields
+pub mod ReadValues
+pub mod SelectedAgain
 pub mod Lengths
 pub mod Elements
 pub mod Documents

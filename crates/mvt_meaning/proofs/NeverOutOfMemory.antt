@@ -8,16 +8,16 @@ use Rattle.std.specs.Str.{bytes_eq}
 use Rattle.mvt_document.specs.declared.TheConstants.{MAX_FILE}
 use Rattle.mvt_document.specs.Plain.{Document, Layer, LayerItem, OfLayer}
 use Rattle.mvt_document.specs.Wire.{bytes_of}
-use Rattle.mvt_command.specs.Command.{LayerChoice, AtOrdinal, Named, LayersChoice, TheLayer, EachLayer, FeatureChoice, FeatureAtOrdinal, WithId, Command, RenameLayer, MoveLayer, DropLayer, KeepLayers, InsertFeature, MoveFeature, DropFeature, SetId, ClearId, SetAttribute, UnsetAttribute, RenameKey, Exclude, ExcludeAll}
+use Rattle.mvt_command.specs.Command.{LayerChoice, AtOrdinal, Named, LayersChoice, TheLayer, EachLayer, FeatureChoice, FeatureAtOrdinal, WithId, Command, RenameLayer, MoveLayer, DropLayer, KeepLayers, InsertFeature, MoveFeature, DropFeature, SetId, ClearId, SetAttribute, UnsetAttribute, RenameKey, Exclude, ExcludeAll, Shift, SetGeometry}
 use Rattle.mvt_command.proofs.Others.{Other, either}
 use Rattle.mvt_view.specs.Views.{features, has_id, is_named, layers, ordinals_of, the_one}
 use Rattle.mvt_meaning.specs.MemoryLaws.{NoCommandIsOutOfMemory}
 use Rattle.mvt_meaning.specs.Selection.{selected, selected_feature, selected_in, selected_layers}
 use Rattle.mvt_geometry.specs.Checks.{is_in_range}
 use Rattle.mvt_meaning.specs.Tagging.{excluded, unreadable, untagged}
-use Rattle.mvt_meaning.specs.Meaning.{◌>>=◌, applied, change_layers, has_pairs, refuse_first, repeats_key, refuse_if, within_limit, is_taken, is_kept, has_key, layer_count, feature_count}
+use Rattle.mvt_meaning.specs.Meaning.{◌>>=◌, applied, can_shift, change_layers, has_pairs, is_drawn, refuse_first, repeats_key, refuse_if, within_limit, is_taken, is_kept, has_key, layer_count, feature_count}
 use Rattle.mvt_meaning.specs.declared.refusal.Refusal.{Refusal}
-use Rattle.mvt_meaning.specs.declared.refusal.Refusal.TheVariants.{NoMemory, NoLayer, AmbiguousLayer, NoFeature, AmbiguousFeature, NoKey, BadPlace, BadTags, NameTaken, KeyTaken, OutOfRange, RepeatedKey, TooLarge}
+use Rattle.mvt_meaning.specs.declared.refusal.Refusal.TheVariants.{NoMemory, NoLayer, AmbiguousLayer, NoFeature, AmbiguousFeature, NoKey, BadGeometry, BadPlace, BadTags, NameTaken, KeyTaken, OutOfRange, RepeatedKey, TooLarge}
 
 abbrev NeverOutOfMemory : {A : Type 0} → Result A Refusal → Type 0
 NeverOutOfMemory result = Other NoMemory result
@@ -126,6 +126,18 @@ applied_other (Exclude choice key) document =
     then (selected_layers choice document) _ (meant_layers choice document) (λ layers.
     then (refuse_first (unreadable layers)) _ (first_refused (unreadable layers)) (λ readable. layers_meant (excluded key) choice document))
 applied_other (ExcludeAll choice) document = layers_meant untagged choice document
+applied_other (Shift choice feature dx dy) document =
+    then (selected choice document) _ (layer_meant choice document) (λ ordinal.
+    then (selected_in feature ordinal document) _ (feature_meant feature ordinal document) (λ meant.
+    let bad = not (is_drawn ordinal meant document) in
+    let far = not (can_shift dx dy ordinal meant document) in
+    then (refuse_if bad (BadGeometry ordinal meant)) _ (either NoMemory bad (Err (BadGeometry ordinal meant)) (Ok tt) (λ e. cc) tt) (λ readable.
+    then (refuse_if far OutOfRange) _ (either NoMemory far (Err OutOfRange) (Ok tt) (λ e. cc) tt) (λ short. limited _))))
+applied_other (SetGeometry choice feature geometry) document =
+    let far = not (is_in_range geometry) in
+    then (selected choice document) _ (layer_meant choice document) (λ ordinal.
+    then (selected_in feature ordinal document) _ (feature_meant feature ordinal document) (λ meant.
+    then (refuse_if far OutOfRange) _ (either NoMemory far (Err OutOfRange) (Ok tt) (λ e. cc) tt) (λ short. limited _)))
 
 other_refusal : {A : Type 0} (result : Result A Refusal) → Other NoMemory result → result ≢ Err NoMemory
 other_refusal (Ok x) other e = absurd cc

@@ -1,13 +1,14 @@
 -- The layers of a tile and the features of a layer, where one of them changes.
-use Rattle.std.proofs.Common.{◌≡◌, ℕ, Some, None, Ok, List, ◌∷◌, ◌++◌, slice_get, refl, ap, ◌∙◌, subst}
+use Rattle.std.proofs.Common.{◌≡◌, ℕ, zero, suc, Some, None, Ok, List, [], ◌∷◌, ◌++◌, filter, slice_get, refl, ap, ◌∙◌, subst}
 use Rattle.std.specs.List.{filter_map}
+use Rattle.std.specs.Option.{option_map_or}
 use Rattle.mvt_document.specs.Plain.{Field, Feature, LayerItem, OfFeature, PlainInLayer, Layer, TileItem, OfLayer, PlainInTile, Document}
 use Rattle.mvt_command.specs.Command.{LayerChoice, FeatureChoice}
-use Rattle.mvt_document.specs.Places.{in_feature, in_layer}
-use Rattle.mvt_view.specs.Views.{feature_in, features, layer_in, layers, plain_in}
+use Rattle.mvt_document.specs.Places.{fields_in, in_feature, in_layer}
+use Rattle.mvt_view.specs.Views.{feature_in, features, features_in, layer_in, layers, plain_in}
 use Rattle.mvt_meaning.specs.Ordinals.{change_first, change_nth}
 use Rattle.mvt_meaning.specs.Selection.{is_feature, selected, selected_feature}
-use Rattle.mvt_meaning.specs.Meaning.{change_layer, items_of}
+use Rattle.mvt_meaning.specs.Meaning.{change_layer, fields_of, items_of}
 use Rattle.mvt_meaning.specs.Kept.{ChangesFeature, ChangesLayer, field_in}
 use Rattle.mvt_meaning.proofs.Accepted.{feature_within}
 use Rattle.mvt_meaning.proofs.Around.{Around, OneDiffers, around, from_around, one_differs, parts_between}
@@ -87,3 +88,16 @@ changes_feature choice way change layer ordinal meant changed =
       changed = changed a.value d.was;
       alone = record { others = d.others; fields = d.fields; positions = d.positions };
     }
+
+-- ---- the fields of a feature
+
+fields_there : (items : List LayerItem) (index : ℕ) (feature : Feature) → slice_get (features_in items) index ≡ Some feature → option_map_or (λ item. option_map_or (λ (fields : List Field). fields) (fields_in item) []) (slice_get (filter is_feature items) index) [] ≡ feature.fields
+fields_there [] index feature is = absurd cc
+fields_there (OfFeature first ∷ items) zero feature is = let same : first ≡ feature = cc in ap (λ (f : Feature). f.fields) same
+fields_there (OfFeature first ∷ items) (suc index) feature is = fields_there items index feature is
+fields_there (PlainInLayer field ∷ items) index feature is = fields_there items index feature is
+
+pub fields_found : (document : Document) (ordinal index : ℕ) (layer : Layer) (feature : Feature) → slice_get (layers document) ordinal ≡ Some layer → slice_get (features layer) index ≡ Some feature → fields_of ordinal index document ≡ feature.fields
+fields_found document ordinal index layer feature there is =
+    ap (λ (list : List LayerItem). option_map_or (λ item. option_map_or (λ (fields : List Field). fields) (fields_in item) []) (slice_get (filter is_feature list) index) []) (items_there document ordinal layer there)
+    ∙ fields_there layer.items index feature is

@@ -9,6 +9,10 @@ abbrev pub with_value : ℕ → Body → Body
 with_value value (Spelled number) = Spelled (with_number value number)
 with_value value body = body
 
+-- the field with this number, where it is a VARINT field
+abbrev pub with_field_value : ℕ → Field → Field
+with_field_value value field = record field { body = with_value value field.body }
+
 -- a LEN body with this content, and its stored width; another body as it is
 abbrev pub with_content : List ℕ → Body → Body
 with_content bytes (Delimited width old) = Delimited width bytes

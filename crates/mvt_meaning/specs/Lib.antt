@@ -1,7 +1,9 @@
 pub mod Ordinals
 pub mod Selection
 pub mod Fields
+pub mod Decided
 pub mod Tagging
+pub mod Geometries
 pub mod Meaning
 pub mod Kept
 pub mod LayerLaws

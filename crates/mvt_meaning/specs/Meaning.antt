@@ -1,7 +1,7 @@
 -- What a command makes of a document, and when it is refused. `applied` has a line for each refusal, in their order,
 -- and one for the meaning: a list of the tile, of a layer or of a feature in which one item or each is changed, one is
 -- left out, moved or new, or which is filtered.
-use Rattle.std.specs.Prelude.{ℕ, ◌==◌, nat_lt, Bool, true, ◌&&◌, not, List, [], ◌∷◌, length, map, filter, slice_get, Option, None, Result, Ok, Err, is_some, if◌then◌else◌}
+use Rattle.std.specs.Prelude.{ℕ, ◌==◌, nat_lt, ℤ, Bool, true, ◌&&◌, not, List, [], ◌∷◌, length, map, filter, slice_get, Option, None, Result, Ok, Err, is_some, if◌then◌else◌}
 use Rattle.std.specs.List.{list_any}
 use Rattle.std.specs.Option.{option_map_or}
 use Rattle.std.specs.Result.{result_unwrap_or}
@@ -17,13 +17,14 @@ use Rattle.mvt_geometry.specs.declared.faults.EncodeError.{EncodeError}
 use Rattle.mvt_geometry.specs.declared.faults.EncodeError.TheVariants as encode_errors
 use Rattle.mvt_view.specs.Views.{content_in, features_in, is_named, layers, ordinals_of, value_in}
 use Rattle.mvt_document.specs.Places.{fields_in, in_feature, in_layer}
-use Rattle.mvt_command.specs.Command.{LayersChoice, TheLayer, EachLayer, Command, RenameLayer, MoveLayer, DropLayer, KeepLayers, InsertFeature, MoveFeature, DropFeature, SetId, ClearId, SetAttribute, UnsetAttribute, RenameKey, Exclude, ExcludeAll}
+use Rattle.mvt_command.specs.Command.{LayersChoice, TheLayer, EachLayer, Command, RenameLayer, MoveLayer, DropLayer, KeepLayers, InsertFeature, MoveFeature, DropFeature, SetId, ClearId, SetAttribute, UnsetAttribute, RenameKey, Exclude, ExcludeAll, Shift, SetGeometry}
 use Rattle.mvt_meaning.specs.Ordinals.{change_nth, without, move_nth, insert_nth, put_last}
 use Rattle.mvt_meaning.specs.Selection.{is_feature, is_layer, selected, selected_in, selected_layers}
 use Rattle.mvt_meaning.specs.Tagging.{attributed, excluded, is_key, pairs_among, pairs_with, renamed_keys, unreadable, untagged, without_attribute}
-pub use Rattle.mvt_meaning.specs.Fields.{new_content, new_number, with_content, with_number, with_text, with_value}
+use Rattle.mvt_meaning.specs.Geometries.{can_move, geometry_among, shifted, with_geometry}
+pub use Rattle.mvt_meaning.specs.Fields.{new_content, new_number, with_content, with_field_value, with_number, with_text, with_value}
 use Rattle.mvt_meaning.specs.declared.refusal.Refusal.{Refusal}
-use Rattle.mvt_meaning.specs.declared.refusal.Refusal.TheVariants.{BadPlace, BadTags, KeyTaken, NameTaken, NoKey, NoLayer, NoMemory, OutOfRange, RepeatedKey, TooLarge}
+use Rattle.mvt_meaning.specs.declared.refusal.Refusal.TheVariants.{BadGeometry, BadPlace, BadTags, KeyTaken, NameTaken, NoKey, NoLayer, NoMemory, OutOfRange, RepeatedKey, TooLarge}
 
 -- what follows a step that was accepted; the refusal of one that was refused
 infixl 10 ◌>>=◌
@@ -64,7 +65,7 @@ is_id field = is_some (value_in 1 field)
 
 -- the field with this number, where it is a VARINT field
 abbrev pub with_id : ℕ → Field → Field
-with_id id field = record field { body = with_value id field.body }
+with_id id field = with_field_value id field
 
 -- the fields of a feature with this id in the last id field, or in a new one at the end where there is none (tiles 4.2)
 abbrev pub identified : ℕ → List Field → List Field
@@ -129,6 +130,15 @@ has_pairs ordinal feature document = is_some (pairs_among (items_of ordinal docu
 -- several pairs of the feature of this ordinal have the key, in the layer of that ordinal (tiles 4.4)
 abbrev pub repeats_key : List ℕ → ℕ → ℕ → Document → Bool
 repeats_key key ordinal feature document = nat_lt 1 (pairs_with key (items_of ordinal document) (fields_of ordinal feature document))
+
+-- the feature of this ordinal has a geometry, in the layer of that ordinal (tiles 4.3)
+abbrev pub is_drawn : ℕ → ℕ → Document → Bool
+is_drawn ordinal feature document = is_some (geometry_among (fields_of ordinal feature document))
+
+-- the integers of the feature of this ordinal, in the layer of that ordinal, can hold what its geometry is where it
+-- moves by dx and dy (tiles 4.3)
+abbrev pub can_shift : ℤ → ℤ → ℕ → ℕ → Document → Bool
+can_shift dx dy ordinal feature document = can_move dx dy (fields_of ordinal feature document)
 
 -- ---- refusals
 
@@ -212,6 +222,17 @@ applied (Exclude choice key) document = do
   readable ← refuse_first (unreadable layers)
   change_layers (excluded key) choice document
 applied (ExcludeAll choice) document = change_layers untagged choice document
+applied (Shift choice feature dx dy) document = do
+  ordinal ← selected choice document
+  meant ← selected_in feature ordinal document
+  readable ← refuse_if (not (is_drawn ordinal meant document)) (BadGeometry ordinal meant)
+  short ← refuse_if (not (can_shift dx dy ordinal meant document)) OutOfRange
+  within_limit (change_feature (shifted dx dy) ordinal meant document)
+applied (SetGeometry choice feature geometry) document = do
+  ordinal ← selected choice document
+  meant ← selected_in feature ordinal document
+  short ← refuse_if (not (is_in_range geometry)) OutOfRange
+  within_limit (change_feature (with_geometry geometry) ordinal meant document)
 
 -- the document after the command; a refused command changes nothing
 abbrev pub after : Command → Document → Document

@@ -60,6 +60,14 @@ insert_nth passes ordinal new items =
     else if list_any passes items then behind passes (count passes items - 1) new items
     else items ++ new ∷ []
 
+-- ---- one item for all that pass
+
+-- the list with a new item in place of the first that passes, and without the others that pass; with the new one at the
+-- end where none passes
+abbrev pub put_once : {A : Type 0} → (A → Bool) → A → List A → List A
+put_once passes new [] = new ∷ []
+put_once passes new (x ∷ xs) = if passes x then new ∷ filter (λ y. not (passes y)) xs else x ∷ put_once passes new xs
+
 -- ---- the last item
 
 -- the list with the last item that passes changed

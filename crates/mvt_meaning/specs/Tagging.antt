@@ -1,15 +1,16 @@
 -- The tags of features, and the keys of a layer, where commands change them.
-use Rattle.std.specs.Prelude.{ℕ, ◌==◌, Bool, true, false, ◌||◌, not, List, [], ◌∷◌, ◌++◌, length, map, filter, take, drop, slice_get, Option, Some, None, is_some, slice_index_or, if◌then◌else◌}
-use Rattle.std.specs.List.{flat_map, last_or, list_any, zip}
+use Rattle.std.specs.Prelude.{ℕ, ◌==◌, Bool, true, false, ◌||◌, not, List, [], ◌∷◌, ◌++◌, length, map, filter, slice_get, Option, Some, None, is_some, slice_index_or, if◌then◌else◌}
+use Rattle.std.specs.List.{flat_map, last_or, list_any}
 use Rattle.std.specs.Option.{option_map_or}
 use Rattle.std.specs.Str.{bytes_eq}
 use Rattle.mvt_document.specs.Plain.{Body, Delimited, Field, LayerItem, OfFeature, PlainInLayer, Layer}
 use Rattle.mvt_document.specs.Places.{in_feature}
 use Rattle.mvt_document.specs.Wire.{shortest}
 use Rattle.mvt_numbers.specs.Numbers.{numbers}
-use Rattle.mvt_numbers.specs.Renumbering.{field_numbers, renumber}
+use Rattle.mvt_numbers.specs.Renumbering.{renumber}
 use Rattle.mvt_view.specs.Attributes.{pairs_in, pairs_of}
 use Rattle.mvt_view.specs.Views.{content_in, contents, features, key_field, ordinals_of, plain_fields, value_field, value_in}
+use Rattle.mvt_meaning.specs.Decided.{decided_fields, is_renumbered, renumbered_fields}
 use Rattle.mvt_meaning.specs.Fields.{new_content, with_text}
 use Rattle.mvt_meaning.specs.Ordinals.{change_last, change_nth, count}
 use Rattle.mvt_meaning.specs.Selection.{is_feature}
@@ -80,16 +81,15 @@ unreadable found = flat_map (λ at. map (λ feature. (at.0, feature)) (ordinals_
 
 -- each field of a feature with what is decided on its numbers of tags, in order
 abbrev pub with_decisions : List (Option ℕ) → List Field → List (List (Option ℕ) × Field)
-with_decisions decisions [] = []
-with_decisions decisions (field ∷ more) = (take (length (field_numbers 2 field)) decisions, field) ∷ with_decisions (drop (length (field_numbers 2 field)) decisions) more
+with_decisions decisions fields = decided_fields 2 decisions fields
 
 -- a number of the field goes, or gets another value
 abbrev pub differs : List (Option ℕ) × Field → Bool
-differs at = list_any (λ p. option_map_or (λ value. not (value == p.1.value)) p.0 true) (zip at.0 (field_numbers 2 at.1))
+differs at = is_renumbered 2 at
 
 -- the tags fields of a feature of which a number goes or gets another value, each with what is decided on its numbers
 abbrev pub differing : List (Option ℕ) → List Field → List (List (Option ℕ) × Field)
-differing decisions fields = filter differs (with_decisions decisions fields)
+differing decisions fields = renumbered_fields 2 decisions fields
 
 -- the tags fields of a feature that lose a pair of a key, in a layer of these items, each with what is decided on its
 -- numbers (tiles 4.4)

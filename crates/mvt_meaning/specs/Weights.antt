@@ -1,12 +1,13 @@
 -- How many bytes a command takes out of a document, and how many it puts in: those of whole items.
-use Rattle.std.specs.Prelude.{ℕ, ◌+◌, ◌==◌, Bool, not, List, length, map, filter, slice_get, Option, None, Result, Ok, Err, if◌then◌else◌}
+use Rattle.std.specs.Prelude.{ℕ, ◌+◌, ◌==◌, ℤ, Bool, not, List, length, map, filter, slice_get, Option, None, Result, Ok, Err, if◌then◌else◌}
 use Rattle.std.specs.List.{flat_map, last_or}
 use Rattle.std.specs.Option.{option_map_or}
 use Rattle.mvt_document.specs.Plain.{Field, LayerItem, Document}
 use Rattle.mvt_document.specs.Wire.{field_bytes, layer_item_bytes, tile_item_bytes}
-use Rattle.mvt_numbers.specs.Renumbering.{renumbered_field}
 use Rattle.mvt_value.specs.Messages.{encoded_value}
-use Rattle.mvt_command.specs.Command.{LayerChoice, LayersChoice, FeatureChoice, Command, RenameLayer, DropLayer, KeepLayers, InsertFeature, DropFeature, SetId, ClearId, SetAttribute, UnsetAttribute, RenameKey, Exclude, ExcludeAll}
+use Rattle.mvt_command.specs.Command.{LayerChoice, LayersChoice, FeatureChoice, Command, RenameLayer, DropLayer, KeepLayers, InsertFeature, DropFeature, SetId, ClearId, SetAttribute, UnsetAttribute, RenameKey, Exclude, ExcludeAll, Shift, SetGeometry}
+pub use Rattle.mvt_meaning.specs.Decided.{as_before, as_renumbered}
+use Rattle.mvt_meaning.specs.Geometries.{is_geometry_field, is_kind, shifting}
 use Rattle.mvt_meaning.specs.Selection.{is_feature, is_layer, selected, selected_in, selected_layers}
 use Rattle.mvt_meaning.specs.Tagging.{is_key, is_packed_last, is_tags, losing, losing_in, missing_entries, pairs_with, revaluing, tags_fields, with_attribute}
 use Rattle.mvt_meaning.specs.Meaning.{after, fields_of, is_id, is_kept, is_name, items_of, new_feature}
@@ -47,13 +48,9 @@ key_weight key choice document seen = of_meant (selected choice document) (λ or
 
 -- ---- fields of which numbers go or get other values
 
--- these fields, as they are before
-abbrev pub as_before : List (List (Option ℕ) × Field) → List Field
-as_before decided = map (λ at. at.1) decided
-
--- what comes of these fields
+-- what comes of these tags fields
 abbrev pub as_after : List (List (Option ℕ) × Field) → List Field
-as_after decided = flat_map (λ at. renumbered_field 2 at.0 at.1) decided
+as_after decided = as_renumbered 2 decided
 
 -- the bytes, seen so, of the tags fields that lose a pair of the key in the feature that is selected
 abbrev pub unset_weight : (List (List (Option ℕ) × Field) → List Field) → LayerChoice → FeatureChoice → List ℕ → Document → ℕ
@@ -82,6 +79,17 @@ set_puts key value items fields = weigh layer_item_bytes (missing_entries key va
 abbrev pub set_weight : (List LayerItem → List Field → ℕ) → LayerChoice → FeatureChoice → Document → ℕ
 set_weight weight choice feature document = of_meant (selected choice document) (λ ordinal. of_meant (selected_in feature ordinal document) (λ meant. weight (items_of ordinal document) (fields_of ordinal meant document)))
 
+-- ---- the geometry of a feature
+
+-- the bytes, seen so, of the geometry fields of which an integer gets another value in the feature that is selected
+abbrev pub shift_weight : (List (List (Option ℕ) × Field) → List Field) → LayerChoice → FeatureChoice → ℤ → ℤ → Document → ℕ
+shift_weight seen choice feature dx dy document = of_meant (selected choice document) (λ ordinal. of_meant (selected_in feature ordinal document) (λ meant. weigh field_bytes (seen (shifting dx dy (fields_of ordinal meant document)))))
+
+-- the bytes, in the document `seen`, of the last kind field and of all geometry fields of the feature that is selected in
+-- `document`
+abbrev pub geometry_weight : LayerChoice → FeatureChoice → Document → Document → ℕ
+geometry_weight choice feature document seen = of_meant (selected choice document) (λ ordinal. of_meant (selected_in feature ordinal document) (λ meant. weigh_last field_bytes is_kind (fields_of ordinal meant seen) + weigh field_bytes (filter is_geometry_field (fields_of ordinal meant seen))))
+
 -- ---- commands
 
 -- the bytes of the items that a command takes out or replaces, as they stand before it
@@ -97,6 +105,8 @@ taken_by (UnsetAttribute choice feature key) document = unset_weight as_before c
 taken_by (RenameKey choice old new) document = key_weight old choice document document
 taken_by (Exclude choice key) document = excluded_weight as_before choice key document
 taken_by (ExcludeAll choice) document = of_meant (selected_layers choice document) (λ meant. weigh field_bytes (flat_map (λ found. tags_fields found.1.1) meant))
+taken_by (Shift choice feature dx dy) document = shift_weight as_before choice feature dx dy document
+taken_by (SetGeometry choice feature geometry) document = geometry_weight choice feature document document
 taken_by command document = 0
 
 -- the bytes of the items that a command puts in, new ones or those that replace others, as they stand after it
@@ -108,4 +118,6 @@ put_by (SetAttribute choice feature key value) document = set_weight (set_puts k
 put_by (UnsetAttribute choice feature key) document = unset_weight as_after choice feature key document
 put_by (RenameKey choice old new) document = key_weight new choice document (after (RenameKey choice old new) document)
 put_by (Exclude choice key) document = excluded_weight as_after choice key document
+put_by (Shift choice feature dx dy) document = shift_weight (as_renumbered 4) choice feature dx dy document
+put_by (SetGeometry choice feature geometry) document = geometry_weight choice feature document (after (SetGeometry choice feature geometry) document)
 put_by command document = 0

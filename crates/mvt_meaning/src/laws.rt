@@ -83,8 +83,8 @@ pub fn command_fits()
     ensures { CommandFits }
 {}
 
-/// An accepted command other than a rename of a layer or of a key, an insertion, a new id and a value
-/// for a key makes no document longer.
+/// An accepted command other than a rename of a layer or of a key, an insertion, a new id, a value for
+/// a key, a shift and another geometry makes no document longer.
 pub fn never_longer()
     ensures { NeverLonger }
 {}

@@ -27,6 +27,8 @@ pub enum Refusal {
     BadTags { layer: usize, feature: usize },
     #[error("the tags of feature {feature} of layer {layer} have the key more than once")]
     RepeatedKey { layer: usize, feature: usize },
+    #[error("the geometry of feature {feature} of layer {layer} cannot be read")]
+    BadGeometry { layer: usize, feature: usize },
     #[error("another layer has the name")]
     NameTaken,
     #[error("the layer has the key already")]

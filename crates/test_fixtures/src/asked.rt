@@ -41,8 +41,8 @@ pub fn keep(alloc: Global, name: &[u8]) -> Result<Command, AllocError> {
     })
 }
 
-/// A ring of three points comes into the first layer.
-pub fn insert_polygon(alloc: Global, index: u64) -> Result<Option<Command>, AllocError> {
+/// A ring of three points.
+fn polygon(alloc: Global) -> Result<Option<Geometry>, AllocError> {
     let ring = [(3, 6), (8, 12), (20, 34)];
     let mut points = Vec::new(alloc);
     for (x, y) in ring {
@@ -52,10 +52,33 @@ pub fn insert_polygon(alloc: Global, index: u64) -> Result<Option<Command>, Allo
     parts.push(Part {
         points: Items::from_vec(points),
     })?;
-    let geometry = Geometry::new(Kind::Areas, Items::from_vec(parts)).ok();
-    Ok(geometry.map(|geometry| Command::InsertFeature {
+    Ok(Geometry::new(Kind::Areas, Items::from_vec(parts)).ok())
+}
+
+/// A ring of three points comes into the first layer.
+pub fn insert_polygon(alloc: Global, index: u64) -> Result<Option<Command>, AllocError> {
+    Ok(polygon(alloc)?.map(|geometry| Command::InsertFeature {
         layer: FIRST,
         index,
+        geometry,
+    }))
+}
+
+/// The first feature of the first layer moves by these ways.
+pub fn shift(dx: i64, dy: i64) -> Command {
+    Command::Shift {
+        layer: FIRST,
+        feature: FIRST_FEATURE,
+        dx,
+        dy,
+    }
+}
+
+/// The first feature of the first layer becomes a ring of three points.
+pub fn set_polygon(alloc: Global) -> Result<Option<Command>, AllocError> {
+    Ok(polygon(alloc)?.map(|geometry| Command::SetGeometry {
+        layer: FIRST,
+        feature: FIRST_FEATURE,
         geometry,
     }))
 }

@@ -130,6 +130,7 @@ edit_is_other edit.BadPlace other out_of_memory = elim out_of_memory [ inl e ↦
 edit_is_other edit.AmbiguousFeature other out_of_memory = elim out_of_memory [ inl e ↦ omega arith | inr e ↦ omega arith ]
 edit_is_other (edit.BadTags layer feature) other out_of_memory = elim out_of_memory [ inl e ↦ omega arith | inr e ↦ omega arith ]
 edit_is_other (edit.RepeatedKey layer feature) other out_of_memory = elim out_of_memory [ inl e ↦ omega arith | inr e ↦ omega arith ]
+edit_is_other (edit.BadGeometry layer feature) other out_of_memory = elim out_of_memory [ inl e ↦ omega arith | inr e ↦ omega arith ]
 edit_is_other edit.NameTaken other out_of_memory = elim out_of_memory [ inl e ↦ omega arith | inr e ↦ omega arith ]
 edit_is_other edit.KeyTaken other out_of_memory = elim out_of_memory [ inl e ↦ omega arith | inr e ↦ omega arith ]
 edit_is_other edit.OutOfRange other out_of_memory = elim out_of_memory [ inl e ↦ omega arith | inr e ↦ omega arith ]

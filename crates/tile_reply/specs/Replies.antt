@@ -28,6 +28,7 @@ number_and_name (refused.Edit edit.BadPlace) = (24, codes "BadPlace")
 number_and_name (refused.Edit edit.AmbiguousFeature) = (25, codes "AmbiguousFeature")
 number_and_name (refused.Edit (edit.BadTags layer feature)) = (30, codes "BadTags")
 number_and_name (refused.Edit (edit.RepeatedKey layer feature)) = (31, codes "RepeatedKey")
+number_and_name (refused.Edit (edit.BadGeometry layer feature)) = (32, codes "BadGeometry")
 number_and_name (refused.Edit edit.NameTaken) = (40, codes "NameTaken")
 number_and_name (refused.Edit edit.KeyTaken) = (41, codes "KeyTaken")
 number_and_name (refused.Edit edit.OutOfRange) = (42, codes "OutOfRange")
@@ -62,11 +63,13 @@ refused_front line reason = codes "line " ++ decimal line ++ codes " refused " +
 abbrev pub place_told : ℕ → ℕ → List ℕ
 place_told layer feature = codes " layer " ++ decimal layer ++ codes " feature " ++ decimal feature
 
--- what stands behind the name of a refusal: the ordinals of the layer and the feature whose tags are at fault; how many
--- steps, or commands of the open step, were taken before a request was stopped; nothing for another refusal
+-- what stands behind the name of a refusal: the ordinals of the layer and the feature whose tags or geometry are at
+-- fault; how many steps, or commands of the open step, were taken before a request was stopped; nothing for another
+-- refusal
 abbrev pub behind_name : Refused → List ℕ
 behind_name (refused.Edit (edit.BadTags layer feature)) = place_told layer feature
 behind_name (refused.Edit (edit.RepeatedKey layer feature)) = place_told layer feature
+behind_name (refused.Edit (edit.BadGeometry layer feature)) = place_told layer feature
 behind_name (refused.History (history.Stopped taken)) = codes " taken " ++ decimal taken
 behind_name reason = []
 

@@ -78,6 +78,7 @@ impl Refused {
             Refused::Edit(Refusal::AmbiguousFeature) => (25, "AmbiguousFeature"),
             Refused::Edit(Refusal::BadTags { .. }) => (30, "BadTags"),
             Refused::Edit(Refusal::RepeatedKey { .. }) => (31, "RepeatedKey"),
+            Refused::Edit(Refusal::BadGeometry { .. }) => (32, "BadGeometry"),
             Refused::Edit(Refusal::NameTaken) => (40, "NameTaken"),
             Refused::Edit(Refusal::KeyTaken) => (41, "KeyTaken"),
             Refused::Edit(Refusal::OutOfRange) => (42, "OutOfRange"),

@@ -95,7 +95,8 @@ fn write_end<W: Sink>(
 {
     match reason {
         Refused::Edit(Refusal::BadTags { layer, feature })
-        | Refused::Edit(Refusal::RepeatedKey { layer, feature }) => {
+        | Refused::Edit(Refusal::RepeatedKey { layer, feature })
+        | Refused::Edit(Refusal::BadGeometry { layer, feature }) => {
             write_place(replies, layer, feature, retries)
         }
         Refused::History(HistoryError::Stopped { taken }) => write_taken(replies, taken, retries),

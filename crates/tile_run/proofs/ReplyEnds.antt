@@ -100,7 +100,7 @@ ends_out_of_memory ends = ((ends.0 == 114) && (ends.1 == 121)) || ((ends.0 == 11
 abbrev ends_with_ok : ℕ × ℕ → Bool
 ends_with_ok ends = (ends.0 == 111) && (ends.1 == 107)
 
--- those behind the name of a refusal of tags or of a repeated key
+-- those behind the name of a refusal of tags, of a repeated key or of a geometry
 place_last : (ends : ℕ × ℕ) (layer feature : ℕ) → last_two ends (codes " layer " ++ decimal layer ++ codes " feature " ++ decimal feature) ≡ (101, 32)
 place_last ends layer feature =
     let front = codes " layer " ++ decimal layer in
@@ -136,6 +136,9 @@ tells_memory ends (refused.Edit (edit.BadTags layer feature)) =
     record { alike = λ e line. absurd (omega arith); out_of_memory = ap ends_out_of_memory same; not_ok = ap ends_with_ok same }
 tells_memory ends (refused.Edit (edit.RepeatedKey layer feature)) =
     let same = place_last (last_two ends (codes "RepeatedKey")) layer feature in
+    record { alike = λ e line. absurd (omega arith); out_of_memory = ap ends_out_of_memory same; not_ok = ap ends_with_ok same }
+tells_memory ends (refused.Edit (edit.BadGeometry layer feature)) =
+    let same = place_last (last_two ends (codes "BadGeometry")) layer feature in
     record { alike = λ e line. absurd (omega arith); out_of_memory = ap ends_out_of_memory same; not_ok = ap ends_with_ok same }
 tells_memory ends (refused.Edit edit.NameTaken) = record { alike = λ e line. absurd (omega arith); out_of_memory = refl; not_ok = refl }
 tells_memory ends (refused.Edit edit.KeyTaken) = record { alike = λ e line. absurd (omega arith); out_of_memory = refl; not_ok = refl }

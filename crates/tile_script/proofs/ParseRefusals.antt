@@ -6,12 +6,12 @@ use Rattle.std.specs.Map.{lookup}
 use Rattle.std.specs.Option.{option_map_or}
 use Rattle.std.specs.Str.{bytes_eq, is_utf8}
 use Rattle.tile_words.specs.Words.{Word, Bare, Quoted, words_of}
-use Rattle.tile_arguments.specs.Arguments.{text_of, texts_of, number_in, layer_of, layers_of, feature_of, geometry_of, value_of}
-use Rattle.tile_arguments.proofs.Refusals.{then_other, text_other, texts_other, number_in_other, layer_other, layers_other, feature_other, geometry_other, value_other}
+use Rattle.tile_arguments.specs.Arguments.{text_of, texts_of, number_in, distance_of, layer_of, layers_of, feature_of, geometry_of, value_of}
+use Rattle.tile_arguments.proofs.Refusals.{then_other, text_other, texts_other, number_in_other, distance_other, layer_other, layers_other, feature_other, geometry_other, value_other}
 use Rattle.mvt_command.specs.Requests.{HistoryRequest}
 use Rattle.tile_request.specs.Request.{Request, OnHistory}
 use Rattle.tile_script.specs.Line.{is_remark, requests_alone, requests_by_name, alone_of, name_of, list_of, requests, request_by, asked_by, request_in, answer_to}
-use Rattle.tile_script.specs.Commands.{chosen_of, two_texts_of, rename_layer_of, move_layer_of, drop_layer_of, keep_layers_of, insert_feature_of, move_feature_of, drop_feature_of, set_id_of, clear_id_of, set_of, unset_of, rename_key_of, exclude_of, exclude_all_of, commands, read_by, command_by}
+use Rattle.tile_script.specs.Commands.{chosen_of, two_texts_of, rename_layer_of, move_layer_of, drop_layer_of, keep_layers_of, insert_feature_of, move_feature_of, drop_feature_of, set_id_of, clear_id_of, set_of, unset_of, rename_key_of, exclude_of, exclude_all_of, shift_of, set_geometry_of, commands, read_by, command_by}
 use Rattle.tile_words.specs.Answers.{◌>>=◌}
 use Rattle.tile_words.specs.declared.parse_error.ParseError.{ParseError}
 use Rattle.tile_words.specs.declared.parse_error.ParseError.TheVariants as parse
@@ -127,6 +127,24 @@ exclude_all_other [] = λ e. cc
 exclude_all_other (layers ∷ []) = then_other (layers_of layers) _ (layers_other layers) (λ choice. tt)
 exclude_all_other (layers ∷ more ∷ others) = λ e. cc
 
+shift_other : (arguments : List Word) → Other parse.NoMemory (shift_of arguments)
+unfolding shift_of
+shift_other [] = λ e. cc
+shift_other (layer ∷ []) = λ e. cc
+shift_other (layer ∷ feature ∷ []) = λ e. cc
+shift_other (layer ∷ feature ∷ along ∷ []) = λ e. cc
+shift_other (layer ∷ feature ∷ along ∷ down ∷ []) =
+    then_other (chosen_of layer feature) _ (chosen_other layer feature) (λ chosen. then_other (distance_of along) _ (distance_other along) (λ dx. then_other (distance_of down) _ (distance_other down) (λ dy. tt)))
+shift_other (layer ∷ feature ∷ along ∷ down ∷ more ∷ others) = λ e. cc
+
+set_geometry_other : (arguments : List Word) → Other parse.NoMemory (set_geometry_of arguments)
+unfolding set_geometry_of
+set_geometry_other [] = λ e. cc
+set_geometry_other (layer ∷ []) = λ e. cc
+set_geometry_other (layer ∷ feature ∷ []) = λ e. cc
+set_geometry_other (layer ∷ feature ∷ kind ∷ points) =
+    then_other (chosen_of layer feature) _ (chosen_other layer feature) (λ chosen. then_other (geometry_of (kind ∷ points)) _ (geometry_other (kind ∷ points)) (λ geometry. tt))
+
 first_other : {A : Type 0} (is : Bool) (read : List Word → Result A ParseError) (found : Option (List Word → Result A ParseError)) (arguments : List Word) (unknown : Result A ParseError) → Other parse.NoMemory (read arguments) → Other parse.NoMemory (option_map_or (λ read. read arguments) found unknown) → Other parse.NoMemory (option_map_or (λ read. read arguments) (if is then Some read else found) unknown)
 first_other true read found arguments unknown first others = first
 first_other false read found arguments unknown first others = others
@@ -161,7 +179,7 @@ command_other name arguments = read_other commands (Err parse.UnknownCommand) na
                     set_other arguments,
                     (
                       unset_other arguments,
-                      (rename_key_other arguments, (exclude_other arguments, (exclude_all_other arguments, tt))),
+                      (rename_key_other arguments, (exclude_other arguments, (exclude_all_other arguments, (shift_other arguments, (set_geometry_other arguments, tt))))),
                     ),
                   ),
                 ),

@@ -3,8 +3,8 @@ use Rattle.std.specs.Prelude.{ℕ, List, [], ◌∷◌, Result, Ok, Err, codes}
 use Rattle.std.specs.Map.{lookup}
 use Rattle.std.specs.Option.{option_map_or}
 use Rattle.std.specs.Str.{bytes_eq}
-use Rattle.mvt_command.specs.Command.{LayerChoice, FeatureChoice, Command, RenameLayer, MoveLayer, DropLayer, KeepLayers, InsertFeature, MoveFeature, DropFeature, SetId, ClearId, SetAttribute, UnsetAttribute, RenameKey, Exclude, ExcludeAll}
-use Rattle.tile_arguments.specs.Arguments.{text_of, texts_of, number_in, layer_of, layers_of, feature_of, geometry_of, value_of}
+use Rattle.mvt_command.specs.Command.{LayerChoice, FeatureChoice, Command, RenameLayer, MoveLayer, DropLayer, KeepLayers, InsertFeature, MoveFeature, DropFeature, SetId, ClearId, SetAttribute, UnsetAttribute, RenameKey, Exclude, ExcludeAll, Shift, SetGeometry}
+use Rattle.tile_arguments.specs.Arguments.{text_of, texts_of, number_in, distance_of, layer_of, layers_of, feature_of, geometry_of, value_of}
 use Rattle.tile_words.specs.Words.{Word}
 use Rattle.tile_words.specs.Answers.{◌>>=◌}
 use Rattle.tile_words.specs.declared.parse_error.ParseError.{ParseError}
@@ -135,6 +135,24 @@ exclude_all_of (layers ∷ []) = do
   Ok (ExcludeAll choice)
 exclude_all_of words = Err BadArguments
 
+-- the shift of these arguments: a layer, a feature, and how far the geometry moves along x and along y; or the first
+-- refusal
+unfoldable pub shift_of : List Word → Result Command ParseError
+shift_of (layer ∷ feature ∷ along ∷ down ∷ []) = do
+  chosen ← chosen_of layer feature
+  dx ← distance_of along
+  dy ← distance_of down
+  Ok (Shift chosen.0 chosen.1 dx dy)
+shift_of words = Err BadArguments
+
+-- the geometry of these arguments: a layer, a feature, and one or more words of its geometry; or the first refusal
+unfoldable pub set_geometry_of : List Word → Result Command ParseError
+set_geometry_of (layer ∷ feature ∷ kind ∷ points) = do
+  chosen ← chosen_of layer feature
+  geometry ← geometry_of (kind ∷ points)
+  Ok (SetGeometry chosen.0 chosen.1 geometry)
+set_geometry_of words = Err BadArguments
+
 -- the commands, each with its word and how its arguments are read
 abbrev pub commands : List (List ℕ × (List Word → Result Command ParseError))
 commands =
@@ -152,6 +170,8 @@ commands =
     ∷ (codes "rename-key", rename_key_of)
     ∷ (codes "exclude", exclude_of)
     ∷ (codes "exclude-all", exclude_all_of)
+    ∷ (codes "shift", shift_of)
+    ∷ (codes "set-geometry", set_geometry_of)
     ∷ []
 
 -- what the reader of this word among some makes of the arguments, or `unknown` where none has the word

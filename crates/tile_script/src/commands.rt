@@ -3,7 +3,7 @@
 ghost use Rattle.std.specs.Prelude.{◌≤◌, length, map};
 ghost use Rattle.std.specs.Result.{IsErrOf};
 ghost use Rattle.mvt_command.specs.CommandStands.{command_of, layer_choice_of, feature_choice_of};
-ghost use Rattle.tile_script.specs.Commands.{chosen_of, two_texts_of, rename_layer_of, move_layer_of, drop_layer_of, keep_layers_of, insert_feature_of, move_feature_of, drop_feature_of, set_id_of, clear_id_of, set_of, unset_of, rename_key_of, exclude_of, exclude_all_of, command_by};
+ghost use Rattle.tile_script.specs.Commands.{chosen_of, two_texts_of, rename_layer_of, move_layer_of, drop_layer_of, keep_layers_of, insert_feature_of, move_feature_of, drop_feature_of, set_id_of, clear_id_of, set_of, unset_of, rename_key_of, exclude_of, exclude_all_of, shift_of, set_geometry_of, command_by};
 ghost use Rattle.tile_words.specs.Answers.{Gives};
 ghost use Rattle.tile_words.specs.WordStands.{word_of};
 
@@ -11,8 +11,8 @@ use mvt_command::{Command, FeatureChoice, LayerChoice};
 use mvt_document::Items;
 use std::alloc::Global;
 use tile_arguments::{
-    feature_choice, layer_choice, layers_choice, new_geometry, new_value, number_argument,
-    text_argument, text_arguments,
+    distance, feature_choice, layer_choice, layers_choice, new_geometry, new_value,
+    number_argument, text_argument, text_arguments,
 };
 use tile_words::{ParseError, Word};
 
@@ -54,6 +54,10 @@ pub(crate) fn command(
         exclude(alloc, arguments)
     } else if name == b"exclude-all".as_slice() {
         exclude_all(alloc, arguments)
+    } else if name == b"shift".as_slice() {
+        shift(alloc, arguments)
+    } else if name == b"set-geometry".as_slice() {
+        set_geometry(alloc, arguments)
     } else {
         Err(ParseError::UnknownCommand)
     }
@@ -256,6 +260,45 @@ fn exclude_all(alloc: Global, arguments: &[Word<'_>]) -> Result<Command, ParseEr
     };
     let layers = layers_choice(alloc, *layers)?;
     Ok(Command::ExcludeAll { layers })
+}
+
+#[tactic(auto, unfolding(crate::specs::Commands::shift_of))]
+fn shift(alloc: Global, arguments: &[Word<'_>]) -> Result<Command, ParseError>
+    ensures answer { Gives command_of result (shift_of (map word_of arguments.now)) }
+    ensures no_memory { IsErrOf result ParseError.NoMemory → 1 ≤ length arguments.now }
+{
+    let [layer, feature, dx, dy] = arguments else {
+        return Err(ParseError::BadArguments);
+    };
+    let (layer, feature) = chosen(alloc, *layer, *feature)?;
+    let dx = distance(*dx)?;
+    let dy = distance(*dy)?;
+    Ok(Command::Shift {
+        layer,
+        feature,
+        dx,
+        dy,
+    })
+}
+
+#[tactic(auto, unfolding(crate::specs::Commands::set_geometry_of))]
+fn set_geometry(alloc: Global, arguments: &[Word<'_>]) -> Result<Command, ParseError>
+    ensures answer { Gives command_of result (set_geometry_of (map word_of arguments.now)) }
+    ensures no_memory { IsErrOf result ParseError.NoMemory → 1 ≤ length arguments.now }
+{
+    let [layer, feature, geometry @ ..] = arguments else {
+        return Err(ParseError::BadArguments);
+    };
+    if geometry.is_empty() {
+        return Err(ParseError::BadArguments);
+    }
+    let (layer, feature) = chosen(alloc, *layer, *feature)?;
+    let geometry = new_geometry(alloc, geometry)?;
+    Ok(Command::SetGeometry {
+        layer,
+        feature,
+        geometry,
+    })
 }
 
 /// A layer, and one of its features.

@@ -1,0 +1,6 @@
+pub mod Translated
+pub mod Counted
+pub mod Renumbered
+pub mod Shifted
+pub mod GeometrySet
+pub mod ShiftedBack

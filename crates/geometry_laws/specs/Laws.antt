@@ -1,0 +1,109 @@
+-- Laws of the commands on geometry, in the words of a tile: what an accepted command makes.
+use Rattle.std.specs.Prelude.{◌≡◌, ℕ, ◌≤◌, not, ℤ, pos, neg_ℤ, ◌+ℤ◌, List, [], ◌∷◌, ◌++◌, Option, Some, None, Ok, length, map, filter}
+use Rattle.std.specs.List.{filter_map}
+use Rattle.mvt_document.specs.declared.TheConstants.{MAX_FILE}
+use Rattle.mvt_document.specs.Opens.{IsDocument}
+use Rattle.mvt_document.specs.Plain.{Number, Body, Delimited, Field, Feature, Document}
+use Rattle.mvt_document.specs.Signed.{zigzag}
+use Rattle.mvt_document.specs.Wire.{bytes_of, minimal}
+use Rattle.mvt_geometry.specs.Integers.{encoded}
+use Rattle.mvt_geometry.specs.Shapes.{Geometry, IsGeometry, Point, kind_number}
+use Rattle.mvt_numbers.specs.Laws.{read_numbers}
+use Rattle.mvt_numbers.specs.Renumbering.{with_number}
+use Rattle.mvt_command.specs.Command.{LayerChoice, FeatureChoice, Shift, SetGeometry}
+use Rattle.mvt_view.specs.FeatureGeometry.{HasFeatureGeometry}
+use Rattle.mvt_view.specs.Views.{value_in}
+use Rattle.mvt_meaning.specs.Fields.{new_content}
+use Rattle.mvt_meaning.specs.Geometries.{further, is_geometry_field, is_kind}
+use Rattle.mvt_meaning.specs.Kept.{ChangesFeature, ChangesLayer, all_but_last}
+use Rattle.mvt_meaning.specs.Meaning.{applied, fields_of}
+use Rattle.mvt_meaning.specs.Selection.{selected, selected_in}
+
+-- ---- a feature and its fields
+
+-- the fields of a feature that are no geometry fields (tiles 4.2)
+abbrev pub without_geometry : List Field → List Field
+without_geometry fields = filter (λ field. not (is_geometry_field field)) fields
+
+-- the fields of a feature that are no kind fields (tiles 4.2)
+abbrev pub without_kind : List Field → List Field
+without_kind fields = filter (λ field. not (is_kind field)) fields
+
+-- the stored width of the length of a LEN body; none of another body (guide, Message Structure)
+abbrev pub stored_width : Body → Option ℕ
+stored_width (Delimited width bytes) = Some width
+stored_width body = None
+
+-- what stands before the content of a field: its tag, and the stored width of its length, where it has one
+abbrev pub front : Field → Number × Option ℕ
+front field = (field.tag, stored_width field.body)
+
+-- ---- a geometry that moves
+
+-- the point that is dx and dy further
+abbrev pub moved_point : ℤ → ℤ → Point → Point
+moved_point dx dy point = record { x = point.x +ℤ dx; y = point.y +ℤ dy }
+
+-- the geometry with each point of each part moved by dx and dy
+abbrev pub moved : ℤ → ℤ → Geometry → Geometry
+moved dx dy geometry = record { kind = geometry.kind; parts = map (map (moved_point dx dy)) geometry.parts }
+
+-- a parameter that leads further by this way, as it is spelled where its value stays, and in its shortest spelling where
+-- it does not (tiles 4.3.2)
+abbrev pub led_further : ℤ → Number → Number
+led_further way number = with_number (zigzag (further way number.value)) number
+
+-- the geometry of the feature is moved by dx and dy. Of the numbers in its geometry fields the second leads further by
+-- dx and the third by dy, and each other one is spelled as it was; each field has its tag and its stored width, and all
+-- fields that are no geometry fields are as they were (tiles 4.2, 4.3)
+pub record Shifts (dx dy : ℤ) (old new : Feature) : Type 0 where
+  pub geometry : Geometry
+  pub had : HasFeatureGeometry old geometry
+  pub has : HasFeatureGeometry new (moved dx dy geometry)
+  pub command : Number
+  pub along : Number
+  pub down : Number
+  pub more : List Number
+  pub were : read_numbers 4 old.fields ≡ Some (command ∷ along ∷ down ∷ more)
+  pub are : read_numbers 4 new.fields ≡ Some (command ∷ led_further dx along ∷ led_further dy down ∷ more)
+  pub fronts : map front new.fields ≡ map front old.fields
+  pub others : without_geometry new.fields ≡ without_geometry old.fields
+
+-- where a shift of a valid document of at most 67,108,864 bytes is accepted, the geometry of the selected feature moves
+-- by as much, and nothing but the first two parameters of its geometry differs
+abbrev pub ShiftShifts : Type 0
+ShiftShifts = (choice : LayerChoice) (feature : FeatureChoice) (dx dy : ℤ) (old new : Document) → IsDocument old → length (bytes_of old) ≤ MAX_FILE → applied (Shift choice feature dx dy) old ≡ Ok new → ChangesLayer choice (ChangesFeature feature (Shifts dx dy)) old new
+
+-- an accepted shift by 0 and 0 changes nothing
+abbrev pub ShiftByNothing : Type 0
+ShiftByNothing = (choice : LayerChoice) (feature : FeatureChoice) (old new : Document) → applied (Shift choice feature (pos 0) (pos 0)) old ≡ Ok new → new ≡ old
+
+-- the first two parameters of the geometry of the selected feature are in their shortest spelling (tiles 4.3.2)
+abbrev pub IsShortAtFirst : LayerChoice → FeatureChoice → Document → Type 0
+IsShortAtFirst choice feature document = (ordinal meant : ℕ) (command along down : Number) (more : List Number) → selected choice document ≡ Ok ordinal → selected_in feature ordinal document ≡ Ok meant
+    → read_numbers 4 (fields_of ordinal meant document) ≡ Some (command ∷ along ∷ down ∷ more) → (along ≡ minimal along.value) × (down ≡ minimal down.value)
+
+-- where a shift of a valid document of at most 67,108,864 bytes is accepted, and these parameters were in their shortest
+-- spelling, the shift back is accepted then and leaves the document as it was
+abbrev pub ShiftBack : Type 0
+ShiftBack = (choice : LayerChoice) (feature : FeatureChoice) (dx dy : ℤ) (old between : Document) → IsDocument old → length (bytes_of old) ≤ MAX_FILE → IsShortAtFirst choice feature old → applied (Shift choice feature dx dy) old ≡ Ok between → applied (Shift choice feature (neg_ℤ dx) (neg_ℤ dy)) between ≡ Ok old
+
+-- ---- another geometry
+
+-- the values of the kind fields of a feature, in order; the last is its kind (tiles 4.2)
+abbrev pub kinds : Feature → List ℕ
+kinds feature = filter_map (value_in 3) feature.fields
+
+-- the feature has this geometry and no other, in one geometry field; its kind is in place of its last one; and all its
+-- fields that are neither kind nor geometry are as they were (tiles 4.2, 4.3)
+pub record SetsGeometry (geometry : Geometry) (old new : Feature) : Type 0 where
+  pub has : HasFeatureGeometry new geometry
+  pub only : (other : Geometry) → HasFeatureGeometry new other → other ≡ geometry
+  pub last : kinds new ≡ all_but_last (kinds old) ++ kind_number geometry.kind ∷ []
+  pub once : filter is_geometry_field new.fields ≡ new_content 34 (encoded geometry) ∷ []
+  pub others : without_geometry (without_kind new.fields) ≡ without_geometry (without_kind old.fields)
+
+-- where a valid geometry is accepted, it is that of the selected feature, and nothing but its kind and its geometry
+-- differs
+abbrev pub SetGeometrySets : Type 0
+SetGeometrySets = (choice : LayerChoice) (feature : FeatureChoice) (geometry : Geometry) (old new : Document) → IsGeometry geometry → applied (SetGeometry choice feature geometry) old ≡ Ok new → ChangesLayer choice (ChangesFeature feature (SetsGeometry geometry)) old new

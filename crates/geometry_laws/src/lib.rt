@@ -1,0 +1,30 @@
+//! Laws of the commands on geometry. Each function does nothing: its contract is the law.
+#![tactic(auto)]
+
+ghost use Rattle.geometry_laws.specs.Laws.{SetGeometrySets, ShiftBack, ShiftByNothing, ShiftShifts};
+
+/// Where a shift of a valid document is accepted, every point of every part of the selected feature
+/// moves by as much. Nothing but the second and the third number of its geometry differs: the other
+/// numbers keep their spellings, each field its tag and its stored width, and all other fields, the
+/// other features and the other layers are as they were.
+pub fn shift_shifts()
+    ensures { ShiftShifts }
+{}
+
+/// An accepted shift by 0 and 0 changes nothing.
+pub fn shift_by_nothing()
+    ensures { ShiftByNothing }
+{}
+
+/// A shift and the shift back leave the document as it was, where the second and the third number of
+/// the geometry were in their shortest spelling.
+pub fn shift_back()
+    ensures { ShiftBack }
+{}
+
+/// Where a geometry is accepted, the selected feature has exactly that one, in one geometry field. All
+/// its fields that are neither kind nor geometry, the other features and the other layers are as
+/// they were.
+pub fn set_geometry_sets()
+    ensures { SetGeometrySets }
+{}
