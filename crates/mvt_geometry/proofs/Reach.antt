@@ -1,10 +1,10 @@
 -- How far from the origin ways in range lead: with each point at most 2^31 further.
-use Rattle.std.proofs.Common.{◌≡◌, ℕ, ◌+◌, ◌*◌, ◌^◌, ◌<◌, ◌≤◌, ℤ, pos, negsuc, ◌-ℤ◌, List, [], ◌∷◌, ◌++◌, length, length-append, refl, arith}
+use Rattle.std.proofs.Common.{ℕ, ◌+◌, ◌*◌, ◌^◌, ◌≤◌, ℤ, pos, negsuc, ◌-ℤ◌, List, [], ◌∷◌, ◌++◌, length, length-append, arith}
 use Rattle.std.specs.Prelude.{unsigned_abs}
 use Rattle.std.proofs.lemmas.Int.{ints}
 use Rattle.std.specs.List.{AllByRecursion}
-use Rattle.mvt_geometry.specs.Shapes.{Point, Kind, Dots, Lines, Areas, Geometry}
-use Rattle.mvt_geometry.specs.Integers.{ways, parameters, last_from, path, paths, closing_of, all_points, origin, integers_of, IsWay, IsInRange}
+use Rattle.mvt_geometry.specs.Shapes.{Point, Kind, Dots, Lines, Areas}
+use Rattle.mvt_geometry.specs.Integers.{ways, parameters, last_from, path, paths, closing_of, all_points, origin, integers_of, IsWay}
 use Rattle.mvt_geometry.specs.Laws.{IntegersReach, IsWithin}
 use Rattle.mvt_geometry.proofs.Fronts.{length-parameters}
 

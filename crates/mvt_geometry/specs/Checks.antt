@@ -4,7 +4,7 @@ use Rattle.std.specs.List.{list_all}
 use Rattle.std.specs.Str.{bytes_eq}
 use Rattle.mvt_geometry.specs.declared.shapes.Point.{Point}
 use Rattle.mvt_geometry.specs.declared.shapes.Kind.{Kind}
-use Rattle.mvt_geometry.specs.declared.shapes.Kind.TheVariants.{Dots, Lines, Areas}
+use Rattle.mvt_geometry.specs.declared.shapes.Kind.TheVariants.{Dots}
 use Rattle.mvt_geometry.specs.Shapes.{kind_number, Geometry, least_points}
 use Rattle.mvt_geometry.specs.Integers.{origin, ways, all_points, integers, repeats}
 

@@ -3,7 +3,7 @@ use Rattle.std.specs.Prelude.{◌≡◌, ℕ, ◌+◌, ◌-◌, ◌*◌, ◌^◌
 use Rattle.std.specs.List.{AllByRecursion, flat_map}
 use Rattle.mvt_document.specs.Wire.{shortest}
 use Rattle.mvt_document.specs.Signed.{zigzag}
-use Rattle.mvt_geometry.specs.Shapes.{Point, Kind, Dots, Lines, Areas, kind_number, Geometry, IsGeometry}
+use Rattle.mvt_geometry.specs.Shapes.{Point, Kind, Dots, Areas, kind_number, Geometry, IsGeometry}
 
 -- ---- commands: MoveTo is 1, LineTo is 2, ClosePath is 7
 

@@ -1,7 +1,6 @@
 -- Laws of geometries and their integers, and of the geometry of numbers as a function.
 use Rattle.std.specs.Prelude.{◌≡◌, ◌↔◌, ℕ, ◌*◌, ◌^◌, ◌<◌, ◌≤◌, unsigned_abs, List, Some, length, map}
 use Rattle.std.specs.List.{flat_map, AllByRecursion}
-use Rattle.mvt_document.specs.Plain.{Number}
 use Rattle.mvt_document.specs.Wire.{minimal, spelling}
 use Rattle.mvt_document.specs.Groups.{IsNumber}
 use Rattle.mvt_geometry.specs.Shapes.{Geometry, Point, kind_number, IsGeometry}

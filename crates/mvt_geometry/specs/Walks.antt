@@ -2,7 +2,7 @@
 use Rattle.std.specs.Prelude.{◌≡◌, ℕ, ◌-◌, ◌^◌, ◌≤◌, ◌<◌, ℤ, ◌-ℤ◌, unsigned_abs, List, [], ◌∷◌, ◌++◌, length}
 use Rattle.std.specs.List.{AllByRecursion}
 use Rattle.mvt_document.specs.Signed.{zigzag}
-use Rattle.mvt_geometry.specs.Shapes.{Point, Kind, Dots, Lines, Areas, IsPlaced}
+use Rattle.mvt_geometry.specs.Shapes.{Point, Kind, Dots, IsPlaced}
 use Rattle.mvt_geometry.specs.Integers.{command, ways, parameters, last_from, closing_of, path, paths, IsWay, IsRepeated}
 
 -- the parameter leads from one coordinate to another, which is placed, by a way in range

@@ -4,6 +4,7 @@ ghost use Rattle.std.specs.Prelude.{◌≡◌, ◌+◌, ◌*◌, ◌^◌, ◌<�
 ghost use Rattle.std.specs.List.{AllByRecursion};
 ghost use Rattle.mvt_document.specs.Signed.{zigzag};
 ghost use Rattle.mvt_document.specs.Wire.{shortest};
+ghost use Rattle.mvt_geometry.specs.Checks.{is_way};
 ghost use Rattle.mvt_geometry.specs.Integers.{ways, parameters, last_from, IsWay, IsInRange, packed, encoded};
 ghost use Rattle.mvt_geometry.specs.Walks.{integers_of_part, IsPartInRange};
 
@@ -121,11 +122,19 @@ fn put_way(bytes: &mut Vec<u8>, from: i64, to: i64) -> Result<(), EncodeError>
     let Some(way) = to.checked_sub(from) else {
         return Err(EncodeError::OutOfRange);
     };
-    if way.unsigned_abs() > MAX_WAY {
+    if !is_way(way) {
         return Err(EncodeError::OutOfRange);
     }
     put_integer(bytes, to_zigzag(way))?;
     Ok(())
+}
+
+/// Whether an integer of 32 bits can hold the way from one coordinate to another: it is -(2^31 - 1)
+/// to 2^31 - 1.
+pub fn is_way(way: i64) -> bool
+    ensures { result ≡ is_way way }
+{
+    way.unsigned_abs() <= MAX_WAY
 }
 
 /// Adds a command that is carried out so often.
