@@ -7,7 +7,7 @@ ghost use Rattle.mvt_command.specs.CommandStands.{feature_choice_of, layer_choic
 ghost use Rattle.mvt_meaning.specs.Meaning.{is_id};
 ghost use Rattle.mvt_edit_steps.specs.Prepared.{Prepares};
 
-use mvt_change::{Change, Step};
+use mvt_change::Change;
 use mvt_document::tags::ID;
 use mvt_document::{Body, Document, Field, Items};
 use mvt_edit_steps::{carry_out, goes_if};
@@ -31,13 +31,7 @@ pub fn clear_id(
         alloc,
         found.feature.fields.as_slice(),
         |field| Ok(goes_if(is_id(field))),
-        |run| Step::InFeature {
-            layer,
-            item,
-            index: run.index,
-            take: run.take,
-            put: Items::from_vec(run.put),
-        },
+        |run| run.in_feature(layer, item),
         &mut steps,
     )?;
     Ok(Change {

@@ -6,7 +6,7 @@ ghost use Rattle.std.specs.Fn.{FnReturns, FnReturnsAt};
 ghost use Rattle.std.specs.List.{AllZip, cons_option};
 ghost use Rattle.std.specs.Option.{option_map_or};
 ghost use Rattle.mvt_document.specs.Plain as document;
-ghost use Rattle.mvt_document.specs.Stands.{field_of};
+ghost use Rattle.mvt_document.specs.Stands.{field_of, layer_item_of};
 ghost use Rattle.mvt_numbers.specs.Fates.{changes};
 ghost use Rattle.mvt_change.specs.Changes as plain;
 ghost use Rattle.mvt_change.specs.ChangeStands.{step_of};
@@ -14,7 +14,7 @@ ghost use Rattle.mvt_edit_steps.specs.Decided.{field_fates};
 ghost use Rattle.mvt_edit_steps.specs.Fates.{IsCarriedOut, Splice, Tells, and_last, goes_if, seen, splice_of, splices_from, steps_then};
 
 use mvt_change::Step;
-use mvt_document::Field;
+use mvt_document::{Field, Items, LayerItem};
 use mvt_numbers::{Fate, renumber_field};
 use std::alloc::{AllocError, Global};
 
@@ -31,6 +31,36 @@ pub struct Run<T> {
     pub index: usize,
     pub take: usize,
     pub put: Vec<T>,
+}
+
+impl Run<Field> {
+    /// The step that carries the run out on the fields of a feature: of the item at this position of
+    /// the layer at that position of the tile.
+    pub fn in_feature(self, layer: usize, item: usize) -> Step
+        ensures { step_of result ≡ plain.FeatureStep layer item self.index self.take (map field_of self.put.items) }
+    {
+        Step::InFeature {
+            layer,
+            item,
+            index: self.index,
+            take: self.take,
+            put: Items::from_vec(self.put),
+        }
+    }
+}
+
+impl Run<LayerItem> {
+    /// The step that carries the run out on the items of the layer at this position of the tile.
+    pub fn in_layer(self, layer: usize) -> Step
+        ensures { step_of result ≡ plain.LayerStep layer self.index self.take (map layer_item_of self.put.items) }
+    {
+        Step::InLayer {
+            layer,
+            index: self.index,
+            take: self.take,
+            put: Items::from_vec(self.put),
+        }
+    }
 }
 
 /// Carries out what becomes of each item, in steps behind those that are given. How many items

@@ -88,13 +88,7 @@ fn untag(
         alloc,
         found.feature.fields.as_slice(),
         |field| Ok(goes_if(is_tags(field))),
-        |run| Step::InFeature {
-            layer,
-            item,
-            index: run.index,
-            take: run.take,
-            put: Items::from_vec(run.put),
-        },
+        |run| run.in_feature(layer, item),
         steps,
     )?;
     Ok(())

@@ -16,7 +16,7 @@ ghost use Rattle.mvt_edit_steps.specs.Fates.{splices_of};
 ghost use Rattle.mvt_edit_steps.specs.Prepared.{Prepares};
 ghost use Rattle.mvt_edit_tags.specs.KeyFates.{TellsOfKeys, key_fate};
 
-use mvt_change::{Change, Step, fits_with_items};
+use mvt_change::{Change, fits_with_items};
 use mvt_document::tags::KEYS;
 use mvt_document::{
     Body, Document, Field, Items, LayerItem, MAX_FILE, Measured, Varint, message_size, sum_within,
@@ -146,12 +146,7 @@ fn renaming(
         alloc,
         items,
         |item| fate_of(alloc, item, old, new),
-        |run| Step::InLayer {
-            layer,
-            index: run.index,
-            take: run.take,
-            put: Items::from_vec(run.put),
-        },
+        |run| run.in_layer(layer),
         &mut steps,
     )?;
     Ok(Change {

@@ -109,14 +109,8 @@ fn steps_of(
 {
     let layer = holder.position;
     let mut steps = Vec::new(alloc);
-    if let Some(Run { index, take, put }) = run {
-        steps.push(Step::InFeature {
-            layer,
-            item,
-            index,
-            take,
-            put: Items::from_vec(put),
-        })?;
+    if let Some(run) = run {
+        steps.push(run.in_feature(layer, item))?;
     }
     if !entries.is_empty() {
         steps.push(Step::InLayer {

@@ -82,13 +82,7 @@ pub(crate) fn renumber_tags(
         found.feature.fields.as_slice(),
         TAGS,
         decisions,
-        |run| Step::InFeature {
-            layer,
-            item,
-            index: run.index,
-            take: run.take,
-            put: Items::from_vec(run.put),
-        },
+        |run| run.in_feature(layer, item),
         steps,
     )?;
     Ok(())
