@@ -39,81 +39,9 @@ use Rattle.mvt_meaning.proofs.Parts.{fields_found}
 use Rattle.mvt_meaning.proofs.ReadValues.{value_list, values_of_read}
 use Rattle.mvt_meaning.proofs.SelectedAgain.{feature_again, layer_again}
 use Rattle.geometry_laws.specs.Laws.{ShiftBack, Shifts, led_further, moved}
-use Rattle.geometry_laws.proofs.Renumbered.{AllSome, all_dropped, own_left, same_count, same_fronts}
-use Rattle.geometry_laws.proofs.Shifted.{decided_so, is_shift, moves_found, moves_some, shift_shifts, shifted_read}
+use Rattle.geometry_laws.proofs.Renumbered.{both_back}
+use Rattle.geometry_laws.proofs.Shifted.{decided_so, is_shift, moves_found, moves_some, same_integers, shift_shifts, shifted_read}
 use Rattle.geometry_laws.proofs.Translated.{first_ways}
-
--- ---- numbers that get other values, and their own again
-
--- a field of which other numbers are left, and then its own
-record Back (number : ℕ) (field : Field) (own new : List Number) : Type 0 where
-  made : Field
-  left : with_left field own new ≡ made ∷ []
-  numbers : field_numbers number made ≡ new
-  back : with_left made new own ≡ field ∷ []
-
-one_by : (number : ℕ) (field : Field) (found : Option (List Number)) (list : List Number) → field_read number field ≡ found → unwrap_or found [] ≡ list → 1 ≤ length list → read_numbers number (field ∷ []) ≡ Some list
-one_by number field None list read is some = absurd (omega (arith, ap length is, some))
-one_by number field (Some found) list read is some =
-    read_is number (field ∷ []) ∙ ap (λ (first : Option (List Number)). both_found first (Some [])) read ∙ ap Some (append-nil found ∙ is)
-
--- a field with numbers is read alone
-one_read : (number : ℕ) (field : Field) (first : Number) (more : List Number) → field_numbers number field ≡ first ∷ more → read_numbers number (field ∷ []) ≡ Some (first ∷ more)
-one_read number field first more is = one_by number field (field_read number field) (first ∷ more) refl is (omega arith)
-
-twice : (first next : Number) (more others : List Number) (body : Body) → with_numbers (first ∷ more) (with_numbers (next ∷ others) body) ≡ with_numbers (first ∷ more) body
-twice first next more others (Spelled number) = refl
-twice first next more others (Eight bytes) = refl
-twice first next more others (Four bytes) = refl
-twice first next more others (Delimited width bytes) = refl
-twice first next more others (Group bytes) = refl
-
-back_by : (number : ℕ) (decisions : List (Option ℕ)) (field : Field) (own new : List Number) → AreShort decisions → field_numbers number field ≡ own → renumbered decisions own ≡ new → length new ≡ length own → Back number field own new
-back_by number decisions field [] [] short is are same = record { made = field; left = refl; numbers = is; back = refl }
-back_by number decisions field [] (next ∷ others) short is are same = absurd (omega (arith, same))
-back_by number decisions field (first ∷ more) [] short is are same = absurd (omega (arith, same))
-back_by number decisions field (first ∷ more) (next ∷ others) short is are same =
-    let made : Field = record field { body = with_numbers (next ∷ others) field.body } in
-    let left : renumber number decisions (field ∷ []) ≡ made ∷ [] =
-    ap (λ (own : List Number). with_left field own (renumbered decisions own) ++ []) is
-    ∙ ap (λ (new : List Number). with_left field (first ∷ more) new ++ []) are in
-    let read : read_numbers number (made ∷ []) ≡ Some (next ∷ others) =
-    ap (read_numbers number) (sym left)
-    ∙ left_is_read number decisions (field ∷ []) (first ∷ more) short (one_read number field first more is)
-    ∙ ap Some are in
-    record {
-      made = made;
-      left = refl;
-      numbers = sym (append-nil (field_numbers number made)) ∙ read_of_fields number (made ∷ []) (next ∷ others) read;
-      back = ap (λ (body : Body). record field { body = body } ∷ []) (twice first next more others field.body)
-          ∙ ap (λ (own : List Number). with_left field own own) (sym is)
-          ∙ own_left number field;
-    }
-
-pub both_back : (number : ℕ) (there back : List (Option ℕ)) (fields : List Field) → AllSome there → AllSome back → AreShort there → renumbered back (renumbered there (flat_map (field_numbers number) fields)) ≡ flat_map (field_numbers number) fields → renumber number back (renumber number there fields) ≡ fields
-both_back number there back [] all all_back short e = refl
-both_back number there back (field ∷ fields) all all_back short e =
-    let own = field_numbers number field in
-    let others = flat_map (field_numbers number) fields in
-    let new = renumbered there own in
-    let there_more = drop (length own) there in
-    let back_more = drop (length new) back in
-    let counted : length new ≡ length own = same_count there own all in
-    let b = back_by number there field own new short refl refl counted in
-    let whole : renumbered back new ++ renumbered back_more (renumbered there_more others) ≡ own ++ others =
-    sym (ap (renumbered back) (renumbered-append there own others) ∙ renumbered-append back new (renumbered there_more others)) ∙ e in
-    let apart = same_fronts (renumbered back new) own (renumbered back_more (renumbered there_more others)) others whole (same_count back new all_back ∙ counted) in
-    let rest : List Field = renumber number there_more fields in
-    ap (λ (first : List Field). renumber number back (first ++ rest)) b.left
-    ∙ ap (λ (list : List Number). with_left b.made list (renumbered back list) ++ renumber number (drop (length list) back) rest) b.numbers
-    ∙ ap (λ (list : List Number). with_left b.made new list ++ renumber number back_more rest) apart.0
-    ∙ ap (λ (first : List Field). first ++ renumber number back_more rest) b.back
-    ∙ ap (λ (more : List Field). field ∷ more)
-        (both_back number there_more back_more fields
-        (all_dropped (λ decision. is_some decision ≡ true) (length own) there all)
-        (all_dropped (λ decision. is_some decision ≡ true) (length new) back all_back)
-        (all_dropped (λ decision. IfSome decision (λ value. value < 2 ^ 64)) (length own) there short)
-        apart.1)
 
 -- ---- ways back
 
@@ -193,9 +121,6 @@ module _ (there back : List Field → List Field) (ordinal index : ℕ) (documen
 ok_same : (found : Result ℕ Refusal) (one other : ℕ) → found ≡ Ok one → found ≡ Ok other → one ≡ other
 ok_same found one other is is_too = let both = sym is ∙ is_too in cc
 
-same_values : (found : Option (List ℕ)) (one other : List ℕ) → found ≡ Some one → found ≡ Some other → one ≡ other
-same_values found one other is is_too = let both = sym is ∙ is_too in cc
-
 within_so : (document made : Document) → document ≡ made → length (bytes_of made) ≤ MAX_FILE → within_limit document ≡ Ok made
 within_so document made same within =
     let fits : nat_lt MAX_FILE (length (bytes_of made)) ≡ false = le-ltb MAX_FILE (length (bytes_of made)) within in
@@ -210,7 +135,7 @@ can_back : (dx dy : ℤ) (old new : Feature) → Shifts dx dy old new → can_mo
 can_back dx dy old new s =
     let w = first_ways dx dy (kind_of old) s.had.integers s.geometry s.had.has in
     let values : s.command.value ∷ s.along.value ∷ s.down.value ∷ value_list s.more ≡ w.number ∷ w.x ∷ w.y ∷ w.more =
-    same_values (values_in (numbers 4 old.fields)) _ _ (values_of_read 4 old.fields (s.command ∷ s.along ∷ s.down ∷ s.more) s.were) s.had.read ∙ w.spelled in
+    same_integers (values_in (numbers 4 old.fields)) _ _ s.had.read (values_of_read 4 old.fields (s.command ∷ s.along ∷ s.down ∷ s.more) s.were) ∙ w.spelled in
     let x : s.along.value ≡ w.x = cc in
     let y : s.down.value ≡ w.y = cc in
     let along : further (neg_ℤ dx) (led_further dx s.along).value ≡ unzigzag w.x =

@@ -10,7 +10,10 @@ use Rattle.mvt_document.proofs.Signed.{unzigzag-zigzag}
 use Rattle.mvt_geometry.specs.Checks.{is_way}
 use Rattle.mvt_geometry.specs.Integers.{HasGeometry, IsInRange, IsRepeated, IsWay, all_points, closing_of, command, integers, last_from, origin, parameters, path, paths, repeats, ways}
 use Rattle.mvt_geometry.specs.Laws.{IsWithin}
-use Rattle.mvt_geometry.specs.Shapes.{Areas, Dots, Geometry, IsGeometry, IsPart, IsPartCount, IsPlaced, Kind, Lines, Point, least_points}
+use Rattle.mvt_geometry.specs.Shapes.{Geometry, IsGeometry, IsPart, IsPartCount, IsPlaced, least_points}
+use Rattle.mvt_geometry.specs.declared.shapes.Kind.{Kind}
+use Rattle.mvt_geometry.specs.declared.shapes.Kind.TheVariants.{Areas, Dots, Lines}
+use Rattle.mvt_geometry.specs.declared.shapes.Point.{Point}
 use Rattle.mvt_geometry.proofs.Parts.{with}
 use Rattle.mvt_geometry.proofs.Reach.{integers_reach}
 use Rattle.mvt_meaning.specs.Geometries.{can_move_integers, further}

@@ -7,9 +7,10 @@ use Rattle.mvt_document.specs.Plain.{Number, Body, Delimited, Field, Feature, Do
 use Rattle.mvt_document.specs.Signed.{zigzag}
 use Rattle.mvt_document.specs.Wire.{bytes_of, minimal}
 use Rattle.mvt_geometry.specs.Integers.{encoded}
-use Rattle.mvt_geometry.specs.Shapes.{Geometry, IsGeometry, Point, kind_number}
+use Rattle.mvt_geometry.specs.Shapes.{Geometry, IsGeometry, kind_number}
+use Rattle.mvt_geometry.specs.declared.shapes.Point.{Point}
 use Rattle.mvt_numbers.specs.Laws.{read_numbers}
-use Rattle.mvt_numbers.specs.Renumbering.{with_number}
+use Rattle.mvt_numbers.specs.Renumbering.{field_numbers, with_number}
 use Rattle.mvt_command.specs.Command.{LayerChoice, FeatureChoice, Shift, SetGeometry}
 use Rattle.mvt_view.specs.FeatureGeometry.{HasFeatureGeometry}
 use Rattle.mvt_view.specs.Views.{value_in}
@@ -38,6 +39,10 @@ stored_width body = None
 abbrev pub front : Field → Number × Option ℕ
 front field = (field.tag, stored_width field.body)
 
+-- how many numbers are in a field, where it is a geometry field; else none (guide, Packed Repeated Fields)
+abbrev pub number_count : Field → ℕ
+number_count field = length (field_numbers 4 field)
+
 -- ---- a geometry that moves
 
 -- the point that is dx and dy further
@@ -53,13 +58,15 @@ moved dx dy geometry = record { kind = geometry.kind; parts = map (map (moved_po
 abbrev pub led_further : ℤ → Number → Number
 led_further way number = with_number (zigzag (further way number.value)) number
 
--- the geometry of the feature is moved by dx and dy. Of the numbers in its geometry fields the second leads further by
--- dx and the third by dy, and each other one is spelled as it was; each field has its tag and its stored width, and all
--- fields that are no geometry fields are as they were (tiles 4.2, 4.3)
+-- the feature has the geometry that it had, moved by dx and dy, and no other. Of the numbers in its geometry fields the
+-- second leads further by dx and the third by dy, and each other one is spelled as it was; each field has its tag, its
+-- stored width and as many numbers as it had, and all fields that are no geometry fields are as they were
+-- (tiles 4.2, 4.3)
 pub record Shifts (dx dy : ℤ) (old new : Feature) : Type 0 where
   pub geometry : Geometry
   pub had : HasFeatureGeometry old geometry
   pub has : HasFeatureGeometry new (moved dx dy geometry)
+  pub only : (other : Geometry) → HasFeatureGeometry new other → other ≡ moved dx dy geometry
   pub command : Number
   pub along : Number
   pub down : Number
@@ -67,6 +74,7 @@ pub record Shifts (dx dy : ℤ) (old new : Feature) : Type 0 where
   pub were : read_numbers 4 old.fields ≡ Some (command ∷ along ∷ down ∷ more)
   pub are : read_numbers 4 new.fields ≡ Some (command ∷ led_further dx along ∷ led_further dy down ∷ more)
   pub fronts : map front new.fields ≡ map front old.fields
+  pub counts : map number_count new.fields ≡ map number_count old.fields
   pub others : without_geometry new.fields ≡ without_geometry old.fields
 
 -- where a shift of a valid document of at most 67,108,864 bytes is accepted, the geometry of the selected feature moves
