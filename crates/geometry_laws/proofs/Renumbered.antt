@@ -1,6 +1,8 @@
--- Fields of whose numbers none goes: what stands before their contents, and what is left where all numbers stay.
-use Rattle.std.proofs.Common.{◌≡◌, ℕ, zero, suc, ◌^◌, ◌<◌, ◌≤◌, true, is_some, Option, Some, None, List, [], ◌∷◌, ◌++◌, length, map, drop, refl, sym, ap, ◌∙◌, arith}
+-- Fields of whose numbers none goes: what stands before their contents, how many numbers each has, and what is left where
+-- all numbers stay, or get their own values again.
+use Rattle.std.proofs.Common.{◌≡◌, ℕ, zero, suc, ◌^◌, ◌<◌, ◌≤◌, true, is_some, Option, Some, None, List, [], ◌∷◌, ◌++◌, length, map, take, drop, refl, sym, ap, ◌∙◌, arith}
 use Rattle.std.specs.Prelude.{IfSome}
+use Rattle.std.proofs.Math.Seq.{drop-append_seam, take-append_seam}
 use Rattle.std.proofs.lemmas.List.{append-nil, map-append}
 use Rattle.std.specs.List.{AllByRecursion, flat_map}
 use Rattle.std.specs.Option.{unwrap_or}
@@ -79,14 +81,10 @@ own_left number field =
     ∙ kept_stays number (field ∷ [])
 
 same_fronts : (xs xs' ys ys' : List Number) → xs ++ ys ≡ xs' ++ ys' → length xs ≡ length xs' → (xs ≡ xs') × (ys ≡ ys')
-same_fronts [] [] ys ys' e same = (refl, e)
-same_fronts [] (x ∷ xs') ys ys' e same = absurd (omega (arith, same))
-same_fronts (x ∷ xs) [] ys ys' e same = absurd (omega (arith, same))
-same_fronts (x ∷ xs) (x' ∷ xs') ys ys' e same =
-    let first : x ≡ x' = cc in
-    let rest : xs ++ ys ≡ xs' ++ ys' = cc in
-    let more = same_fronts xs xs' ys ys' rest (omega (arith, same)) in
-    (ap (λ (n : Number). n ∷ xs) first ∙ ap (λ (list : List Number). x' ∷ list) more.0, more.1)
+same_fronts xs xs' ys ys' e same = (
+  sym (take-append_seam xs ys) ∙ ap (take (length xs)) e ∙ ap (λ (n : ℕ). take n (xs' ++ ys')) same ∙ take-append_seam xs' ys',
+  sym (drop-append_seam xs ys) ∙ ap (drop (length xs)) e ∙ ap (λ (n : ℕ). drop n (xs' ++ ys')) same ∙ drop-append_seam xs' ys',
+)
 
 -- fields whose numbers all stay are as they were
 pub all_stay : (number : ℕ) (decisions : List (Option ℕ)) (fields : List Field) → AllSome decisions → renumbered decisions (flat_map (field_numbers number) fields) ≡ flat_map (field_numbers number) fields → renumber number decisions fields ≡ fields
@@ -179,8 +177,8 @@ both_back number there back (field ∷ fields) all all_back short e =
     ∙ ap (λ (list : List Number). with_left b.made new list ++ renumber number back_more rest) apart.0
     ∙ ap (λ (first : List Field). first ++ renumber number back_more rest) b.back
     ∙ ap (λ (more : List Field). field ∷ more)
-        (both_back number there_more back_more fields
-        (some_dropped (length own) there all)
-        (some_dropped (length new) back all_back)
-        (short_dropped (length own) there short)
-        apart.1)
+    (both_back number there_more back_more fields
+    (some_dropped (length own) there all)
+    (some_dropped (length new) back all_back)
+    (short_dropped (length own) there short)
+    apart.1)

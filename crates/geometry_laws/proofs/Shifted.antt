@@ -1,16 +1,14 @@
 -- What an accepted shift makes of a tile.
-use Rattle.std.proofs.Common.{◌≡◌, ℕ, ◌-◌, ◌*◌, ◌^◌, ◌≤◌, Bool, true, ◌&&◌, not, cond, ◌==◌, ℤ, pos, ◌+ℤ◌, is_some, Option, Some, None, Ok, List, [], ◌∷◌, ◌++◌, length, map, slice_get, nat_lt, refl, sym, ap, ◌∙◌, inl, inr, subst, arith}
-use Rattle.std.proofs.lemmas.Bool.{cases_Bool, cond_both, ltb-false, not-false}
+use Rattle.std.proofs.Common.{◌≡◌, ℕ, ◌-◌, ◌*◌, ◌^◌, ◌≤◌, Bool, true, ◌&&◌, not, cond, ◌==◌, ℤ, pos, ◌+ℤ◌, is_some, Option, Some, None, Ok, List, [], ◌∷◌, length, refl, sym, ap, ◌∙◌, subst, arith}
+use Rattle.std.proofs.lemmas.Bool.{cond_both, not-false}
 use Rattle.std.proofs.lemmas.Int.{ints}
 use Rattle.std.proofs.lemmas.List.{length-map}
 use Rattle.std.specs.List.{flat_map, last_or}
 use Rattle.std.specs.Option.{option_and_then, option_map_or, unwrap_or}
 use Rattle.mvt_document.specs.declared.TheConstants.{MAX_FILE}
-use Rattle.mvt_document.specs.Opens.{IsField}
 use Rattle.mvt_document.specs.Places.{in_feature, in_layer}
-use Rattle.mvt_document.specs.Plain.{Number, Field, Feature, LayerItem, OfFeature, PlainInLayer, Layer, TileItem, OfLayer, PlainInTile, Document}
+use Rattle.mvt_document.specs.Plain.{Number, Field, Feature, LayerItem, OfFeature, PlainInLayer, TileItem, OfLayer, PlainInTile, Document}
 use Rattle.mvt_document.specs.Signed.{unzigzag, zigzag}
-use Rattle.mvt_document.specs.Wire.{bytes_of, field_bytes}
 use Rattle.mvt_document.proofs.Signed.{zigzag-unzigzag}
 use Rattle.mvt_geometry.specs.Found.{geometry_in}
 use Rattle.mvt_geometry.specs.Integers.{HasGeometry}
@@ -25,14 +23,13 @@ use Rattle.mvt_numbers.proofs.Redone.{left_is_read}
 use Rattle.mvt_numbers.proofs.Reread.{read_of_fields}
 use Rattle.mvt_view.specs.Attributes.{values_in}
 use Rattle.mvt_view.specs.FeatureGeometry.{HasFeatureGeometry}
-use Rattle.mvt_view.specs.Views.{features, kind_of, last_value, layers}
+use Rattle.mvt_view.specs.Views.{kind_of}
 use Rattle.mvt_meaning.specs.Geometries.{can_move, can_move_integers, further, geometry_among, integers_among, moved_integers, moves, shifted}
 use Rattle.mvt_meaning.specs.Kept.{ChangesFeature}
 use Rattle.mvt_command.specs.Command.{FeatureChoice, LayerChoice, Shift}
 use Rattle.mvt_meaning.specs.Meaning.{◌>>=◌, applied, can_shift, change_feature, is_drawn, refuse_if, within_limit}
 use Rattle.mvt_meaning.specs.Ordinals.{change_nth}
 use Rattle.mvt_meaning.specs.Selection.{is_feature, is_layer, selected, selected_in}
-use Rattle.mvt_meaning.specs.Weights.{weigh}
 use Rattle.mvt_meaning.specs.declared.refusal.Refusal.TheVariants.{BadGeometry, OutOfRange}
 use Rattle.mvt_meaning.proofs.Accepted.{accepted, feature_meant, not_refused, within_is}
 use Rattle.mvt_meaning.proofs.FeatureCommands.{number_given}
@@ -41,7 +38,7 @@ use Rattle.mvt_meaning.proofs.OtherFields.{others_stay, values_stay}
 use Rattle.mvt_meaning.proofs.Parts.{changes_feature, changes_layer, fields_found, with_fields}
 use Rattle.mvt_meaning.proofs.ReadValues.{numbers_of_values, value_list, values_of_read}
 use Rattle.geometry_laws.specs.Laws.{ShiftByNothing, ShiftShifts, Shifts, led_further, moved, without_geometry}
-use Rattle.geometry_laws.proofs.Counted.{feature_of, layer_of, numbers_few}
+use Rattle.geometry_laws.proofs.Counted.{numbers_within}
 use Rattle.geometry_laws.proofs.Renumbered.{AllSome, all_stay, counts_stay, fronts_stay}
 use Rattle.geometry_laws.proofs.Translated.{first_ways, has_moved, led}
 
@@ -197,12 +194,10 @@ shift_shifts choice feature dx dy old new valid within e =
     changes_layer choice (ChangesFeature feature (Shifts dx dy)) (change_nth is_feature (in_feature change) s.index) old new s.ordinal s.meant s.made (λ layer is.
     changes_feature feature (Shifts dx dy) change layer s.index (feature_meant feature old layer s.ordinal s.index is s.found) (λ former was.
     let fields = fields_found old s.ordinal s.index layer former is was in
-    let l = layer_of old s.ordinal layer is valid in
-    let f = feature_of layer.items s.index former was l.0.items in
     shifts dx dy former
     (subst (λ (fs : List Field). is_some (geometry_among fs) ≡ true) fields s.drawn)
     (subst (λ (fs : List Field). can_move dx dy fs ≡ true) fields s.can)
-    (λ list read. omega (arith, numbers_few 4 former.fields list f.0.fields read, f.1, l.1, within))))
+    (λ list read. numbers_within 4 old s.ordinal s.index layer former list valid within is was read)))
 
 -- ---- a shift by nothing
 

@@ -1,14 +1,13 @@
 -- A shift, and the shift back.
-use Rattle.std.proofs.Common.{◌≡◌, ℕ, zero, suc, ◌^◌, ◌<◌, ◌≤◌, Bool, true, false, ◌==◌, ℤ, ◌+ℤ◌, is_some, Option, Some, None, Result, Ok, Err, List, [], ◌∷◌, ◌++◌, length, drop, filter, slice_get, nat_lt, refl, sym, ap, ◌∙◌, inl, inr, subst, arith}
-use Rattle.std.specs.Prelude.{IfSome, neg_ℤ, unsigned_abs}
+use Rattle.std.proofs.Common.{◌≡◌, ℕ, zero, suc, ◌^◌, ◌≤◌, Bool, true, false, ◌==◌, ℤ, ◌+ℤ◌, is_some, Option, Some, None, Result, Ok, Err, List, [], ◌∷◌, length, filter, slice_get, nat_lt, refl, sym, ap, ◌∙◌, inl, inr, subst, arith}
+use Rattle.std.specs.Prelude.{neg_ℤ, unsigned_abs}
 use Rattle.std.proofs.lemmas.Bool.{and_from, cases_Bool, cond_both, eqb-true, le-ltb, lt-ltb}
 use Rattle.std.proofs.lemmas.Int.{ints}
-use Rattle.std.proofs.lemmas.List.{append-nil}
 use Rattle.std.specs.List.{flat_map, last_or}
-use Rattle.std.specs.Option.{option_and_then, option_map_or, unwrap_or}
+use Rattle.std.specs.Option.{option_and_then, option_map_or}
 use Rattle.mvt_document.specs.declared.TheConstants.{MAX_FILE}
 use Rattle.mvt_document.specs.Places.{in_feature, in_layer}
-use Rattle.mvt_document.specs.Plain.{Number, Body, Spelled, Eight, Four, Delimited, Group, Field, Feature, LayerItem, OfFeature, PlainInLayer, Layer, TileItem, OfLayer, PlainInTile, Document}
+use Rattle.mvt_document.specs.Plain.{Number, Field, Feature, LayerItem, OfFeature, PlainInLayer, Layer, TileItem, OfLayer, PlainInTile, Document}
 use Rattle.mvt_document.specs.Signed.{unzigzag, zigzag}
 use Rattle.mvt_document.specs.Wire.{bytes_of, minimal}
 use Rattle.mvt_document.proofs.Signed.{unzigzag-zigzag, zigzag-unzigzag}
@@ -16,12 +15,11 @@ use Rattle.mvt_geometry.specs.Checks.{is_way}
 use Rattle.mvt_geometry.specs.Found.{geometry_in}
 use Rattle.mvt_geometry.specs.Shapes.{Geometry}
 use Rattle.mvt_geometry.proofs.Found.{found_geometry}
-use Rattle.mvt_numbers.specs.Laws.{AreShort, read_numbers}
+use Rattle.mvt_numbers.specs.Laws.{read_numbers}
 use Rattle.mvt_numbers.specs.Numbers.{numbers}
-use Rattle.mvt_numbers.specs.Renumbering.{field_numbers, renumber, renumbered, with_left, with_number, with_numbers}
+use Rattle.mvt_numbers.specs.Renumbering.{field_numbers, renumbered, with_number}
 use Rattle.mvt_numbers.proofs.Decisions.{with_number-same}
-use Rattle.mvt_numbers.proofs.Redone.{left_is_read, renumbered-append}
-use Rattle.mvt_numbers.proofs.Reread.{both_found, field_read, read_is, read_of_fields}
+use Rattle.mvt_numbers.proofs.Reread.{read_of_fields}
 use Rattle.mvt_view.specs.Attributes.{values_in}
 use Rattle.mvt_view.specs.FeatureGeometry.{HasFeatureGeometry}
 use Rattle.mvt_view.specs.Views.{contents, id_of, kind_of, name_of}
@@ -61,8 +59,8 @@ led_back way number shortest =
     ap (λ (n : ℕ). zigzag (further (neg_ℤ way) n)) (number_given value number) ∙ ap zigzag (way_back way number.value) ∙ zigzag-unzigzag number.value in
     ap (λ (n : ℕ). with_number n led) back
     ∙ cond_both (led.value == number.value) led (minimal number.value) (λ (n : Number). n ≡ number)
-        (λ same. with_number-same value number (sym (eqb-true led.value number.value same) ∙ number_given value number))
-        (λ other. sym shortest)
+    (λ same. with_number-same value number (sym (eqb-true led.value number.value same) ∙ number_given value number))
+    (λ other. sym shortest)
 
 module _ (dx dy : ℤ) where
   fields_back : (fields : List Field) (command along down : Number) (more : List Number) → is_some (geometry_among fields) ≡ true → can_move dx dy fields ≡ true → read_numbers 4 fields ≡ Some (command ∷ along ∷ down ∷ more) → along ≡ minimal along.value → down ≡ minimal down.value
@@ -144,8 +142,8 @@ can_back dx dy old new s =
     ap (further (neg_ℤ dy)) (number_given (zigzag (further dy s.down.value)) s.down) ∙ way_back dy s.down.value ∙ ap unzigzag y in
     ap (λ (found : Option (List ℕ)). option_map_or (can_move_integers (neg_ℤ dx) (neg_ℤ dy)) found true) (values_of_read 4 new.fields (s.command ∷ led_further dx s.along ∷ led_further dy s.down ∷ s.more) s.are)
     ∙ and_from (is_way (further (neg_ℤ dx) (led_further dx s.along).value)) (is_way (further (neg_ℤ dy) (led_further dy s.down).value))
-        (ap is_way along ∙ lt-ltb (unsigned_abs (unzigzag w.x)) (2 ^ 31) w.along)
-        (ap is_way down ∙ lt-ltb (unsigned_abs (unzigzag w.y)) (2 ^ 31) w.down)
+    (ap is_way along ∙ lt-ltb (unsigned_abs (unzigzag w.x)) (2 ^ 31) w.along)
+    (ap is_way down ∙ lt-ltb (unsigned_abs (unzigzag w.y)) (2 ^ 31) w.down)
 
 pub shift_back : ShiftBack
 shift_back choice feature dx dy old between valid within shortest e =

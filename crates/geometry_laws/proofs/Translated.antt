@@ -18,6 +18,7 @@ use Rattle.mvt_geometry.proofs.Parts.{with}
 use Rattle.mvt_geometry.proofs.Reach.{integers_reach}
 use Rattle.mvt_meaning.specs.Geometries.{can_move_integers, further}
 use Rattle.geometry_laws.specs.Laws.{moved, moved_point}
+use Rattle.geometry_laws.proofs.Counted.{parts_by}
 
 -- ---- ways
 
@@ -52,14 +53,9 @@ pub record FirstWays (list : List ℕ) : Type 0 where
 
 -- ---- placed points
 
-placed_points : (most : ℕ) (points : List Point) → most ≤ 2 ^ 62 → AllByRecursion (IsWithin most) points → AllByRecursion IsPlaced points
-placed_points most [] low all = tt
-placed_points most (p ∷ points) low all =
-    (record { x = omega (arith, all.0.x, low); y = omega (arith, all.0.y, low) }, placed_points most points low all.1)
-
 placed_parts : (most : ℕ) (parts : List (List Point)) → most ≤ 2 ^ 62 → AllByRecursion (AllByRecursion (IsWithin most)) parts → AllByRecursion (AllByRecursion IsPlaced) parts
-placed_parts most [] low all = tt
-placed_parts most (part ∷ parts) low all = (placed_points most part low all.0, placed_parts most parts low all.1)
+placed_parts most parts low all =
+    parts_by (IsWithin most) IsPlaced (λ point w. record { x = omega (arith, w.x, low); y = omega (arith, w.y, low) }) parts all
 
 module _ (dx dy : ℤ) where
   abbrev further_on : Point → Point

@@ -1,19 +1,22 @@
 -- Laws of the commands on geometry, in the words of a tile: what an accepted command makes.
-use Rattle.std.specs.Prelude.{◌≡◌, ℕ, ◌≤◌, not, ℤ, pos, neg_ℤ, ◌+ℤ◌, List, [], ◌∷◌, ◌++◌, Option, Some, None, Ok, length, map, filter}
-use Rattle.std.specs.List.{filter_map}
+use Rattle.std.specs.Prelude.{◌≡◌, ℕ, ◌^◌, ◌≤◌, not, ℤ, pos, neg_ℤ, ◌+ℤ◌, List, [], ◌∷◌, ◌++◌, Option, Some, None, Ok, length, map, filter, slice_get}
+use Rattle.std.specs.List.{AllByRecursion, filter_map}
 use Rattle.mvt_document.specs.declared.TheConstants.{MAX_FILE}
 use Rattle.mvt_document.specs.Opens.{IsDocument}
-use Rattle.mvt_document.specs.Plain.{Number, Body, Delimited, Field, Feature, Document}
+use Rattle.mvt_document.specs.Plain.{Number, Body, Delimited, Field, Feature, Layer, Document}
 use Rattle.mvt_document.specs.Signed.{zigzag}
 use Rattle.mvt_document.specs.Wire.{bytes_of, minimal}
-use Rattle.mvt_geometry.specs.Integers.{encoded}
+use Rattle.mvt_geometry.specs.Integers.{IsInRange, encoded, integers}
+use Rattle.mvt_geometry.specs.Laws.{IsWithin}
 use Rattle.mvt_geometry.specs.Shapes.{Geometry, IsGeometry, kind_number}
 use Rattle.mvt_geometry.specs.declared.shapes.Point.{Point}
 use Rattle.mvt_numbers.specs.Laws.{read_numbers}
+use Rattle.mvt_numbers.specs.Numbers.{numbers}
 use Rattle.mvt_numbers.specs.Renumbering.{field_numbers, with_number}
 use Rattle.mvt_command.specs.Command.{LayerChoice, FeatureChoice, Shift, SetGeometry}
+use Rattle.mvt_view.specs.Attributes.{values_in}
 use Rattle.mvt_view.specs.FeatureGeometry.{HasFeatureGeometry}
-use Rattle.mvt_view.specs.Views.{value_in}
+use Rattle.mvt_view.specs.Views.{features, layers, value_in}
 use Rattle.mvt_meaning.specs.Fields.{new_content}
 use Rattle.mvt_meaning.specs.Geometries.{further, is_geometry_field, is_kind}
 use Rattle.mvt_meaning.specs.Kept.{ChangesFeature, ChangesLayer, all_but_last}
@@ -42,6 +45,15 @@ front field = (field.tag, stored_width field.body)
 -- how many numbers are in a field, where it is a geometry field; else none (guide, Packed Repeated Fields)
 abbrev pub number_count : Field → ℕ
 number_count field = length (field_numbers 4 field)
+
+-- ---- how far a geometry reaches
+
+-- in a valid document of at most 67,108,864 bytes the integers of a feature lead no further from 0 than 2^57 along either
+-- axis, where its ways are in range: that no coordinate may be further than 2^62 asks nothing more of a geometry
+-- (tiles 4.3.2, 4.3.3)
+abbrev pub NoCoordinateIsFar : Type 0
+NoCoordinateIsFar = (document : Document) (ordinal index : ℕ) (layer : Layer) (feature : Feature) (geometry : Geometry) → IsDocument document → length (bytes_of document) ≤ MAX_FILE → slice_get (layers document) ordinal ≡ Some layer → slice_get (features layer) index ≡ Some feature
+    → values_in (numbers 4 feature.fields) ≡ Some (integers geometry) → IsInRange geometry → AllByRecursion (AllByRecursion (IsWithin (2 ^ 57))) geometry.parts
 
 -- ---- a geometry that moves
 
