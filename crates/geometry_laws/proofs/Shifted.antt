@@ -205,7 +205,7 @@ no_way : (z : ℤ) → z +ℤ pos 0 ≡ z
 no_way z = omega (arith, ints)
 
 -- a parameter that leads no further
-no_further : (number : Number) → led_further (pos 0) number ≡ number
+pub no_further : (number : Number) → led_further (pos 0) number ≡ number
 no_further number =
     with_number-same (zigzag (further (pos 0) number.value)) number (sym (ap zigzag (no_way (unzigzag number.value)) ∙ zigzag-unzigzag number.value))
 

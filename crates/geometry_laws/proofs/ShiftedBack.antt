@@ -1,5 +1,5 @@
 -- A shift, and the shift back.
-use Rattle.std.proofs.Common.{◌≡◌, ℕ, zero, suc, ◌^◌, ◌≤◌, Bool, true, false, ◌==◌, ℤ, ◌+ℤ◌, is_some, Option, Some, None, Result, Ok, Err, List, [], ◌∷◌, length, filter, slice_get, nat_lt, refl, sym, ap, ◌∙◌, inl, inr, subst, arith}
+use Rattle.std.proofs.Common.{◌≡◌, ◌≢◌, ℕ, zero, suc, ◌^◌, ◌≤◌, Bool, true, false, ◌==◌, ℤ, pos, negsuc, ◌+ℤ◌, is_some, Option, Some, None, Result, Ok, Err, List, [], ◌∷◌, length, filter, slice_get, nat_lt, refl, sym, ap, ◌∙◌, inl, inr, subst, arith}
 use Rattle.std.specs.Prelude.{neg_ℤ, unsigned_abs}
 use Rattle.std.proofs.lemmas.Bool.{and_from, cases_Bool, cond_both, eqb-true, le-ltb, lt-ltb}
 use Rattle.std.proofs.lemmas.Int.{ints}
@@ -38,7 +38,7 @@ use Rattle.mvt_meaning.proofs.ReadValues.{value_list, values_of_read}
 use Rattle.mvt_meaning.proofs.SelectedAgain.{feature_again, layer_again}
 use Rattle.geometry_laws.specs.Laws.{ShiftBack, Shifts, led_further, moved}
 use Rattle.geometry_laws.proofs.Renumbered.{both_back}
-use Rattle.geometry_laws.proofs.Shifted.{decided_so, is_shift, moves_found, moves_some, same_integers, shift_shifts, shifted_read}
+use Rattle.geometry_laws.proofs.Shifted.{decided_so, is_shift, moves_found, moves_some, no_further, same_integers, shift_shifts, shifted_read}
 use Rattle.geometry_laws.proofs.Translated.{first_ways}
 
 -- ---- ways back
@@ -50,9 +50,8 @@ way_back : (way : ℤ) (parameter : ℕ) → further (neg_ℤ way) (zigzag (furt
 way_back way parameter =
     ap (λ (z : ℤ). z +ℤ neg_ℤ way) (unzigzag-zigzag (unzigzag parameter +ℤ way)) ∙ there_and_back (unzigzag parameter) way
 
--- a parameter in its shortest spelling is the same again
-led_back : (way : ℤ) (number : Number) → number ≡ minimal number.value → led_further (neg_ℤ way) (led_further way number) ≡ number
-led_back way number shortest =
+short_back : (way : ℤ) (number : Number) → number ≡ minimal number.value → led_further (neg_ℤ way) (led_further way number) ≡ number
+short_back way number shortest =
     let value : ℕ = zigzag (further way number.value) in
     let led : Number = led_further way number in
     let back : zigzag (further (neg_ℤ way) led.value) ≡ number.value =
@@ -62,8 +61,14 @@ led_back way number shortest =
     (λ same. with_number-same value number (sym (eqb-true led.value number.value same) ∙ number_given value number))
     (λ other. sym shortest)
 
+-- a parameter in its shortest spelling is the same again, and so is one that stays
+led_back : (way : ℤ) (number : Number) → (way ≢ pos 0 → number ≡ minimal number.value) → led_further (neg_ℤ way) (led_further way number) ≡ number
+led_back (pos zero) number shortest = ap (led_further (pos 0)) (no_further number) ∙ no_further number
+led_back (pos (suc n)) number shortest = short_back (pos (suc n)) number (shortest (λ e. absurd cc))
+led_back (negsuc n) number shortest = short_back (negsuc n) number (shortest (λ e. absurd cc))
+
 module _ (dx dy : ℤ) where
-  fields_back : (fields : List Field) (command along down : Number) (more : List Number) → is_some (geometry_among fields) ≡ true → can_move dx dy fields ≡ true → read_numbers 4 fields ≡ Some (command ∷ along ∷ down ∷ more) → along ≡ minimal along.value → down ≡ minimal down.value
+  fields_back : (fields : List Field) (command along down : Number) (more : List Number) → is_some (geometry_among fields) ≡ true → can_move dx dy fields ≡ true → read_numbers 4 fields ≡ Some (command ∷ along ∷ down ∷ more) → (dx ≢ pos 0 → along ≡ minimal along.value) → (dy ≢ pos 0 → down ≡ minimal down.value)
       → shifted (neg_ℤ dx) (neg_ℤ dy) (shifted dx dy fields) ≡ fields
   fields_back fields command along down more drawn can read short_along short_down =
       let list : List Number = command ∷ along ∷ down ∷ more in

@@ -1,5 +1,5 @@
 -- Laws of the commands on geometry, in the words of a tile: what an accepted command makes.
-use Rattle.std.specs.Prelude.{◌≡◌, ℕ, ◌^◌, ◌≤◌, not, ℤ, pos, neg_ℤ, ◌+ℤ◌, List, [], ◌∷◌, ◌++◌, Option, Some, None, Ok, length, map, filter, slice_get}
+use Rattle.std.specs.Prelude.{◌≡◌, ◌≢◌, ℕ, ◌^◌, ◌≤◌, not, ℤ, pos, neg_ℤ, ◌+ℤ◌, List, [], ◌∷◌, ◌++◌, Option, Some, None, Ok, length, map, filter, slice_get}
 use Rattle.std.specs.List.{AllByRecursion, filter_map}
 use Rattle.mvt_document.specs.declared.TheConstants.{MAX_FILE}
 use Rattle.mvt_document.specs.Opens.{IsDocument}
@@ -98,15 +98,16 @@ ShiftShifts = (choice : LayerChoice) (feature : FeatureChoice) (dx dy : ℤ) (ol
 abbrev pub ShiftByNothing : Type 0
 ShiftByNothing = (choice : LayerChoice) (feature : FeatureChoice) (old new : Document) → applied (Shift choice feature (pos 0) (pos 0)) old ≡ Ok new → new ≡ old
 
--- the first two parameters of the geometry of the selected feature are in their shortest spelling (tiles 4.3.2)
-abbrev pub IsShortAtFirst : LayerChoice → FeatureChoice → Document → Type 0
-IsShortAtFirst choice feature document = (ordinal meant : ℕ) (command along down : Number) (more : List Number) → selected choice document ≡ Ok ordinal → selected_in feature ordinal document ≡ Ok meant
-    → read_numbers 4 (fields_of ordinal meant document) ≡ Some (command ∷ along ∷ down ∷ more) → (along ≡ minimal along.value) × (down ≡ minimal down.value)
+-- of the first two parameters of the geometry of the selected feature, the first is in its shortest spelling where dx is
+-- not 0, and the second where dy is not 0 (tiles 4.3.2)
+abbrev pub IsShortIfMoved : ℤ → ℤ → LayerChoice → FeatureChoice → Document → Type 0
+IsShortIfMoved dx dy choice feature document = (ordinal meant : ℕ) (command along down : Number) (more : List Number) → selected choice document ≡ Ok ordinal → selected_in feature ordinal document ≡ Ok meant
+    → read_numbers 4 (fields_of ordinal meant document) ≡ Some (command ∷ along ∷ down ∷ more) → (dx ≢ pos 0 → along ≡ minimal along.value) × (dy ≢ pos 0 → down ≡ minimal down.value)
 
--- where a shift of a valid document of at most 67,108,864 bytes is accepted, and these parameters were in their shortest
--- spelling, the shift back is accepted then and leaves the document as it was
+-- where a shift of a valid document of at most 67,108,864 bytes is accepted, and the parameters that it changes were in
+-- their shortest spelling, the shift back is accepted then and leaves the document as it was
 abbrev pub ShiftBack : Type 0
-ShiftBack = (choice : LayerChoice) (feature : FeatureChoice) (dx dy : ℤ) (old between : Document) → IsDocument old → length (bytes_of old) ≤ MAX_FILE → IsShortAtFirst choice feature old → applied (Shift choice feature dx dy) old ≡ Ok between → applied (Shift choice feature (neg_ℤ dx) (neg_ℤ dy)) between ≡ Ok old
+ShiftBack = (choice : LayerChoice) (feature : FeatureChoice) (dx dy : ℤ) (old between : Document) → IsDocument old → length (bytes_of old) ≤ MAX_FILE → IsShortIfMoved dx dy choice feature old → applied (Shift choice feature dx dy) old ≡ Ok between → applied (Shift choice feature (neg_ℤ dx) (neg_ℤ dy)) between ≡ Ok old
 
 -- ---- another geometry
 

@@ -23,15 +23,16 @@ pub fn shift_by_nothing()
     ensures { ShiftByNothing }
 {}
 
-/// A shift and the shift back leave the document as it was, where the second and the third number of
-/// the geometry were in their shortest spelling.
+/// Where a shift of a valid document is accepted, and the numbers that it changes were in their
+/// shortest spelling, the shift back is accepted then, and leaves the document as it was before both,
+/// to the byte.
 pub fn shift_back()
     ensures { ShiftBack }
 {}
 
-/// Where a geometry is accepted, the selected feature has exactly that one, in one geometry field. All
-/// its fields that are neither kind nor geometry, the other features and the other layers are as
-/// they were.
+/// Where a geometry is accepted, the selected feature has exactly that one, in one geometry field, and
+/// its kind. All its fields that are neither kind nor geometry, the other features and the other
+/// layers are as they were.
 pub fn set_geometry_sets()
     ensures { SetGeometrySets }
 {}
