@@ -1,36 +1,36 @@
 -- A feature without the pairs of a key has its other attributes, in their order.
-use Rattle.std.proofs.Common.{◌≡◌, ℕ, zero, suc, ◌/◌, ◌==◌, Bool, true, false, not, is_some, Option, Some, None, option_map, Ok, List, [], ◌∷◌, ◌++◌, length, map, filter, drop, slice_get, get_or, refl, sym, ap, ◌∙◌, inl, inr, subst}
+use Rattle.std.proofs.Common.{◌≡◌, ℕ, Bool, true, false, not, is_some, Option, Some, None, option_map, Ok, List, [], ◌∷◌, length, map, filter, slice_get, get_or, refl, sym, ap, ◌∙◌, inl, inr, subst}
 use Rattle.std.proofs.lemmas.Bool.{and_from, and_parts, cases_Bool, not-false}
-use Rattle.std.proofs.lemmas.List.Elements.{filter-append}
 use Rattle.std.specs.List.{AllByRecursion, list_all}
-use Rattle.std.specs.Option.{option_map_or, unwrap_or}
+use Rattle.std.specs.Option.{option_map_or}
 use Rattle.std.specs.Str.{bytes_eq}
-use Rattle.mvt_document.specs.Plain.{Number, Body, Spelled, Eight, Four, Delimited, Group, Field, Feature, LayerItem, OfFeature, PlainInLayer, Layer, Document}
-use Rattle.mvt_document.specs.Places.{fields_in, in_feature}
+use Rattle.mvt_document.specs.Plain.{Number, Field, Feature, LayerItem, Layer, Document}
+use Rattle.mvt_document.specs.Places.{in_feature}
 use Rattle.mvt_command.specs.Command.{FeatureChoice}
-use Rattle.mvt_numbers.specs.Numbers.{Placed, all_good, numbers}
-use Rattle.mvt_numbers.specs.Renumbering.{field_numbers, renumber, renumbered, renumbered_field, with_left, with_number, with_numbers}
+use Rattle.mvt_numbers.specs.Numbers.{numbers}
+use Rattle.mvt_numbers.specs.Renumbering.{renumber, renumbered, with_number}
 use Rattle.mvt_numbers.proofs.Redone.{left_is_read}
 use Rattle.mvt_view.specs.Attributes.{attribute_at, attributes, is_pair, pairs_in, pairs_of}
 use Rattle.mvt_view.specs.Laws.{Names}
-use Rattle.mvt_view.specs.Views.{contents, features, features_in, key_field, keys, layers, plain_fields, value_field, values}
+use Rattle.mvt_view.specs.Views.{contents, features, key_field, keys, layers, plain_fields, value_field, values}
 use Rattle.mvt_view.proofs.Pairing.{pairs_are_named}
 use Rattle.mvt_meaning.specs.Kept.{ChangesFeature}
 use Rattle.mvt_meaning.specs.Ordinals.{change_nth}
 use Rattle.mvt_meaning.specs.Selection.{is_feature, selected, selected_feature, selected_in, selected_layers}
-use Rattle.mvt_meaning.specs.Tagging.{excluded, is_key_at, is_tags, pairs_among, removals, unreadable, without_attribute, without_pairs, without_tags}
+use Rattle.mvt_meaning.specs.Tagging.{excluded, is_key_at, pairs_among, removals, unreadable, without_attribute, without_pairs}
 use Rattle.mvt_meaning.specs.Meaning.{◌>>=◌, change_feature, change_layers, fields_of, has_key, has_pairs, items_of, refuse_first, refuse_if}
 use Rattle.mvt_meaning.specs.declared.refusal.Refusal.TheVariants.{BadTags, NoKey}
 use Rattle.mvt_meaning.proofs.Accepted.{accepted, feature_meant, not_refused}
 use Rattle.mvt_meaning.proofs.FeatureCommands.{number_given}
-use Rattle.mvt_meaning.proofs.Parts.{changes_feature, changes_layer, items_there, with_fields, with_items}
+use Rattle.mvt_meaning.proofs.OtherFields.{others_stay}
+use Rattle.mvt_meaning.proofs.Parts.{changes_feature, changes_layer, fields_found, items_there, with_fields, with_items}
+use Rattle.mvt_meaning.proofs.ReadValues.{value_list}
 use Rattle.mvt_meaning.proofs.Removals.{flat, head_same, pairs_short}
 use Rattle.attribute_laws.specs.Laws.{ExcludeExcludes, ExcludesKey, LosesAttribute, UnsetUnsets, of_other_keys}
 use Rattle.attribute_laws.proofs.EachFeature.{features_changed, fields_stay, positions_stay}
 use Rattle.attribute_laws.proofs.MeantLayers.{got_mapped, layers_change}
-use Rattle.attribute_laws.proofs.PairsRead.{pairs_again, pairs_read, value_list}
+use Rattle.attribute_laws.proofs.PairsRead.{pairs_again, pairs_read}
 use Rattle.attribute_laws.proofs.Readable.{meant_read}
-use Rattle.attribute_laws.proofs.Untagged.{none_of}
 
 -- ---- the pairs of other keys
 
@@ -93,39 +93,6 @@ attributes_by_fields : (one other : Layer) (feature : Feature) → plain_fields 
 attributes_by_fields one other feature same =
     ap (λ (fields : List Field). option_map (map (λ (pair : ℕ × ℕ). (get_or (contents key_field fields) pair.0 [], get_or (contents value_field fields) pair.1 []))) (pairs_in (length (contents key_field fields)) (length (contents value_field fields)) (numbers 2 feature.fields))) same
 
--- ---- the fields that are no tags
-
-tags_body : (tag : Number) (list : List Number) (body : Body) → is_tags (record { tag = tag; body = with_numbers list body }) ≡ is_tags (record { tag = tag; body = body })
-tags_body tag list (Spelled number) = elim (cases_Bool (tag.value / 8 == 2)) [ inl two ↦ rw two refl | inr other ↦ rw other refl ]
-tags_body tag list (Delimited width bytes) = elim (cases_Bool (tag.value / 8 == 2)) [ inl two ↦ rw two refl | inr other ↦ rw other refl ]
-tags_body tag list (Eight bytes) = refl
-tags_body tag list (Four bytes) = refl
-tags_body tag list (Group bytes) = refl
-
-tags_gone : (field : Field) (number : Number) (more list : List Number) → is_tags field ≡ true → without_tags (with_left field (number ∷ more) list) ≡ without_tags (field ∷ [])
-tags_gone field number more [] tags = rw tags refl
-tags_gone field number more (first ∷ others) tags =
-    let still : is_tags (record field { body = with_numbers (first ∷ others) field.body }) ≡ true = tags_body field.tag (first ∷ others) field.body ∙ tags in
-    rw (tags, still) refl
-
-left_apart : (field : Field) (had list : List Number) → (is_tags field ≡ false → had ≡ []) → without_tags (with_left field had list) ≡ without_tags (field ∷ [])
-left_apart field [] list none = refl
-left_apart field (number ∷ more) list none =
-    elim (cases_Bool (is_tags field)) [
-      | inl tags ↦ tags_gone field number more list tags
-      | inr other ↦ absurd (let e = none other in cc)
-    ]
-
-pub others_stay : (decisions : List (Option ℕ)) (fields : List Field) → without_tags (renumber 2 decisions fields) ≡ without_tags fields
-others_stay decisions [] = refl
-others_stay decisions (field ∷ fields) =
-    let rest = renumber 2 (drop (length (field_numbers 2 field)) decisions) fields in
-    let none : is_tags field ≡ false → field_numbers 2 field ≡ [] = λ other. ap (λ chunks. unwrap_or (option_map (map (λ (p : Placed). p.number)) (all_good chunks)) []) (none_of 0 field.tag field.body other) in
-    filter-append (λ (f : Field). not (is_tags f)) (renumbered_field 2 decisions field) rest
-    ∙ ap (λ first. first ++ without_tags rest) (left_apart field (field_numbers 2 field) (renumbered decisions (field_numbers 2 field)) none)
-    ∙ ap (λ more. without_tags (field ∷ []) ++ more) (others_stay (drop (length (field_numbers 2 field)) decisions) fields)
-    ∙ sym (filter-append (λ (f : Field). not (is_tags f)) (field ∷ []) fields)
-
 -- ---- a feature
 
 pub some_of : {A : Type 0} (found : Option A) → is_some found ≡ true → (x : A) × (found ≡ Some x)
@@ -143,21 +110,10 @@ loses key layer present feature same readable =
       found = map (attribute_at layer) pairs.0;
       had = ap (option_map (map (attribute_at layer))) pairs.1;
       has = attributes_by_fields present layer (with_fields (without_attribute key layer.items) feature) same ∙ ap (option_map (map (attribute_at layer))) left ∙ ap Some (attributes_staying key layer pairs.0 (pairs_are_named layer feature pairs.0 pairs.1));
-      others = others_stay (removals key layer.items feature.fields) feature.fields;
+      others = others_stay 2 (removals key layer.items feature.fields) feature.fields;
     }
 
 -- ---- the feature that is meant
-
-fields_there : (items : List LayerItem) (index : ℕ) (feature : Feature) → slice_get (features_in items) index ≡ Some feature → option_map_or (λ item. option_map_or (λ (fields : List Field). fields) (fields_in item) []) (slice_get (filter is_feature items) index) [] ≡ feature.fields
-fields_there [] index feature is = absurd cc
-fields_there (OfFeature first ∷ items) zero feature is = let same : first ≡ feature = cc in ap (λ (f : Feature). f.fields) same
-fields_there (OfFeature first ∷ items) (suc index) feature is = fields_there items index feature is
-fields_there (PlainInLayer field ∷ items) index feature is = fields_there items index feature is
-
-pub fields_found : (document : Document) (ordinal index : ℕ) (layer : Layer) (feature : Feature) → slice_get (layers document) ordinal ≡ Some layer → slice_get (features layer) index ≡ Some feature → fields_of ordinal index document ≡ feature.fields
-fields_found document ordinal index layer feature there is =
-    ap (λ (list : List LayerItem). option_map_or (λ item. option_map_or (λ (fields : List Field). fields) (fields_in item) []) (slice_get (filter is_feature list) index) []) (items_there document ordinal layer there)
-    ∙ fields_there layer.items index feature is
 
 pub pairs_found : (document : Document) (ordinal index : ℕ) (layer : Layer) (feature : Feature) → slice_get (layers document) ordinal ≡ Some layer → slice_get (features layer) index ≡ Some feature → pairs_among (items_of ordinal document) (fields_of ordinal index document) ≡ pairs_of layer feature
 pairs_found document ordinal index layer feature there is =

@@ -17,8 +17,8 @@ use Rattle.mvt_view.specs.Views.{content_in}
 use Rattle.mvt_meaning.specs.Fields.{new_content}
 use Rattle.mvt_meaning.specs.Ordinals.{change_last}
 use Rattle.mvt_meaning.specs.Tagging.{is_packed_last, is_tags, with_more_content, with_more_tags, without_tags}
+use Rattle.mvt_meaning.proofs.OtherFields.{none_of}
 use Rattle.mvt_meaning.proofs.Positions.{change_here, change_later, later_any}
-use Rattle.attribute_laws.proofs.Untagged.{none_of}
 
 -- ---- the last tags field
 
@@ -58,7 +58,7 @@ none_read : (xs : List Field) → list_any is_tags xs ≡ false → fields_read 
 none_read [] e = refl
 none_read (x ∷ xs) e =
     let parts = or_parts (is_tags x) (list_any is_tags xs) e in
-    let first : field_read 2 x ≡ Some [] = ap found_in (none_of 0 x.tag x.body parts.0) in
+    let first : field_read 2 x ≡ Some [] = ap found_in (none_of 2 0 x.tag x.body parts.0) in
     ap (λ (found : Option (List Number)). both_found found (fields_read 2 xs)) first ∙ ap (both_found (Some [])) (none_read xs parts.1)
 
 module _ (more : List Number) (valid : AllByRecursion IsNumber more) where

@@ -1,6 +1,6 @@
 -- A key that gets a value and is unset then: both are accepted, and the attributes of other keys are left.
-use Rattle.std.proofs.Common.{◌≡◌, ◌≢◌, ℕ, suc, ◌/◌, Bool, true, false, ◌||◌, not, ◌==◌, is_some, Option, Some, None, option_map, Result, Ok, Err, List, [], ◌∷◌, ◌++◌, append-nil, map, slice_get, refl, sym, ap, ◌∙◌, inl, inr, arith}
-use Rattle.std.proofs.lemmas.Bool.{cases_Bool, eq-eqb, eqb-true, ne_eqb}
+use Rattle.std.proofs.Common.{◌≡◌, ℕ, ◌/◌, Bool, true, false, ◌||◌, not, ◌==◌, is_some, Option, Some, None, option_map, Result, Ok, Err, List, [], ◌∷◌, ◌++◌, append-nil, map, slice_get, refl, sym, ap, ◌∙◌, inl, inr, arith}
+use Rattle.std.proofs.lemmas.Bool.{cases_Bool, eqb-true, ne_eqb}
 use Rattle.std.proofs.lemmas.List.Elements.{filter-append, filter_map-append}
 use Rattle.std.proofs.lemmas.List.Folds.{list_any-append}
 use Rattle.std.proofs.lemmas.Bool.{and_parts}
@@ -8,58 +8,24 @@ use Rattle.std.proofs.lemmas.Slice.Eq.{bytes_eq-Decides}
 use Rattle.std.specs.List.{cons_option, last_or, list_all, list_any}
 use Rattle.std.specs.Option.{option_map_or}
 use Rattle.std.specs.Str.{bytes_eq}
-use Rattle.mvt_document.specs.Plain.{Field, Feature, LayerItem, OfFeature, PlainInLayer, Layer, Document}
+use Rattle.mvt_document.specs.Plain.{Field, Feature, LayerItem, OfFeature, PlainInLayer, Layer}
 use Rattle.mvt_value.specs.Messages.{encoded_value}
-use Rattle.mvt_command.specs.Command.{LayerChoice, FeatureChoice, UnsetAttribute}
+use Rattle.mvt_command.specs.Command.{UnsetAttribute}
 use Rattle.mvt_view.specs.Attributes.{attribute_at, attributes, pairs_of}
-use Rattle.mvt_view.specs.Views.{content_in, contents, features, id_of, key_field, keys, layers, name_of, plain_fields}
+use Rattle.mvt_view.specs.Views.{content_in, contents, features, key_field, keys, layers, name_of, plain_fields}
 use Rattle.mvt_meaning.specs.Selection.{selected, selected_feature, selected_in}
 use Rattle.mvt_meaning.specs.Tagging.{is_key, without_attribute, without_tags}
 use Rattle.mvt_meaning.specs.Meaning.{applied, change_feature, has_key, has_pairs, items_of}
 use Rattle.mvt_meaning.specs.declared.refusal.Refusal.{Refusal}
 use Rattle.mvt_meaning.specs.declared.refusal.Refusal.TheVariants.{NoLayer}
 use Rattle.mvt_meaning.proofs.Parts.{items_there}
+use Rattle.mvt_meaning.proofs.SelectedAgain.{feature_again, layer_again}
 use Rattle.attribute_laws.specs.Laws.{FeatureBecomes, GetsAttribute, LosesAttribute, SetThenUnset, is_entry, is_of, of_other_keys, valued, with_entry, with_value}
 use Rattle.attribute_laws.proofs.Excluded.{pairs_found, unset_unsets}
 use Rattle.attribute_laws.proofs.Ids.{id_same}
-use Rattle.attribute_laws.proofs.SameMeant.{same_feature, same_layer}
 use Rattle.attribute_laws.proofs.Setting.{set_sets}
 
--- ---- lists of which one item differs
-
--- they are alike in what that item keeps
-module _ {A B : Type 0} (f : A → B) (xs ys : List A) (at : ℕ) (x y : A) (was : slice_get xs at ≡ Some x) (is : slice_get ys at ≡ Some y) (others : (other : ℕ) → other ≢ at → slice_get ys other ≡ slice_get xs other) (same : f y ≡ f x) where
-  each_same : (n : ℕ) → option_map f (slice_get ys n) ≡ option_map f (slice_get xs n)
-  each_same n =
-      elim (cases_Bool (n == at)) [
-        | inl here ↦ (
-            let e : n ≡ at = eqb-true n at here in
-            ap (λ (m : ℕ). option_map f (slice_get ys m)) e
-            ∙ ap (option_map f) is
-            ∙ ap Some same
-            ∙ sym (ap (option_map f) was)
-            ∙ sym (ap (λ (m : ℕ). option_map f (slice_get xs m)) e)
-            )
-        | inr apart ↦ ap (option_map f) (others n (λ e. let here = eq-eqb n at e in cc))
-      ]
-
-maps_same : {A B : Type 0} (f : A → B) (xs ys : List A) → ((n : ℕ) → option_map f (slice_get ys n) ≡ option_map f (slice_get xs n)) → map f ys ≡ map f xs
-maps_same f [] [] same = refl
-maps_same f [] (y ∷ ys) same = absurd (let first = same 0 in cc)
-maps_same f (x ∷ xs) [] same = absurd (let first = same 0 in cc)
-maps_same f (x ∷ xs) (y ∷ ys) same =
-    let first : f y ≡ f x = let both = same 0 in cc in
-    ap (λ z. z ∷ map f ys) first ∙ ap (λ rest. f x ∷ rest) (maps_same f xs ys (λ n. same (suc n)))
-
--- ---- the same layer and the same feature are selected
-
-layer_again : (choice : LayerChoice) (old new : Document) (ordinal : ℕ) (former present : Layer) → slice_get (layers old) ordinal ≡ Some former → slice_get (layers new) ordinal ≡ Some present → ((other : ℕ) → other ≢ ordinal → slice_get (layers new) other ≡ slice_get (layers old) other) → name_of present ≡ name_of former → selected choice new ≡ selected choice old
-layer_again choice old new ordinal former present was is others same =
-    same_layer choice new old (maps_same name_of (layers old) (layers new) (each_same name_of (layers old) (layers new) ordinal former present was is others same))
-
-feature_again : (choice : FeatureChoice) (old new : Layer) (ordinal : ℕ) (former present : Feature) → slice_get (features old) ordinal ≡ Some former → slice_get (features new) ordinal ≡ Some present → ((other : ℕ) → other ≢ ordinal → slice_get (features new) other ≡ slice_get (features old) other) → id_of present ≡ id_of former → selected_feature choice new ≡ selected_feature choice old
-feature_again choice old new ordinal former present was is others same =
-    same_feature choice new old (maps_same id_of (features old) (features new) (each_same id_of (features old) (features new) ordinal former present was is others same))
+-- ---- the name of the layer
 
 -- keys and values are no names
 no_name : (field : Field) → is_entry field ≡ true → content_in 1 field ≡ None

@@ -36,16 +36,18 @@ use Rattle.mvt_meaning.specs.declared.refusal.Refusal.TheVariants.{BadTags, Repe
 use Rattle.mvt_meaning.proofs.Accepted.{accepted, feature_meant, not_refused, within_is}
 use Rattle.mvt_meaning.proofs.Around.{around}
 use Rattle.mvt_meaning.proofs.FeatureCommands.{number_given}
-use Rattle.mvt_meaning.proofs.Parts.{changes_feature, changes_layer, items_there, layer_differs, with_fields, with_items}
+use Rattle.mvt_meaning.proofs.OtherFields.{others_stay}
+use Rattle.mvt_meaning.proofs.Parts.{changes_feature, changes_layer, fields_found, items_there, layer_differs, with_fields, with_items}
 use Rattle.mvt_meaning.proofs.Positions.{later_any, no_positions, positions_from, positions_pass, positions_skip}
+use Rattle.mvt_meaning.proofs.ReadValues.{value_list}
 use Rattle.mvt_meaning.proofs.Removals.{flat, head_same}
 use Rattle.mvt_meaning.proofs.Replacements.{entry_low, plain_stay, replacements_short, value_short}
 use Rattle.mvt_meaning.proofs.Selecting.{selected_within}
 use Rattle.attribute_laws.specs.Laws.{GetsAttribute, SetSets, SetsAttribute, is_entry, is_of, valued, with_entry, with_value}
-use Rattle.attribute_laws.proofs.Excluded.{fields_found, others_stay, read_there, some_of}
+use Rattle.attribute_laws.proofs.Excluded.{read_there, some_of}
 use Rattle.attribute_laws.proofs.Grown.{all_stay, attribute_stays, attributes_stay, key_stays, keys_grow, pairs_grow, values_grow}
 use Rattle.attribute_laws.proofs.MoreTags.{more_apart, more_is_read}
-use Rattle.attribute_laws.proofs.PairsRead.{pairs_again, pairs_read, value_list}
+use Rattle.attribute_laws.proofs.PairsRead.{pairs_again, pairs_read}
 
 -- ---- the entry of some bytes
 
@@ -390,7 +392,7 @@ module _ (key value : List ℕ) (index : ℕ) (layer : Layer) (within : weigh la
     tags_apart =
         elim (cases_Bool (pairs_with key layer.items feature.fields == 0)) [
           | inl none ↦ rw none (more_apart (new_pair key value layer.items) feature.fields)
-          | inr some ↦ rw some (others_stay (replacements key value layer.items feature.fields) feature.fields)
+          | inr some ↦ rw some (others_stay 2 (replacements key value layer.items feature.fields) feature.fields)
         ]
 
     gets : nat_lt 1 (pairs_with key layer.items feature.fields) ≡ false → GetsAttribute key value layer set_layer feature set_feature

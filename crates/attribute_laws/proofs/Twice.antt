@@ -23,6 +23,7 @@ use Rattle.mvt_meaning.specs.Meaning.{◌>>=◌, applied, change_layer, change_l
 use Rattle.mvt_meaning.proofs.Accepted.{accepted}
 use Rattle.mvt_meaning.proofs.Found.{change_layer_found, layer_found}
 use Rattle.mvt_meaning.proofs.Parts.{with_items}
+use Rattle.mvt_meaning.proofs.ReadValues.{value_list}
 use Rattle.mvt_meaning.proofs.Removals.{flat, make_pairs}
 use Rattle.mvt_select.proofs.Chosen.{the_one_meant}
 use Rattle.attribute_laws.specs.Laws.{ExcludeAgainChangesNothing}
@@ -30,7 +31,6 @@ use Rattle.attribute_laws.specs.MeantLayers.{IsMeant}
 use Rattle.attribute_laws.proofs.EachFeature.{fields_stay}
 use Rattle.attribute_laws.proofs.Excluded.{pairs_staying, some_of, staying}
 use Rattle.attribute_laws.proofs.MeantLayers.{layers_change, some_same}
-use Rattle.attribute_laws.proofs.PairsRead.{value_list}
 use Rattle.attribute_laws.proofs.Readable.{meant_read}
 use Rattle.attribute_laws.proofs.SameMeant.{same_layer}
 

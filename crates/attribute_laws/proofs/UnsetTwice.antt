@@ -18,12 +18,12 @@ use Rattle.mvt_meaning.specs.Meaning.{◌>>=◌, change_feature, fields_of, has_
 use Rattle.mvt_meaning.specs.declared.refusal.Refusal.TheVariants.{BadTags, NoKey}
 use Rattle.mvt_meaning.proofs.Accepted.{accepted, not_refused}
 use Rattle.mvt_meaning.proofs.Found.{change_feature_found, change_layer_found, change_nth_found, fields_changed, fields_of_found, items_changed, items_of_found, selected_in_found}
+use Rattle.mvt_meaning.proofs.OtherFields.{others_stay}
 use Rattle.mvt_meaning.proofs.Parts.{changes_feature, with_fields}
 use Rattle.mvt_meaning.proofs.Selecting.{selected_feature_within}
 use Rattle.mvt_select.proofs.Chosen.{the_one_meant}
 use Rattle.mvt_select.proofs.Meant.{stands}
 use Rattle.attribute_laws.specs.Laws.{UnsetAgainChangesNothing}
-use Rattle.attribute_laws.proofs.Excluded.{others_stay}
 use Rattle.attribute_laws.proofs.Ids.{id_same}
 use Rattle.attribute_laws.proofs.SameMeant.{same_feature}
 use Rattle.attribute_laws.proofs.Twice.{done, fields_beside, pairs_by_fields, same_meant, stays_at, without_by_fields}
@@ -31,7 +31,7 @@ use Rattle.attribute_laws.proofs.Twice.{done, fields_beside, pairs_by_fields, sa
 -- ---- the id of a feature
 
 id_stays : (key : List ℕ) (items : List LayerItem) (feature : Feature) → id_of (with_fields (without_attribute key items) feature) ≡ id_of feature
-id_stays key items feature = id_same feature (with_fields (without_attribute key items) feature) (others_stay (removals key items feature.fields) feature.fields)
+id_stays key items feature = id_same feature (with_fields (without_attribute key items) feature) (others_stay 2 (removals key items feature.fields) feature.fields)
 
 -- ---- a layer with a feature changed
 

@@ -1,12 +1,13 @@
 -- Features without their tags fields have no attribute.
-use Rattle.std.proofs.Common.{◌≡◌, ℕ, ◌+◌, ◌/◌, ◌==◌, false, Some, List, [], ◌∷◌, ◌++◌, map, refl, sym, ap, ◌∙◌, inl, inr, subst}
+use Rattle.std.proofs.Common.{◌≡◌, ℕ, ◌+◌, Some, List, [], ◌∷◌, ◌++◌, map, refl, sym, ap, ◌∙◌, inl, inr, subst}
 use Rattle.std.proofs.lemmas.Bool.{cases_Bool}
 use Rattle.std.specs.List.{AllByRecursion, enumerate_from, flat_map}
-use Rattle.mvt_document.specs.Plain.{Number, Body, Spelled, Eight, Four, Delimited, Group, Field, Feature, Layer}
+use Rattle.mvt_document.specs.Plain.{Field, Feature, Layer}
 use Rattle.mvt_numbers.specs.Numbers.{numbers, numbers_in, through_bad}
 use Rattle.mvt_view.specs.Attributes.{attributes}
 use Rattle.mvt_view.specs.Views.{features}
 use Rattle.mvt_meaning.specs.Tagging.{is_tags, untagged, without_tags}
+use Rattle.mvt_meaning.proofs.OtherFields.{none_of}
 use Rattle.mvt_meaning.proofs.Parts.{with_fields, with_items}
 use Rattle.attribute_laws.specs.Laws.{ExcludeAllExcludes, LosesAttributes}
 use Rattle.attribute_laws.proofs.EachFeature.{features_changed, fields_stay, positions_stay}
@@ -14,19 +15,12 @@ use Rattle.attribute_laws.proofs.MeantLayers.{layers_change}
 
 -- ---- no numbers of tags are left
 
-pub none_of : (n : ℕ) (tag : Number) (body : Body) → is_tags (record { tag = tag; body = body }) ≡ false → numbers_in 2 (n, record { tag = tag; body = body }) ≡ []
-none_of n tag (Eight bytes) other = elim (cases_Bool (tag.value / 8 == 2)) [ inl two ↦ rw two refl | inr not_two ↦ rw not_two refl ]
-none_of n tag (Four bytes) other = elim (cases_Bool (tag.value / 8 == 2)) [ inl two ↦ rw two refl | inr not_two ↦ rw not_two refl ]
-none_of n tag (Group bytes) other = elim (cases_Bool (tag.value / 8 == 2)) [ inl two ↦ rw two refl | inr not_two ↦ rw not_two refl ]
-none_of n tag (Spelled number) other = elim (cases_Bool (tag.value / 8 == 2)) [ inl two ↦ absurd (let is = rw two at other in cc) | inr not_two ↦ rw not_two refl ]
-none_of n tag (Delimited width bytes) other = elim (cases_Bool (tag.value / 8 == 2)) [ inl two ↦ absurd (let is = rw two at other in cc) | inr not_two ↦ rw not_two refl ]
-
 none_left : (n : ℕ) (fields : List Field) → flat_map (numbers_in 2) (enumerate_from n (without_tags fields)) ≡ []
 none_left n [] = refl
 none_left n (field ∷ fields) =
     elim (cases_Bool (is_tags field)) [
       | inl gone ↦ rw gone (none_left n fields)
-      | inr stays ↦ rw stays (ap (λ first. first ++ flat_map (numbers_in 2) (enumerate_from (n + 1) (without_tags fields))) (none_of n field.tag field.body stays) ∙ none_left (n + 1) fields)
+      | inr stays ↦ rw stays (ap (λ first. first ++ flat_map (numbers_in 2) (enumerate_from (n + 1) (without_tags fields))) (none_of 2 n field.tag field.body stays) ∙ none_left (n + 1) fields)
     ]
 
 no_attributes : (layer : Layer) (feature : Feature) → attributes layer (with_fields without_tags feature) ≡ Some []

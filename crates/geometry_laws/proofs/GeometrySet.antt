@@ -1,19 +1,17 @@
 -- What an accepted geometry makes of a tile.
-use Rattle.std.proofs.Common.{◌≡◌, ℕ, ◌/◌, ◌==◌, Bool, true, false, not, is_some, Option, Some, None, option_map, Result, Ok, List, [], ◌∷◌, ◌++◌, map, filter, refl, sym, ap, ◌∙◌, inl, inr, subst, arith}
+use Rattle.std.proofs.Common.{◌≡◌, ℕ, Bool, true, false, not, Option, Some, None, List, [], ◌∷◌, map, filter, refl, ap, ◌∙◌, inl, inr, arith}
 use Rattle.std.proofs.lemmas.Bool.{cases_Bool, not-false}
 use Rattle.std.proofs.lemmas.List.{append-nil}
 use Rattle.std.specs.List.{filter_map, last_or}
 use Rattle.std.specs.Option.{unwrap_or}
 use Rattle.mvt_document.specs.Places.{in_feature}
 use Rattle.mvt_document.specs.Plain.{Number, Field, Feature}
-use Rattle.mvt_document.specs.Wire.{minimal, spelling}
+use Rattle.mvt_document.specs.Wire.{minimal}
 use Rattle.mvt_geometry.specs.Checks.{is_in_range}
-use Rattle.mvt_geometry.specs.Integers.{HasGeometry, IsInRange, encoded, integers}
+use Rattle.mvt_geometry.specs.Integers.{IsInRange, encoded, integers}
 use Rattle.mvt_geometry.specs.Shapes.{Geometry, IsGeometry, kind_number}
 use Rattle.mvt_geometry.proofs.Checks.{in_range-Decides}
-use Rattle.mvt_geometry.proofs.Only.{one_geometry}
 use Rattle.mvt_geometry.proofs.Small.{packs_integers}
-use Rattle.mvt_command.specs.Command.{FeatureChoice, LayerChoice}
 use Rattle.mvt_numbers.specs.Deciding.{packed_numbers}
 use Rattle.mvt_numbers.specs.Laws.{read_numbers}
 use Rattle.mvt_numbers.specs.Numbers.{numbers}
@@ -24,7 +22,7 @@ use Rattle.mvt_view.specs.FeatureGeometry.{HasFeatureGeometry}
 use Rattle.mvt_view.specs.Views.{kind_of, value_in}
 use Rattle.mvt_meaning.specs.Fields.{new_content, new_number, with_field_value}
 use Rattle.mvt_meaning.specs.Geometries.{is_geometry_field, is_kind, with_geometry, with_kind}
-use Rattle.mvt_meaning.specs.Kept.{ChangesFeature, all_but_last}
+use Rattle.mvt_meaning.specs.Kept.{ChangesFeature}
 use Rattle.mvt_meaning.specs.Meaning.{◌>>=◌, change_feature, refuse_if, within_limit}
 use Rattle.mvt_meaning.specs.Ordinals.{change_nth, put_once}
 use Rattle.mvt_meaning.specs.Selection.{is_feature, selected, selected_in}
@@ -35,7 +33,8 @@ use Rattle.mvt_meaning.proofs.LastPut.{last_put, others_put, parts_put}
 use Rattle.mvt_meaning.proofs.OtherFields.{none_of, values_stay}
 use Rattle.mvt_meaning.proofs.Parts.{changes_feature, changes_layer, with_fields}
 use Rattle.mvt_meaning.proofs.ReadValues.{value_list, values_of_read}
-use Rattle.geometry_laws.specs.Laws.{SetGeometrySets, SetsGeometry, kinds, without_geometry, without_kind}
+use Rattle.geometry_laws.specs.Laws.{SetGeometrySets, SetsGeometry, without_geometry, without_kind}
+use Rattle.geometry_laws.proofs.Shifted.{one_of_feature}
 
 -- ---- lists of which items are left out
 
@@ -122,9 +121,6 @@ drawing_read geometry valid range =
 
 -- ---- a feature
 
-same_integers : (a b : List ℕ) (found : Option (List ℕ)) → found ≡ Some a → found ≡ Some b → a ≡ b
-same_integers a b found first second = let both = sym first ∙ second in cc
-
 module _ (geometry : Geometry) (valid : IsGeometry geometry) (range : IsInRange geometry) where
   sets : (old : Feature) → SetsGeometry geometry old (with_fields (with_geometry geometry) old)
   sets old =
@@ -143,10 +139,7 @@ module _ (geometry : Geometry) (valid : IsGeometry geometry) (range : IsInRange 
       let has : HasFeatureGeometry new geometry = record { integers = integers geometry; read = found; has = record { of_kind = kind_so; valid = valid; in_range = range; spelled = refl } } in
       record {
         has = has;
-        only = λ other h. (
-            let same = same_integers h.integers (integers geometry) (values_in (numbers 4 new.fields)) h.read found in
-            one_geometry (kind_of new) (integers geometry) other geometry (subst (λ (list : List ℕ). HasGeometry (kind_of new) list other) same h.has) has.has
-            );
+        only = one_of_feature new geometry has;
         last = values ∙ parts_put (value_in 3) (with_field_value kind) kind (value_given 3 kind) (new_number 24 kind) old.fields refl;
         once = put_alone is_geometry_field drawing refl kinded;
         others = swapped (λ field. not (is_geometry_field field)) (λ field. not (is_kind field)) new.fields

@@ -1,5 +1,5 @@
-pub mod Translated
 pub mod Counted
+pub mod Translated
 pub mod Renumbered
 pub mod Shifted
 pub mod GeometrySet

@@ -1,21 +1,20 @@
 -- What an accepted shift makes of a tile.
-use Rattle.std.proofs.Common.{◌≡◌, ℕ, ◌-◌, ◌*◌, ◌^◌, ◌≤◌, true, ◌&&◌, not, cond, ◌==◌, ℤ, pos, ◌+ℤ◌, is_some, Option, Some, None, Ok, List, [], ◌∷◌, ◌++◌, length, map, slice_get, nat_lt, refl, sym, ap, ◌∙◌, inl, inr, subst, arith}
-use Rattle.std.proofs.lemmas.Bool.{cases_Bool, cond_both, ltb-false, not-false}
+use Rattle.std.proofs.Common.{◌≡◌, ℕ, ◌-◌, ◌*◌, ◌^◌, ◌≤◌, Bool, true, ◌&&◌, not, cond, ◌==◌, ℤ, pos, ◌+ℤ◌, is_some, Option, Some, None, Ok, List, [], ◌∷◌, length, refl, sym, ap, ◌∙◌, subst, arith}
+use Rattle.std.proofs.lemmas.Bool.{cond_both, not-false}
 use Rattle.std.proofs.lemmas.Int.{ints}
 use Rattle.std.proofs.lemmas.List.{length-map}
 use Rattle.std.specs.List.{flat_map, last_or}
 use Rattle.std.specs.Option.{option_and_then, option_map_or, unwrap_or}
 use Rattle.mvt_document.specs.declared.TheConstants.{MAX_FILE}
-use Rattle.mvt_document.specs.Opens.{IsField}
 use Rattle.mvt_document.specs.Places.{in_feature, in_layer}
-use Rattle.mvt_document.specs.Plain.{Number, Field, Feature, LayerItem, OfFeature, PlainInLayer, Layer, TileItem, OfLayer, PlainInTile, Document}
+use Rattle.mvt_document.specs.Plain.{Number, Field, Feature, LayerItem, OfFeature, PlainInLayer, TileItem, OfLayer, PlainInTile, Document}
 use Rattle.mvt_document.specs.Signed.{unzigzag, zigzag}
-use Rattle.mvt_document.specs.Wire.{bytes_of, field_bytes}
 use Rattle.mvt_document.proofs.Signed.{zigzag-unzigzag}
 use Rattle.mvt_geometry.specs.Found.{geometry_in}
 use Rattle.mvt_geometry.specs.Integers.{HasGeometry}
 use Rattle.mvt_geometry.specs.Shapes.{Geometry}
 use Rattle.mvt_geometry.proofs.Found.{has_found_geometry}
+use Rattle.mvt_geometry.proofs.Only.{one_geometry}
 use Rattle.mvt_numbers.specs.Laws.{AreShort, read_numbers}
 use Rattle.mvt_numbers.specs.Numbers.{numbers}
 use Rattle.mvt_numbers.specs.Renumbering.{field_numbers, renumber, renumbered}
@@ -24,14 +23,13 @@ use Rattle.mvt_numbers.proofs.Redone.{left_is_read}
 use Rattle.mvt_numbers.proofs.Reread.{read_of_fields}
 use Rattle.mvt_view.specs.Attributes.{values_in}
 use Rattle.mvt_view.specs.FeatureGeometry.{HasFeatureGeometry}
-use Rattle.mvt_view.specs.Views.{features, kind_of, last_value, layers}
+use Rattle.mvt_view.specs.Views.{kind_of}
 use Rattle.mvt_meaning.specs.Geometries.{can_move, can_move_integers, further, geometry_among, integers_among, moved_integers, moves, shifted}
 use Rattle.mvt_meaning.specs.Kept.{ChangesFeature}
 use Rattle.mvt_command.specs.Command.{FeatureChoice, LayerChoice, Shift}
 use Rattle.mvt_meaning.specs.Meaning.{◌>>=◌, applied, can_shift, change_feature, is_drawn, refuse_if, within_limit}
 use Rattle.mvt_meaning.specs.Ordinals.{change_nth}
 use Rattle.mvt_meaning.specs.Selection.{is_feature, is_layer, selected, selected_in}
-use Rattle.mvt_meaning.specs.Weights.{weigh}
 use Rattle.mvt_meaning.specs.declared.refusal.Refusal.TheVariants.{BadGeometry, OutOfRange}
 use Rattle.mvt_meaning.proofs.Accepted.{accepted, feature_meant, not_refused, within_is}
 use Rattle.mvt_meaning.proofs.FeatureCommands.{number_given}
@@ -40,8 +38,8 @@ use Rattle.mvt_meaning.proofs.OtherFields.{others_stay, values_stay}
 use Rattle.mvt_meaning.proofs.Parts.{changes_feature, changes_layer, fields_found, with_fields}
 use Rattle.mvt_meaning.proofs.ReadValues.{numbers_of_values, value_list, values_of_read}
 use Rattle.geometry_laws.specs.Laws.{ShiftByNothing, ShiftShifts, Shifts, led_further, moved, without_geometry}
-use Rattle.geometry_laws.proofs.Counted.{feature_of, layer_of, numbers_few}
-use Rattle.geometry_laws.proofs.Renumbered.{AllSome, all_stay, fronts_stay}
+use Rattle.geometry_laws.proofs.Counted.{numbers_within}
+use Rattle.geometry_laws.proofs.Renumbered.{AllSome, all_stay, counts_stay, fronts_stay}
 use Rattle.geometry_laws.proofs.Translated.{first_ways, has_moved, led}
 
 -- ---- the numbers
@@ -109,6 +107,15 @@ found_by feature (Some list) (Some g) read is some = (g, record { integers = lis
 pub geometry_of : (feature : Feature) → is_some (geometry_among feature.fields) ≡ true → (g : Geometry) × HasFeatureGeometry feature g
 geometry_of feature some = found_by feature (integers_among feature.fields) (geometry_among feature.fields) refl refl some
 
+pub same_integers : (found : Option (List ℕ)) (a b : List ℕ) → found ≡ Some a → found ≡ Some b → b ≡ a
+same_integers found a b first second = let both = sym first ∙ second in cc
+
+-- a feature has at most one geometry
+pub one_of_feature : (feature : Feature) (g : Geometry) → HasFeatureGeometry feature g → (other : Geometry) → HasFeatureGeometry feature other → other ≡ g
+one_of_feature feature g has other h =
+    let same = same_integers (integers_among feature.fields) has.integers h.integers has.read h.read in
+    one_geometry (kind_of feature) has.integers other g (subst (λ (list : List ℕ). HasGeometry (kind_of feature) list other) same h.has) has.has
+
 module _ (dx dy : ℤ) where
   pub shifts : (old : Feature) → is_some (geometry_among old.fields) ≡ true → can_move dx dy old.fields ≡ true → ((list : List Number) → read_numbers 4 old.fields ≡ Some list → length list ≤ MAX_FILE) → Shifts dx dy old (with_fields (shifted dx dy) old)
   shifts old drawn can few =
@@ -127,15 +134,17 @@ module _ (dx dy : ℤ) where
       let low : length h.integers * 2 ^ 31 ≤ 2 ^ 62 = omega (arith, few n.list n.read, counted) in
       let able : can_move_integers dx dy h.integers ≡ true = sym (ap (λ (found : Option (List ℕ)). option_map_or (can_move_integers dx dy) found true) h.read) ∙ can in
       let again : HasGeometry (kind_of old) (led dx dy h.integers) (moved dx dy g.0) = has_moved dx dy (kind_of old) h.integers g.0 h.has able low in
+      let has : HasFeatureGeometry new (moved dx dy g.0) = record {
+        integers = led dx dy h.integers;
+        read = values_of_read 4 new.fields (t.command ∷ led_further dx t.along ∷ led_further dy t.down ∷ t.more) are
+            ∙ ap Some (values_led dx dy t.command t.along t.down t.more ∙ ap (led dx dy) values);
+        has = subst (λ (kind : ℕ). HasGeometry kind (led dx dy h.integers) (moved dx dy g.0)) (sym (kind_stays old new others)) again;
+      } in
       record {
         geometry = g.0;
         had = h;
-        has = record {
-          integers = led dx dy h.integers;
-          read = values_of_read 4 new.fields (t.command ∷ led_further dx t.along ∷ led_further dy t.down ∷ t.more) are
-              ∙ ap Some (values_led dx dy t.command t.along t.down t.more ∙ ap (led dx dy) values);
-          has = subst (λ (kind : ℕ). HasGeometry kind (led dx dy h.integers) (moved dx dy g.0)) (sym (kind_stays old new others)) again;
-        };
+        has = has;
+        only = one_of_feature new (moved dx dy g.0) has;
         command = t.command;
         along = t.along;
         down = t.down;
@@ -143,6 +152,7 @@ module _ (dx dy : ℤ) where
         were = were;
         are = are;
         fronts = fronts_stay 4 (moves dx dy old.fields) old.fields (moves_some dx dy old.fields);
+        counts = counts_stay 4 (moves dx dy old.fields) old.fields (moves_some dx dy old.fields) short;
         others = others;
       }
 
@@ -184,12 +194,10 @@ shift_shifts choice feature dx dy old new valid within e =
     changes_layer choice (ChangesFeature feature (Shifts dx dy)) (change_nth is_feature (in_feature change) s.index) old new s.ordinal s.meant s.made (λ layer is.
     changes_feature feature (Shifts dx dy) change layer s.index (feature_meant feature old layer s.ordinal s.index is s.found) (λ former was.
     let fields = fields_found old s.ordinal s.index layer former is was in
-    let l = layer_of old s.ordinal layer is valid in
-    let f = feature_of layer.items s.index former was l.0.items in
     shifts dx dy former
     (subst (λ (fs : List Field). is_some (geometry_among fs) ≡ true) fields s.drawn)
     (subst (λ (fs : List Field). can_move dx dy fs ≡ true) fields s.can)
-    (λ list read. omega (arith, numbers_few 4 former.fields list f.0.fields read, f.1, l.1, within))))
+    (λ list read. numbers_within 4 old s.ordinal s.index layer former list valid within is was read)))
 
 -- ---- a shift by nothing
 
@@ -197,7 +205,7 @@ no_way : (z : ℤ) → z +ℤ pos 0 ≡ z
 no_way z = omega (arith, ints)
 
 -- a parameter that leads no further
-no_further : (number : Number) → led_further (pos 0) number ≡ number
+pub no_further : (number : Number) → led_further (pos 0) number ≡ number
 no_further number =
     with_number-same (zigzag (further (pos 0) number.value)) number (sym (ap zigzag (no_way (unzigzag number.value)) ∙ zigzag-unzigzag number.value))
 

@@ -1,14 +1,13 @@
 -- A shift, and the shift back.
-use Rattle.std.proofs.Common.{◌≡◌, ℕ, zero, suc, ◌^◌, ◌<◌, ◌≤◌, Bool, true, false, ◌==◌, ℤ, ◌+ℤ◌, is_some, Option, Some, None, Result, Ok, Err, List, [], ◌∷◌, ◌++◌, length, drop, filter, slice_get, nat_lt, refl, sym, ap, ◌∙◌, inl, inr, subst, arith}
-use Rattle.std.specs.Prelude.{IfSome, neg_ℤ, unsigned_abs}
+use Rattle.std.proofs.Common.{◌≡◌, ◌≢◌, ℕ, zero, suc, ◌^◌, ◌≤◌, Bool, true, false, ◌==◌, ℤ, pos, negsuc, ◌+ℤ◌, is_some, Option, Some, None, Result, Ok, Err, List, [], ◌∷◌, length, filter, slice_get, nat_lt, refl, sym, ap, ◌∙◌, inl, inr, subst, arith}
+use Rattle.std.specs.Prelude.{neg_ℤ, unsigned_abs}
 use Rattle.std.proofs.lemmas.Bool.{and_from, cases_Bool, cond_both, eqb-true, le-ltb, lt-ltb}
 use Rattle.std.proofs.lemmas.Int.{ints}
-use Rattle.std.proofs.lemmas.List.{append-nil}
 use Rattle.std.specs.List.{flat_map, last_or}
-use Rattle.std.specs.Option.{option_and_then, option_map_or, unwrap_or}
+use Rattle.std.specs.Option.{option_and_then, option_map_or}
 use Rattle.mvt_document.specs.declared.TheConstants.{MAX_FILE}
 use Rattle.mvt_document.specs.Places.{in_feature, in_layer}
-use Rattle.mvt_document.specs.Plain.{Number, Body, Spelled, Eight, Four, Delimited, Group, Field, Feature, LayerItem, OfFeature, PlainInLayer, Layer, TileItem, OfLayer, PlainInTile, Document}
+use Rattle.mvt_document.specs.Plain.{Number, Field, Feature, LayerItem, OfFeature, PlainInLayer, Layer, TileItem, OfLayer, PlainInTile, Document}
 use Rattle.mvt_document.specs.Signed.{unzigzag, zigzag}
 use Rattle.mvt_document.specs.Wire.{bytes_of, minimal}
 use Rattle.mvt_document.proofs.Signed.{unzigzag-zigzag, zigzag-unzigzag}
@@ -16,12 +15,11 @@ use Rattle.mvt_geometry.specs.Checks.{is_way}
 use Rattle.mvt_geometry.specs.Found.{geometry_in}
 use Rattle.mvt_geometry.specs.Shapes.{Geometry}
 use Rattle.mvt_geometry.proofs.Found.{found_geometry}
-use Rattle.mvt_numbers.specs.Laws.{AreShort, read_numbers}
+use Rattle.mvt_numbers.specs.Laws.{read_numbers}
 use Rattle.mvt_numbers.specs.Numbers.{numbers}
-use Rattle.mvt_numbers.specs.Renumbering.{field_numbers, renumber, renumbered, with_left, with_number, with_numbers}
+use Rattle.mvt_numbers.specs.Renumbering.{field_numbers, renumbered, with_number}
 use Rattle.mvt_numbers.proofs.Decisions.{with_number-same}
-use Rattle.mvt_numbers.proofs.Redone.{left_is_read, renumbered-append}
-use Rattle.mvt_numbers.proofs.Reread.{both_found, field_read, read_is, read_of_fields}
+use Rattle.mvt_numbers.proofs.Reread.{read_of_fields}
 use Rattle.mvt_view.specs.Attributes.{values_in}
 use Rattle.mvt_view.specs.FeatureGeometry.{HasFeatureGeometry}
 use Rattle.mvt_view.specs.Views.{contents, id_of, kind_of, name_of}
@@ -39,81 +37,9 @@ use Rattle.mvt_meaning.proofs.Parts.{fields_found}
 use Rattle.mvt_meaning.proofs.ReadValues.{value_list, values_of_read}
 use Rattle.mvt_meaning.proofs.SelectedAgain.{feature_again, layer_again}
 use Rattle.geometry_laws.specs.Laws.{ShiftBack, Shifts, led_further, moved}
-use Rattle.geometry_laws.proofs.Renumbered.{AllSome, all_dropped, own_left, same_count, same_fronts}
-use Rattle.geometry_laws.proofs.Shifted.{decided_so, is_shift, moves_found, moves_some, shift_shifts, shifted_read}
+use Rattle.geometry_laws.proofs.Renumbered.{both_back}
+use Rattle.geometry_laws.proofs.Shifted.{decided_so, is_shift, moves_found, moves_some, no_further, same_integers, shift_shifts, shifted_read}
 use Rattle.geometry_laws.proofs.Translated.{first_ways}
-
--- ---- numbers that get other values, and their own again
-
--- a field of which other numbers are left, and then its own
-record Back (number : ℕ) (field : Field) (own new : List Number) : Type 0 where
-  made : Field
-  left : with_left field own new ≡ made ∷ []
-  numbers : field_numbers number made ≡ new
-  back : with_left made new own ≡ field ∷ []
-
-one_by : (number : ℕ) (field : Field) (found : Option (List Number)) (list : List Number) → field_read number field ≡ found → unwrap_or found [] ≡ list → 1 ≤ length list → read_numbers number (field ∷ []) ≡ Some list
-one_by number field None list read is some = absurd (omega (arith, ap length is, some))
-one_by number field (Some found) list read is some =
-    read_is number (field ∷ []) ∙ ap (λ (first : Option (List Number)). both_found first (Some [])) read ∙ ap Some (append-nil found ∙ is)
-
--- a field with numbers is read alone
-one_read : (number : ℕ) (field : Field) (first : Number) (more : List Number) → field_numbers number field ≡ first ∷ more → read_numbers number (field ∷ []) ≡ Some (first ∷ more)
-one_read number field first more is = one_by number field (field_read number field) (first ∷ more) refl is (omega arith)
-
-twice : (first next : Number) (more others : List Number) (body : Body) → with_numbers (first ∷ more) (with_numbers (next ∷ others) body) ≡ with_numbers (first ∷ more) body
-twice first next more others (Spelled number) = refl
-twice first next more others (Eight bytes) = refl
-twice first next more others (Four bytes) = refl
-twice first next more others (Delimited width bytes) = refl
-twice first next more others (Group bytes) = refl
-
-back_by : (number : ℕ) (decisions : List (Option ℕ)) (field : Field) (own new : List Number) → AreShort decisions → field_numbers number field ≡ own → renumbered decisions own ≡ new → length new ≡ length own → Back number field own new
-back_by number decisions field [] [] short is are same = record { made = field; left = refl; numbers = is; back = refl }
-back_by number decisions field [] (next ∷ others) short is are same = absurd (omega (arith, same))
-back_by number decisions field (first ∷ more) [] short is are same = absurd (omega (arith, same))
-back_by number decisions field (first ∷ more) (next ∷ others) short is are same =
-    let made : Field = record field { body = with_numbers (next ∷ others) field.body } in
-    let left : renumber number decisions (field ∷ []) ≡ made ∷ [] =
-    ap (λ (own : List Number). with_left field own (renumbered decisions own) ++ []) is
-    ∙ ap (λ (new : List Number). with_left field (first ∷ more) new ++ []) are in
-    let read : read_numbers number (made ∷ []) ≡ Some (next ∷ others) =
-    ap (read_numbers number) (sym left)
-    ∙ left_is_read number decisions (field ∷ []) (first ∷ more) short (one_read number field first more is)
-    ∙ ap Some are in
-    record {
-      made = made;
-      left = refl;
-      numbers = sym (append-nil (field_numbers number made)) ∙ read_of_fields number (made ∷ []) (next ∷ others) read;
-      back = ap (λ (body : Body). record field { body = body } ∷ []) (twice first next more others field.body)
-          ∙ ap (λ (own : List Number). with_left field own own) (sym is)
-          ∙ own_left number field;
-    }
-
-pub both_back : (number : ℕ) (there back : List (Option ℕ)) (fields : List Field) → AllSome there → AllSome back → AreShort there → renumbered back (renumbered there (flat_map (field_numbers number) fields)) ≡ flat_map (field_numbers number) fields → renumber number back (renumber number there fields) ≡ fields
-both_back number there back [] all all_back short e = refl
-both_back number there back (field ∷ fields) all all_back short e =
-    let own = field_numbers number field in
-    let others = flat_map (field_numbers number) fields in
-    let new = renumbered there own in
-    let there_more = drop (length own) there in
-    let back_more = drop (length new) back in
-    let counted : length new ≡ length own = same_count there own all in
-    let b = back_by number there field own new short refl refl counted in
-    let whole : renumbered back new ++ renumbered back_more (renumbered there_more others) ≡ own ++ others =
-    sym (ap (renumbered back) (renumbered-append there own others) ∙ renumbered-append back new (renumbered there_more others)) ∙ e in
-    let apart = same_fronts (renumbered back new) own (renumbered back_more (renumbered there_more others)) others whole (same_count back new all_back ∙ counted) in
-    let rest : List Field = renumber number there_more fields in
-    ap (λ (first : List Field). renumber number back (first ++ rest)) b.left
-    ∙ ap (λ (list : List Number). with_left b.made list (renumbered back list) ++ renumber number (drop (length list) back) rest) b.numbers
-    ∙ ap (λ (list : List Number). with_left b.made new list ++ renumber number back_more rest) apart.0
-    ∙ ap (λ (first : List Field). first ++ renumber number back_more rest) b.back
-    ∙ ap (λ (more : List Field). field ∷ more)
-        (both_back number there_more back_more fields
-        (all_dropped (λ decision. is_some decision ≡ true) (length own) there all)
-        (all_dropped (λ decision. is_some decision ≡ true) (length new) back all_back)
-        (all_dropped (λ decision. IfSome decision (λ value. value < 2 ^ 64)) (length own) there short)
-        apart.1)
 
 -- ---- ways back
 
@@ -124,20 +50,25 @@ way_back : (way : ℤ) (parameter : ℕ) → further (neg_ℤ way) (zigzag (furt
 way_back way parameter =
     ap (λ (z : ℤ). z +ℤ neg_ℤ way) (unzigzag-zigzag (unzigzag parameter +ℤ way)) ∙ there_and_back (unzigzag parameter) way
 
--- a parameter in its shortest spelling is the same again
-led_back : (way : ℤ) (number : Number) → number ≡ minimal number.value → led_further (neg_ℤ way) (led_further way number) ≡ number
-led_back way number shortest =
+short_back : (way : ℤ) (number : Number) → number ≡ minimal number.value → led_further (neg_ℤ way) (led_further way number) ≡ number
+short_back way number shortest =
     let value : ℕ = zigzag (further way number.value) in
     let led : Number = led_further way number in
     let back : zigzag (further (neg_ℤ way) led.value) ≡ number.value =
     ap (λ (n : ℕ). zigzag (further (neg_ℤ way) n)) (number_given value number) ∙ ap zigzag (way_back way number.value) ∙ zigzag-unzigzag number.value in
     ap (λ (n : ℕ). with_number n led) back
     ∙ cond_both (led.value == number.value) led (minimal number.value) (λ (n : Number). n ≡ number)
-        (λ same. with_number-same value number (sym (eqb-true led.value number.value same) ∙ number_given value number))
-        (λ other. sym shortest)
+    (λ same. with_number-same value number (sym (eqb-true led.value number.value same) ∙ number_given value number))
+    (λ other. sym shortest)
+
+-- a parameter in its shortest spelling is the same again, and so is one that stays
+led_back : (way : ℤ) (number : Number) → (way ≢ pos 0 → number ≡ minimal number.value) → led_further (neg_ℤ way) (led_further way number) ≡ number
+led_back (pos zero) number shortest = ap (led_further (pos 0)) (no_further number) ∙ no_further number
+led_back (pos (suc n)) number shortest = short_back (pos (suc n)) number (shortest (λ e. absurd cc))
+led_back (negsuc n) number shortest = short_back (negsuc n) number (shortest (λ e. absurd cc))
 
 module _ (dx dy : ℤ) where
-  fields_back : (fields : List Field) (command along down : Number) (more : List Number) → is_some (geometry_among fields) ≡ true → can_move dx dy fields ≡ true → read_numbers 4 fields ≡ Some (command ∷ along ∷ down ∷ more) → along ≡ minimal along.value → down ≡ minimal down.value
+  fields_back : (fields : List Field) (command along down : Number) (more : List Number) → is_some (geometry_among fields) ≡ true → can_move dx dy fields ≡ true → read_numbers 4 fields ≡ Some (command ∷ along ∷ down ∷ more) → (dx ≢ pos 0 → along ≡ minimal along.value) → (dy ≢ pos 0 → down ≡ minimal down.value)
       → shifted (neg_ℤ dx) (neg_ℤ dy) (shifted dx dy fields) ≡ fields
   fields_back fields command along down more drawn can read short_along short_down =
       let list : List Number = command ∷ along ∷ down ∷ more in
@@ -193,9 +124,6 @@ module _ (there back : List Field → List Field) (ordinal index : ℕ) (documen
 ok_same : (found : Result ℕ Refusal) (one other : ℕ) → found ≡ Ok one → found ≡ Ok other → one ≡ other
 ok_same found one other is is_too = let both = sym is ∙ is_too in cc
 
-same_values : (found : Option (List ℕ)) (one other : List ℕ) → found ≡ Some one → found ≡ Some other → one ≡ other
-same_values found one other is is_too = let both = sym is ∙ is_too in cc
-
 within_so : (document made : Document) → document ≡ made → length (bytes_of made) ≤ MAX_FILE → within_limit document ≡ Ok made
 within_so document made same within =
     let fits : nat_lt MAX_FILE (length (bytes_of made)) ≡ false = le-ltb MAX_FILE (length (bytes_of made)) within in
@@ -210,7 +138,7 @@ can_back : (dx dy : ℤ) (old new : Feature) → Shifts dx dy old new → can_mo
 can_back dx dy old new s =
     let w = first_ways dx dy (kind_of old) s.had.integers s.geometry s.had.has in
     let values : s.command.value ∷ s.along.value ∷ s.down.value ∷ value_list s.more ≡ w.number ∷ w.x ∷ w.y ∷ w.more =
-    same_values (values_in (numbers 4 old.fields)) _ _ (values_of_read 4 old.fields (s.command ∷ s.along ∷ s.down ∷ s.more) s.were) s.had.read ∙ w.spelled in
+    same_integers (values_in (numbers 4 old.fields)) _ _ s.had.read (values_of_read 4 old.fields (s.command ∷ s.along ∷ s.down ∷ s.more) s.were) ∙ w.spelled in
     let x : s.along.value ≡ w.x = cc in
     let y : s.down.value ≡ w.y = cc in
     let along : further (neg_ℤ dx) (led_further dx s.along).value ≡ unzigzag w.x =
@@ -219,8 +147,8 @@ can_back dx dy old new s =
     ap (further (neg_ℤ dy)) (number_given (zigzag (further dy s.down.value)) s.down) ∙ way_back dy s.down.value ∙ ap unzigzag y in
     ap (λ (found : Option (List ℕ)). option_map_or (can_move_integers (neg_ℤ dx) (neg_ℤ dy)) found true) (values_of_read 4 new.fields (s.command ∷ led_further dx s.along ∷ led_further dy s.down ∷ s.more) s.are)
     ∙ and_from (is_way (further (neg_ℤ dx) (led_further dx s.along).value)) (is_way (further (neg_ℤ dy) (led_further dy s.down).value))
-        (ap is_way along ∙ lt-ltb (unsigned_abs (unzigzag w.x)) (2 ^ 31) w.along)
-        (ap is_way down ∙ lt-ltb (unsigned_abs (unzigzag w.y)) (2 ^ 31) w.down)
+    (ap is_way along ∙ lt-ltb (unsigned_abs (unzigzag w.x)) (2 ^ 31) w.along)
+    (ap is_way down ∙ lt-ltb (unsigned_abs (unzigzag w.y)) (2 ^ 31) w.down)
 
 pub shift_back : ShiftBack
 shift_back choice feature dx dy old between valid within shortest e =

@@ -10,11 +10,15 @@ use Rattle.mvt_document.proofs.Signed.{unzigzag-zigzag}
 use Rattle.mvt_geometry.specs.Checks.{is_way}
 use Rattle.mvt_geometry.specs.Integers.{HasGeometry, IsInRange, IsRepeated, IsWay, all_points, closing_of, command, integers, last_from, origin, parameters, path, paths, repeats, ways}
 use Rattle.mvt_geometry.specs.Laws.{IsWithin}
-use Rattle.mvt_geometry.specs.Shapes.{Areas, Dots, Geometry, IsGeometry, IsPart, IsPartCount, IsPlaced, Kind, Lines, Point, least_points}
+use Rattle.mvt_geometry.specs.Shapes.{Geometry, IsGeometry, IsPart, IsPartCount, IsPlaced, least_points}
+use Rattle.mvt_geometry.specs.declared.shapes.Kind.{Kind}
+use Rattle.mvt_geometry.specs.declared.shapes.Kind.TheVariants.{Areas, Dots, Lines}
+use Rattle.mvt_geometry.specs.declared.shapes.Point.{Point}
 use Rattle.mvt_geometry.proofs.Parts.{with}
 use Rattle.mvt_geometry.proofs.Reach.{integers_reach}
 use Rattle.mvt_meaning.specs.Geometries.{can_move_integers, further}
 use Rattle.geometry_laws.specs.Laws.{moved, moved_point}
+use Rattle.geometry_laws.proofs.Counted.{parts_by}
 
 -- ---- ways
 
@@ -49,14 +53,9 @@ pub record FirstWays (list : List ℕ) : Type 0 where
 
 -- ---- placed points
 
-placed_points : (most : ℕ) (points : List Point) → most ≤ 2 ^ 62 → AllByRecursion (IsWithin most) points → AllByRecursion IsPlaced points
-placed_points most [] low all = tt
-placed_points most (p ∷ points) low all =
-    (record { x = omega (arith, all.0.x, low); y = omega (arith, all.0.y, low) }, placed_points most points low all.1)
-
 placed_parts : (most : ℕ) (parts : List (List Point)) → most ≤ 2 ^ 62 → AllByRecursion (AllByRecursion (IsWithin most)) parts → AllByRecursion (AllByRecursion IsPlaced) parts
-placed_parts most [] low all = tt
-placed_parts most (part ∷ parts) low all = (placed_points most part low all.0, placed_parts most parts low all.1)
+placed_parts most parts low all =
+    parts_by (IsWithin most) IsPlaced (λ point w. record { x = omega (arith, w.x, low); y = omega (arith, w.y, low) }) parts all
 
 module _ (dx dy : ℤ) where
   abbrev further_on : Point → Point

@@ -1,18 +1,22 @@
 -- Laws of the commands on geometry, in the words of a tile: what an accepted command makes.
-use Rattle.std.specs.Prelude.{◌≡◌, ℕ, ◌≤◌, not, ℤ, pos, neg_ℤ, ◌+ℤ◌, List, [], ◌∷◌, ◌++◌, Option, Some, None, Ok, length, map, filter}
-use Rattle.std.specs.List.{filter_map}
+use Rattle.std.specs.Prelude.{◌≡◌, ◌≢◌, ℕ, ◌^◌, ◌≤◌, not, ℤ, pos, neg_ℤ, ◌+ℤ◌, List, [], ◌∷◌, ◌++◌, Option, Some, None, Ok, length, map, filter, slice_get}
+use Rattle.std.specs.List.{AllByRecursion, filter_map}
 use Rattle.mvt_document.specs.declared.TheConstants.{MAX_FILE}
 use Rattle.mvt_document.specs.Opens.{IsDocument}
-use Rattle.mvt_document.specs.Plain.{Number, Body, Delimited, Field, Feature, Document}
+use Rattle.mvt_document.specs.Plain.{Number, Body, Delimited, Field, Feature, Layer, Document}
 use Rattle.mvt_document.specs.Signed.{zigzag}
 use Rattle.mvt_document.specs.Wire.{bytes_of, minimal}
-use Rattle.mvt_geometry.specs.Integers.{encoded}
-use Rattle.mvt_geometry.specs.Shapes.{Geometry, IsGeometry, Point, kind_number}
+use Rattle.mvt_geometry.specs.Integers.{IsInRange, encoded, integers}
+use Rattle.mvt_geometry.specs.Laws.{IsWithin}
+use Rattle.mvt_geometry.specs.Shapes.{Geometry, IsGeometry, kind_number}
+use Rattle.mvt_geometry.specs.declared.shapes.Point.{Point}
 use Rattle.mvt_numbers.specs.Laws.{read_numbers}
-use Rattle.mvt_numbers.specs.Renumbering.{with_number}
+use Rattle.mvt_numbers.specs.Numbers.{numbers}
+use Rattle.mvt_numbers.specs.Renumbering.{field_numbers, with_number}
 use Rattle.mvt_command.specs.Command.{LayerChoice, FeatureChoice, Shift, SetGeometry}
+use Rattle.mvt_view.specs.Attributes.{values_in}
 use Rattle.mvt_view.specs.FeatureGeometry.{HasFeatureGeometry}
-use Rattle.mvt_view.specs.Views.{value_in}
+use Rattle.mvt_view.specs.Views.{features, layers, value_in}
 use Rattle.mvt_meaning.specs.Fields.{new_content}
 use Rattle.mvt_meaning.specs.Geometries.{further, is_geometry_field, is_kind}
 use Rattle.mvt_meaning.specs.Kept.{ChangesFeature, ChangesLayer, all_but_last}
@@ -38,6 +42,19 @@ stored_width body = None
 abbrev pub front : Field → Number × Option ℕ
 front field = (field.tag, stored_width field.body)
 
+-- how many numbers are in a field, where it is a geometry field; else none (guide, Packed Repeated Fields)
+abbrev pub number_count : Field → ℕ
+number_count field = length (field_numbers 4 field)
+
+-- ---- how far a geometry reaches
+
+-- in a valid document of at most 67,108,864 bytes the integers of a feature lead no further from 0 than 2^57 along either
+-- axis, where its ways are in range: that no coordinate may be further than 2^62 asks nothing more of a geometry
+-- (tiles 4.3.2, 4.3.3)
+abbrev pub NoCoordinateIsFar : Type 0
+NoCoordinateIsFar = (document : Document) (ordinal index : ℕ) (layer : Layer) (feature : Feature) (geometry : Geometry) → IsDocument document → length (bytes_of document) ≤ MAX_FILE → slice_get (layers document) ordinal ≡ Some layer → slice_get (features layer) index ≡ Some feature
+    → values_in (numbers 4 feature.fields) ≡ Some (integers geometry) → IsInRange geometry → AllByRecursion (AllByRecursion (IsWithin (2 ^ 57))) geometry.parts
+
 -- ---- a geometry that moves
 
 -- the point that is dx and dy further
@@ -53,13 +70,15 @@ moved dx dy geometry = record { kind = geometry.kind; parts = map (map (moved_po
 abbrev pub led_further : ℤ → Number → Number
 led_further way number = with_number (zigzag (further way number.value)) number
 
--- the geometry of the feature is moved by dx and dy. Of the numbers in its geometry fields the second leads further by
--- dx and the third by dy, and each other one is spelled as it was; each field has its tag and its stored width, and all
--- fields that are no geometry fields are as they were (tiles 4.2, 4.3)
+-- the feature has the geometry that it had, moved by dx and dy, and no other. Of the numbers in its geometry fields the
+-- second leads further by dx and the third by dy, and each other one is spelled as it was; each field has its tag, its
+-- stored width and as many numbers as it had, and all fields that are no geometry fields are as they were
+-- (tiles 4.2, 4.3)
 pub record Shifts (dx dy : ℤ) (old new : Feature) : Type 0 where
   pub geometry : Geometry
   pub had : HasFeatureGeometry old geometry
   pub has : HasFeatureGeometry new (moved dx dy geometry)
+  pub only : (other : Geometry) → HasFeatureGeometry new other → other ≡ moved dx dy geometry
   pub command : Number
   pub along : Number
   pub down : Number
@@ -67,6 +86,7 @@ pub record Shifts (dx dy : ℤ) (old new : Feature) : Type 0 where
   pub were : read_numbers 4 old.fields ≡ Some (command ∷ along ∷ down ∷ more)
   pub are : read_numbers 4 new.fields ≡ Some (command ∷ led_further dx along ∷ led_further dy down ∷ more)
   pub fronts : map front new.fields ≡ map front old.fields
+  pub counts : map number_count new.fields ≡ map number_count old.fields
   pub others : without_geometry new.fields ≡ without_geometry old.fields
 
 -- where a shift of a valid document of at most 67,108,864 bytes is accepted, the geometry of the selected feature moves
@@ -78,15 +98,16 @@ ShiftShifts = (choice : LayerChoice) (feature : FeatureChoice) (dx dy : ℤ) (ol
 abbrev pub ShiftByNothing : Type 0
 ShiftByNothing = (choice : LayerChoice) (feature : FeatureChoice) (old new : Document) → applied (Shift choice feature (pos 0) (pos 0)) old ≡ Ok new → new ≡ old
 
--- the first two parameters of the geometry of the selected feature are in their shortest spelling (tiles 4.3.2)
-abbrev pub IsShortAtFirst : LayerChoice → FeatureChoice → Document → Type 0
-IsShortAtFirst choice feature document = (ordinal meant : ℕ) (command along down : Number) (more : List Number) → selected choice document ≡ Ok ordinal → selected_in feature ordinal document ≡ Ok meant
-    → read_numbers 4 (fields_of ordinal meant document) ≡ Some (command ∷ along ∷ down ∷ more) → (along ≡ minimal along.value) × (down ≡ minimal down.value)
+-- of the first two parameters of the geometry of the selected feature, the first is in its shortest spelling where dx is
+-- not 0, and the second where dy is not 0 (tiles 4.3.2)
+abbrev pub IsShortIfMoved : ℤ → ℤ → LayerChoice → FeatureChoice → Document → Type 0
+IsShortIfMoved dx dy choice feature document = (ordinal meant : ℕ) (command along down : Number) (more : List Number) → selected choice document ≡ Ok ordinal → selected_in feature ordinal document ≡ Ok meant
+    → read_numbers 4 (fields_of ordinal meant document) ≡ Some (command ∷ along ∷ down ∷ more) → (dx ≢ pos 0 → along ≡ minimal along.value) × (dy ≢ pos 0 → down ≡ minimal down.value)
 
--- where a shift of a valid document of at most 67,108,864 bytes is accepted, and these parameters were in their shortest
--- spelling, the shift back is accepted then and leaves the document as it was
+-- where a shift of a valid document of at most 67,108,864 bytes is accepted, and the parameters that it changes were in
+-- their shortest spelling, the shift back is accepted then and leaves the document as it was
 abbrev pub ShiftBack : Type 0
-ShiftBack = (choice : LayerChoice) (feature : FeatureChoice) (dx dy : ℤ) (old between : Document) → IsDocument old → length (bytes_of old) ≤ MAX_FILE → IsShortAtFirst choice feature old → applied (Shift choice feature dx dy) old ≡ Ok between → applied (Shift choice feature (neg_ℤ dx) (neg_ℤ dy)) between ≡ Ok old
+ShiftBack = (choice : LayerChoice) (feature : FeatureChoice) (dx dy : ℤ) (old between : Document) → IsDocument old → length (bytes_of old) ≤ MAX_FILE → IsShortIfMoved dx dy choice feature old → applied (Shift choice feature dx dy) old ≡ Ok between → applied (Shift choice feature (neg_ℤ dx) (neg_ℤ dy)) between ≡ Ok old
 
 -- ---- another geometry
 

@@ -1,12 +1,19 @@
 //! Laws of the commands on geometry. Each function does nothing: its contract is the law.
 #![tactic(auto)]
 
-ghost use Rattle.geometry_laws.specs.Laws.{SetGeometrySets, ShiftBack, ShiftByNothing, ShiftShifts};
+ghost use Rattle.geometry_laws.specs.Laws.{NoCoordinateIsFar, SetGeometrySets, ShiftBack, ShiftByNothing, ShiftShifts};
+
+/// In a valid document of at most 67,108,864 bytes no coordinate of a feature's geometry is further
+/// from 0 than 2^57: its ways are below 2^31, and it has no more integers than the document has bytes.
+/// So the bound of 2^62 on coordinates asks nothing more of a geometry.
+pub fn no_coordinate_is_far()
+    ensures { NoCoordinateIsFar }
+{}
 
 /// Where a shift of a valid document is accepted, every point of every part of the selected feature
 /// moves by as much. Nothing but the second and the third number of its geometry differs: the other
-/// numbers keep their spellings, each field its tag and its stored width, and all other fields, the
-/// other features and the other layers are as they were.
+/// numbers keep their spellings and stay in their fields, each field keeps its tag and its stored
+/// width, and all other fields, the other features and the other layers are as they were.
 pub fn shift_shifts()
     ensures { ShiftShifts }
 {}
@@ -16,15 +23,16 @@ pub fn shift_by_nothing()
     ensures { ShiftByNothing }
 {}
 
-/// A shift and the shift back leave the document as it was, where the second and the third number of
-/// the geometry were in their shortest spelling.
+/// Where a shift of a valid document is accepted, and the numbers that it changes were in their
+/// shortest spelling, the shift back is accepted then, and leaves the document as it was before both,
+/// to the byte.
 pub fn shift_back()
     ensures { ShiftBack }
 {}
 
-/// Where a geometry is accepted, the selected feature has exactly that one, in one geometry field. All
-/// its fields that are neither kind nor geometry, the other features and the other layers are as
-/// they were.
+/// Where a geometry is accepted, the selected feature has exactly that one, in one geometry field, and
+/// its kind. All its fields that are neither kind nor geometry, the other features and the other
+/// layers are as they were.
 pub fn set_geometry_sets()
     ensures { SetGeometrySets }
 {}
