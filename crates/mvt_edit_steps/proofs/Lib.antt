@@ -3,6 +3,7 @@ pub mod Following
 pub mod ListPlaces
 pub mod Planned
 pub mod Decided
+pub mod FieldsLeft
 pub mod Going
 pub mod Carrying
 pub mod Heavy

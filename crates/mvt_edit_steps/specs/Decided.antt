@@ -1,6 +1,7 @@
--- What becomes of the fields of a message of which numbers are decided on.
-use Rattle.std.specs.Prelude.{ℕ, List, [], ◌∷◌, Option, length, drop}
+-- What becomes of the fields of a message of which numbers are decided on, and how many bytes they take then.
+use Rattle.std.specs.Prelude.{ℕ, ◌+◌, List, [], ◌∷◌, Option, length, drop}
 use Rattle.mvt_document.specs.Plain.{Field}
+use Rattle.mvt_change.specs.FileSizes.{IsFileSize}
 use Rattle.mvt_numbers.specs.Renumbering.{field_numbers}
 use Rattle.mvt_numbers.specs.Fates.{field_fate}
 use Rattle.mvt_numbers.specs.declared.fate.Fate.{Fate}
@@ -9,3 +10,7 @@ use Rattle.mvt_numbers.specs.declared.fate.Fate.{Fate}
 abbrev pub field_fates : ℕ → List (Option ℕ) → List Field → List (Fate Field)
 field_fates number decisions [] = []
 field_fates number decisions (field ∷ more) = field_fate number decisions field ∷ field_fates number (drop (length (field_numbers number field)) decisions) more
+
+-- where the bytes before are as many as is told, what is told then is how many these and so many more are
+abbrev pub IsSizeBeside : Option ℕ → ℕ → Option ℕ → Type 0
+IsSizeBeside beside more told = (before : ℕ) → IsFileSize beside before → IsFileSize told (before + more)

@@ -3,18 +3,20 @@
 
 ghost use Rattle.std.specs.Prelude.{◌≡◌, ℕ, ◌+◌, ◌≤◌, ◌<◌, ◌^◌, List, [], ◌∷◌, ◌++◌, Option, Some, None, Ok, IfOk, IfSome, map, option_map, length, if◌then◌else◌};
 ghost use Rattle.std.specs.Fn.{FnReturns, FnReturnsAt};
-ghost use Rattle.std.specs.List.{AllZip, cons_option};
+ghost use Rattle.std.specs.List.{AllZip, cons_option, flat_map};
 ghost use Rattle.std.specs.Option.{option_map_or};
 ghost use Rattle.mvt_document.specs.Plain as document;
 ghost use Rattle.mvt_document.specs.Stands.{field_of, layer_item_of};
-ghost use Rattle.mvt_numbers.specs.Fates.{changes};
+ghost use Rattle.mvt_document.specs.Wire.{field_bytes};
+ghost use Rattle.mvt_numbers.specs.Fates.{changes, left_of_fate};
+ghost use Rattle.mvt_numbers.specs.Renumbering.{renumber};
 ghost use Rattle.mvt_change.specs.Changes as plain;
 ghost use Rattle.mvt_change.specs.ChangeStands.{step_of};
-ghost use Rattle.mvt_edit_steps.specs.Decided.{field_fates};
-ghost use Rattle.mvt_edit_steps.specs.Fates.{IsCarriedOut, Splice, Tells, and_last, goes_if, seen, splice_of, splices_from, steps_then};
+ghost use Rattle.mvt_edit_steps.specs.Decided.{IsSizeBeside, field_fates};
+ghost use Rattle.mvt_edit_steps.specs.Fates.{IsCarriedOut, Splice, Tells, and_last, goes_if, seen, splice_of, splices_from, splices_of, steps_then};
 
 use mvt_change::Step;
-use mvt_document::{Field, Items, LayerItem};
+use mvt_document::{Field, Items, LayerItem, MAX_FILE, Measured, sum_within};
 use mvt_numbers::{Fate, renumber_field};
 use std::alloc::{AllocError, Global};
 
@@ -86,7 +88,8 @@ pub fn carry_out<T: Drop, F: Fn(&T) -> Result<Fate<T>, AllocError>, S: Fn(Run<T>
 }
 
 /// Carries out what becomes of the fields of a message, by a decision for each number in the fields
-/// of this number, in order, in steps behind those that are given. How many fields change.
+/// of this number, in order, in steps behind those that are given. How many bytes the fields take
+/// then beside so many, where a file may have as many; none where none is given.
 pub fn renumber_fields<S: Fn(Run<Field>) -> Step>(
     alloc: Global,
     fields: &[Field],
@@ -94,19 +97,39 @@ pub fn renumber_fields<S: Fn(Run<Field>) -> Step>(
     decisions: &[Option<u64>],
     step: S,
     steps: &mut Vec<Step>,
-) -> Result<usize, AllocError>
+    beside: Option<usize>,
+) -> Result<Option<usize>, AllocError>
     requires { S.IsAlwaysCallable step }
-    ensures { (step_with : Splice document.Field → plain.Step) → Tells (λ run made. FnReturns S.Fn step (run, tt) made) step_of (λ run. step_with (seen field_of (splice_of run))) →
-        IfOk result (λ changed. IsCarriedOut step_with (field_fates number decisions.now (map field_of fields.now)) (map step_of steps.old.items) (map step_of steps.new.items) changed) }
+    ensures steps { (step_with : Splice document.Field → plain.Step) → Tells (λ run made. FnReturns S.Fn step (run, tt) made) step_of (λ run. step_with (seen field_of (splice_of run))) →
+        IfOk result (λ size. map step_of steps.new.items ≡ map step_of steps.old.items ++ map step_with (splices_of (field_fates number decisions.now (map field_of fields.now)))) }
+    ensures size { IfOk result (IsSizeBeside beside (length (flat_map field_bytes (renumber number decisions.now (map field_of fields.now))))) }
 {
     let mut walk = Walk::first();
     let mut left = decisions;
+    let mut size = beside;
     for index in 0..fields.len() {
-        let (fate, behind) = renumber_field(alloc, &fields[index], number, left)?;
+        let field = &fields[index];
+        let (fate, behind) = renumber_field(alloc, field, number, left)?;
+        size = and_left(size, field, &fate);
         walk = walk.pass(alloc, fate, &step, steps)?;
         left = behind;
     }
-    walk.end(&step, steps)
+    walk.end(&step, steps)?;
+    Ok(size)
+}
+
+/// How many bytes so many take and what is left of a field of this fate, where a file may have as
+/// many.
+fn and_left(size: Option<usize>, field: &Field, fate: &Fate<Field>) -> Option<usize>
+    ensures { IsSizeBeside size (length (flat_map field_bytes (left_of_fate field_of (field_of field.now) fate.now))) result }
+{
+    let before = size?;
+    let left = match fate {
+        Fate::Stays => field.size()?,
+        Fate::Goes => 0,
+        Fate::Becomes(other) => other.size()?,
+    };
+    sum_within(before, left, MAX_FILE)
 }
 
 /// How far a walk over the items of a list is: the run that is open, the index of the next item in

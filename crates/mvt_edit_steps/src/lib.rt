@@ -3,7 +3,7 @@
 //! - What becomes of each item of a list is carried out in steps behind those that are given:
 //!   neighbours that change are one step, each step is on what the steps before it made, and it is
 //!   told how many items change: `carry_out`; of the fields of a message whose numbers are decided
-//!   on: `renumber_fields`.
+//!   on, where it is told how many bytes they take then (`size`): `renumber_fields`.
 //! - The change of one step, also as one that is refused where a file cannot hold what the step
 //!   makes of the document, exactly there; and the change that takes one item out: `one_step`,
 //!   `one_step_within_limit`, `item_out`.
