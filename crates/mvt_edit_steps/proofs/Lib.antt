@@ -1,4 +1,5 @@
 pub mod CarriedOut
+pub mod Once
 pub mod Following
 pub mod ListPlaces
 pub mod Planned
@@ -10,6 +11,8 @@ pub mod Heavy
 pub mod Refusing
 pub mod PutLast
 pub mod Putting
+pub mod NumberFields
 pub mod OneStep
+pub mod Leading
 pub mod Limits
 pub mod Apart

@@ -1,4 +1,6 @@
 pub mod Fates
+pub mod Once
 pub mod Decided
 pub mod Prepared
 pub mod PutsLast
+pub mod NumberPut

@@ -1,7 +1,7 @@
 //! What becomes of the items of a list, carried out in steps: neighbours that change are one step,
 //! and each step is on what the steps before it made.
 
-ghost use Rattle.std.specs.Prelude.{◌≡◌, ℕ, ◌+◌, ◌≤◌, ◌<◌, ◌^◌, List, [], ◌∷◌, ◌++◌, Option, Some, None, Ok, IfOk, IfSome, map, option_map, length, if◌then◌else◌};
+ghost use Rattle.std.specs.Prelude.{◌≡◌, ℕ, ◌+◌, ◌≤◌, ◌<◌, ◌^◌, Bool, List, [], ◌∷◌, ◌++◌, Option, Some, None, Ok, IfOk, IfSome, map, option_map, length, if◌then◌else◌};
 ghost use Rattle.std.specs.Fn.{FnReturns, FnReturnsAt};
 ghost use Rattle.std.specs.List.{AllZip, cons_option, flat_map};
 ghost use Rattle.std.specs.Option.{option_map_or};
@@ -13,6 +13,7 @@ ghost use Rattle.mvt_numbers.specs.Renumbering.{renumber};
 ghost use Rattle.mvt_change.specs.Changes as plain;
 ghost use Rattle.mvt_change.specs.ChangeStands.{step_of};
 ghost use Rattle.mvt_edit_steps.specs.Decided.{IsSizeBeside, field_fates};
+ghost use Rattle.mvt_edit_steps.specs.Once.{at_end, once_fate, once_splices};
 ghost use Rattle.mvt_edit_steps.specs.Fates.{IsCarriedOut, Splice, Tells, and_last, goes_if, seen, splice_of, splices_from, splices_of, steps_then};
 
 use mvt_change::Step;
@@ -130,6 +131,70 @@ fn and_left(size: Option<usize>, field: &Field, fate: &Fate<Field>) -> Option<us
         Fate::Becomes(other) => other.size()?,
     };
     sum_within(before, left, MAX_FILE)
+}
+
+/// Carries out that a new item takes the place of the first that passes, and that the others that
+/// pass go, in steps behind those that are given. Where none passes the new one comes to stand at
+/// `end`, in a step of its own.
+pub fn put_once<T: Drop, P: Fn(&T) -> bool, S: Fn(Run<T>) -> Step>(
+    alloc: Global,
+    items: &[T],
+    passes: P,
+    new: T,
+    end: usize,
+    step: S,
+    steps: &mut Vec<Step>,
+) -> Result<(), AllocError>
+    requires passes { P.IsAlwaysCallable passes }
+    requires steps { S.IsAlwaysCallable step }
+    ensures { (step_with : Splice T → plain.Step) → Tells (λ run made. FnReturns S.Fn step (run, tt) made) step_of (λ run. step_with (splice_of run)) →
+        IfOk result (λ done. (picked : List Bool) × AllZip (λ item is. FnReturnsAt P.Fn passes item is) items.now picked × (map step_of steps.new.items ≡ map step_of steps.old.items ++ map step_with (once_splices picked new end))) }
+{
+    let mut walk = Walk::first();
+    let mut left = Some(new);
+    for index in 0..items.len() {
+        let (fate, behind) = once(passes(&items[index]), left);
+        walk = walk.pass(alloc, fate, &step, steps)?;
+        left = behind;
+    }
+    walk.end(&step, steps)?;
+    put_step(end_run(alloc, left, end)?, &step, steps)?;
+    Ok(())
+}
+
+/// What becomes of an item that is picked or not, where this is left of a new one that takes the
+/// place of the first that is; and what is left of it then.
+fn once<T>(picked: bool, new: Option<T>) -> (Fate<T>, Option<T>)
+    ensures fate { result.0 ≡ once_fate picked new }
+    ensures left { result.1 ≡ if picked then None else new }
+{
+    if !picked {
+        return (Fate::Stays, new);
+    }
+    match new {
+        Some(item) => (Fate::Becomes(item), None),
+        None => (Fate::Goes, None),
+    }
+}
+
+/// The run that puts what is left, where anything is, at the end.
+fn end_run<T: Drop>(
+    alloc: Global,
+    left: Option<T>,
+    end: usize,
+) -> Result<Option<Run<T>>, AllocError>
+    ensures { IfOk result (λ run. map splice_of (cons_option run []) ≡ at_end left end) }
+{
+    let Some(item) = left else {
+        return Ok(None);
+    };
+    let mut put = Vec::new(alloc);
+    put.push(item)?;
+    Ok(Some(Run {
+        index: end,
+        take: 0,
+        put,
+    }))
 }
 
 /// How far a walk over the items of a list is: the run that is open, the index of the next item in

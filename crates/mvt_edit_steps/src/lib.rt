@@ -16,10 +16,12 @@
 #![tactic(auto)]
 
 mod fates;
+mod numbered;
 mod put_last;
 mod steps;
 
-pub use fates::{Run, carry_out, goes_if, renumber_fields};
+pub use fates::{Run, carry_out, goes_if, put_once, renumber_fields};
 pub use mvt_numbers::Fate;
+pub use numbered::number_put;
 pub use put_last::Spot;
 pub use steps::{item_out, one_item, one_step, one_step_within_limit};

@@ -33,8 +33,8 @@ use Rattle.mvt_edit_steps.specs.Prepared.{IsPrepared}
 use Rattle.mvt_edit_steps.proofs.CarriedOut.{AreThere, put_all, spliced_all, taken_all}
 use Rattle.mvt_edit_steps.proofs.Carrying.{carried, in_feature_at, in_layer_at, in_the_feature, in_the_layer, makes_alike}
 use Rattle.mvt_edit_steps.proofs.Heavy.{tag_and_content}
+use Rattle.mvt_edit_steps.proofs.Leading.{Leads, both_lead}
 use Rattle.mvt_edit_steps.proofs.ListPlaces.{of_the_layer}
-use Rattle.mvt_edit_tags.proofs.Come.{Leads, both_lead}
 use Rattle.mvt_edit_tags.specs.Attribute.{AreFound, GivesAttribute, attribute_checked, behind_all, bytes_put, entries_for, entry_unless}
 use Rattle.mvt_edit_tags.specs.declared.pools.Ordinals.{Ordinals}
 

@@ -1,9 +1,8 @@
--- What steps come to: the document that they make, the items that they put, and those that they take out. Steps behind
+-- What steps come to: the document that they make, the fields that they put, and those that they take out. Steps behind
 -- others; and the steps of each feature of a layer, and of each layer of a tile.
 use Rattle.std.proofs.Common.{◌≡◌, ℕ, ◌+◌, ◌*◌, ◌≤◌, zero, suc, List, [], ◌∷◌, ◌++◌, length, length-append, append_assoc, map, slice_get, Some, option_map, refl, sym, ap, ◌∙◌, subst, arith}
 use Rattle.std.proofs.lemmas.List.{length-map}
 use Rattle.std.proofs.lemmas.List.Concat.{flat_map-append}
-use Rattle.std.proofs.lemmas.List.Sums.{sum_by-append}
 use Rattle.std.specs.List.{AllByRecursion, enumerate_from, filter_map, flat_map}
 use Rattle.std.specs.Option.{IfSome, option_and_then}
 use Rattle.mvt_document.specs.Plain.{Field, Feature, LayerItem, OfFeature, PlainInLayer, Layer, TileItem, OfLayer, PlainInTile, Document}
@@ -11,8 +10,7 @@ use Rattle.mvt_document.specs.Opens.{IsField}
 use Rattle.mvt_document.specs.Wire.{field_bytes}
 use Rattle.mvt_document.specs.Lists.{change_at}
 use Rattle.mvt_document.specs.Places.{change_fields, change_items, fields_at, fields_in, fields_in_at, in_feature, in_layer, items_at, items_in}
-use Rattle.mvt_change.specs.Changes.{Change, Fits, go, step_weight, turn, weight}
-use Rattle.mvt_change.proofs.Turning.{fits_joined, go_joined, turn_joined}
+use Rattle.mvt_change.specs.Changes.{Change, Fits, go, turn, weight}
 use Rattle.mvt_view.specs.Found.{found_features, found_layers, with_position}
 use Rattle.mvt_view.specs.Views.{feature_in, layer_in}
 use Rattle.mvt_meaning.proofs.Around.{get_between}
@@ -20,26 +18,9 @@ use Rattle.mvt_edit_steps.specs.Fates.{splices_of}
 use Rattle.mvt_numbers.specs.declared.fate.Fate.{Fate}
 use Rattle.mvt_edit_steps.proofs.CarriedOut.{AreThere, put_all, spliced_all, taken_all}
 use Rattle.mvt_edit_steps.proofs.Carrying.{carried, in_feature_at, in_the_feature, in_the_layer, makes_alike}
+use Rattle.mvt_edit_steps.proofs.Leading.{both_lead}
 use Rattle.mvt_edit_steps.proofs.ListPlaces.{of_the_layer}
 use Rattle.mvt_edit_tags.specs.EachFeature.{layer_steps}
-
--- the steps fit the document and make this of it; what they put has so many bytes, and what they take out so many
-pub record Leads (steps : Change) (document made : Document) (puts takes : ℕ) : Type 0 where
-  pub fits : Fits steps document
-  pub makes : go steps document ≡ made
-  pub puts_so : weight steps ≡ puts
-  pub takes_so : weight (turn steps document) ≡ takes
-
--- of two changes one after the other
-pub both_lead : (first second : Change) (document half made : Document) (p q t u : ℕ) → Leads first document half p t → Leads second half made q u → Leads (first ++ second) document made (p + q) (t + u)
-both_lead first second document half made p q t u a b =
-    let back = ap weight (turn_joined first second document) ∙ ap (λ d. weight (turn second d ++ turn first document)) a.makes in
-    record {
-      fits = fits_joined first second document a.fits (subst (Fits second) (sym a.makes) b.fits);
-      makes = go_joined first second document ∙ ap (go second) a.makes ∙ b.makes;
-      puts_so = omega (arith, sum_by-append step_weight first second, a.puts_so, b.puts_so);
-      takes_so = omega (arith, back, sum_by-append step_weight (turn second half) (turn first document), a.takes_so, b.takes_so);
-    }
 
 -- the steps fit the document and make this of it; they put fields of so many bytes, and take out such, and they are at
 -- most half as many as these bytes together

@@ -7,8 +7,7 @@
 //!   `find_layers`.
 //! - The position of the layer or the feature of an ordinal: `place_of_layer`, `place_of_feature`.
 //! - In the same walk it is found whether a layer of another ordinal has a name: `find_and_taken`.
-//! - The last name of a layer and the last id of a feature, which are those that count, are found
-//!   by position: `last_name`, `last_id`.
+//! - The last name of a layer, which is the one that counts, is found by position: `last_name`.
 #![tactic(auto)]
 
 mod find;
@@ -17,7 +16,7 @@ mod layers;
 mod taken;
 
 pub use find::{find_feature, find_layer, place_of_feature, place_of_layer};
-pub use last::{last_id, last_name};
+pub use last::last_name;
 pub use layers::{SelectedLayers, find_layers};
 pub use mvt_command::{FeatureChoice, LayerChoice, LayersChoice};
 pub use mvt_meaning::Refusal;

@@ -1,0 +1,97 @@
+//! The last VARINT field of a number gets a value, or one comes at the end.
+
+ghost use Rattle.std.specs.Prelude.{◌≡◌, ℕ, ◌/◌, true, None, List, [], ◌∷◌, IfOk, IfSome, map};
+ghost use Rattle.std.specs.List.{last_or};
+ghost use Rattle.std.specs.Option.{option_map_or};
+ghost use Rattle.mvt_document.specs.Opens.{IsField};
+ghost use Rattle.mvt_document.specs.Plain as plain;
+ghost use Rattle.mvt_document.specs.Shape.{IsTag};
+ghost use Rattle.mvt_document.specs.Stands.{field_of, number_of};
+ghost use Rattle.mvt_document.specs.Wire.{field_bytes};
+ghost use Rattle.mvt_change.specs.Changes.{Step};
+ghost use Rattle.mvt_meaning.specs.Fields.{new_number, with_field_value, with_number};
+ghost use Rattle.mvt_meaning.specs.Ordinals.{positions_of};
+ghost use Rattle.mvt_edit_steps.specs.NumberPut.{is_numbered, with_last_number};
+ghost use Rattle.mvt_edit_steps.specs.PutsLast.{PutsLast};
+
+use crate::fates::Run;
+use crate::put_last::Spot;
+use mvt_document::{Body, Field, Varint};
+use std::alloc::{AllocError, Global};
+
+/// The run that gives the value to the last VARINT field of the number of this tag, or puts one
+/// with the tag at the end. It puts one such field.
+pub fn number_put(
+    alloc: Global,
+    fields: &[Field],
+    tag: u64,
+    value: u64,
+) -> Result<Run<Field>, AllocError>
+    requires { IsTag tag 0 }
+    ensures puts { (step_with : ℕ → ℕ → List plain.Field → Step) → IfOk result (λ run. PutsLast IsField field_bytes (is_numbered tag) step_with
+        (map field_of fields.now) (with_last_number tag value (map field_of fields.now)) (step_with run.index run.take (map field_of run.put.items))) }
+    ensures one { IfOk result (λ run. map (λ field. is_numbered tag (field_of field)) run.put.items ≡ true ∷ []) }
+{
+    let spot = Spot::of(last_number(fields, tag), fields.len());
+    let field = number_field(fields.get(spot.index), tag, value);
+    Ok(Run {
+        index: spot.index,
+        take: spot.take,
+        put: vec![in alloc; field]?,
+    })
+}
+
+/// The position of the last VARINT field of the number of this tag.
+fn last_number(fields: &[Field], tag: u64) -> Option<usize>
+    ensures { result ≡ last_or None (positions_of (is_numbered tag) (map field_of fields.now)) }
+{
+    let mut last = None;
+    for (position, field) in fields.iter().enumerate() {
+        if is_numbered(field, tag) {
+            last = Some(position);
+        }
+    }
+    last
+}
+
+fn is_numbered(field: &Field, tag: u64) -> bool
+    ensures { result ≡ is_numbered tag (field_of field.now) }
+{
+    field.tag.value / 8 == tag / 8 && matches!(field.body, Body::Number(_))
+}
+
+/// A field of the number of this tag: the old one, if it has the value, or one with its tag, or one
+/// in its shortest spelling.
+fn number_field(old: Option<&Field>, tag: u64, value: u64) -> Field
+    requires tag { IsTag tag 0 }
+    requires old { IfSome old (λ field. is_numbered tag (field_of field.now) ≡ true) }
+    ensures field { field_of result ≡ option_map_or (λ old. with_field_value value (field_of old.now)) old.entry (new_number tag value) }
+    ensures valid { IsField (field_of result) }
+{
+    match old {
+        Some(
+            Field {
+                tag,
+                body: Body::Number(number),
+            },
+        ) => Field {
+            tag: *tag,
+            body: Body::Number(with_value(*number, value)),
+        },
+        _ => Field {
+            tag: Varint::minimal(tag),
+            body: Body::Number(Varint::minimal(value)),
+        },
+    }
+}
+
+/// The number, in its old spelling if it was that number before.
+fn with_value(old: Varint, value: u64) -> Varint
+    ensures { number_of result ≡ with_number value (number_of old) }
+{
+    if old.value == value {
+        old
+    } else {
+        Varint::minimal(value)
+    }
+}
