@@ -90,6 +90,7 @@ pub(crate) fn renumber_tags(
             put: Items::from_vec(run.put),
         },
         steps,
+        None,
     )?;
     Ok(())
 }
