@@ -1,6 +1,6 @@
 -- What is decided on the first integers of a geometry, from these integers.
-use Rattle.std.proofs.Common.{◌≡◌, ℕ, ◌&&◌, Bool, true, false, ℤ, Option, Some, None, is_some, List, [], ◌∷◌, refl, ap, ◌∙◌, sym}
-use Rattle.std.specs.Option.{IfSome, ok_or, option_map_or}
+use Rattle.std.proofs.Common.{◌≡◌, ℕ, ◌&&◌, Bool, true, false, ℤ, Some, List, [], ◌∷◌, refl, ap, ◌∙◌, sym}
+use Rattle.std.specs.Option.{option_map_or}
 use Rattle.mvt_document.specs.Plain.{Field}
 use Rattle.mvt_document.specs.Signed.{zigzag}
 use Rattle.mvt_geometry.specs.Checks.{is_way}
@@ -17,7 +17,7 @@ module _ (dx dy : ℤ) (fields : List Field) (first : FirstIntegers fields) wher
       let moved : moves dx dy fields ≡ Some first.command ∷ Some (zigzag (further dx first.x)) ∷ Some (zigzag (further dy first.y)) ∷ [] = ap (λ found. option_map_or (moved_integers dx dy) found []) first.read in
       rw (same, along, down) (sym moved)
 
-  pub first_can : can_move dx dy fields ≡ (is_way (further dx first.x) && is_way (further dy first.y))
+  first_can : can_move dx dy fields ≡ (is_way (further dx first.x) && is_way (further dy first.y))
   first_can = ap (λ found. option_map_or (can_move_integers dx dy) found true) first.read
 
   pub no_way_along : is_way (further dx first.x) ≡ false → can_move dx dy fields ≡ false

@@ -1,5 +1,5 @@
 -- The pairs of a key that a feature loses.
-use Rattle.std.proofs.Common.{◌≡◌, ℕ, List, true, false, is_some, length, map, slice_get, Some, Ok, Err, refl, sym, ap, ◌∙◌, arith}
+use Rattle.std.proofs.Common.{◌≡◌, ℕ, List, true, false, is_some, map, slice_get, Some, Ok, Err, refl, sym, ap, ◌∙◌, arith}
 use Rattle.std.specs.List.{list_any}
 use Rattle.mvt_document.specs.Plain.{Feature, OfFeature, Layer, OfLayer, Document}
 use Rattle.mvt_change.specs.Changes.{Change}

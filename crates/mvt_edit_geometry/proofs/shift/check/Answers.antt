@@ -1,4 +1,4 @@
-use Rattle.std.proofs.Common.{◌≡◌, false, true, is_some, Err, refl, ap, subst, inl, inr}
+use Rattle.std.proofs.Common.{◌≡◌, false, is_some, Err, refl, ap, subst, inl, inr}
 use Rattle.std.proofs.lemmas.Bool.{false_from_ne_true}
 use Rattle.mvt_document.specs.Stands.{feature_of}
 use Rattle.mvt_view.specs.FeatureGeometry.{HasFeatureGeometry}

@@ -1,4 +1,4 @@
-use Rattle.std.proofs.Common.{◌≡◌, ◌∷◌, Some, sym, ap, ◌∙◌, w64}
+use Rattle.std.proofs.Common.{◌≡◌, ◌∷◌, sym, ap, ◌∙◌, w64}
 use Rattle.std.proofs.lemmas.Int.{to_z-of_z}
 use Rattle.mvt_document.specs.Signed.{zigzag}
 use Rattle.mvt_geometry.specs.Checks.{is_way}
@@ -6,7 +6,7 @@ use Rattle.mvt_view.specs.Attributes.{values_in}
 use Rattle.mvt_view.specs.Seen.{feature_seen}
 use Rattle.mvt_meaning.specs.Geometries.{further}
 use Rattle.mvt_meaning.proofs.Moving.{first_integers}
-use Rattle.mvt_edit_geometry.proofs.FirstMoved.{first_can, first_moved, no_way_along, no_way_down}
+use Rattle.mvt_edit_geometry.proofs.FirstMoved.{first_moved, no_way_along, no_way_down}
 use Rattle.mvt_edit_geometry.proofs.shift.decide.Goals as goal
 
 pub returns-in_err-command-clause-able : goal.returns-in_err-command-clause-able
