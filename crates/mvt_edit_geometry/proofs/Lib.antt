@@ -1,0 +1,2 @@
+mod FirstMoved
+mod Shifted

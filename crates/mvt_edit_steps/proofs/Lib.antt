@@ -7,6 +7,7 @@ pub mod Decided
 pub mod FieldsLeft
 pub mod Going
 pub mod Carrying
+pub mod FeatureRenumbered
 pub mod Heavy
 pub mod Refusing
 pub mod PutLast

@@ -19,9 +19,9 @@ use Rattle.mvt_meaning.specs.declared.refusal.Refusal.TheVariants.{BadTags, Repe
 use Rattle.mvt_edit_steps.specs.Decided.{field_fates}
 use Rattle.mvt_edit_steps.specs.Fates.{Splice, splices_of}
 use Rattle.mvt_edit_steps.proofs.CarriedOut.{AreThere, put_all, spliced_all, taken_all}
+use Rattle.mvt_edit_steps.proofs.FieldsLeft.{FieldsLeft}
 use Rattle.mvt_edit_tags.specs.Attribute.{GivesAttribute, PutsPair, attribute_checked}
 use Rattle.mvt_edit_tags.proofs.Deciding.{named_at}
-use Rattle.mvt_edit_tags.proofs.TagsLeft.{TagsLeft}
 use mathlib.Core.Path.{fun_ext}
 
 -- ---- the pairs
@@ -101,7 +101,7 @@ module _ (key value : List ℕ) (items : List LayerItem) (fields : List Field) w
   }
 
   -- another value, where one pair has the key
-  pub gives_value : (run : Option (Splice Field)) → pairs_with key items fields ≡ 1 → splices_of (field_fates 2 (replacements key value items fields) fields) ≡ cons_option run [] → TagsLeft (replacements key value items fields) fields → GivesAttribute key value items fields run
+  pub gives_value : (run : Option (Splice Field)) → pairs_with key items fields ≡ 1 → splices_of (field_fates 2 (replacements key value items fields) fields) ≡ cons_option run [] → FieldsLeft 2 (replacements key value items fields) fields → GivesAttribute key value items fields run
   gives_value run one is left =
       let takes = ap (λ list. length (flat_map field_bytes list)) (rw is at left.takes) in
       let puts = ap (λ list. length (flat_map field_bytes list)) (rw is at left.puts) in

@@ -25,10 +25,10 @@ use Rattle.mvt_meaning.proofs.Removals.{removals_short}
 use Rattle.mvt_edit_steps.specs.Fates.{splices_of}
 use Rattle.mvt_edit_steps.specs.Prepared.{IsPrepared}
 use Rattle.mvt_edit_steps.proofs.CarriedOut.{put_all, taken_all}
+use Rattle.mvt_edit_steps.proofs.FieldsLeft.{fields_left, fields_put, fields_taken}
 use Rattle.mvt_edit_tags.specs.EachFeature.{layer_steps, pairs_go}
 use Rattle.mvt_edit_tags.proofs.Come.{Carries, CarriesIn, CarriesInTile, puts_in, takes_in}
 use Rattle.mvt_edit_tags.proofs.EachFeature.{layers_made}
-use Rattle.mvt_edit_tags.proofs.TagsLeft.{tags_left, tags_put, tags_taken}
 
 -- ---- lists of lists
 
@@ -50,7 +50,7 @@ module _ (key : List ℕ) where
 
   pairs_carry : (items : List plain.LayerItem) (fields : List Field) → Carries (pairs_go key items) (without_attribute key items) (map field_of fields)
   pairs_carry items fields =
-      let left = tags_left (removals key items (map field_of fields)) fields (removals_short key items (map field_of fields)) in
+      let left = fields_left 2 (removals key items (map field_of fields)) fields (removals_short key items (map field_of fields)) in
       let few = left.few in
       record {
         there = left.there;
@@ -86,14 +86,14 @@ module _ (key : List ℕ) where
   taken_in at =
       let items = at.1.1.items in
       of_features at.1.1 (λ feature. taken_all (splices_of (pairs_go key items feature.fields)) feature.fields)
-      ∙ same_each _ _ (λ (feature : plain.Feature). tags_taken (removals key items feature.fields) feature.fields) (features at.1.1)
+      ∙ same_each _ _ (λ (feature : plain.Feature). fields_taken 2 (removals key items feature.fields) feature.fields) (features at.1.1)
       ∙ sym (mapped_each (λ (feature : plain.Feature). losing key items feature.fields) (λ at. at.1) (features at.1.1))
 
   put_in : (at : ℕ × (ℕ × plain.Layer)) → put at ≡ as_after (losing_in key at.1.1)
   put_in at =
       let items = at.1.1.items in
       of_features at.1.1 (λ feature. put_all (splices_of (pairs_go key items feature.fields)))
-      ∙ same_each _ _ (λ (feature : plain.Feature). tags_put (removals key items feature.fields) feature.fields) (features at.1.1)
+      ∙ same_each _ _ (λ (feature : plain.Feature). fields_put 2 (removals key items feature.fields) feature.fields) (features at.1.1)
       ∙ sym (joined_each (λ (feature : plain.Feature). losing key items feature.fields) _ (features at.1.1))
 
   all_taken : (found : List (ℕ × (ℕ × plain.Layer))) → flat_map taken found ≡ as_before (flat_map (λ at. losing_in key at.1.1) found)

@@ -4,7 +4,6 @@ pub mod Untagged
 pub mod KeyFields
 pub mod KeysRenamed
 pub mod Deciding
-pub mod TagsLeft
 pub mod PairsLost
 pub mod Unreadable
 pub mod StepsPassed

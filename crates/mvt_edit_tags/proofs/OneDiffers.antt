@@ -16,9 +16,9 @@ use Rattle.mvt_numbers.proofs.Reread.{read_of_fields}
 use Rattle.mvt_view.specs.Attributes.{if_pairs, in_pairs, is_pair, pairs_in}
 use Rattle.mvt_edit_steps.specs.Decided.{field_fates}
 use Rattle.mvt_edit_steps.specs.Fates.{splices_from}
+use Rattle.mvt_edit_steps.proofs.FieldsLeft.{changes_one}
 use Rattle.mvt_edit_tags.specs.Attribute.{run_for}
 use Rattle.mvt_meaning.specs.Tagging.{revalued}
-use Rattle.mvt_edit_tags.proofs.TagsLeft.{changes_one}
 use Rattle.mvt_edit_tags.proofs.Deciding.{counted_first}
 
 pub some_mapped : {A B : Type 0} (f : A → B) (found : Option A) → is_some (option_map f found) ≡ is_some found
@@ -76,7 +76,7 @@ few_fields decisions (field ∷ more) =
     let others = flat_map (field_numbers 2) more in
     let behind = drop (length own) decisions in
     let rest = few_fields behind more in
-    let here = changes_one decisions field in
+    let here = changes_one 2 decisions field in
     let split = ap (λ list. length (filter is_changed list)) (zip_both own others decisions) ∙ ap length (filter-append is_changed (zip own decisions) (zip others behind)) ∙ length-append (filter is_changed (zip own decisions)) (filter is_changed (zip others behind)) in
     elim (cases_Bool (changes (field_fate 2 decisions field))) [
       | inl out ↦ (let counted = any_counted is_changed (zip own decisions) (sym here ∙ out) in rw out (omega (arith, split, rest, counted)))

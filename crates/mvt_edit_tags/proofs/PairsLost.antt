@@ -1,9 +1,7 @@
 -- The pairs of a key that a feature loses.
-use Rattle.std.proofs.Common.{◌≡◌, ℕ, List, true, false, is_some, length, map, slice_get, Some, Ok, Err, refl, sym, ap, ◌∙◌, arith}
-use Rattle.std.proofs.lemmas.List.{length-map}
-use Rattle.std.specs.List.{flat_map, list_any}
+use Rattle.std.proofs.Common.{◌≡◌, ℕ, List, true, false, is_some, map, slice_get, Some, Ok, Err, refl, sym, ap, ◌∙◌, arith}
+use Rattle.std.specs.List.{list_any}
 use Rattle.mvt_document.specs.Plain.{Feature, OfFeature, Layer, OfLayer, Document}
-use Rattle.mvt_document.specs.Wire.{field_bytes}
 use Rattle.mvt_change.specs.Changes.{Change}
 use Rattle.mvt_command.specs.Command.{LayerChoice, FeatureChoice, UnsetAttribute}
 use Rattle.mvt_meaning.specs.Meaning.{applied, fields_of, has_key, has_pairs, items_of}
@@ -11,12 +9,13 @@ use Rattle.mvt_meaning.specs.Selection.{feature_positions, layer_positions, sele
 use Rattle.mvt_meaning.specs.Tagging.{is_key, pairs_among, removals, without_attribute}
 use Rattle.mvt_meaning.specs.declared.refusal.Refusal.{Refusal}
 use Rattle.mvt_meaning.specs.declared.refusal.Refusal.TheVariants.{BadTags, NoKey}
-use Rattle.mvt_meaning.proofs.Found.{change_feature_found, fields_at_found, fields_of_found, items_of_found, selected_in_found}
+use Rattle.mvt_meaning.proofs.Found.{fields_of_found, items_of_found, selected_in_found}
 use Rattle.mvt_edit_steps.specs.Decided.{field_fates}
 use Rattle.mvt_edit_steps.specs.Fates.{splices_of}
 use Rattle.mvt_edit_steps.specs.Prepared.{IsPrepared}
-use Rattle.mvt_edit_steps.proofs.Carrying.{carried, in_feature_at, in_the_feature, makes_alike}
-use Rattle.mvt_edit_tags.proofs.TagsLeft.{TagsLeft}
+use Rattle.mvt_edit_steps.proofs.FieldsLeft.{FieldsLeft}
+use Rattle.mvt_edit_steps.proofs.Carrying.{in_feature_at}
+use Rattle.mvt_edit_steps.proofs.FeatureRenumbered.{renumbers}
 
 module _ (choice : LayerChoice) (key : List ℕ) (document : Document) (ordinal position : ℕ) (layer : Layer) (chosen : selected choice document ≡ Ok ordinal) (placed : slice_get (layer_positions document) ordinal ≡ Some position) (there : slice_get document position ≡ Some (OfLayer layer)) where
   items_here : items_of ordinal document ≡ layer.items
@@ -54,25 +53,20 @@ module _ (choice : LayerChoice) (key : List ℕ) (document : Document) (ordinal 
           rw (chosen, selected_here, yes, no) refl
 
       -- where the steps make of the tags what is decided on them
-      pub tags_lose : is_some (pairs_among layer.items found.fields) ≡ true → TagsLeft (removals key layer.items found.fields) found.fields → (change : Change) → change ≡ map (in_feature_at position item) (splices_of (field_fates 2 (removals key layer.items found.fields) found.fields)) → IsPrepared (UnsetAttribute choice feature key) document change
+      pub tags_lose : is_some (pairs_among layer.items found.fields) ≡ true → FieldsLeft 2 (removals key layer.items found.fields) found.fields → (change : Change) → change ≡ map (in_feature_at position item) (splices_of (field_fates 2 (removals key layer.items found.fields) found.fields)) → IsPrepared (UnsetAttribute choice feature key) document change
       tags_lose readable left change steps =
           let yes = has_here ∙ has in
           let pairs = pairs_here ∙ readable in
-          let sits = in_the_feature position item in
-          let splices = splices_of (field_fates 2 (removals key layer.items found.fields) found.fields) in
-          let at = fields_at_found document ordinal position layer placed there meant item found feature_placed feature_there in
-          let done = carried sits document found.fields at splices left.there left.valid in
-          let makes = done.makes ∙ makes_alike sits document found.fields at (without_attribute key layer.items) splices left.leaves ∙ sym (change_feature_found document ordinal position layer placed there meant item found feature_placed feature_there (without_attribute key layer.items)) in
+          let all = renumbers document ordinal position layer placed there meant item found feature_placed feature_there 2 (removals key layer.items found.fields) (without_attribute key layer.items) refl left in
           let items = items_here in
           let fields = fields_here in
-          let few = left.few in
-          let puts = done.puts ∙ ap (λ new. length (flat_map field_bytes new)) left.puts in
-          let gone = ap (λ old. length (flat_map field_bytes old)) left.takes in
-          let takes = done.takes ∙ gone in
+          let puts = all.puts_so in
+          let takes = all.takes_so in
+          let few = all.few in
           rw steps (record {
-            fits = done.fits;
-            means = rw (chosen, selected_here, yes, pairs, items) (ap Ok (sym makes));
+            fits = all.fits;
+            means = rw (chosen, selected_here, yes, pairs, items) (ap Ok (sym all.makes));
             puts = rw (chosen, selected_here, fields, items) (omega (arith, puts));
             takes = rw (chosen, selected_here, fields, items) (omega (arith, takes));
-            steps = rw (chosen, selected_here, fields, items) (omega (arith, few, length-map splices (in_feature_at position item)));
+            steps = rw (chosen, selected_here, fields, items) (omega (arith, few));
           })

@@ -84,6 +84,7 @@ pub(crate) fn renumber_tags(
         decisions,
         |run| run.in_feature(layer, item),
         steps,
+        None,
     )?;
     Ok(())
 }

@@ -13,7 +13,10 @@ use Rattle.mvt_numbers.proofs.Redone.{stays_valid}
 use Rattle.mvt_geometry.specs.Checks.{is_way}
 use Rattle.mvt_geometry.specs.Found.{geometry_in}
 use Rattle.mvt_geometry.specs.Integers.{integers}
-use Rattle.mvt_geometry.specs.Shapes.{Areas, Dots, Geometry, IsGeometry, Kind, Lines, Point}
+use Rattle.mvt_geometry.specs.Shapes.{Geometry, IsGeometry}
+use Rattle.mvt_geometry.specs.declared.shapes.Kind.{Kind}
+use Rattle.mvt_geometry.specs.declared.shapes.Kind.TheVariants.{Dots, Lines, Areas}
+use Rattle.mvt_geometry.specs.declared.shapes.Point.{Point}
 use Rattle.mvt_geometry.proofs.Found.{found_geometry, has_found_geometry}
 use Rattle.mvt_geometry.proofs.Parts.{with}
 use Rattle.mvt_geometry.proofs.Small.{packs_integers}

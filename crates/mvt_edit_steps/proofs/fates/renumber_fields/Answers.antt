@@ -1,11 +1,9 @@
-use Rattle.std.proofs.Common.{◌≤◌, [], ◌++◌, length, map, filter, refl, sym, subst, ap, arith, ◌∙◌}
+use Rattle.std.proofs.Common.{◌≤◌, [], ◌++◌, length, map, refl, sym, subst, ap, arith, ◌∙◌}
 use Rattle.std.proofs.lemmas.List.{take_all}
-use Rattle.std.proofs.lemmas.Result.{IfOk-weaker}
 use Rattle.std.proofs.lemmas.Simd.{map-map}
 use Rattle.mvt_document.specs.Stands.{field_of}
 use Rattle.mvt_document.specs.declared.document.Field.{Field}
 use Rattle.mvt_change.specs.ChangeStands.{step_of}
-use Rattle.mvt_numbers.specs.Fates.{changes}
 use Rattle.mvt_numbers.proofs.FieldFate.{field_fate-seen}
 use Rattle.mvt_edit_steps.specs.Fates.{Splice, seen, splices_of}
 use Rattle.mvt_edit_steps.proofs.Decided.{Decided, Sized, all_decided, all_sized, decided_more, sized_more, sized_none}

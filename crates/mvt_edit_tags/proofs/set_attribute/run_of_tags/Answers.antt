@@ -7,10 +7,10 @@ use Rattle.mvt_document.specs.Wire.{shortest}
 use Rattle.mvt_view.specs.Views.{keys, values}
 use Rattle.mvt_meaning.specs.Tagging.{is_key_at, key_ordinal, replacements, revalued, value_ordinal}
 use Rattle.mvt_meaning.proofs.Replacements.{replacements_short}
+use Rattle.mvt_edit_steps.proofs.FieldsLeft.{fields_left}
 use Rattle.mvt_edit_tags.proofs.AttributeGiven.{gives_pair, gives_value, nothing_refused, on_values, repeated_refused, unreadable_refused}
 use Rattle.mvt_edit_tags.proofs.Deciding.{no_pairs}
 use Rattle.mvt_edit_tags.proofs.OneDiffers.{one_differs}
-use Rattle.mvt_edit_tags.proofs.TagsLeft.{tags_left}
 use Rattle.mvt_edit_tags.proofs.set_attribute.run_of_tags.Goals as goal
 
 pub returns-in-0-clause-gives : goal.returns-in-0-clause-gives
@@ -49,7 +49,7 @@ returns-in-1-clause-gives c = λ value found.
     let named : c.as_slice.result.now ≡ map (bytes_eq key) (keys layer) = c.as_slice.ensures.value ∙ c.in_ok-named.ensures ∙ ap (λ l. map (bytes_eq key) (keys l)) c.view.ensures in
     let on = on_values key layer feature c.args.sizes.keys c.args.sizes.values c.as_slice.result.now c.args.ordinals.value c.decide_or_refuse.new.decisions.items c.in_ok-count.count named c.requires.keys c.requires.values c.in_ok-count.ensures.decided c.in_ok-count.ensures.counted in
     let decided = c.as_slice-in-1.ensures.value ∙ on.decided ∙ ap (λ ordinal. revalued (is_key_at layer.items key) ordinal on.pairs) found.value_at ∙ ap (λ pairs. option_map_or (revalued (is_key_at layer.items key) (value_ordinal value layer.items)) pairs []) (sym on.read) in
-    let left = tags_left (replacements key value layer.items feature.fields) c.args.found.feature.now.fields.items (replacements_short key value layer.items feature.fields (omega (arith, found.value_at))) in
+    let left = fields_left 2 (replacements key value layer.items feature.fields) c.args.found.feature.now.fields.items (replacements_short key value layer.items feature.fields (omega (arith, found.value_at))) in
     gives_value key value layer.items feature.fields _ (omega (arith, on.all)) (rw (decided, c.as_slice-fields.ensures) at c.in_ok-first_renumbered-in-1.ensures) left
 
 pub returns-in-1-clause-checked : goal.returns-in-1-clause-checked

@@ -11,6 +11,5 @@ pub returns : goal.returns
 returns c =
     let layer = c.args.layer in
     let item = c.args.found.position in
-    let done = c.in_ok-renumber_fields.ensures (λ s. FeatureStep layer item s.index s.taken s.put) (λ run made says. search rules) in
-    done.behind
+    c.in_ok-renumber_fields.ensures.steps (λ s. FeatureStep layer item s.index s.taken s.put) (λ run made says. search rules)
     ∙ ap (λ list. map step_of c.args.steps.now.items ++ map (in_feature_at layer item) (splices_of (field_fates 2 c.args.decisions.now (map field_of list)))) c.as_slice.ensures

@@ -10,9 +10,9 @@ use Rattle.mvt_meaning.proofs.Removals.{removals_short}
 use Rattle.mvt_view.specs.Seen.{found_feature_seen}
 use Rattle.mvt_view.specs.Views.{keys, values}
 use Rattle.mvt_edit_steps.specs.Decided.{field_fates}
+use Rattle.mvt_edit_steps.proofs.FieldsLeft.{fields_left}
 use Rattle.mvt_edit_tags.specs.EachFeature.{feature_steps}
 use Rattle.mvt_edit_tags.proofs.Deciding.{has_named, no_pairs, on_pairs}
-use Rattle.mvt_edit_tags.proofs.TagsLeft.{tags_left}
 use Rattle.mvt_edit_tags.proofs.PairsLost.{key_lacks, no_feature_loses, pairs_lack, tags_lose}
 use Rattle.mvt_edit_tags.proofs.unset.unset.Goals as goal
 
@@ -50,7 +50,7 @@ returns c =
     let has = sym (has_named key layer.items) ∙ ap (list_any (λ same. same)) (sym (c.as_slice.ensures.value ∙ named)) ∙ sym c.is_any.ensures ∙ c.if-not-is_any.false in
     let sizes = c.pool_sizes.ensures in
     let on = on_pairs key layer feature c.pool_sizes.result.keys c.pool_sizes.result.values c.as_slice-2.result.now c.decide_or_refuse.new.decisions.items (c.as_slice-2.ensures.value ∙ named) (sizes.keys ∙ ap (λ l. length (keys l)) c.view-layer.ensures) (sizes.values ∙ ap (λ l. length (values l)) c.view-layer.ensures) c.in_ok-decide_or_refuse.ensures.decided in
-    let left = tags_left (removals key layer.items feature.fields) found.feature.now.fields.items (removals_short key layer.items feature.fields) in
+    let left = fields_left 2 (removals key layer.items feature.fields) found.feature.now.fields.items (removals_short key layer.items feature.fields) in
     tags_lose choice key (document_of c.args.document.now) holder.ordinal holder.position layer is.meant is.placed is.there (feature_choice_of c.args.feature.now) found.ordinal found.position feature here.meant here.placed here.there has on.readable left _
     (ap (map step_of) c.from_vec.ensures.items
     ∙ c.in_ok-renumber_tags.ensures

@@ -1,0 +1,107 @@
+use Rattle.std.proofs.Common.{◌≡◌, is_some, Err, [], length, map, nat_lt, inl, inr, sym, ap, ◌∙◌, subst, w64}
+use Rattle.std.proofs.lemmas.Bool.{not-false, not-true}
+use Rattle.std.proofs.lemmas.Int.{to_z-of_z}
+use Rattle.std.proofs.lemmas.Result.{err_from_is_err_and}
+use Rattle.std.specs.List.{flat_map}
+use Rattle.std.specs.Option.{IfSome}
+use Rattle.mvt_document.specs.declared.TheConstants.{MAX_FILE}
+use Rattle.mvt_document.specs.Places.{change_fields}
+use Rattle.mvt_document.specs.Plain.{Feature}
+use Rattle.mvt_document.specs.Stands.{document_of, feature_of, layer_of}
+use Rattle.mvt_document.specs.Wire.{bytes_of, field_bytes, layer_item_bytes}
+use Rattle.mvt_numbers.specs.Renumbering.{renumber}
+use Rattle.mvt_change.specs.ChangeStands.{step_of}
+use Rattle.mvt_change.specs.FileSizes.{IsFileSize}
+use Rattle.mvt_change.proofs.Resized.{fields_there, items_there}
+use Rattle.mvt_command.specs.CommandStands.{feature_choice_of, layer_choice_of}
+use Rattle.mvt_view.specs.Seen.{feature_seen}
+use Rattle.mvt_meaning.specs.Geometries.{can_move, moves, shifted}
+use Rattle.mvt_meaning.proofs.Moving.{moves_short}
+use Rattle.mvt_meaning.specs.declared.refusal.Refusal.TheVariants.{OutOfRange}
+use Rattle.mvt_edit_steps.specs.Decided.{field_fates}
+use Rattle.mvt_edit_steps.specs.Fates.{splices_of}
+use Rattle.mvt_edit_steps.proofs.Carrying.{in_feature_at}
+use Rattle.mvt_edit_steps.proofs.FieldsLeft.{fields_left}
+use Rattle.mvt_edit_steps.proofs.Refusing.{none_refused, some_found}
+use Rattle.mvt_edit_geometry.proofs.Shifted.{changed_in, no_bytes, no_feature_moves, none_behind, not_drawn, shift_made, shift_too_large, too_far}
+use Rattle.mvt_edit_geometry.proofs.shift.shift.Goals as goal
+
+pub returns-in_err-found : goal.returns-in_err-found
+returns-in_err-found c =
+    let holder = c.in_ok-holder.holder in
+    let is = c.in_ok-holder.ensures.found in
+    let refused = no_feature_moves (layer_choice_of c.args.choice.now) c.args.dx c.args.dy (document_of c.args.document.now) holder.ordinal holder.position (layer_of holder.layer.now) is.meant is.placed is.there (feature_choice_of c.args.feature.now) _ c.in_err-found.ensures.refused in
+    let passed = err_from_is_err_and c.from_residual-in_err-found.result c.from_residual-in_err-found.ensures.1 in
+    rw (passed.1, passed.2) (inr refused)
+
+pub returns-in_err-check : goal.returns-in_err-check
+returns-in_err-check c =
+    let holder = c.in_ok-holder.holder in
+    let is = c.in_ok-holder.ensures.found in
+    let found = c.in_ok-found.found in
+    let here = c.in_ok-found.ensures.found in
+    let passed = err_from_is_err_and c.from_residual-in_err-check.result c.from_residual-in_err-check.ensures.1 in
+    rw (passed.1, passed.2) (
+    elim c.in_err-check.ensures.refused [
+      | inl memory ↦ inl memory
+      | inr bad ↦ inr (not_drawn (layer_choice_of c.args.choice.now) c.args.dx c.args.dy (document_of c.args.document.now) holder.ordinal holder.position (layer_of holder.layer.now) is.meant is.placed is.there (feature_choice_of c.args.feature.now) found.ordinal found.position (feature_of found.feature.now) here.meant here.placed here.there bad.1 ∙ ap Err (sym bad.0))
+    ])
+
+pub returns-in_err-decisions : goal.returns-in_err-decisions
+returns-in_err-decisions c =
+    let holder = c.in_ok-holder.holder in
+    let is = c.in_ok-holder.ensures.found in
+    let found = c.in_ok-found.found in
+    let here = c.in_ok-found.ensures.found in
+    let feature = feature_of found.feature.now in
+    let none = none_refused c.decide.result c.ok_or.result OutOfRange c.in_err-decisions.field-0.0 c.ok_or.ensures.value c.in_err-decisions.was in
+    let able = rw (to_z-of_z w64 c.args.dx c.ranges.dx, to_z-of_z w64 c.args.dy c.ranges.dy) at c.decide.ensures.able in
+    let far = sym (ap (λ (f : Feature). can_move c.args.dx c.args.dy f.fields) c.view.ensures) ∙ sym able ∙ ap (λ o. is_some o) none.0 in
+    let passed = err_from_is_err_and c.from_residual-in_err-decisions.result c.from_residual-in_err-decisions.ensures.1 in
+    rw (passed.1, passed.2) (inr (too_far (layer_choice_of c.args.choice.now) c.args.dx c.args.dy (document_of c.args.document.now) holder.ordinal holder.position (layer_of holder.layer.now) is.meant is.placed is.there (feature_choice_of c.args.feature.now) found.ordinal found.position feature here.meant here.placed here.there c.in_ok-check.ensures.drawn far ∙ ap Err (sym none.1)))
+
+pub returns-then-not-fits_with_items : goal.returns-then-not-fits_with_items
+returns-then-not-fits_with_items c =
+    let dx = c.args.dx in
+    let dy = c.args.dy in
+    let document = document_of c.args.document.now in
+    let holder = c.in_ok-holder.holder in
+    let is = c.in_ok-holder.ensures.found in
+    let found = c.in_ok-found.found in
+    let here = c.in_ok-found.ensures.found in
+    let layer = layer_of holder.layer.now in
+    let feature = feature_of found.feature.now in
+    let there = some_found c.decide.result c.ok_or.result OutOfRange c.in_ok-decisions.decisions c.ok_or.ensures.value c.in_ok-decisions.was in
+    let able = rw (to_z-of_z w64 dx c.ranges.dx, to_z-of_z w64 dy c.ranges.dy) at c.decide.ensures.able in
+    let can = sym (ap (λ (f : Feature). can_move dx dy f.fields) c.view.ensures) ∙ sym able ∙ ap (λ o. is_some o) there in
+    let decided = subst (λ o. IfSome o (λ decisions. decisions ≡ moves dx dy (feature_seen c.view.result).fields)) there (rw (to_z-of_z w64 dx c.ranges.dx, to_z-of_z w64 dy c.ranges.dy) at c.decide.ensures.decided) ∙ ap (λ (f : Feature). moves dx dy f.fields) c.view.ensures in
+    let size = subst (λ decisions. IsFileSize c.in_ok-steps.fields (length (flat_map field_bytes (renumber 4 decisions feature.fields)))) decided c.in_ok-steps.ensures.size in
+    let behind = c.size_with_fields-items.ensures (shifted dx dy) [] (fields_there found.position layer.items feature (λ old. IsFileSize c.in_ok-steps.fields (length (flat_map field_bytes (shifted dx dy old)))) here.there size) no_bytes in
+    let items = none_behind c.size_with_fields-items.result (changed_in (shifted dx dy) found.position layer.items) behind in
+    let told = c.fits_with_items.ensures (changed_in (shifted dx dy) found.position) (items_there holder.position document layer (λ old. IsFileSize c.size_with_fields-items.result (length (flat_map layer_item_bytes (changed_in (shifted dx dy) found.position old)))) is.there items) in
+    inr (shift_too_large (layer_choice_of c.args.choice.now) dx dy document holder.ordinal holder.position layer is.meant is.placed is.there (feature_choice_of c.args.feature.now) found.ordinal found.position feature here.meant here.placed here.there c.in_ok-check.ensures.drawn can (not-false (nat_lt MAX_FILE (length (bytes_of (change_fields (shifted dx dy) holder.position found.position document)))) (sym told ∙ c.if-not-fits_with_items.true)))
+
+pub returns : goal.returns
+returns c =
+    let dx = c.args.dx in
+    let dy = c.args.dy in
+    let document = document_of c.args.document.now in
+    let holder = c.in_ok-holder.holder in
+    let is = c.in_ok-holder.ensures.found in
+    let found = c.in_ok-found.found in
+    let here = c.in_ok-found.ensures.found in
+    let layer = layer_of holder.layer.now in
+    let feature = feature_of found.feature.now in
+    let drawn = c.in_ok-check.ensures.drawn in
+    let there = some_found c.decide.result c.ok_or.result OutOfRange c.in_ok-decisions.decisions c.ok_or.ensures.value c.in_ok-decisions.was in
+    let able = rw (to_z-of_z w64 dx c.ranges.dx, to_z-of_z w64 dy c.ranges.dy) at c.decide.ensures.able in
+    let can = sym (ap (λ (f : Feature). can_move dx dy f.fields) c.view.ensures) ∙ sym able ∙ ap (λ o. is_some o) there in
+    let decided = subst (λ o. IfSome o (λ decisions. decisions ≡ moves dx dy (feature_seen c.view.result).fields)) there (rw (to_z-of_z w64 dx c.ranges.dx, to_z-of_z w64 dy c.ranges.dy) at c.decide.ensures.decided) ∙ ap (λ (f : Feature). moves dx dy f.fields) c.view.ensures in
+    let size = subst (λ decisions. IsFileSize c.in_ok-steps.fields (length (flat_map field_bytes (renumber 4 decisions feature.fields)))) decided c.in_ok-steps.ensures.size in
+    let behind = c.size_with_fields-items.ensures (shifted dx dy) [] (fields_there found.position layer.items feature (λ old. IsFileSize c.in_ok-steps.fields (length (flat_map field_bytes (shifted dx dy old)))) here.there size) no_bytes in
+    let items = none_behind c.size_with_fields-items.result (changed_in (shifted dx dy) found.position layer.items) behind in
+    let told = c.fits_with_items.ensures (changed_in (shifted dx dy) found.position) (items_there holder.position document layer (λ old. IsFileSize c.size_with_fields-items.result (length (flat_map layer_item_bytes (changed_in (shifted dx dy) found.position old)))) is.there items) in
+    let left = fields_left 4 (moves dx dy feature.fields) found.feature.now.fields.items (moves_short dx dy feature.fields drawn can) in
+    shift_made (layer_choice_of c.args.choice.now) dx dy document holder.ordinal holder.position layer is.meant is.placed is.there (feature_choice_of c.args.feature.now) found.ordinal found.position feature here.meant here.placed here.there drawn can
+    (not-true (nat_lt MAX_FILE (length (bytes_of (change_fields (shifted dx dy) holder.position found.position document)))) (sym told ∙ c.if-not-fits_with_items.false)) left _
+    (ap (map step_of) c.from_vec.ensures.items ∙ c.in_ok-steps.ensures.steps ∙ ap (λ decisions. map (in_feature_at holder.position found.position) (splices_of (field_fates 4 decisions feature.fields))) decided)

@@ -1,0 +1,142 @@
+//! The geometry of a feature moves.
+
+ghost use Rattle.std.specs.Prelude.{◌≡◌, ◌⊎◌, ℕ, true, false, List, ◌∷◌, Some, IfErr, IfOk, IfSome, is_some, length, map, option_map};
+ghost use Rattle.std.specs.List.{flat_map};
+ghost use Rattle.mvt_document.specs.Signed.{zigzag};
+ghost use Rattle.mvt_document.specs.Stands.{document_of, feature_of, field_of};
+ghost use Rattle.mvt_document.specs.Wire.{field_bytes};
+ghost use Rattle.mvt_geometry.specs.Checks.{is_way};
+ghost use Rattle.mvt_numbers.specs.Renumbering.{renumber};
+ghost use Rattle.mvt_change.specs.Changes.{FeatureStep};
+ghost use Rattle.mvt_change.specs.ChangeStands.{step_of};
+ghost use Rattle.mvt_change.specs.FileSizes.{IsFileSize};
+ghost use Rattle.mvt_command.specs.Command.{Shift};
+ghost use Rattle.mvt_command.specs.CommandStands.{feature_choice_of, layer_choice_of};
+ghost use Rattle.mvt_view.specs.Attributes.{values_in};
+ghost use Rattle.mvt_view.specs.Seen.{feature_seen};
+ghost use Rattle.mvt_meaning.specs.Geometries.{can_move, further, geometry_among, moves};
+ghost use Rattle.mvt_meaning.specs.declared.refusal.Refusal.TheVariants.{BadGeometry, NoMemory};
+ghost use Rattle.mvt_edit_steps.specs.Decided.{field_fates};
+ghost use Rattle.mvt_edit_steps.specs.Fates.{splices_of};
+ghost use Rattle.mvt_edit_steps.specs.Prepared.{Prepares};
+
+use mvt_change::{Change, Step, fits_with_items, size_with_fields};
+use mvt_document::tags::GEOMETRY;
+use mvt_document::{Document, Items, from_zigzag, to_zigzag};
+use mvt_edit_steps::renumber_fields;
+use mvt_geometry::is_way;
+use mvt_numbers::Numbers;
+use mvt_select::{FeatureChoice, FoundFeature, LayerChoice, Refusal, find_feature, find_layer};
+use mvt_view::{FeatureView, GeometryError, geometry};
+use std::alloc::{AllocError, Global};
+
+/// The geometry of the feature moves by so much along each axis. Of its integers the first two
+/// parameters become others, and all else stays as it is spelled.
+pub fn shift(
+    alloc: Global,
+    document: &Document,
+    choice: &LayerChoice,
+    feature: &FeatureChoice,
+    dx: i64,
+    dy: i64,
+) -> Result<Change, Refusal>
+    ensures { Prepares (Shift (layer_choice_of choice.now) (feature_choice_of feature.now) dx dy) (document_of document.now) result }
+{
+    let holder = find_layer(document, choice)?;
+    let found = find_feature(holder.layer, feature)?;
+    check(alloc, holder.ordinal, found)?;
+    let decisions = decide(found.view(), dx, dy).ok_or(Refusal::OutOfRange)?;
+    let (steps, fields) = moving(alloc, holder.position, found, &decisions)?;
+    let items = size_with_fields(holder.layer, found.position, fields, Some(0));
+    if !fits_with_items(document, holder.position, items) {
+        return Err(Refusal::TooLarge);
+    }
+    Ok(Change {
+        steps: Items::from_vec(steps),
+    })
+}
+
+/// The feature has a geometry. It is refused where it has none, with its ordinal and that of its
+/// layer.
+fn check(alloc: Global, layer: usize, found: FoundFeature<'_>) -> Result<(), Refusal>
+    ensures drawn { IfOk result (λ ok. is_some (geometry_among (feature_of found.entry.feature.now).fields) ≡ true) }
+    ensures refused { IfErr result (λ refusal. (refusal ≡ NoMemory)
+        ⊎ ((refusal ≡ BadGeometry layer found.entry.ordinal) × (is_some (geometry_among (feature_of found.entry.feature.now).fields) ≡ false))) }
+{
+    match geometry(alloc, &found.view()) {
+        Ok(_) => Ok(()),
+        Err(GeometryError::BadGeometry) => Err(Refusal::BadGeometry {
+            layer,
+            feature: found.ordinal,
+        }),
+        Err(GeometryError::NoMemory) => Err(Refusal::NoMemory),
+    }
+}
+
+/// What is decided on the first integers of the feature's geometry: the command stays, and the two
+/// parameters lead further. None where one of them cannot.
+fn decide(feature: FeatureView<'_>, dx: i64, dy: i64) -> Option<[Option<u64>; 3]>
+    requires { is_some (geometry_among (feature_seen feature).fields) ≡ true }
+    ensures decided { IfSome result (λ decisions. decisions ≡ moves dx dy (feature_seen feature.entry).fields) }
+    ensures able { is_some result ≡ can_move dx dy (feature_seen feature.entry).fields }
+{
+    let mut numbers = feature.geometry_numbers();
+    let command = next_value(&mut numbers)?;
+    let x = next_value(&mut numbers)?;
+    let y = next_value(&mut numbers)?;
+    Some([Some(command), Some(further(x, dx)?), Some(further(y, dy)?)])
+}
+
+/// The value of the next number, where there is one.
+fn next_value(numbers: &mut Numbers<'_>) -> Option<u64>
+    ensures { (value : ℕ) (more : List ℕ) → values_in numbers.old ≡ Some (value ∷ more) → (result ≡ Some value) × (values_in numbers.new ≡ Some more) }
+{
+    match numbers.next()? {
+        Ok(number) => Some(number.varint.value),
+        Err(_) => None,
+    }
+}
+
+/// The parameter that holds the way of this one and so much more, where one can hold it.
+fn further(parameter: u64, more: i64) -> Option<u64>
+    ensures held { is_some result ≡ is_way (further more parameter) }
+    ensures holds { IfSome result (λ made. made ≡ zigzag (further more parameter)) }
+{
+    let way = from_zigzag(parameter).checked_add(more)?;
+    if is_way(way) {
+        Some(to_zigzag(way))
+    } else {
+        None
+    }
+}
+
+/// The steps by which the integers of the feature, in the layer at this position, become what is
+/// decided on them, and how many bytes the fields take then, where a file may have so many.
+fn moving(
+    alloc: Global,
+    layer: usize,
+    found: FoundFeature<'_>,
+    decisions: &[Option<u64>],
+) -> Result<(Vec<Step>, Option<usize>), AllocError>
+    ensures steps { IfOk result (λ made. map step_of made.0.items ≡ map (λ s. FeatureStep layer found.entry.position s.index s.taken s.put) (splices_of (field_fates 4 decisions.now (feature_of found.entry.feature.now).fields))) }
+    ensures size { IfOk result (λ made. IsFileSize made.1 (length (flat_map field_bytes (renumber 4 decisions.now (feature_of found.entry.feature.now).fields)))) }
+{
+    let item = found.position;
+    let mut steps = Vec::new(alloc);
+    let size = renumber_fields(
+        alloc,
+        found.feature.fields.as_slice(),
+        GEOMETRY,
+        decisions,
+        |run| Step::InFeature {
+            layer,
+            item,
+            index: run.index,
+            take: run.take,
+            put: Items::from_vec(run.put),
+        },
+        &mut steps,
+        Some(0),
+    )?;
+    Ok((steps, size))
+}
