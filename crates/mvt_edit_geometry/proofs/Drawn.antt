@@ -1,15 +1,22 @@
 -- Fields with one geometry: how many bytes they take.
-use Rattle.std.proofs.Common.{◌≡◌, ℕ, ◌+◌, ◌-◌, Bool, true, false, not, List, [], ◌∷◌, ◌++◌, length, length-append, length-drop, map, take, drop, filter, refl, sym, ap, ◌∙◌, inl, inr, arith}
+use Rattle.std.proofs.Common.{◌≡◌, ℕ, ◌+◌, ◌-◌, Bool, true, false, not, Option, List, [], ◌∷◌, ◌++◌, length, length-append, length-drop, map, take, drop, filter, refl, sym, ap, ◌∙◌, inl, inr, arith}
 use Rattle.std.proofs.lemmas.Bool.{cases_Bool}
 use Rattle.std.proofs.lemmas.List.{map-append, take_all}
 use Rattle.std.proofs.lemmas.List.Concat.{flat_map-append}
 use Rattle.std.proofs.lemmas.List.Elements.{filter-append}
 use Rattle.std.specs.List.{flat_map}
+use Rattle.mvt_document.proofs.Sizes.{told_so}
+use Rattle.mvt_document.specs.declared.TheConstants.{MAX_FILE}
+use Rattle.mvt_document.specs.Plain as plain
 use Rattle.mvt_document.specs.Splicing.{splice}
 use Rattle.mvt_document.specs.Stands.{field_of}
 use Rattle.mvt_document.specs.Wire.{field_bytes}
 use Rattle.mvt_document.specs.declared.document.Field.{Field}
-use Rattle.mvt_meaning.specs.Geometries.{is_geometry_field}
+use Rattle.mvt_geometry.specs.Integers.{encoded}
+use Rattle.mvt_geometry.specs.Shapes.{Geometry, kind_number}
+use Rattle.mvt_change.specs.FileSizes.{IsFileSize}
+use Rattle.mvt_meaning.specs.Fields.{new_content}
+use Rattle.mvt_meaning.specs.Geometries.{is_geometry_field, with_geometry, with_kind}
 use Rattle.mvt_meaning.specs.Ordinals.{put_once}
 use Rattle.mvt_change.proofs.Changed.{map-splice}
 
@@ -47,3 +54,12 @@ drawn_weighs index taken put fields drawing =
     let whole = once_weighs field_bytes is_geometry_field (field_of drawing) (splice index taken (map field_of put) (map field_of fields)) in
     let same = ap (λ list. length (flat_map field_bytes (filter (λ field. not (is_geometry_field field)) list))) (map-splice field_of index taken put fields) in
     omega (arith, whole, same, both_weigh (front ++ put) back, both_weigh front put)
+
+-- the size of the fields with another kind and geometry, from that of what the program puts
+pub drawn_size : (geometry : Geometry) (fields seen_fields : List plain.Field) (index taken : ℕ) (put : List plain.Field) (drawing : plain.Field) (kind : ℕ) (told : Option ℕ) → seen_fields ≡ fields → kind ≡ kind_number geometry.kind → splice index taken put seen_fields ≡ with_kind kind seen_fields → drawing ≡ new_content 34 (encoded geometry)
+    → IsFileSize told (length (flat_map field_bytes (put_once is_geometry_field drawing (splice index taken put seen_fields)))) → IsFileSize told (length (flat_map field_bytes (with_geometry geometry fields)))
+drawn_size geometry fields seen_fields index taken put drawing kind told seen is makes draws =
+    told_so MAX_FILE told _ _
+    (ap (λ list. length (flat_map field_bytes list))
+    (ap (put_once is_geometry_field drawing) (makes ∙ ap (λ n. with_kind n seen_fields) is ∙ ap (with_kind (kind_number geometry.kind)) seen)
+    ∙ ap (λ field. put_once is_geometry_field field (with_kind (kind_number geometry.kind) fields)) draws))

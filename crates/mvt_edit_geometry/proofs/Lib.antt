@@ -1,1 +1,4 @@
 pub mod Drawn
+pub mod FeatureFits
+pub mod Redrawn
+pub mod GeometrySet
