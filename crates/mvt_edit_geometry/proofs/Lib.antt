@@ -1,2 +1,6 @@
 mod FirstMoved
 mod Shifted
+pub mod Drawn
+pub mod FeatureFits
+pub mod Redrawn
+pub mod GeometrySet

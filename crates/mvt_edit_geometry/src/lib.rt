@@ -5,4 +5,5 @@
 //!   `Prepares`: `shift`, `set_geometry`.
 #![tactic(auto)]
 
+pub mod set_geometry;
 pub mod shift;

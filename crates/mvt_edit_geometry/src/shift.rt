@@ -128,13 +128,7 @@ fn moving(
         found.feature.fields.as_slice(),
         GEOMETRY,
         decisions,
-        |run| Step::InFeature {
-            layer,
-            item,
-            index: run.index,
-            take: run.take,
-            put: Items::from_vec(run.put),
-        },
+        |run| run.in_feature(layer, item),
         &mut steps,
         Some(0),
     )?;

@@ -27,12 +27,12 @@ module _ (choice : LayerChoice) (name : List ℕ) (document : Document) (ordinal
   module _ (free : is_taken name ordinal document ≡ false) (position : ℕ) (layer : Layer) (placed : slice_get (layer_positions document) ordinal ≡ Some position) (there : slice_get document position ≡ Some (OfLayer layer)) (step : Step) (puts : PutsLast IsLayerItem layer_item_bytes is_name (LayerStep position) layer.items (named_items name layer.items) step) where
     carries_name : Carries step document (change_layer (named_items name) ordinal document) (weigh_last layer_item_bytes is_name (named_items name layer.items)) (weigh_last layer_item_bytes is_name layer.items)
     carries_name =
-        let made = carries_in_layer document position layer (named_items name) puts.index puts.taken puts.put (items_at_found document ordinal position layer placed there) there puts.can puts.makes in
+        let made = carries_in_layer document position layer (named_items name) puts.index puts.taken puts.put (items_at_found document ordinal position layer placed there) there puts.replaces.can puts.replaces.makes in
         record {
           fits = subst (λ s. FitsStep s document) (sym puts.parts) made.fits;
           makes = ap (λ s. go_step s document) puts.parts ∙ made.makes ∙ sym (change_layer_found document ordinal position layer placed there (named_items name));
-          puts = ap step_weight puts.parts ∙ made.puts ∙ puts.puts;
-          takes = ap (λ s. step_weight (turn_step s document)) puts.parts ∙ made.takes ∙ puts.takes;
+          puts = ap step_weight puts.parts ∙ made.puts ∙ puts.replaces.puts;
+          takes = ap (λ s. step_weight (turn_step s document)) puts.parts ∙ made.takes ∙ puts.replaces.takes;
         }
 
     taken_name : taken_by (RenameLayer choice name) document ≡ weigh_last layer_item_bytes is_name layer.items
@@ -78,12 +78,12 @@ module _ (choice : LayerChoice) (feature_choice : FeatureChoice) (id : ℕ) (doc
 
     carries_id : Carries step document (change_feature (identified id) ordinal feature_ordinal document) (weigh_last field_bytes is_id (identified id feature.fields)) (weigh_last field_bytes is_id feature.fields)
     carries_id =
-        let made = carries_in_feature document position item layer feature (identified id) puts.index puts.taken puts.put (fields_at_found document ordinal position layer placed there feature_ordinal item feature feature_placed feature_there) there feature_there puts.can puts.makes in
+        let made = carries_in_feature document position item layer feature (identified id) puts.index puts.taken puts.put (fields_at_found document ordinal position layer placed there feature_ordinal item feature feature_placed feature_there) there feature_there puts.replaces.can puts.replaces.makes in
         record {
           fits = subst (λ s. FitsStep s document) (sym puts.parts) made.fits;
           makes = ap (λ s. go_step s document) puts.parts ∙ made.makes ∙ sym (change_feature_found document ordinal position layer placed there feature_ordinal item feature feature_placed feature_there (identified id));
-          puts = ap step_weight puts.parts ∙ made.puts ∙ puts.puts;
-          takes = ap (λ s. step_weight (turn_step s document)) puts.parts ∙ made.takes ∙ puts.takes;
+          puts = ap step_weight puts.parts ∙ made.puts ∙ puts.replaces.puts;
+          takes = ap (λ s. step_weight (turn_step s document)) puts.parts ∙ made.takes ∙ puts.replaces.takes;
         }
 
     id_weight_is : (seen : Document) (fields : ℕ) → weigh_last field_bytes is_id (fields_of ordinal feature_ordinal seen) ≡ fields → of_meant (selected choice document) (λ n. of_meant (selected_in feature_choice n document) (λ m. weigh_last field_bytes is_id (fields_of n m seen))) ≡ fields

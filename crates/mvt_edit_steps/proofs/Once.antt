@@ -73,6 +73,13 @@ once_splices_seen view picked new end =
     ∙ ap (λ first. first ++ map (seen view) (at_end (left_once picked (Some new)) end)) (splices_seen view 0 (once_fates picked (Some new)) ∙ ap splices_of (fates_seen view picked (Some new)))
     ∙ ap (λ last. splices_of (once_fates picked (Some (view new))) ++ last) (end_seen view (left_once picked (Some new)) end ∙ ap (λ left. at_end left end) (left_seen view picked (Some new)))
 
+-- each item that was picked passes
+pub picked_seen : {T A : Type 0} (view : T → A) (passes : A → Bool) (answers : T → Bool → Type 0) → ((x : T) (is : Bool) → answers x is → is ≡ passes (view x)) → (xs : List T) (picked : List Bool) → AllZip answers xs picked → picked ≡ map passes (map view xs)
+picked_seen view passes answers each [] [] all = refl
+picked_seen view passes answers each [] (is ∷ picked) all = absurd all
+picked_seen view passes answers each (x ∷ xs) [] all = absurd all
+picked_seen view passes answers each (x ∷ xs) (is ∷ picked) all = ap (λ first. first ∷ picked) (each x is all.0) ∙ ap (λ more. passes (view x) ∷ more) (picked_seen view passes answers each xs picked all.1)
+
 -- ---- an item more at the end that is not picked
 
 skipped_from : {A : Type 0} (n : ℕ) (picked : List Bool) (new : Option A) → splices_from n (once_fates (picked ++ false ∷ []) new) ≡ splices_from n (once_fates picked new)

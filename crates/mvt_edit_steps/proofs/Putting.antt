@@ -1,27 +1,26 @@
--- The steps that put an item in place of the last one that passes, from the list of the program.
+-- What puts an item in place of the last one that passes, from the list of the program.
 use Rattle.std.proofs.Common.{◌≡◌, ℕ, Bool, true, Bor, Option, Some, None, List, [], ◌∷◌, length, map, slice_get, refl, sym, ap, ◌∙◌, subst}
 use Rattle.std.proofs.lemmas.List.{length-map}
 use Rattle.std.proofs.lemmas.Option.{slice_get-map, slice_get_past, slice_get_read}
 use Rattle.std.specs.Option.{IfSome, option_copied, option_map_or, unwrap_or}
 use Rattle.std.specs.Slice.{IsItemAt}
-use Rattle.mvt_change.specs.Changes.{Step}
 use Rattle.mvt_meaning.specs.Ordinals.{put_last}
-use Rattle.mvt_edit_steps.specs.PutsLast.{PutsLast}
+use Rattle.mvt_edit_steps.specs.PutsLast.{ReplacesLast}
 use Rattle.mvt_edit_steps.proofs.PutLast.{IsPutLast, index_of, last_of, put_last_at, put_of, taken_of}
 
--- ---- the step
+-- ---- what is put
 
-puts_last : {A : Type 0} (valid : A → Type 0) (bytes : A → List ℕ) (passes : A → Bool) (step_with : ℕ → ℕ → List A → Step) (change : A → A) (new : A) (xs : List A) (last : Option ℕ) (index taken : ℕ) (item : A) (step : Step) → IsPutLast passes change new bytes xs last → index ≡ index_of last xs → taken ≡ taken_of last → item ≡ put_of change new last xs → valid item → step ≡ step_with index taken (item ∷ []) → PutsLast valid bytes passes step_with xs (put_last passes change new xs) step
-puts_last valid bytes passes step_with change new xs last index taken item step is index_is taken_is item_is valid_item step_is = record {
-  index = index_of last xs;
-  taken = taken_of last;
-  put = put_of change new last xs ∷ [];
-  parts = step_is ∙ ap (λ at. step_with at taken (item ∷ [])) index_is ∙ ap (λ count. step_with (index_of last xs) count (item ∷ [])) taken_is ∙ ap (λ put. step_with (index_of last xs) (taken_of last) (put ∷ [])) item_is;
-  can = record { within = is.within; valid_put = (subst valid item_is valid_item, tt) };
-  makes = is.made;
-  puts = is.put;
-  takes = is.taken;
-}
+replaces_last : {A : Type 0} (valid : A → Type 0) (bytes : A → List ℕ) (passes : A → Bool) (change : A → A) (new : A) (xs : List A) (last : Option ℕ) (index taken : ℕ) (item : A) → IsPutLast passes change new bytes xs last → index ≡ index_of last xs → taken ≡ taken_of last → item ≡ put_of change new last xs → valid item → ReplacesLast valid bytes passes xs (put_last passes change new xs) index taken (item ∷ [])
+replaces_last valid bytes passes change new xs last index taken item is index_is taken_is item_is valid_item =
+    let after = put_last passes change new xs in
+    subst (λ at. ReplacesLast valid bytes passes xs after at taken (item ∷ [])) (sym index_is)
+    (subst (λ count. ReplacesLast valid bytes passes xs after (index_of last xs) count (item ∷ [])) (sym taken_is)
+    (subst (λ put. ReplacesLast valid bytes passes xs after (index_of last xs) (taken_of last) (put ∷ [])) (sym item_is) (record {
+      can = record { within = is.within; valid_put = (subst valid item_is valid_item, tt) };
+      makes = is.made;
+      puts = is.put;
+      takes = is.taken;
+    })))
 
 -- ---- the old item, as the program sees it
 
@@ -46,9 +45,10 @@ module _ {X A : Type 0} (view : X → A) (passes : A → Bool) (change : A → A
       let is = put_last_at passes change new bytes (map view xs) last given kept (sym last_is) in
       old_passing xs index o (item_seen xs index o lookup) (subst (λ at. IfSome (slice_get (map view xs) at) (λ x. passes x ≡ true)) (sym (index_seen xs last index index_is)) is.old)
 
-  pub step_puts : (valid : A → Type 0) (step_with : ℕ → ℕ → List A → Step) (xs : List X) (last : Option ℕ) (index taken : ℕ) (o : Option (Bor X)) (item : X) (list : List X) → last ≡ last_of passes (map view xs) → index ≡ unwrap_or last (length xs) → taken ≡ taken_of last → IsItemAt xs index o → view item ≡ option_map_or (λ old. change (view old.now)) o new → valid (view item) → list ≡ item ∷ [] → PutsLast valid bytes passes step_with (map view xs) (put_last passes change new (map view xs)) (step_with index taken (map view list))
-  step_puts valid step_with xs last index taken o item list last_is index_is taken_is lookup item_is valid_item list_is =
+  pub run_puts : (valid : A → Type 0) (xs : List X) (last : Option ℕ) (index taken : ℕ) (o : Option (Bor X)) (item : X) (list : List X) → last ≡ last_of passes (map view xs) → index ≡ unwrap_or last (length xs) → taken ≡ taken_of last → IsItemAt xs index o → view item ≡ option_map_or (λ old. change (view old.now)) o new → valid (view item) → list ≡ item ∷ [] → ReplacesLast valid bytes passes (map view xs) (put_last passes change new (map view xs)) index taken (map view list)
+  run_puts valid xs last index taken o item list last_is index_is taken_is lookup item_is valid_item list_is =
       let is = put_last_at passes change new bytes (map view xs) last given kept (sym last_is) in
       let at = index_seen xs last index index_is in
       let put = item_is ∙ old_or_new xs index o (item_seen xs index o lookup) ∙ ap (λ i. option_map_or change (slice_get (map view xs) i) new) at in
-      puts_last valid bytes passes step_with change new (map view xs) last index taken (view item) (step_with index taken (map view list)) is at taken_is put valid_item (ap (λ items. step_with index taken (map view items)) list_is)
+      subst (λ items. ReplacesLast valid bytes passes (map view xs) (put_last passes change new (map view xs)) index taken (map view items)) (sym list_is)
+      (replaces_last valid bytes passes change new (map view xs) last index taken (view item) is at taken_is put valid_item)

@@ -1,18 +1,16 @@
 //! The last VARINT field of a number gets a value, or one comes at the end.
 
-ghost use Rattle.std.specs.Prelude.{◌≡◌, ℕ, ◌/◌, true, None, List, [], ◌∷◌, IfOk, IfSome, map};
+ghost use Rattle.std.specs.Prelude.{◌≡◌, true, None, [], ◌∷◌, IfOk, IfSome, map};
 ghost use Rattle.std.specs.List.{last_or};
 ghost use Rattle.std.specs.Option.{option_map_or};
 ghost use Rattle.mvt_document.specs.Opens.{IsField};
-ghost use Rattle.mvt_document.specs.Plain as plain;
 ghost use Rattle.mvt_document.specs.Shape.{IsTag};
 ghost use Rattle.mvt_document.specs.Stands.{field_of, number_of};
 ghost use Rattle.mvt_document.specs.Wire.{field_bytes};
-ghost use Rattle.mvt_change.specs.Changes.{Step};
 ghost use Rattle.mvt_meaning.specs.Fields.{new_number, with_field_value, with_number};
 ghost use Rattle.mvt_meaning.specs.Ordinals.{positions_of};
 ghost use Rattle.mvt_edit_steps.specs.NumberPut.{is_numbered, with_last_number};
-ghost use Rattle.mvt_edit_steps.specs.PutsLast.{PutsLast};
+ghost use Rattle.mvt_edit_steps.specs.PutsLast.{ReplacesLast};
 
 use crate::fates::Run;
 use crate::put_last::Spot;
@@ -28,8 +26,8 @@ pub fn number_put(
     value: u64,
 ) -> Result<Run<Field>, AllocError>
     requires { IsTag tag 0 }
-    ensures puts { (step_with : ℕ → ℕ → List plain.Field → Step) → IfOk result (λ run. PutsLast IsField field_bytes (is_numbered tag) step_with
-        (map field_of fields.now) (with_last_number tag value (map field_of fields.now)) (step_with run.index run.take (map field_of run.put.items))) }
+    ensures puts { IfOk result (λ run. ReplacesLast IsField field_bytes (is_numbered tag) (map field_of fields.now)
+        (with_last_number tag value (map field_of fields.now)) run.index run.take (map field_of run.put.items)) }
     ensures one { IfOk result (λ run. map (λ field. is_numbered tag (field_of field)) run.put.items ≡ true ∷ []) }
 {
     let spot = Spot::of(last_number(fields, tag), fields.len());

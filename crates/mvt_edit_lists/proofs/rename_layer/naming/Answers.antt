@@ -1,11 +1,10 @@
-use Rattle.std.proofs.Common.{refl}
+use Rattle.std.proofs.Common.{map, refl}
 use Rattle.mvt_document.specs.Plain.{PlainInLayer}
 use Rattle.mvt_document.specs.Opens.{IsLayerItem}
 use Rattle.mvt_document.specs.Stands.{layer_item_of}
 use Rattle.mvt_document.specs.Wire.{layer_item_bytes}
-use Rattle.mvt_change.specs.Changes.{LayerStep}
 use Rattle.mvt_meaning.specs.Meaning.{is_name, new_content, with_text}
-use Rattle.mvt_edit_steps.proofs.Putting.{old_passes, step_puts}
+use Rattle.mvt_edit_steps.proofs.Putting.{old_passes, run_puts}
 use Rattle.mvt_edit_lists.proofs.Replaced.{name_kept}
 use Rattle.mvt_edit_lists.proofs.rename_layer.naming.Goals as goal
 
@@ -17,4 +16,11 @@ name_item-requires c =
 pub returns : goal.returns
 returns c =
     let name = c.args.name.now in
-    rw (← c.as_slice-items.ensures) (step_puts layer_item_of is_name (with_text name) (PlainInLayer (new_content 10 name)) refl (name_kept name) layer_item_bytes IsLayerItem (LayerStep c.args.position) c.as_slice-items.result.now c.last_name.result c.of-spot.result.index c.of-spot.result.take c.get.result c.in_ok-item.item c.in_ok-one_item.field-0.items c.last_name.ensures c.of-spot.ensures.index c.of-spot.ensures.take c.get.ensures.lookup c.in_ok-item.ensures.item c.in_ok-item.ensures.valid c.in_ok-one_item.ensures)
+    rw (← c.as_slice-items.ensures) (record {
+      index = c.of-spot.result.index;
+      taken = c.of-spot.result.take;
+      put = map layer_item_of c.in_ok-one_item.field-0.items;
+      parts = refl;
+      replaces =
+          run_puts layer_item_of is_name (with_text name) (PlainInLayer (new_content 10 name)) refl (name_kept name) layer_item_bytes IsLayerItem c.as_slice-items.result.now c.last_name.result c.of-spot.result.index c.of-spot.result.take c.get.result c.in_ok-item.item c.in_ok-one_item.field-0.items c.last_name.ensures c.of-spot.ensures.index c.of-spot.ensures.take c.get.ensures.lookup c.in_ok-item.ensures.item c.in_ok-item.ensures.valid c.in_ok-one_item.ensures;
+    })

@@ -1,5 +1,8 @@
-use Rattle.mvt_change.specs.Changes.{FeatureStep}
+use Rattle.std.proofs.Common.{map, refl}
+use Rattle.mvt_document.specs.Stands.{field_of}
 use Rattle.mvt_edit_lists.proofs.set_id.identifying.Goals as goal
 
 pub returns : goal.returns
-returns c = rw (← c.as_slice.ensures) (c.in_ok-run.ensures.puts (FeatureStep c.args.layer c.args.item))
+returns c =
+    let run = c.in_ok-run.run' in
+    rw (← c.as_slice.ensures) (record { index = run.index; taken = run.take; put = map field_of run.put.items; parts = refl; replaces = c.in_ok-run.ensures.puts })
