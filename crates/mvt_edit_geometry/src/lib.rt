@@ -4,3 +4,6 @@
 //!   change that carries it out, and a refused one the first of its refusals, by the definition
 //!   `Prepares`: `shift`, `set_geometry`.
 #![tactic(auto)]
+
+pub mod set_geometry;
+pub mod shift;
