@@ -7,11 +7,13 @@ import os
 from pathlib import Path
 
 import peers
+from generate import LAYERS
 from measure import (COUNTED_MILLISECONDS, RUNS, RUNS_OF_LARGE, Program, costliest, count_instructions, measure,
                      measure_alone, run_once, script_of)
 from report import Kept, Listed, Result, comparison, endings, growth, instructions, memory, put_section, shown, table, time
 from sessions import sessions, stepped
-from targets import ATTRIBUTES, EMPTY, EXCLUDED, IDS, JOB, KEPT, MANY, OURS, UNTAGGED, session_targets, targets, verdicts
+from targets import (ATTRIBUTES, EMPTY, EXCLUDED, IDS, JOB, KEPT, MANY, OURS, SHIFTS, UNTAGGED, session_targets, targets,
+                     verdicts)
 from tiles import LARGE, MEBIBYTE, alternating_layers, generated_tiles, real_tiles, smallest_map, smallest_maps
 
 RESULTS = peers.HERE / "RESULTS.md"
@@ -27,13 +29,14 @@ JOBS = {
     "one layer dropped": 'drop-layer "{layer}"\n',
     IDS: "".join(f'set-id "{{layer}}" {turn % 100} {10**9 + turn}\n' for turn in range(1000)),
     ATTRIBUTES: "".join(f'set "{{layer}}" {turn % 100} "new" uint {10**9 + turn}\n' for turn in range(1000)),
+    SHIFTS: "".join(f'shift "{name}" {feature} -30 3\n' for feature in range(100) for name in LAYERS),
     EXCLUDED: 'exclude * "key:0"\n',
     UNTAGGED: "exclude-all *\n",
 }
 
 # Jobs that are left out on a large tile, and jobs of the smallest map alone.
-LONG_JOBS = [MANY, IDS, ATTRIBUTES]
-SMALL_JOBS = [IDS, ATTRIBUTES]
+LONG_JOBS = [MANY, IDS, ATTRIBUTES, SHIFTS]
+SMALL_JOBS = [IDS, ATTRIBUTES, SHIFTS]
 
 # The jobs of tiles of one kind, which have no others: all features of the one have the key that goes. protobuf loses an empty packed field, where it is not to go.
 JOBS_OF_KIND = {"common key": [EMPTY, EXCLUDED], "empty tags": [UNTAGGED]}

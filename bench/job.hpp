@@ -57,7 +57,7 @@ inline bool is_among(const std::string& name, const std::vector<std::string>& na
 
 // Carries out a script on a tile, and answers each line. A tile has `layer_named`, which gives a layer or none,
 // `keep_layers`, which keeps those whose name passes, and `exclude` and `exclude_all` over all layers; a layer has
-// `name`, `set_name`, `set_id` and `set_number`, which gives a feature a number as an attribute.
+// `name`, `set_name`, `set_id`, `set_number`, which gives a feature a number as an attribute, and `shift`.
 template <typename Tile>
 class Script {
 public:
@@ -104,6 +104,10 @@ private:
             LayerPointer layer = tile_.layer_named(words.at(1));
             return layer != nullptr && words.at(4) == "uint"
                 && layer->set_number(std::stoul(words.at(2)), words.at(3), std::stoul(words.at(5)));
+        }
+        if (request == "shift") {
+            LayerPointer layer = tile_.layer_named(words.at(1));
+            return layer != nullptr && layer->shift(std::stoul(words.at(2)), std::stol(words.at(3)), std::stol(words.at(4)));
         }
         if (request == "exclude" && words.at(1) == "*") {
             return tile_.exclude(words.at(2));

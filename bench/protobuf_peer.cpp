@@ -1,8 +1,14 @@
-// Does the benchmark's jobs with protobuf: the tile is parsed into its messages, layers, ids and
-// attributes change, and the messages are serialized.
+// Does the benchmark's jobs with protobuf: the tile is parsed into its messages, layers, ids,
+// attributes and geometries change, and the messages are serialized.
 
 #include "job.hpp"
 #include "vector_tile.pb.h"
+
+// The way of this ZigZag that leads so much further, as a ZigZag.
+static std::uint32_t further(std::uint32_t way, std::int64_t by) {
+    const std::int64_t sum = (static_cast<std::int64_t>(way >> 1U) ^ -static_cast<std::int64_t>(way & 1U)) + by;
+    return static_cast<std::uint32_t>(sum >= 0 ? 2 * sum : -2 * sum - 1);
+}
 
 class Layer {
 public:
@@ -41,6 +47,20 @@ public:
         }
         tags.Add(key_ordinal);
         tags.Add(value_ordinal);
+        return true;
+    }
+
+    // Whether there is such a feature, and it has a point. The ways to its first point lead so much further.
+    bool shift(std::size_t ordinal, std::int64_t dx, std::int64_t dy) {
+        if (ordinal >= static_cast<std::size_t>(layer_->features_size())) {
+            return false;
+        }
+        auto& geometry = *layer_->mutable_features(static_cast<int>(ordinal))->mutable_geometry();
+        if (geometry.size() < 3) {
+            return false;
+        }
+        geometry[1] = further(geometry[1], dx);
+        geometry[2] = further(geometry[2], dy);
         return true;
     }
 

@@ -62,6 +62,10 @@ public:
         return false;
     }
 
+    bool shift(std::size_t, std::int64_t, std::int64_t) const {
+        return false;
+    }
+
     void drop() {
         is_dropped_ = true;
     }

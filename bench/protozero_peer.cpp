@@ -1,5 +1,6 @@
 // Does the benchmark's jobs with protozero: every field of the tile, of its layers and of their
-// features becomes a value of its own, layers, ids and attributes change, and the values are written in order.
+// features becomes a value of its own, layers, ids, attributes and geometries change, and the values are written in
+// order.
 
 #include "job.hpp"
 #include "protozero_peer.hpp"
@@ -13,6 +14,7 @@ constexpr pbf_tag_type layer_key = 3;
 constexpr pbf_tag_type layer_value = 4;
 constexpr pbf_tag_type feature_id = 1;
 constexpr pbf_tag_type feature_tags = 2;
+constexpr pbf_tag_type feature_geometry = 4;
 constexpr pbf_tag_type value_uint = 5;
 
 // Room for the lengths of messages that are not ended, and for a longer name.
@@ -30,6 +32,11 @@ struct Field {
     pbf_tag_type tag;
     std::variant<std::uint64_t, Fixed64, Fixed32, std::string> body;
 };
+
+// The way of this ZigZag that leads so much further, as a ZigZag.
+static std::uint64_t further(std::uint64_t way, std::int64_t by) {
+    return protozero::encode_zigzag64(protozero::decode_zigzag64(way) + by);
+}
 
 // Calls `see` with the key and the value of each pair of packed tags, and with the pair's bytes.
 template <typename See>
@@ -50,6 +57,11 @@ struct Feature {
     // The packed tags of a field, or none.
     static std::string* tags_in(Field& field) {
         return field.tag == feature_tags ? std::get_if<std::string>(&field.body) : nullptr;
+    }
+
+    // The packed geometry of a field, or none.
+    static std::string* geometry_in(Field& field) {
+        return field.tag == feature_geometry ? std::get_if<std::string>(&field.body) : nullptr;
     }
 
     // Takes out the pairs of the keys that are marked, and the fields that lost all of theirs.
@@ -109,6 +121,27 @@ struct Feature {
         fields.push_back({feature_tags, std::move(fresh)});
     }
 
+    // Whether it has a packed geometry. The ways to its first point lead so much further.
+    bool shift(std::int64_t dx, std::int64_t dy) {
+        for (Field& field : fields) {
+            std::string* geometry = geometry_in(field);
+            if (geometry == nullptr) {
+                continue;
+            }
+            const char* at = geometry->data();
+            const char* const end = at + geometry->size();
+            std::string moved;
+            moved.reserve(geometry->size() + 10);
+            protozero::add_varint_to_buffer(&moved, protozero::decode_varint(&at, end));
+            protozero::add_varint_to_buffer(&moved, further(protozero::decode_varint(&at, end), dx));
+            protozero::add_varint_to_buffer(&moved, further(protozero::decode_varint(&at, end), dy));
+            moved.append(at, end);
+            *geometry = std::move(moved);
+            return true;
+        }
+        return false;
+    }
+
     // Whether it has an id. The last one gets the number.
     bool set_id(std::uint64_t id) {
         const auto last = std::find_if(fields.rbegin(), fields.rend(), [](const Field& field) {
@@ -157,6 +190,12 @@ struct Layer {
     bool set_id(std::size_t ordinal, std::uint64_t id) {
         Feature* found = feature(ordinal);
         return found != nullptr && found->set_id(id);
+    }
+
+    // Whether there is such a feature, and it has a geometry.
+    bool shift(std::size_t ordinal, std::int64_t dx, std::int64_t dy) {
+        Feature* found = feature(ordinal);
+        return found != nullptr && found->shift(dx, dy);
     }
 
     // Whether there is such a feature. It gets the number as the value of the key.

@@ -9,6 +9,7 @@ MANY = "1,000 renames and undos"
 KEPT = "one layer kept"
 IDS = "1,000 ids set"
 ATTRIBUTES = "1,000 attributes set"
+SHIFTS = "1,000 shifts"
 EXCLUDED = "one key excluded"
 UNTAGGED = "all attributes excluded"
 
@@ -46,7 +47,8 @@ def targets(results, lists, kept):
         (f"{large.tile.name}, in any job but {UNTAGGED}: peak memory to the tile", highest_peak(results, large.tile), 3.7),
         *((f"{result.tile.name}, {MANY}: time to protozero's", time_to(result, "protozero"), 2.5)
           for result in results if result.job == MANY and result.tile in [small.tile, *real(results)]),
-        (f"{small.tile.name}, {ATTRIBUTES}: time to protozero's", time_to(of_job(results, small.tile, ATTRIBUTES), "protozero"), 3),
+        *((f"{small.tile.name}, {job}: time to protozero's", time_to(of_job(results, small.tile, job), "protozero"), 3)
+          for job in (ATTRIBUTES, SHIFTS)),
         (f"{small.tile.name} to {large.tile.name}, {JOB}: exponent of time",
          exponent(small, large, OURS, time), 1 + NOISE),
         *((f"{each.tile.name}, its largest layer listed: time to that of reading", each.ratio, 2)

@@ -6,9 +6,9 @@
 ghost use Rattle.std.specs.Prelude.{◌≤◌};
 
 use crate::scripts::{
-    ATTRIBUTES, BACK_OVER_STEPS, CANCELLED_KEEPS, CANCELLED_STEP, FEATURES, FLOOR, ID_SET_TWICE,
-    IDS_APART, IDS_CLEARED, IDS_LISTED, KEPT_LAYERS, LAYERS, LISTINGS, MARKS, ON_OVER_STEPS,
-    RENAME_AND_UNDO, SIZES, STEP, TWO_MARKS,
+    ATTRIBUTES, BACK_OVER_STEPS, CANCELLED_KEEPS, CANCELLED_STEP, FEATURES, FLOOR, GEOMETRIES,
+    ID_SET_TWICE, IDS_APART, IDS_CLEARED, IDS_LISTED, KEPT_LAYERS, LAYERS, LISTINGS, MARKS,
+    ON_OVER_STEPS, RENAME_AND_UNDO, SIZES, STEP, TWO_MARKS,
 };
 use std::fmt;
 use std::io::{self, Cursor};
@@ -28,6 +28,7 @@ pub enum Script {
     KeptLayers,
     Features,
     Attributes,
+    Geometries,
     Marks,
     TwoMarks,
     Step,
@@ -40,7 +41,7 @@ pub enum Script {
     Floor,
 }
 
-const SCRIPTS: [Script; 17] = [
+const SCRIPTS: [Script; 18] = [
     Script::RenameAndUndo,
     Script::Listings,
     Script::IdsListed,
@@ -48,6 +49,7 @@ const SCRIPTS: [Script; 17] = [
     Script::KeptLayers,
     Script::Features,
     Script::Attributes,
+    Script::Geometries,
     Script::Marks,
     Script::TwoMarks,
     Script::Step,
@@ -79,6 +81,7 @@ impl Script {
             Script::KeptLayers => "kept-layers",
             Script::Features => "features",
             Script::Attributes => "attributes",
+            Script::Geometries => "geometries",
             Script::Marks => "marks",
             Script::TwoMarks => "two-marks",
             Script::Step => "step",
@@ -101,6 +104,7 @@ impl Script {
             Script::KeptLayers => KEPT_LAYERS,
             Script::Features => FEATURES,
             Script::Attributes => ATTRIBUTES,
+            Script::Geometries => GEOMETRIES,
             Script::Marks => MARKS,
             Script::TwoMarks => TWO_MARKS,
             Script::Step => STEP,

@@ -70,6 +70,19 @@ undo
 size
 ";
 
+/// A feature gets other geometries, and one moves.
+pub const GEOMETRIES: &str = "\
+set-geometry #0 0 line 2,2 2,10 10,10 / 1,1 3,5
+shift \"a\" @1 -30 3
+list #0 0
+set-geometry #0 0 point 25,17
+shift #0 0 2147483647 0
+undo
+undo
+undo
+redo
+";
+
 pub const MARKS: &str = "\
 mark \"m\"
 rename-layer #0 \"b\"

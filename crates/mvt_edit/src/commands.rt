@@ -6,6 +6,8 @@ ghost use Rattle.mvt_edit_steps.specs.Prepared.{Prepares};
 
 use mvt_change::Change;
 use mvt_document::Document;
+use mvt_edit_geometry::set_geometry::set_geometry;
+use mvt_edit_geometry::shift::shift;
 use mvt_edit_lists::clear_id::clear_id;
 use mvt_edit_lists::drop_feature::drop_feature;
 use mvt_edit_lists::drop_layer::drop_layer;
@@ -70,5 +72,16 @@ pub fn prepare(alloc: Global, document: &Document, command: &Command) -> Result<
         ),
         Command::Exclude { layers, key } => exclude(alloc, document, layers, key.as_slice()),
         Command::ExcludeAll { layers } => exclude_all(alloc, document, layers),
+        Command::Shift {
+            layer,
+            feature,
+            dx,
+            dy,
+        } => shift(alloc, document, layer, feature, *dx, *dy),
+        Command::SetGeometry {
+            layer,
+            feature,
+            geometry,
+        } => set_geometry(alloc, document, layer, feature, geometry),
     }
 }

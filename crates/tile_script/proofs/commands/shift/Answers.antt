@@ -1,0 +1,17 @@
+use Rattle.std.proofs.Common.{◌≤◌, ◌<◌, ◌∙◌, Err, ap, length, map, subst, sym, arith}
+use Rattle.std.proofs.lemmas.Result.{err_from_is_err_and}
+use Rattle.mvt_command.specs.CommandStands.{command_of}
+use Rattle.tile_words.specs.Answers.{Gives}
+use Rattle.tile_words.specs.WordStands.{word_of}
+use Rattle.tile_script.specs.Commands.{shift_of}
+use Rattle.tile_script.proofs.ShiftRefusals.{along_refused}
+use Rattle.tile_script.proofs.commands.shift.Goals as goal
+
+pub returns-in_err-dx-clause-answer : goal.returns-in_err-dx-clause-answer
+returns-in_err-dx-clause-answer c =
+    let words = c.args.arguments.now in
+    let low : 4 ≤ length words = omega arith in
+    let high : length words < 5 = omega arith in
+    let p = err_from_is_err_and c.from_residual-in_err-dx.result c.from_residual-in_err-dx.ensures.1 in
+    subst (λ answer. Gives command_of answer (shift_of (map word_of words))) (sym (p.1 ∙ ap Err p.2))
+    (along_refused words _ _ _ _ c.in_err-dx.field-0.0 low high c.in_ok-layer.ensures c.in_err-dx.ensures)
