@@ -1,5 +1,5 @@
 -- Whether a file can hold a tile once the fields of one feature are changed, where their size is told.
-use Rattle.std.proofs.Common.{◌≡◌, ℕ, ◌≤◌, Bool, not, Option, Some, List, [], ◌++◌, length, nat_lt, slice_get, append-nil, refl, ap, arith}
+use Rattle.std.proofs.Common.{◌≡◌, ℕ, Bool, not, Option, Some, List, [], ◌++◌, length, nat_lt, slice_get, append-nil, refl, ap, arith}
 use Rattle.std.specs.List.{flat_map}
 use Rattle.std.specs.Option.{IfSome}
 use Rattle.mvt_document.proofs.Sizes.{told_so}

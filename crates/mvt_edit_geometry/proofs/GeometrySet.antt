@@ -1,5 +1,5 @@
 -- What the steps come to that give a feature another geometry.
-use Rattle.std.proofs.Common.{◌≡◌, ℕ, ◌+◌, ◌-◌, ◌*◌, ◌≤◌, true, false, not, Option, Some, Ok, Err, List, [], ◌∷◌, ◌++◌, length, map, filter, nat_lt, option_map, slice_get, append-nil, refl, sym, ap, ◌∙◌, subst, ◌⊎◌, inl, inr, arith}
+use Rattle.std.proofs.Common.{◌≡◌, ℕ, ◌+◌, ◌-◌, ◌*◌, ◌≤◌, true, false, Some, Ok, Err, List, [], ◌∷◌, ◌++◌, length, map, filter, nat_lt, option_map, slice_get, append-nil, refl, sym, ap, ◌∙◌, subst, ◌⊎◌, inl, inr, arith}
 use Rattle.std.proofs.lemmas.Bool.{false_from_ne_true}
 use Rattle.std.proofs.lemmas.List.{length-map}
 use Rattle.std.specs.List.{AllByRecursion, flat_map}
