@@ -47,11 +47,5 @@ fn identifying(
         (feature_of feature.now).fields (identified id (feature_of feature.now).fields) (step_of step)) }
 {
     let run = number_put(alloc, feature.fields.as_slice(), ID_TAG, id)?;
-    Ok(Step::InFeature {
-        layer,
-        item,
-        index: run.index,
-        take: run.take,
-        put: Items::from_vec(run.put),
-    })
+    Ok(run.in_feature(layer, item))
 }

@@ -153,9 +153,9 @@ pub fn put_once<T: Drop, P: Fn(&T) -> bool, S: Fn(Run<T>) -> Step>(
     let mut walk = Walk::first();
     let mut left = Some(new);
     for index in 0..items.len() {
-        let (fate, behind) = once(passes(&items[index]), left);
+        let (fate, rest) = once(passes(&items[index]), left);
         walk = walk.pass(alloc, fate, &step, steps)?;
-        left = behind;
+        left = rest;
     }
     walk.end(&step, steps)?;
     put_step(end_run(alloc, left, end)?, &step, steps)?;
