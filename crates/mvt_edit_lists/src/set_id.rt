@@ -14,7 +14,7 @@ ghost use Rattle.mvt_edit_steps.specs.PutsLast.{PutsLast};
 
 use mvt_change::{Change, Step};
 use mvt_document::tags::ID_TAG;
-use mvt_document::{Document, Feature, Items};
+use mvt_document::{Document, Feature};
 use mvt_edit_steps::{number_put, one_step_within_limit};
 use mvt_select::{FeatureChoice, LayerChoice, Refusal, find_feature, find_layer};
 use std::alloc::{AllocError, Global};
