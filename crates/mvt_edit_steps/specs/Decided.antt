@@ -11,6 +11,6 @@ abbrev pub field_fates : ℕ → List (Option ℕ) → List Field → List (Fate
 field_fates number decisions [] = []
 field_fates number decisions (field ∷ more) = field_fate number decisions field ∷ field_fates number (drop (length (field_numbers number field)) decisions) more
 
--- where the bytes before are as many as is told, what is told then is how many these and so many more are
+-- where a number of bytes was told rightly, and so many come behind them, the number that is told then is right too
 abbrev pub IsSizeBeside : Option ℕ → ℕ → Option ℕ → Type 0
 IsSizeBeside beside more told = (before : ℕ) → IsFileSize beside before → IsFileSize told (before + more)
