@@ -1,7 +1,9 @@
 //! The geometry of a feature moves.
 
-ghost use Rattle.std.specs.Prelude.{◌≡◌, ◌⊎◌, ℕ, true, false, List, ◌∷◌, Some, IfErr, IfOk, IfSome, is_some, length, map, option_map};
+ghost use Rattle.std.specs.Prelude.{◌≡◌, ◌⊎◌, true, false, IfErr, IfOk, IfSome, drop, is_some, length, map, option_map, slice_get};
 ghost use Rattle.std.specs.List.{flat_map};
+ghost use Rattle.std.specs.Option.{option_and_then};
+ghost use Rattle.std.specs.Result.{result_ok};
 ghost use Rattle.mvt_document.specs.Signed.{zigzag};
 ghost use Rattle.mvt_document.specs.Stands.{document_of, feature_of, field_of};
 ghost use Rattle.mvt_document.specs.Wire.{field_bytes};
@@ -12,7 +14,6 @@ ghost use Rattle.mvt_change.specs.ChangeStands.{step_of};
 ghost use Rattle.mvt_change.specs.FileSizes.{IsFileSize};
 ghost use Rattle.mvt_command.specs.Command.{Shift};
 ghost use Rattle.mvt_command.specs.CommandStands.{feature_choice_of, layer_choice_of};
-ghost use Rattle.mvt_view.specs.Attributes.{values_in};
 ghost use Rattle.mvt_view.specs.Seen.{feature_seen};
 ghost use Rattle.mvt_meaning.specs.Geometries.{can_move, further, geometry_among, moves};
 ghost use Rattle.mvt_meaning.specs.declared.refusal.Refusal.TheVariants.{BadGeometry, NoMemory};
@@ -89,7 +90,8 @@ fn decide(feature: FeatureView<'_>, dx: i64, dy: i64) -> Option<[Option<u64>; 3]
 
 /// The value of the next number, where there is one.
 fn next_value(numbers: &mut Numbers<'_>) -> Option<u64>
-    ensures { (value : ℕ) (more : List ℕ) → values_in numbers.old ≡ Some (value ∷ more) → (result ≡ Some value) × (values_in numbers.new ≡ Some more) }
+    ensures value { result ≡ option_map (λ p. p.number.value) (option_and_then result_ok (slice_get numbers.old 0)) }
+    ensures behind { numbers.new ≡ drop 1 numbers.old }
 {
     match numbers.next()? {
         Ok(number) => Some(number.varint.value),
