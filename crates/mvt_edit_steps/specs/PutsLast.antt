@@ -15,7 +15,7 @@ pub record ReplacesLast {A : Type 0} (valid : A → Type 0) (bytes : A → List 
   pub puts : length (flat_map bytes put) ≡ weigh_last bytes passes after
   pub takes : length (flat_map bytes (part index taken items)) ≡ weigh_last bytes passes items
 
--- the step does so
+-- the step exchanges a part of `items` so, and makes `after` of them
 pub record PutsLast {A : Type 0} (valid : A → Type 0) (bytes : A → List ℕ) (passes : A → Bool) (step_with : ℕ → ℕ → List A → Step) (items after : List A) (step : Step) : Type 0 where
   pub index : ℕ
   pub taken : ℕ
