@@ -1,2 +1,3 @@
+pub mod FeatureFits
 mod FirstMoved
 mod Shifted
