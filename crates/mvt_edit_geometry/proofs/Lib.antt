@@ -1,3 +1,4 @@
+pub mod FeatureFits
 mod FirstMoved
 mod Shifted
 pub mod Drawn

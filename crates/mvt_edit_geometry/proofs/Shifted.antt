@@ -1,13 +1,10 @@
 -- What the steps come to by which the geometry of a feature moves, and what is refused of it.
-use Rattle.std.proofs.Common.{◌≡◌, ℕ, true, false, ℤ, is_some, Option, Some, Ok, Err, List, [], ◌++◌, length, map, nat_lt, slice_get, append-nil, refl, sym, ap, ◌∙◌, subst, arith}
-use Rattle.std.specs.List.{flat_map}
+use Rattle.std.proofs.Common.{◌≡◌, ℕ, true, false, ℤ, is_some, Some, Ok, Err, length, map, nat_lt, slice_get, refl, sym, ap, ◌∙◌, arith}
 use Rattle.mvt_document.specs.declared.TheConstants.{MAX_FILE}
-use Rattle.mvt_document.specs.Lists.{change_at}
-use Rattle.mvt_document.specs.Places.{change_fields, in_feature}
-use Rattle.mvt_document.specs.Plain.{Field, Feature, LayerItem, OfFeature, Layer, OfLayer, Document}
-use Rattle.mvt_document.specs.Wire.{bytes_of, layer_item_bytes}
+use Rattle.mvt_document.specs.Places.{change_fields}
+use Rattle.mvt_document.specs.Plain.{Feature, OfFeature, Layer, OfLayer, Document}
+use Rattle.mvt_document.specs.Wire.{bytes_of}
 use Rattle.mvt_change.specs.Changes.{Change}
-use Rattle.mvt_change.specs.FileSizes.{IsFileSize}
 use Rattle.mvt_command.specs.Command.{LayerChoice, FeatureChoice, Shift}
 use Rattle.mvt_meaning.specs.Geometries.{can_move, geometry_among, moves, shifted}
 use Rattle.mvt_meaning.specs.Meaning.{applied, can_shift, fields_of, is_drawn, within_limit}
@@ -21,20 +18,6 @@ use Rattle.mvt_edit_steps.specs.Prepared.{IsPrepared}
 use Rattle.mvt_edit_steps.proofs.Carrying.{in_feature_at}
 use Rattle.mvt_edit_steps.proofs.FeatureRenumbered.{renumbers}
 use Rattle.mvt_edit_steps.proofs.FieldsLeft.{FieldsLeft}
-
--- ---- the size of the items where the fields of one feature change
-
-pub no_bytes : IsFileSize (Some 0) 0
-no_bytes = (omega arith, refl)
-
--- the items of a layer, where the fields of the feature at this position change
-abbrev pub changed_in : (List Field → List Field) → ℕ → List LayerItem → List LayerItem
-changed_in change item items = change_at (in_feature change) item items
-
-pub none_behind : (told : Option ℕ) (items : List LayerItem) → IsFileSize told (length (flat_map layer_item_bytes (items ++ []))) → IsFileSize told (length (flat_map layer_item_bytes items))
-none_behind told items size = subst (λ list. IsFileSize told (length (flat_map layer_item_bytes list))) (append-nil items) size
-
--- ---- the command
 
 module _ (choice : LayerChoice) (dx dy : ℤ) (document : Document) (ordinal position : ℕ) (layer : Layer) (chosen : selected choice document ≡ Ok ordinal) (placed : slice_get (layer_positions document) ordinal ≡ Some position) (there : slice_get document position ≡ Some (OfLayer layer)) where
   -- where no feature is meant

@@ -1,4 +1,4 @@
-use Rattle.std.proofs.Common.{◌≡◌, is_some, Err, [], length, map, nat_lt, inl, inr, sym, ap, ◌∙◌, subst, w64}
+use Rattle.std.proofs.Common.{◌≡◌, is_some, Err, length, map, nat_lt, inl, inr, sym, ap, ◌∙◌, subst, w64}
 use Rattle.std.proofs.lemmas.Bool.{not-false, not-true}
 use Rattle.std.proofs.lemmas.Int.{to_z-of_z}
 use Rattle.std.proofs.lemmas.Result.{err_from_is_err_and}
@@ -8,11 +8,10 @@ use Rattle.mvt_document.specs.declared.TheConstants.{MAX_FILE}
 use Rattle.mvt_document.specs.Places.{change_fields}
 use Rattle.mvt_document.specs.Plain.{Feature}
 use Rattle.mvt_document.specs.Stands.{document_of, feature_of, layer_of}
-use Rattle.mvt_document.specs.Wire.{bytes_of, field_bytes, layer_item_bytes}
+use Rattle.mvt_document.specs.Wire.{bytes_of, field_bytes}
 use Rattle.mvt_numbers.specs.Renumbering.{renumber}
 use Rattle.mvt_change.specs.ChangeStands.{step_of}
 use Rattle.mvt_change.specs.FileSizes.{IsFileSize}
-use Rattle.mvt_change.proofs.Resized.{fields_there, items_there}
 use Rattle.mvt_command.specs.CommandStands.{feature_choice_of, layer_choice_of}
 use Rattle.mvt_view.specs.Seen.{feature_seen}
 use Rattle.mvt_meaning.specs.Geometries.{can_move, moves, shifted}
@@ -23,7 +22,8 @@ use Rattle.mvt_edit_steps.specs.Fates.{splices_of}
 use Rattle.mvt_edit_steps.proofs.Carrying.{in_feature_at}
 use Rattle.mvt_edit_steps.proofs.FieldsLeft.{fields_left}
 use Rattle.mvt_edit_steps.proofs.Refusing.{none_refused, some_found}
-use Rattle.mvt_edit_geometry.proofs.Shifted.{changed_in, no_bytes, no_feature_moves, none_behind, not_drawn, shift_made, shift_too_large, too_far}
+use Rattle.mvt_edit_geometry.proofs.FeatureFits.{told_by_fields}
+use Rattle.mvt_edit_geometry.proofs.Shifted.{no_feature_moves, not_drawn, shift_made, shift_too_large, too_far}
 use Rattle.mvt_edit_geometry.proofs.shift.shift.Goals as goal
 
 pub returns-in_err-found : goal.returns-in_err-found
@@ -76,9 +76,7 @@ returns-then-not-fits_with_items c =
     let can = sym (ap (λ (f : Feature). can_move dx dy f.fields) c.view.ensures) ∙ sym able ∙ ap (λ o. is_some o) there in
     let decided = subst (λ o. IfSome o (λ decisions. decisions ≡ moves dx dy (feature_seen c.view.result).fields)) there (rw (to_z-of_z w64 dx c.ranges.dx, to_z-of_z w64 dy c.ranges.dy) at c.decide.ensures.decided) ∙ ap (λ (f : Feature). moves dx dy f.fields) c.view.ensures in
     let size = subst (λ decisions. IsFileSize c.in_ok-steps.fields (length (flat_map field_bytes (renumber 4 decisions feature.fields)))) decided c.in_ok-steps.ensures.size in
-    let behind = c.size_with_fields-items.ensures (shifted dx dy) [] (fields_there found.position layer.items feature (λ old. IsFileSize c.in_ok-steps.fields (length (flat_map field_bytes (shifted dx dy old)))) here.there size) no_bytes in
-    let items = none_behind c.size_with_fields-items.result (changed_in (shifted dx dy) found.position layer.items) behind in
-    let told = c.fits_with_items.ensures (changed_in (shifted dx dy) found.position) (items_there holder.position document layer (λ old. IsFileSize c.size_with_fields-items.result (length (flat_map layer_item_bytes (changed_in (shifted dx dy) found.position old)))) is.there items) in
+    let told = told_by_fields document holder.position found.position layer feature is.there here.there (shifted dx dy) c.in_ok-steps.fields c.size_with_fields-items.result c.fits_with_items.result size c.size_with_fields-items.ensures c.fits_with_items.ensures in
     inr (shift_too_large (layer_choice_of c.args.choice.now) dx dy document holder.ordinal holder.position layer is.meant is.placed is.there (feature_choice_of c.args.feature.now) found.ordinal found.position feature here.meant here.placed here.there c.in_ok-check.ensures.drawn can (not-false (nat_lt MAX_FILE (length (bytes_of (change_fields (shifted dx dy) holder.position found.position document)))) (sym told ∙ c.if-not-fits_with_items.true)))
 
 pub returns : goal.returns
@@ -98,9 +96,7 @@ returns c =
     let can = sym (ap (λ (f : Feature). can_move dx dy f.fields) c.view.ensures) ∙ sym able ∙ ap (λ o. is_some o) there in
     let decided = subst (λ o. IfSome o (λ decisions. decisions ≡ moves dx dy (feature_seen c.view.result).fields)) there (rw (to_z-of_z w64 dx c.ranges.dx, to_z-of_z w64 dy c.ranges.dy) at c.decide.ensures.decided) ∙ ap (λ (f : Feature). moves dx dy f.fields) c.view.ensures in
     let size = subst (λ decisions. IsFileSize c.in_ok-steps.fields (length (flat_map field_bytes (renumber 4 decisions feature.fields)))) decided c.in_ok-steps.ensures.size in
-    let behind = c.size_with_fields-items.ensures (shifted dx dy) [] (fields_there found.position layer.items feature (λ old. IsFileSize c.in_ok-steps.fields (length (flat_map field_bytes (shifted dx dy old)))) here.there size) no_bytes in
-    let items = none_behind c.size_with_fields-items.result (changed_in (shifted dx dy) found.position layer.items) behind in
-    let told = c.fits_with_items.ensures (changed_in (shifted dx dy) found.position) (items_there holder.position document layer (λ old. IsFileSize c.size_with_fields-items.result (length (flat_map layer_item_bytes (changed_in (shifted dx dy) found.position old)))) is.there items) in
+    let told = told_by_fields document holder.position found.position layer feature is.there here.there (shifted dx dy) c.in_ok-steps.fields c.size_with_fields-items.result c.fits_with_items.result size c.size_with_fields-items.ensures c.fits_with_items.ensures in
     let left = fields_left 4 (moves dx dy feature.fields) found.feature.now.fields.items (moves_short dx dy feature.fields drawn can) in
     shift_made (layer_choice_of c.args.choice.now) dx dy document holder.ordinal holder.position layer is.meant is.placed is.there (feature_choice_of c.args.feature.now) found.ordinal found.position feature here.meant here.placed here.there drawn can
     (not-true (nat_lt MAX_FILE (length (bytes_of (change_fields (shifted dx dy) holder.position found.position document)))) (sym told ∙ c.if-not-fits_with_items.false)) left _
