@@ -1,5 +1,5 @@
 -- A line that shifts a geometry is refused for its way along x where that is the first argument that is.
-use Rattle.std.proofs.Common.{◌≡◌, ℕ, ◌<◌, ◌≤◌, List, [], ◌∷◌, length, map, get_or, Ok, Err, refl, inr, arith}
+use Rattle.std.proofs.Common.{◌≡◌, ◌<◌, ◌≤◌, List, [], ◌∷◌, length, map, get_or, Ok, Err, refl, inr, arith}
 use Rattle.mvt_command.specs.Command.{LayerChoice, FeatureChoice}
 use Rattle.tile_arguments.specs.Arguments.{distance_of}
 use Rattle.tile_words.specs.Answers.{Refuses}
