@@ -1,7 +1,6 @@
 -- A change that was carried out leads back, and a change that fits what it makes can follow it.
 use Rattle.std.proofs.Common.{◌≡◌, Bool, true, false, Ok, if◌then◌else◌, ◌++◌, subst, sym, ap, ◌∙◌}
 use Rattle.mvt_wire.specs.Plain.{Document}
-use Rattle.mvt_wire.specs.Opens.{IsDocument}
 use Rattle.mvt_change.specs.Changes.{Change, Fits, go, turn}
 use Rattle.mvt_change.proofs.Turning.{change_makes, fits_joined, go_joined, turned_fits}
 use Rattle.mvt_command.specs.Command.{Command}
