@@ -1,4 +1,3 @@
-pub mod FeatureFits
 mod FirstMoved
 mod Shifted
 pub mod Drawn
