@@ -36,7 +36,10 @@ def words_of(text):
 
 
 def name_of_impl(header):
-    """Returns what the prover calls an impl: its type, and right behind it the trait with its parameters, where it has one."""
+    """Returns what the prover calls an impl: its type, and right behind it the trait with its parameters, where it has one.
+
+    An impl of methods alone has those of its type in place of these, as `Run+Field` of `Run<Field>`.
+    """
     header = header.replace("->", "")
     if header.startswith("<"):
         depth = 0
@@ -48,7 +51,7 @@ def name_of_impl(header):
     header = header.split(" where ")[0].strip()
     trait, found, of_type = header.partition(" for ")
     if not found:
-        return words_of(without_parameters(header))[0]
+        return "+".join(words_of(header))
     return "".join([words_of(without_parameters(of_type))[-1], *words_of(trait)])
 
 
@@ -84,7 +87,7 @@ def functions_in(text, file, above, homes):
                 first = number
                 while lines[first - 2].startswith(indent + "#["):
                     first -= 1
-                path = homes.get(owners[0], above) if len(owners) == 1 else above
+                path = homes.get(owners[0].split("+")[0], above) if len(owners) == 1 else above
                 found.append(Function("::".join([*path, *owners, re.match(r"\s*(\w+)", rest)[1]]), file, first, last))
         elif last > number:
             header = " ".join([rest.strip(), *(it.strip() for it in lines[number:last])]).partition("{")[0].strip()
