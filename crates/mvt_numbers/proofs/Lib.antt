@@ -5,4 +5,5 @@ pub mod Making
 pub mod Reread
 pub mod PackedLeft
 pub mod Redone
+pub mod DecidedTwice
 pub mod FieldFate

@@ -2,7 +2,7 @@
 use Rattle.std.proofs.Common.{◌≡◌, ℕ, zero, suc, ◌+◌, ◌/◌, ◌^◌, ◌<◌, ◌≤◌, true, max, List, [], ◌∷◌, ◌++◌, length, map, drop, Option, Some, None, Result, eqb, refl, sym, ap, ◌∙◌, subst, arith}
 use Rattle.std.specs.Prelude.{IfSome}
 use Rattle.std.specs.Option.{unwrap_or}
-use Rattle.std.specs.List.{flat_map, cons_option, AllByRecursion}
+use Rattle.std.specs.List.{flat_map, cons_option, zip, AllByRecursion}
 use Rattle.std.proofs.lemmas.Bool.{cond-true, cond_both, eq-eqb}
 use Rattle.std.proofs.lemmas.List.{append-nil, map-append, length-append, length-map, drop_at}
 use Rattle.std.proofs.lemmas.List.Concat.{flat_map-append}
@@ -15,7 +15,7 @@ use Rattle.mvt_document.proofs.Spelling.{minimal_spelling, length-spell, width_w
 use Rattle.mvt_numbers.specs.Numbers.{Placed, pieces, unpacked, numbers_of, all_good}
 use Rattle.mvt_numbers.specs.Renumbering.{with_number, decided, renumbered, with_numbers, field_numbers, with_left, renumbered_field, renumber}
 use Rattle.mvt_numbers.specs.Deciding.{packed_numbers, packed_field}
-use Rattle.mvt_numbers.specs.Laws.{spellings, AreNumbers, AreShort, keeping, NoneIsNew, LeftIsRead, KeptStays, FieldNoLonger, NoLonger, OthersStay, StaysValid}
+use Rattle.mvt_numbers.specs.Laws.{spellings, AreNumbers, AreShort, keeping, NoneIsGreater, NoneIsNew, LeftIsRead, KeptStays, FieldNoLonger, LowerNoLonger, NoLonger, OthersStay, StaysValid}
 use Rattle.mvt_numbers.proofs.Pieces.{found_spelled}
 use Rattle.mvt_numbers.proofs.Decisions.{plain_numbers, packed-spellings, renumbered-none, renumbered_more, renumbered-no_more, with_number-same, all_joined}
 use Rattle.mvt_numbers.proofs.Reread.{found_in, both_found, both_some, field_read, fields_read, fields_read-append, read_is}
@@ -37,7 +37,7 @@ renumbered-append (decision ∷ decisions) (x ∷ xs) ys =
 
 -- ---- decided numbers are numbers
 
-all_dropped : {A : Type 0} (P : A → Type 0) (n : ℕ) (xs : List A) → AllByRecursion P xs → AllByRecursion P (drop n xs)
+pub all_dropped : {A : Type 0} (P : A → Type 0) (n : ℕ) (xs : List A) → AllByRecursion P xs → AllByRecursion P (drop n xs)
 all_dropped P zero xs p = p
 all_dropped P (suc n) [] p = p
 all_dropped P (suc n) (x ∷ xs) p = all_dropped P n xs p.1
@@ -192,19 +192,47 @@ kept_stays number (field ∷ more) =
 
 -- ---- a field gets no longer
 
-cons_shorter : (decision : Option ℕ) (number : Number) (list : List Number) → IfSome decision (λ value. value ≡ number.value) → length (flat_map spelling (cons_option (decided (decision, number)) list)) ≤ length (spelling number) + length (flat_map spelling list)
-cons_shorter None number list kept = omega arith
-cons_shorter (Some value) number list kept =
-    let same : with_number value number ≡ number = with_number-same value number (sym kept) in
-    omega (arith, length-append (spelling (with_number value number)) (flat_map spelling list), ap (λ (n : Number). length (spelling n)) same)
+-- each of the numbers that is decided on is spelled in no more bytes then, or goes
+abbrev NoneIsWider : List (Option ℕ) → List Number → Type 0
+NoneIsWider decisions numbers = AllByRecursion (λ (p : Option ℕ × Number). IfSome p.0 (λ value. (with_number value p.1).width ≤ p.1.width)) (zip decisions numbers)
 
--- the spellings of numbers that keep their values or go are no longer
-shorter : (decisions : List (Option ℕ)) (numbers : List Number) → NoneIsNew decisions numbers → length (flat_map spelling (renumbered decisions numbers)) ≤ length (flat_map spelling numbers)
-shorter [] numbers kept = omega arith
-shorter (decision ∷ decisions) [] kept = omega arith
-shorter (decision ∷ decisions) (number ∷ more) kept =
+kept_width : (decision : Option ℕ) (number : Number) → IfSome decision (λ value. value ≡ number.value) → IfSome decision (λ value. (with_number value number).width ≤ number.width)
+kept_width None number kept = tt
+kept_width (Some value) number kept =
+    let same : with_number value number ≡ number = with_number-same value number (sym kept) in
+    omega (arith, ap (λ (n : Number). n.width) same)
+
+kept_widths : (decisions : List (Option ℕ)) (numbers : List Number) → NoneIsNew decisions numbers → NoneIsWider decisions numbers
+kept_widths [] numbers kept = tt
+kept_widths (decision ∷ decisions) [] kept = tt
+kept_widths (decision ∷ decisions) (number ∷ more) kept = (kept_width decision number kept.0, kept_widths decisions more kept.1)
+
+lower_width : (decision : Option ℕ) (number : Number) → IsNumber number → IfSome decision (λ value. value ≤ number.value) → IfSome decision (λ value. (with_number value number).width ≤ number.width)
+lower_width None number valid lower = tt
+lower_width (Some value) number valid lower =
+    cond_both (eqb number.value value) number (minimal value) (λ (n : Number). n.width ≤ number.width)
+    (λ _. omega arith)
+    (λ _. omega (arith, width_within_grows 9 value number.value lower, valid.wide))
+
+lower_widths : (decisions : List (Option ℕ)) (numbers : List Number) → AllByRecursion IsNumber numbers → NoneIsGreater decisions numbers → NoneIsWider decisions numbers
+lower_widths [] numbers valid lower = tt
+lower_widths (decision ∷ decisions) [] valid lower = tt
+lower_widths (decision ∷ decisions) (number ∷ more) valid lower =
+    (lower_width decision number valid.0 lower.0, lower_widths decisions more valid.1 lower.1)
+
+cons_shorter : (decision : Option ℕ) (number : Number) (list : List Number) → IfSome decision (λ value. (with_number value number).width ≤ number.width) → length (flat_map spelling (cons_option (decided (decision, number)) list)) ≤ length (spelling number) + length (flat_map spelling list)
+cons_shorter None number list narrow = omega arith
+cons_shorter (Some value) number list narrow =
+    let new = with_number value number in
+    omega (arith, narrow, length-append (spelling new) (flat_map spelling list), length-spell new.value new.width, length-spell number.value number.width)
+
+-- the spellings of numbers that get no wider or go are no longer
+shorter : (decisions : List (Option ℕ)) (numbers : List Number) → NoneIsWider decisions numbers → length (flat_map spelling (renumbered decisions numbers)) ≤ length (flat_map spelling numbers)
+shorter [] numbers narrow = omega arith
+shorter (decision ∷ decisions) [] narrow = omega arith
+shorter (decision ∷ decisions) (number ∷ more) narrow =
     let e = ap (λ (list : List Number). length (flat_map spelling list)) (renumbered_more decision decisions number more) in
-    omega (arith, e, cons_shorter decision number (renumbered decisions more) kept.0, shorter decisions more kept.1, length-append (spelling number) (flat_map spelling more))
+    omega (arith, e, cons_shorter decision number (renumbered decisions more) narrow.0, shorter decisions more narrow.1, length-append (spelling number) (flat_map spelling more))
 
 length-delimited : (width : ℕ) (bytes : List ℕ) → length (delimited width bytes) ≡ max width (minimal_width (length bytes)) + length bytes
 length-delimited width bytes =
@@ -232,29 +260,35 @@ left_shorter number field (first ∷ more) (next ∷ others) e short =
     let body = with_numbers (next ∷ others) field.body in
     omega (arith, body_shorter (next ∷ others) r.body (λ same. absurd (cc)) short, length-append (field_bytes (record field { body = body })) [], length-append (spelling field.tag) (body_bytes body), length-append (spelling field.tag) (body_bytes field.body))
 
+narrow_field : (number : ℕ) (decisions : List (Option ℕ)) (field : Field) → NoneIsWider decisions (field_numbers number field) → length (flat_map field_bytes (renumbered_field number decisions field)) ≤ length (field_bytes field)
+narrow_field number decisions field narrow =
+    left_shorter number field (field_numbers number field) (renumbered decisions (field_numbers number field)) refl (shorter decisions (field_numbers number field) narrow)
+
 pub field_no_longer : FieldNoLonger
-field_no_longer number decisions field kept =
-    left_shorter number field (field_numbers number field) (renumbered decisions (field_numbers number field)) refl (shorter decisions (field_numbers number field) kept)
+field_no_longer number decisions field kept = narrow_field number decisions field (kept_widths decisions (field_numbers number field) kept)
 
-nothing_new : (decisions : List (Option ℕ)) → NoneIsNew decisions []
-nothing_new [] = tt
-nothing_new (decision ∷ decisions) = tt
+nothing_wider : (decisions : List (Option ℕ)) → NoneIsWider decisions []
+nothing_wider [] = tt
+nothing_wider (decision ∷ decisions) = tt
 
-kept_apart : (decisions : List (Option ℕ)) (xs ys : List Number) → NoneIsNew decisions (xs ++ ys) → NoneIsNew decisions xs × NoneIsNew (drop (length xs) decisions) ys
-kept_apart decisions [] ys kept = (nothing_new decisions, kept)
-kept_apart [] (x ∷ xs) ys kept = (tt, tt)
-kept_apart (decision ∷ decisions) (x ∷ xs) ys kept =
-    let others = kept_apart decisions xs ys kept.1 in
-    ((kept.0, others.0), others.1)
+narrow_apart : (decisions : List (Option ℕ)) (xs ys : List Number) → NoneIsWider decisions (xs ++ ys) → NoneIsWider decisions xs × NoneIsWider (drop (length xs) decisions) ys
+narrow_apart decisions [] ys narrow = (nothing_wider decisions, narrow)
+narrow_apart [] (x ∷ xs) ys narrow = (tt, tt)
+narrow_apart (decision ∷ decisions) (x ∷ xs) ys narrow =
+    let others = narrow_apart decisions xs ys narrow.1 in
+    ((narrow.0, others.0), others.1)
 
-pub no_longer : NoLonger
-no_longer number decisions [] kept = omega arith
-no_longer number decisions (field ∷ more) kept =
+narrow_fields : (number : ℕ) (decisions : List (Option ℕ)) (fields : List Field) → NoneIsWider decisions (flat_map (field_numbers number) fields) → length (flat_map field_bytes (renumber number decisions fields)) ≤ length (flat_map field_bytes fields)
+narrow_fields number decisions [] narrow = omega arith
+narrow_fields number decisions (field ∷ more) narrow =
     let old = field_numbers number field in
-    let apart = kept_apart decisions old (flat_map (field_numbers number) more) kept in
+    let apart = narrow_apart decisions old (flat_map (field_numbers number) more) narrow in
     let left = renumbered_field number decisions field in
     let behind = renumber number (drop (length old) decisions) more in
-    omega (arith, field_no_longer number decisions field apart.0, no_longer number (drop (length old) decisions) more apart.1, ap length (flat_map-append field_bytes left behind), length-append (flat_map field_bytes left) (flat_map field_bytes behind), length-append (field_bytes field) (flat_map field_bytes more))
+    omega (arith, narrow_field number decisions field apart.0, narrow_fields number (drop (length old) decisions) more apart.1, ap length (flat_map-append field_bytes left behind), length-append (flat_map field_bytes left) (flat_map field_bytes behind), length-append (field_bytes field) (flat_map field_bytes more))
+
+pub no_longer : NoLonger
+no_longer number decisions fields kept = narrow_fields number decisions fields (kept_widths decisions (flat_map (field_numbers number) fields) kept)
 
 -- ---- one number of a packed body
 
@@ -294,6 +328,21 @@ others_stay tag width value before behind old valid =
 body_valid : (number : ℕ) {body : Body} {old : List Number} → HasRead body old → IsBodyWith IsGroup number body → AllByRecursion IsNumber old
 body_valid number one valid = (valid, tt)
 body_valid number (packed {bytes = bytes} {found = found} e) valid = (packed-read bytes found e).1
+
+own_valid : (number : ℕ) (field : Field) (found : List Number) → field_numbers number field ≡ found → IsField field → AllByRecursion IsNumber found
+own_valid number field [] e valid = tt
+own_valid number field (first ∷ more) e valid = body_valid (field.tag.value / 8) (numbers_reads number field first more e).body valid.body
+
+-- the numbers of valid fields can be spelled
+pub numbers_valid : (number : ℕ) (fields : List Field) → AllByRecursion IsField fields → AllByRecursion IsNumber (flat_map (field_numbers number) fields)
+numbers_valid number [] valid = tt
+numbers_valid number (field ∷ more) valid =
+    all_joined IsNumber (field_numbers number field) (flat_map (field_numbers number) more) (own_valid number field (field_numbers number field) refl valid.0) (numbers_valid number more valid.1)
+
+pub lower_no_longer : LowerNoLonger
+lower_no_longer number decisions fields valid lower =
+    let numbers = flat_map (field_numbers number) fields in
+    narrow_fields number decisions fields (lower_widths decisions numbers (numbers_valid number fields valid) lower)
 
 -- the new body is valid, and of the same wire type
 body_kept : (number : ℕ) {body : Body} {old : List Number} (new : List Number) → HasRead body old → AllByRecursion IsNumber new → IsBodyWith IsGroup number body → IsBodyWith IsGroup number (with_numbers new body) × (wire_type (with_numbers new body) ≡ wire_type body)

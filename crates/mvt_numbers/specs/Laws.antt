@@ -61,6 +61,10 @@ keeping numbers = map (λ (n : Number). Some n.value) numbers
 abbrev pub NoneIsNew : List (Option ℕ) → List Number → Type 0
 NoneIsNew decisions numbers = AllByRecursion (λ (p : Option ℕ × Number). IfSome p.0 (λ value. value ≡ p.1.value)) (zip decisions numbers)
 
+-- each of the numbers that is decided on gets no greater value, or goes
+abbrev pub NoneIsGreater : List (Option ℕ) → List Number → Type 0
+NoneIsGreater decisions numbers = AllByRecursion (λ (p : Option ℕ × Number). IfSome p.0 (λ value. value ≤ p.1.value)) (zip decisions numbers)
+
 -- the numbers that are read of a message are those of its fields (guide, Repeated Elements)
 abbrev pub ReadOfFields : Type 0
 ReadOfFields = (number : ℕ) (fields : List Field) (found : List Number) → read_numbers number fields ≡ Some found → flat_map (field_numbers number) fields ≡ found
@@ -80,6 +84,10 @@ FieldNoLonger = (number : ℕ) (decisions : List (Option ℕ)) (field : Field) �
 -- where each number of a message keeps its value or goes, its fields together get no longer
 abbrev pub NoLonger : Type 0
 NoLonger = (number : ℕ) (decisions : List (Option ℕ)) (fields : List Field) → NoneIsNew decisions (flat_map (field_numbers number) fields) → length (flat_map field_bytes (renumber number decisions fields)) ≤ length (flat_map field_bytes fields)
+
+-- where each number of valid fields gets no greater value or goes, the fields together get no longer
+abbrev pub LowerNoLonger : Type 0
+LowerNoLonger = (number : ℕ) (decisions : List (Option ℕ)) (fields : List Field) → AllByRecursion IsField fields → NoneIsGreater decisions (flat_map (field_numbers number) fields) → length (flat_map field_bytes (renumber number decisions fields)) ≤ length (flat_map field_bytes fields)
 
 -- where one number of a packed body gets another value, the bytes before it and behind it stay
 -- (guide, Packed Repeated Fields)

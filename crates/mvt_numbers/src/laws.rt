@@ -1,6 +1,6 @@
 //! Laws of packed bodies, and of numbers that are decided on. Each is the contract of a function that does nothing.
 
-ghost use Rattle.mvt_numbers.specs.Laws.{AppendedIsRead, BadIsNoNumber, FieldNoLonger, KeptStays, LeftIsRead, NoLonger, OthersStay, ReadIsSpelled, ReadOfFields, SpelledIsRead, StaysValid};
+ghost use Rattle.mvt_numbers.specs.Laws.{AppendedIsRead, BadIsNoNumber, FieldNoLonger, KeptStays, LeftIsRead, LowerNoLonger, NoLonger, OthersStay, ReadIsSpelled, ReadOfFields, SpelledIsRead, StaysValid};
 
 /// A packed body of numbers spelled one after the other is read as these numbers.
 pub fn spelled_is_read()
@@ -39,6 +39,12 @@ pub fn kept_stays()
 pub fn no_longer()
     ensures field { FieldNoLonger }
     ensures all { NoLonger }
+{}
+
+/// Where each number of valid fields gets no greater value or goes, the fields together take no more
+/// bytes.
+pub fn lower_no_longer()
+    ensures { LowerNoLonger }
 {}
 
 /// Where one number of a packed body gets another value, all bytes before it and behind it stay.

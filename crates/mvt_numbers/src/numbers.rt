@@ -59,6 +59,7 @@ impl<'a> Iterator for Numbers<'a> {
 
     ghost remaining = { item_count (λ left. left) };
 
+    #[inline(always)]
     fn next(&mut self) -> Option<Result<Number, BadChunk>> {
         if self.packed.is_empty() {
             let (field, elements) = first_elements(self.fields, self.number, self.position)?;

@@ -37,6 +37,7 @@ impl<'a> Packed<'a> {
     }
 
     /// The first number, and what is left behind it.
+    #[inline(always)]
     pub fn first(self) -> Result<(Number, Packed<'a>), BadChunk>
         requires { self.place < length self.bytes.now }
         ensures { MatchResult result
