@@ -405,6 +405,37 @@ def exclude_all(tile, chosen):
     return tile
 
 
+def without_unused(tile, chosen, tag, at):
+    """The tile without the entries with the tag that no pair uses; the first or the second number of a pair names one."""
+    meant = layer_places(tile, chosen)
+    for place in meant:
+        for feature in places(tile[place].content, FEATURE):
+            readable(tile, place, feature)
+    for place in meant:
+        items = tile[place].content
+        pairs = {feature: pairs_in(items, items[feature].content) for feature in places(items, FEATURE)}
+        used = {pair[at] for found in pairs.values() for pair in found}
+        entries = places(items, tag)
+        new = {old: ordinal for ordinal, old in enumerate(old for old in range(len(entries)) if old in used)}
+        for feature, found in pairs.items():
+            wanted = [new[number] if which == at else number for pair in found for which, number in enumerate(pair)]
+            tile = in_feature(tile, place, feature, with_numbers(items[feature].content, wanted))
+        tile = in_layer(tile, place, without(tile[place].content, [entries[old] for old in range(len(entries)) if old not in used]))
+    return tile
+
+
+def compact_keys(tile, chosen):
+    return without_unused(tile, chosen, KEY, 0)
+
+
+def compact_values(tile, chosen):
+    return without_unused(tile, chosen, VALUE, 1)
+
+
+def compact(tile, chosen):
+    return compact_values(compact_keys(tile, chosen), chosen)
+
+
 def end_of_run(numbers, at, command, least, most):
     """Where the command ends that is carried out there, so often, with its parameters."""
     count = numbers[at] >> 3 if at < len(numbers) else 0

@@ -173,6 +173,9 @@ COMMANDS = {
     "exclude": (tiles.exclude, [layers, text]),
     "exclude-all": (tiles.exclude_all, [layers]),
     "shift": (tiles.shift, [layer, feature, distance, distance]),
+    "compact-keys": (tiles.compact_keys, [layers]),
+    "compact-values": (tiles.compact_values, [layers]),
+    "compact": (tiles.compact, [layers]),
 }
 
 

@@ -80,7 +80,7 @@ done key items fields readable =
 -- ---- the items of a layer
 
 -- the tags of each of these features make pairs, in a layer of these items
-abbrev AreRead : List LayerItem → List Feature → Type 0
+abbrev pub AreRead : List LayerItem → List Feature → Type 0
 AreRead items list = AllByRecursion (λ (feature : Feature). is_some (pairs_among items feature.fields) ≡ true) list
 
 module _ (key : List ℕ) (all : List LayerItem) where
@@ -112,7 +112,7 @@ module _ (one other : List LayerItem) (same : plain_fields one ≡ plain_fields 
   read_by_fields (feature ∷ list) read = (ap is_some (pairs_by_fields feature.fields) ∙ read.0, read_by_fields list read.1)
 
 -- the tags of each feature of the layer make pairs
-abbrev IsRead : Layer → Type 0
+abbrev pub IsRead : Layer → Type 0
 IsRead layer = AreRead layer.items (features_in layer.items)
 
 module _ (key : List ℕ) (layer : Layer) (read : IsRead layer) where
@@ -127,7 +127,7 @@ module _ (key : List ℕ) (layer : Layer) (read : IsRead layer) where
 
 -- ---- layers that are read
 
-all_of : {A : Type 0} (P : A → Type 0) (list : List A) → ((index : ℕ) (x : A) → slice_get list index ≡ Some x → P x) → AllByRecursion P list
+pub all_of : {A : Type 0} (P : A → Type 0) (list : List A) → ((index : ℕ) (x : A) → slice_get list index ≡ Some x → P x) → AllByRecursion P list
 all_of P [] each = tt
 all_of P (x ∷ list) each = (each 0 x refl, all_of P list (λ index y is. each (suc index) y is))
 
@@ -135,11 +135,11 @@ none_bad : {A : Type 0} (passes : A → Bool) (n : ℕ) (list : List A) → AllB
 none_bad passes n [] all = refl
 none_bad passes n (x ∷ list) all = let pass = all.0 in rw pass (none_bad passes (n + 1) list all.1)
 
-found_read : (ordinal position : ℕ) (layer : Layer) (more : List (ℕ × (ℕ × Layer))) → IsRead layer → unreadable more ≡ [] → unreadable ((ordinal, (position, layer)) ∷ more) ≡ []
+pub found_read : (ordinal position : ℕ) (layer : Layer) (more : List (ℕ × (ℕ × Layer))) → IsRead layer → unreadable more ≡ [] → unreadable ((ordinal, (position, layer)) ∷ more) ≡ []
 found_read ordinal position layer more read rest =
     ap (λ (found : List (ℕ × Feature)). map (λ (feature : ℕ). (ordinal, feature)) (map (λ (p : ℕ × Feature). p.0) found) ++ unreadable more) (none_bad (λ feature. is_some (pairs_of layer feature)) 0 (features_in layer.items) read) ∙ rest
 
-all_found_read : (k n : ℕ) (document : Document) → AllByRecursion IsRead (layers document) → unreadable (enumerate_from k (filter_map (with_position layer_in) (enumerate_from n document))) ≡ []
+pub all_found_read : (k n : ℕ) (document : Document) → AllByRecursion IsRead (layers document) → unreadable (enumerate_from k (filter_map (with_position layer_in) (enumerate_from n document))) ≡ []
 all_found_read k n [] read = refl
 all_found_read k n (OfLayer layer ∷ document) read =
     found_read k n layer (enumerate_from (k + 1) (filter_map (with_position layer_in) (enumerate_from (n + 1) document))) read.0 (all_found_read (k + 1) (n + 1) document read.1)

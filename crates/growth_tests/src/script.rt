@@ -6,9 +6,9 @@
 ghost use Rattle.std.specs.Prelude.{◌≤◌};
 
 use crate::scripts::{
-    ATTRIBUTES, BACK_OVER_STEPS, CANCELLED_KEEPS, CANCELLED_STEP, FEATURES, FLOOR, GEOMETRIES,
-    ID_SET_TWICE, IDS_APART, IDS_CLEARED, IDS_LISTED, KEPT_LAYERS, LAYERS, LISTINGS, MARKS,
-    ON_OVER_STEPS, RENAME_AND_UNDO, SIZES, STEP, TWO_MARKS,
+    ATTRIBUTES, BACK_OVER_STEPS, CANCELLED_KEEPS, CANCELLED_STEP, COMPACTION, FEATURES, FLOOR,
+    GEOMETRIES, ID_SET_TWICE, IDS_APART, IDS_CLEARED, IDS_LISTED, KEPT_LAYERS, LAYERS, LISTINGS,
+    MARKS, ON_OVER_STEPS, RENAME_AND_UNDO, SIZES, STEP, TWO_MARKS,
 };
 use std::fmt;
 use std::io::{self, Cursor};
@@ -29,6 +29,7 @@ pub enum Script {
     Features,
     Attributes,
     Geometries,
+    Compaction,
     Marks,
     TwoMarks,
     Step,
@@ -41,7 +42,7 @@ pub enum Script {
     Floor,
 }
 
-const SCRIPTS: [Script; 18] = [
+const SCRIPTS: [Script; 19] = [
     Script::RenameAndUndo,
     Script::Listings,
     Script::IdsListed,
@@ -50,6 +51,7 @@ const SCRIPTS: [Script; 18] = [
     Script::Features,
     Script::Attributes,
     Script::Geometries,
+    Script::Compaction,
     Script::Marks,
     Script::TwoMarks,
     Script::Step,
@@ -82,6 +84,7 @@ impl Script {
             Script::Features => "features",
             Script::Attributes => "attributes",
             Script::Geometries => "geometries",
+            Script::Compaction => "compaction",
             Script::Marks => "marks",
             Script::TwoMarks => "two-marks",
             Script::Step => "step",
@@ -105,6 +108,7 @@ impl Script {
             Script::Features => FEATURES,
             Script::Attributes => ATTRIBUTES,
             Script::Geometries => GEOMETRIES,
+            Script::Compaction => COMPACTION,
             Script::Marks => MARKS,
             Script::TwoMarks => TWO_MARKS,
             Script::Step => STEP,

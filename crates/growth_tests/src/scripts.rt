@@ -83,6 +83,22 @@ undo
 redo
 ";
 
+/// A layer of one feature, whose key and value stand behind those that it does not have.
+pub const UNUSED: &[u8] = b"\
+    \x1a\x14\x12\x04\x12\x02\x01\x01\
+    \x1a\x01m\x1a\x01k\x22\x02\x20\x06\x22\x02\x20\x05";
+
+pub const COMPACTION: &str = "\
+exclude * \"k\"
+compact #0
+undo
+undo
+set #0 0 \"k\" int 6
+compact-values #0
+compact-keys *
+size
+";
+
 pub const MARKS: &str = "\
 mark \"m\"
 rename-layer #0 \"b\"

@@ -3,13 +3,14 @@
 
 use crate::fault::Fault;
 use crate::refused::{Refused, flip_twice, prepare};
-use crate::scripts::IDS_APART;
+use crate::scripts::{IDS_APART, UNUSED};
 use mvt_edit::Command;
 use std::alloc::{AllocError, Global};
 use std::fmt;
 use test_fixtures::asked::{
-    clear_id, drop_feature, drop_layer, exclude, exclude_all, insert_polygon, keep, move_feature,
-    move_layer, rename, rename_key, set, set_id, set_polygon, shift, unset,
+    clear_id, compact, compact_keys, compact_values, drop_feature, drop_layer, exclude,
+    exclude_all, insert_polygon, keep, move_feature, move_layer, rename, rename_key, set, set_id,
+    set_polygon, shift, unset,
 };
 use test_fixtures::bytes::joined;
 use test_fixtures::edits::Edit;
@@ -40,13 +41,16 @@ pub enum Trial {
     RenameKey,
     Exclude,
     ExcludeAll,
+    CompactKeys,
+    CompactValues,
+    Compact,
     /// The changes of two commands on one field, as one change.
     SetTwice,
     /// The changes of seven steps of several commands, as one change.
     Series,
 }
 
-const TRIALS: [Trial; 20] = [
+const TRIALS: [Trial; 23] = [
     Trial::RenameLayer,
     Trial::MoveLayer,
     Trial::DropLayer,
@@ -65,6 +69,9 @@ const TRIALS: [Trial; 20] = [
     Trial::RenameKey,
     Trial::Exclude,
     Trial::ExcludeAll,
+    Trial::CompactKeys,
+    Trial::CompactValues,
+    Trial::Compact,
     Trial::SetTwice,
     Trial::Series,
 ];
@@ -105,6 +112,9 @@ impl Trial {
             Trial::RenameKey => "rename-key",
             Trial::Exclude => "exclude",
             Trial::ExcludeAll => "exclude-all",
+            Trial::CompactKeys => "compact-keys",
+            Trial::CompactValues => "compact-values",
+            Trial::Compact => "compact",
             Trial::SetTwice => "set-twice",
             Trial::Series => "series",
         }
@@ -142,6 +152,9 @@ impl Trial {
             Trial::RenameKey => there_and_back(alloc, &T0, rename_key(alloc, b"k", b"kind")?),
             Trial::Exclude => there_and_back(alloc, &four_items(alloc)?, exclude(alloc, b"k")?),
             Trial::ExcludeAll => there_and_back(alloc, &four_items(alloc)?, exclude_all()),
+            Trial::CompactKeys => there_and_back(alloc, UNUSED, compact_keys()),
+            Trial::CompactValues => there_and_back(alloc, UNUSED, compact_values()),
+            Trial::Compact => there_and_back(alloc, UNUSED, compact()),
             Trial::SetTwice => flip_twice(alloc, &mut set_twice(alloc)?),
             Trial::Series => flip_twice(alloc, &mut a_series(alloc)?),
         }
@@ -151,8 +164,13 @@ impl Trial {
 /// The command is prepared on the tile, and carried out, and taken back.
 fn there_and_back(alloc: Global, tile: &[u8], command: Command) -> Result<Refused, Fault> {
     let mut edit = Edit::read(alloc, tile)?;
-    let prepared = prepare(alloc, &mut edit, &command)?;
-    Ok(prepared.or(flip_twice(alloc, &mut edit)?))
+    on(alloc, &mut edit, &command)
+}
+
+/// The same on what was read of the tile.
+fn on(alloc: Global, edit: &mut Edit, command: &Command) -> Result<Refused, Fault> {
+    let prepared = prepare(alloc, edit, command)?;
+    Ok(prepared.or(flip_twice(alloc, edit)?))
 }
 
 /// A ring comes in behind the first feature.

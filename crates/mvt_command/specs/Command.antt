@@ -36,6 +36,9 @@ pub data Command : Type 0 where
   ExcludeAll : (layers : LayersChoice) → Command
   Shift : (layer : LayerChoice) (feature : FeatureChoice) (dx dy : ℤ) → Command
   SetGeometry : (layer : LayerChoice) (feature : FeatureChoice) (geometry : Geometry) → Command
+  CompactKeys : (layers : LayersChoice) → Command
+  CompactValues : (layers : LayersChoice) → Command
+  Compact : (layers : LayersChoice) → Command
 
 -- a valid command: the id that it sets, where it sets one, can be spelled, as it is below 2 ^ 64 (tiles 4.2)
 abbrev pub IsCommand : Command → Type 0

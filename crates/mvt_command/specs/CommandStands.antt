@@ -9,7 +9,7 @@ use Rattle.mvt_command.specs.declared.command.LayersChoice.TheVariants.{One, All
 use Rattle.mvt_command.specs.declared.command.FeatureChoice.{FeatureChoice}
 use Rattle.mvt_command.specs.declared.command.FeatureChoice.TheVariants as features
 use Rattle.mvt_command.specs.declared.command.Command.{Command}
-use Rattle.mvt_command.specs.declared.command.Command.TheVariants.{RenameLayer, MoveLayer, DropLayer, KeepLayers, InsertFeature, MoveFeature, DropFeature, SetId, ClearId, SetAttribute, UnsetAttribute, RenameKey, Exclude, ExcludeAll, Shift, SetGeometry}
+use Rattle.mvt_command.specs.declared.command.Command.TheVariants.{RenameLayer, MoveLayer, DropLayer, KeepLayers, InsertFeature, MoveFeature, DropFeature, SetId, ClearId, SetAttribute, UnsetAttribute, RenameKey, Exclude, ExcludeAll, Shift, SetGeometry, CompactKeys, CompactValues, Compact}
 
 -- the plain choice that a choice of a layer stands for
 abbrev pub layer_choice_of : LayerChoice → plain.LayerChoice
@@ -44,3 +44,6 @@ command_of (Exclude layers key) = plain.Exclude (layers_choice_of layers) key.it
 command_of (ExcludeAll layers) = plain.ExcludeAll (layers_choice_of layers)
 command_of (Shift layer feature dx dy) = plain.Shift (layer_choice_of layer) (feature_choice_of feature) dx dy
 command_of (SetGeometry layer feature geometry) = plain.SetGeometry (layer_choice_of layer) (feature_choice_of feature) geometry
+command_of (CompactKeys layers) = plain.CompactKeys (layers_choice_of layers)
+command_of (CompactValues layers) = plain.CompactValues (layers_choice_of layers)
+command_of (Compact layers) = plain.Compact (layers_choice_of layers)

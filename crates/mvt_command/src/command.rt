@@ -110,6 +110,18 @@ pub enum Command {
         feature: FeatureChoice,
         geometry: Geometry,
     },
+    /// The keys that no feature uses go.
+    CompactKeys {
+        layers: LayersChoice,
+    },
+    /// The values that no feature uses go.
+    CompactValues {
+        layers: LayersChoice,
+    },
+    /// The keys and the values that no feature uses go.
+    Compact {
+        layers: LayersChoice,
+    },
 }
 
 impl Command {

@@ -17,6 +17,7 @@ use mvt_edit_lists::move_feature::move_feature;
 use mvt_edit_lists::move_layer::move_layer;
 use mvt_edit_lists::rename_layer::rename_layer;
 use mvt_edit_lists::set_id::set_id;
+use mvt_edit_pools::compact::{Pools, compact};
 use mvt_edit_tags::exclude::exclude;
 use mvt_edit_tags::exclude_all::exclude_all;
 use mvt_edit_tags::rename_key::rename_key;
@@ -83,5 +84,8 @@ pub fn prepare(alloc: Global, document: &Document, command: &Command) -> Result<
             feature,
             geometry,
         } => set_geometry(alloc, document, layer, feature, geometry),
+        Command::CompactKeys { layers } => compact(alloc, document, layers, Pools::Keys),
+        Command::CompactValues { layers } => compact(alloc, document, layers, Pools::Values),
+        Command::Compact { layers } => compact(alloc, document, layers, Pools::Both),
     }
 }

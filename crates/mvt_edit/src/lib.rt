@@ -1,6 +1,6 @@
 //! The change that carries a command out.
 //!
-//! - For each of the sixteen commands and every document: a command that is not refused is given the
+//! - For each of the nineteen commands and every document: a command that is not refused is given the
 //!   change that makes of the document exactly what the command makes of it by its definition; a
 //!   refused one the first of its refusals. Out of memory alone may come in place of either. The
 //!   change fits the document, so `flip` carries it out; it holds no more bytes than the command

@@ -24,7 +24,7 @@ ghost use Rattle.mvt_edit_steps.specs.Prepared.{Prepares};
 use mvt_change::{Change, Step, fits_with_items, size_with_fields};
 use mvt_document::tags::GEOMETRY;
 use mvt_document::{Document, Items, from_zigzag, to_zigzag};
-use mvt_edit_steps::renumber_fields;
+use mvt_edit_steps::renumber_feature;
 use mvt_geometry::is_way;
 use mvt_numbers::Numbers;
 use mvt_select::{FeatureChoice, FoundFeature, LayerChoice, Refusal, find_feature, find_layer};
@@ -123,14 +123,13 @@ fn moving(
     ensures steps { IfOk result (λ made. map step_of made.0.items ≡ map (λ s. FeatureStep layer found.entry.position s.index s.taken s.put) (splices_of (field_fates 4 decisions.now (feature_of found.entry.feature.now).fields))) }
     ensures size { IfOk result (λ made. IsFileSize made.1 (length (flat_map field_bytes (renumber 4 decisions.now (feature_of found.entry.feature.now).fields)))) }
 {
-    let item = found.position;
     let mut steps = Vec::new(alloc);
-    let size = renumber_fields(
+    let size = renumber_feature(
         alloc,
-        found.feature.fields.as_slice(),
+        layer,
+        found,
         GEOMETRY,
         decisions,
-        |run| run.in_feature(layer, item),
         &mut steps,
         Some(0),
     )?;

@@ -15,5 +15,12 @@ pub mod Putting
 pub mod NumberFields
 pub mod OneStep
 pub mod Leading
+pub mod Come
+pub mod EachFeature
+pub mod EachLayer
+pub mod StepsPassed
+pub mod Unreadable
+pub mod Deciding
+pub mod Marked
 pub mod Limits
 pub mod Apart

@@ -1,7 +1,10 @@
--- What becomes of the fields of a message of which numbers are decided on, and how many bytes they take then.
-use Rattle.std.specs.Prelude.{ℕ, ◌+◌, List, [], ◌∷◌, Option, length, drop}
+-- What becomes of the fields of a message of which numbers are decided on, and how many bytes they take then; what is
+-- decided on the numbers of pairs.
+use Rattle.std.specs.Prelude.{◌≡◌, ℕ, ◌+◌, Bool, not, List, [], ◌∷◌, Option, Some, is_some, length, drop, option_map}
+use Rattle.std.specs.List.{flat_map, list_any}
 use Rattle.mvt_document.specs.Plain.{Field}
 use Rattle.mvt_change.specs.FileSizes.{IsFileSize}
+use Rattle.mvt_meaning.specs.Ordinals.{count}
 use Rattle.mvt_numbers.specs.Renumbering.{field_numbers}
 use Rattle.mvt_numbers.specs.Fates.{field_fate}
 use Rattle.mvt_numbers.specs.declared.fate.Fate.{Fate}
@@ -14,3 +17,21 @@ field_fates number decisions (field ∷ more) = field_fate number decisions fiel
 -- where a number of bytes was told rightly, and so many come behind them, the number that is told then is right too
 abbrev pub IsSizeBeside : Option ℕ → ℕ → Option ℕ → Type 0
 IsSizeBeside beside more told = (before : ℕ) → IsFileSize beside before → IsFileSize told (before + more)
+
+-- some number goes, by a decision for each
+abbrev pub is_any_gone : List (Option ℕ) → Bool
+is_any_gone decisions = list_any (λ decision. not (is_some decision)) decisions
+
+-- what is decided on each number of these pairs, where this is said of each: what becomes of its two numbers, and whether
+-- it counts
+abbrev pub decided_by : (ℕ × ℕ → Option ℕ × Option ℕ × Bool) → List (ℕ × ℕ) → List (Option ℕ)
+decided_by said pairs = flat_map (λ pair. (said pair).0 ∷ (said pair).1 ∷ []) pairs
+
+-- how many of these pairs count
+abbrev pub counted_by : (ℕ × ℕ → Option ℕ × Option ℕ × Bool) → List (ℕ × ℕ) → ℕ
+counted_by said pairs = count (λ pair. (said pair).2) pairs
+
+-- there are pairs, of which this is said: so is decided on their numbers, and so many count
+pub record IsDecided (said : ℕ × ℕ → Option ℕ × Option ℕ × Bool) (pairs : Option (List (ℕ × ℕ))) (decisions : List (Option ℕ)) (n : ℕ) : Type 0 where
+  pub decided : option_map (decided_by said) pairs ≡ Some decisions
+  pub counted : option_map (counted_by said) pairs ≡ Some n

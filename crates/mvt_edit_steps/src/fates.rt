@@ -1,7 +1,7 @@
 //! What becomes of the items of a list, carried out in steps: neighbours that change are one step,
 //! and each step is on what the steps before it made.
 
-ghost use Rattle.std.specs.Prelude.{◌≡◌, ℕ, ◌+◌, ◌≤◌, ◌<◌, ◌^◌, Bool, List, [], ◌∷◌, ◌++◌, Option, Some, None, Ok, IfOk, IfSome, map, option_map, length, if◌then◌else◌};
+ghost use Rattle.std.specs.Prelude.{◌≡◌, ℕ, ◌+◌, ◌≤◌, ◌<◌, ◌^◌, Bool, List, [], ◌∷◌, ◌++◌, Option, Some, None, Ok, IfOk, IfSome, OnOk, map, option_map, length, if◌then◌else◌};
 ghost use Rattle.std.specs.Fn.{FnReturns, FnReturnsAt};
 ghost use Rattle.std.specs.List.{AllZip, cons_option, flat_map};
 ghost use Rattle.std.specs.Option.{option_map_or};
@@ -88,10 +88,29 @@ pub fn carry_out<T: Drop, F: Fn(&T) -> Result<Fate<T>, AllocError>, S: Fn(Run<T>
     walk.end(&step, steps)
 }
 
+/// Takes the items out that are picked, by a mark for each item of a list, in steps behind those
+/// that are given. How many go.
+pub fn take_out<T: Drop, S: Fn(Run<T>) -> Step>(
+    alloc: Global,
+    picked: &[bool],
+    step: S,
+    steps: &mut Vec<Step>,
+) -> Result<usize, AllocError>
+    requires { S.IsAlwaysCallable step }
+    ensures { (step_with : Splice T → plain.Step) → Tells (λ run made. FnReturns S.Fn step (run, tt) made) step_of (λ run. step_with (splice_of run)) →
+        IfOk result (λ changed. IsCarriedOut step_with (map (λ is. goes_if is) picked.now) (map step_of steps.old.items) (map step_of steps.new.items) changed) }
+{
+    let mut walk = Walk::first();
+    for index in 0..picked.len() {
+        walk = walk.pass(alloc, goes_if(picked[index]), &step, steps)?;
+    }
+    walk.end(&step, steps)
+}
+
 /// Carries out what becomes of the fields of a message, by a decision for each number in the fields
 /// of this number, in order, in steps behind those that are given. How many bytes the fields take
 /// then beside so many, where a file may have as many; none where none is given.
-pub fn renumber_fields<S: Fn(Run<Field>) -> Step>(
+pub(crate) fn renumber_fields<S: Fn(Run<Field>) -> Step>(
     alloc: Global,
     fields: &[Field],
     number: u64,
@@ -189,7 +208,7 @@ fn end_run<T: Drop>(
         return Ok(None);
     };
     let mut put = Vec::new(alloc);
-    put.push(item)?;
+    put_behind(&mut put, item)?;
     Ok(Some(Run {
         index: end,
         take: 0,
@@ -296,7 +315,7 @@ fn joined<T: Drop>(
         Fate::Goes => Ok((None, Some(one_more(alloc, last, at)), at)),
         Fate::Becomes(item) => {
             let mut run = one_more(alloc, last, at);
-            run.put.push(item)?;
+            put_behind(&mut run.put, item)?;
             Ok((None, Some(run), at + 1))
         }
     }
@@ -321,6 +340,18 @@ fn one_more<T>(alloc: Global, last: Option<Run<T>>, at: usize) -> Run<T>
             put: Vec::new(alloc),
         },
     }
+}
+
+/// Puts the item behind the others of a run. Most runs put one item, so the first takes no more room
+/// than it needs.
+fn put_behind<T: Drop>(put: &mut Vec<T>, item: T) -> Result<(), AllocError>
+    ensures { OnOk result (put.new.items ≡ put.old.items ++ item ∷ []) }
+{
+    if put.is_empty() {
+        put.reserve_exact(1)?;
+    }
+    put.push(item)?;
+    Ok(())
 }
 
 /// Puts the step of the run, where there is one, behind the others.

@@ -1,4 +1,4 @@
--- The decisions on the numbers of pairs, one pair after the other; and the keys of a layer that have some bytes.
+-- The decisions on the numbers of pairs; and the keys of a layer that have some bytes.
 use Rattle.std.proofs.Common.{◌≡◌, ℕ, zero, suc, Bool, true, false, ◌||◌, cond, Option, Some, None, List, [], ◌∷◌, ◌++◌, is_some, length, map, option_map, slice_get, append_assoc, refl, sym, ap, ◌∙◌, inl, inr, ◌+◌, filter, arith}
 use Rattle.std.proofs.lemmas.Bool.{cases_Bool}
 use Rattle.std.specs.List.{cons_option, list_any}
@@ -11,14 +11,13 @@ use Rattle.mvt_view.specs.Views.{content_in, contents, key_field, keys, plain_fi
 use Rattle.mvt_view.proofs.Pairing.{tags_are_pairs}
 use Rattle.mvt_meaning.specs.Ordinals.{count}
 use Rattle.mvt_meaning.specs.Tagging.{is_key, is_key_at, pairs_among, removals, without_pairs}
-use Rattle.mvt_edit_tags.specs.Decided.{pair_decided, pairs_decided}
-
-pub counted_first : {A : Type 0} (test : A → Bool) (x : A) (xs : List A) → length (filter test (x ∷ xs)) ≡ cond (test x) 1 0 + length (filter test xs)
-counted_first test x xs = elim (cases_Bool (test x)) [ inl pass ↦ rw pass (omega arith) | inr skip ↦ rw skip (omega arith) ]
+use Rattle.mvt_edit_steps.specs.Decided.{decided_by}
+use Rattle.mvt_edit_steps.proofs.Deciding.{then_pairs}
+use Rattle.mvt_edit_tags.specs.Decided.{pair_decided, pairs_decided, said_of}
 
 -- ---- one pair more
 
-pub first_decided : (meant : ℕ → Bool) (to : Option ℕ) (pair : ℕ × ℕ) (more : List (ℕ × ℕ)) → pairs_decided meant to (pair ∷ more) ≡ (pair_decided (meant pair.0) to pair).0 ∷ (pair_decided (meant pair.0) to pair).1 ∷ pairs_decided meant to more
+first_decided : (meant : ℕ → Bool) (to : Option ℕ) (pair : ℕ × ℕ) (more : List (ℕ × ℕ)) → pairs_decided meant to (pair ∷ more) ≡ (pair_decided (meant pair.0) to pair).0 ∷ (pair_decided (meant pair.0) to pair).1 ∷ pairs_decided meant to more
 first_decided meant None pair more = elim (cases_Bool (meant pair.0)) [ inl gone ↦ rw gone refl | inr stays ↦ rw stays refl ]
 first_decided meant (Some value) pair more = elim (cases_Bool (meant pair.0)) [ inl is ↦ rw is refl | inr stays ↦ rw stays refl ]
 
@@ -26,34 +25,16 @@ none_decided : (meant : ℕ → Bool) (to : Option ℕ) → pairs_decided meant 
 none_decided meant None = refl
 none_decided meant (Some value) = refl
 
-module _ (meant : ℕ → Bool) (to : Option ℕ) where
-  -- behind what is decided so far, of which so many pairs are meant
-  abbrev pub decided_behind : List (Option ℕ) → List (ℕ × ℕ) → List (Option ℕ)
-  decided_behind front pairs = front ++ pairs_decided meant to pairs
+-- what is said of each pair is what is decided on all
+said_list : (meant : ℕ → Bool) (to : Option ℕ) (pairs : List (ℕ × ℕ)) → decided_by (said_of meant to) pairs ≡ pairs_decided meant to pairs
+said_list meant to [] = sym (none_decided meant to)
+said_list meant to (pair ∷ pairs) =
+    let two = pair_decided (meant pair.0) to pair in
+    ap (λ more. two.0 ∷ two.1 ∷ more) (said_list meant to pairs) ∙ sym (first_decided meant to pair pairs)
 
-  abbrev pub counted_behind : ℕ → List (ℕ × ℕ) → ℕ
-  counted_behind n pairs = n + count (λ pair. meant pair.0) pairs
-
-  pub decided_more : (front : List (Option ℕ)) (pair : ℕ × ℕ) (rest : Option (List (ℕ × ℕ))) → option_map (decided_behind front) (and_more pair rest) ≡ option_map (decided_behind (front ++ (pair_decided (meant pair.0) to pair).0 ∷ (pair_decided (meant pair.0) to pair).1 ∷ [])) rest
-  decided_more front pair None = refl
-  decided_more front pair (Some more) =
-      let two = pair_decided (meant pair.0) to pair in
-      ap (λ all. Some (front ++ all)) (first_decided meant to pair more) ∙ ap Some (sym (append_assoc front (two.0 ∷ two.1 ∷ []) (pairs_decided meant to more)))
-
-  pub decided_none : (rest : Option (List (ℕ × ℕ))) → option_map (decided_behind []) rest ≡ option_map (pairs_decided meant to) rest
-  decided_none None = refl
-  decided_none (Some more) = refl
-
-  pub counted_more : (n : ℕ) (pair : ℕ × ℕ) (rest : Option (List (ℕ × ℕ))) → option_map (counted_behind n) (and_more pair rest) ≡ option_map (counted_behind (n + cond (meant pair.0) 1 0)) rest
-  counted_more n pair None = refl
-  counted_more n pair (Some more) =
-      let first = counted_first (λ (pair : ℕ × ℕ). meant pair.0) pair more in
-      let same : n + count (λ pair. meant pair.0) (pair ∷ more) ≡ n + cond (meant pair.0) 1 0 + count (λ pair. meant pair.0) more = omega (arith, first) in
-      ap Some same
-
-  pub counted_none : (rest : Option (List (ℕ × ℕ))) → option_map (counted_behind 0) rest ≡ option_map (count (λ pair. meant pair.0)) rest
-  counted_none None = refl
-  counted_none (Some more) = let same : 0 + count (λ pair. meant pair.0) more ≡ count (λ pair. meant pair.0) more = omega arith in ap Some same
+pub said_pairs : (meant : ℕ → Bool) (to : Option ℕ) (found : Option (List (ℕ × ℕ))) → option_map (pairs_decided meant to) found ≡ option_map (decided_by (said_of meant to)) found
+said_pairs meant to None = refl
+said_pairs meant to (Some pairs) = ap Some (sym (said_list meant to pairs))
 
 -- ---- keys that have these bytes
 
@@ -83,11 +64,6 @@ named_removals key items decisions (Some pairs) is =
 pub removals_decided : (key : List ℕ) (items : List LayerItem) (fields : List Field) (decisions : List (Option ℕ)) → option_map (without_pairs (λ ordinal. unwrap_or (slice_get (map (bytes_eq key) (contents key_field (plain_fields items))) ordinal) false)) (pairs_among items fields) ≡ Some decisions → decisions ≡ removals key items fields
 removals_decided key items fields decisions is = named_removals key items decisions (pairs_among items fields) is
 
--- where tags are decided on they make pairs
-pub then_pairs : {A B : Type 0} (f : A → B) (found : Option A) (made : B) → option_map f found ≡ Some made → is_some found ≡ true
-then_pairs f None made is = absurd cc
-then_pairs f (Some x) made is = refl
-
 -- the decisions by the keys of a layer and by its sizes are those on the pairs of the key, and the tags make pairs
 pub record OnPairs (key : List ℕ) (items : List LayerItem) (fields : List Field) (decisions : List (Option ℕ)) : Type 0 where
   pub decided : decisions ≡ removals key items fields
@@ -99,12 +75,6 @@ on_pairs key layer feature key_count value_count named decisions is_named is_key
     let by_layer : option_map (without_pairs goes) (plain_pairs (tag_pairs (length (keys layer)) (length (values layer)) (numbers 2 feature.fields))) ≡ Some decisions = rw (is_named, is_keys, is_values) at is in
     let decided : option_map (without_pairs goes) (pairs_among layer.items feature.fields) ≡ Some decisions = ap (option_map (without_pairs goes)) (sym (tags_are_pairs layer feature)) ∙ by_layer in
     record { decided = removals_decided key layer.items feature.fields decisions decided; readable = then_pairs (without_pairs goes) (pairs_among layer.items feature.fields) decisions decided }
-
--- where tags by the sizes of a layer are bad they make no pairs
-pub no_pairs : (layer : Layer) (feature : Feature) (key_count value_count : ℕ) → key_count ≡ length (keys layer) → value_count ≡ length (values layer) → plain_pairs (tag_pairs key_count value_count (numbers 2 feature.fields)) ≡ None → is_some (pairs_among layer.items feature.fields) ≡ false
-no_pairs layer feature key_count value_count is_keys is_values bad =
-    let by_layer : plain_pairs (tag_pairs (length (keys layer)) (length (values layer)) (numbers 2 feature.fields)) ≡ None = rw (is_keys, is_values) at bad in
-    ap (λ found. is_some found) (sym (tags_are_pairs layer feature) ∙ by_layer)
 
 -- a key is among the items where it is among the keys
 any_key : (key : List ℕ) (content : Option (List ℕ)) (rest : List (List ℕ)) → list_any (λ same. same) (map (bytes_eq key) (cons_option content rest)) ≡ (option_map_or (bytes_eq key) content false || list_any (λ same. same) (map (bytes_eq key) rest))

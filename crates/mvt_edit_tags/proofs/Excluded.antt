@@ -1,8 +1,5 @@
 -- The pairs of a key go from each feature.
 use Rattle.std.proofs.Common.{◌≡◌, ℕ, Ok, List, [], ◌∷◌, ◌++◌, length, map, refl, sym, ap, ◌∙◌, arith}
-use Rattle.std.proofs.lemmas.List.{map-append}
-use Rattle.std.proofs.lemmas.List.Concat.{flat_map-append}
-use Rattle.std.proofs.lemmas.List.Folds.{flat_map-map}
 use Rattle.std.specs.List.{AllByRecursion, flat_map}
 use Rattle.mvt_document.specs.Plain as plain
 use Rattle.mvt_document.specs.Stands.{document_of, field_of, layer_item_of, tile_item_of}
@@ -13,9 +10,7 @@ use Rattle.mvt_document.specs.declared.document.LayerItem.{LayerItem}
 use Rattle.mvt_document.specs.declared.document.LayerItem.TheVariants as in_layer
 use Rattle.mvt_document.specs.declared.document.TileItem.{TileItem}
 use Rattle.mvt_document.specs.declared.document.TileItem.TheVariants as in_tile
-use Rattle.mvt_view.specs.Found.{found_features}
-use Rattle.mvt_view.specs.Views.{feature_in, features}
-use Rattle.mvt_view.proofs.Placing.{found_items}
+use Rattle.mvt_view.specs.Views.{features}
 use Rattle.mvt_change.specs.Changes.{Change}
 use Rattle.mvt_command.specs.Command.{LayersChoice, Exclude}
 use Rattle.mvt_meaning.specs.Selection.{selected_layers}
@@ -25,25 +20,12 @@ use Rattle.mvt_meaning.proofs.Removals.{removals_short}
 use Rattle.mvt_edit_steps.specs.Fates.{splices_of}
 use Rattle.mvt_edit_steps.specs.Prepared.{IsPrepared}
 use Rattle.mvt_edit_steps.proofs.CarriedOut.{put_all, taken_all}
+use Rattle.mvt_edit_steps.proofs.EachFeature.{joined_each, mapped_each, of_features, same_each}
 use Rattle.mvt_edit_steps.proofs.FieldsLeft.{fields_left, fields_put, fields_taken}
-use Rattle.mvt_edit_tags.specs.EachFeature.{layer_steps, pairs_go}
-use Rattle.mvt_edit_tags.proofs.Come.{Carries, CarriesIn, CarriesInTile, puts_in, takes_in}
-use Rattle.mvt_edit_tags.proofs.EachFeature.{layers_made}
-
--- ---- lists of lists
-
-module _ {A B C : Type 0} (f : A → List B) where
-  mapped_each : (g : B → C) (list : List A) → map g (flat_map f list) ≡ flat_map (λ x. map g (f x)) list
-  mapped_each g [] = refl
-  mapped_each g (x ∷ list) = map-append g (f x) (flat_map f list) ∙ ap (λ rest. map g (f x) ++ rest) (mapped_each g list)
-
-  joined_each : (g : B → List C) (list : List A) → flat_map g (flat_map f list) ≡ flat_map (λ x. flat_map g (f x)) list
-  joined_each g [] = refl
-  joined_each g (x ∷ list) = flat_map-append g (f x) (flat_map f list) ∙ ap (λ rest. flat_map g (f x) ++ rest) (joined_each g list)
-
-same_each : {A B : Type 0} (f g : A → List B) → ((x : A) → f x ≡ g x) → (list : List A) → flat_map f list ≡ flat_map g list
-same_each f g same [] = refl
-same_each f g same (x ∷ list) = ap (λ first. first ++ flat_map f list) (same x) ∙ ap (λ rest. g x ++ rest) (same_each f g same list)
+use Rattle.mvt_edit_steps.specs.EachFeature.{layer_steps}
+use Rattle.mvt_edit_tags.specs.EachFeature.{pairs_go}
+use Rattle.mvt_edit_steps.proofs.Come.{Carries, CarriesIn, puts_in, takes_in}
+use Rattle.mvt_edit_tags.proofs.EachFeature.{CarriesInTile, layers_made}
 
 module _ (key : List ℕ) where
   -- ---- the fields of each feature
@@ -76,11 +58,6 @@ module _ (key : List ℕ) where
 
   abbrev taken : ℕ × (ℕ × plain.Layer) → List plain.Field
   taken found = takes_in (pairs_go key) (without_attribute key) found
-
-  -- what is made of the features of a layer, by what is made of each
-  of_features : {A : Type 0} (layer : plain.Layer) (made : plain.Feature → List A) → flat_map (λ (at : ℕ × (ℕ × plain.Feature)). made at.1.1) (found_features layer.items) ≡ flat_map made (features layer)
-  of_features layer made =
-      sym (flat_map-map made (λ (at : ℕ × (ℕ × plain.Feature)). at.1.1) (found_features layer.items)) ∙ ap (flat_map made) (found_items feature_in layer.items)
 
   taken_in : (at : ℕ × (ℕ × plain.Layer)) → taken at ≡ as_before (losing_in key at.1.1)
   taken_in at =

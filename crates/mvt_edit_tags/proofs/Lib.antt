@@ -1,12 +1,10 @@
-pub mod Come
+pub mod NoneLost
 pub mod EachFeature
 pub mod Untagged
 pub mod KeyFields
 pub mod KeysRenamed
 pub mod Deciding
 pub mod PairsLost
-pub mod Unreadable
-pub mod StepsPassed
 pub mod Excluded
 mod EntryOrdinals
 mod OneDiffers

@@ -19,7 +19,7 @@ use Rattle.mvt_edit_steps.specs.Fates.{splices_from}
 use Rattle.mvt_edit_steps.proofs.FieldsLeft.{changes_one}
 use Rattle.mvt_edit_tags.specs.Attribute.{run_for}
 use Rattle.mvt_meaning.specs.Tagging.{revalued}
-use Rattle.mvt_edit_tags.proofs.Deciding.{counted_first}
+use Rattle.mvt_edit_steps.proofs.Deciding.{counted_first}
 
 pub some_mapped : {A B : Type 0} (f : A → B) (found : Option A) → is_some (option_map f found) ≡ is_some found
 some_mapped f None = refl

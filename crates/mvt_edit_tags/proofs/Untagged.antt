@@ -29,9 +29,10 @@ use Rattle.mvt_edit_steps.specs.Fates.{splices_of}
 use Rattle.mvt_edit_steps.proofs.CarriedOut.{put_all, taken_all}
 use Rattle.mvt_edit_steps.proofs.Going.{takes_out}
 use Rattle.mvt_edit_steps.proofs.Heavy.{heavy, number_has_bytes}
-use Rattle.mvt_edit_tags.specs.EachFeature.{layer_steps, tags_go}
-use Rattle.mvt_edit_tags.proofs.Come.{Carries, CarriesIn, CarriesInTile, puts_in, takes_in}
-use Rattle.mvt_edit_tags.proofs.EachFeature.{layers_made, none_made}
+use Rattle.mvt_edit_steps.specs.EachFeature.{layer_steps}
+use Rattle.mvt_edit_tags.specs.EachFeature.{tags_go}
+use Rattle.mvt_edit_steps.proofs.Come.{Carries, CarriesIn, puts_in, takes_in}
+use Rattle.mvt_edit_tags.proofs.EachFeature.{CarriesInTile, layers_made, none_made}
 
 -- ---- tags fields have two bytes or more
 

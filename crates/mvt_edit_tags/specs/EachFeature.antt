@@ -1,22 +1,10 @@
--- The steps by which the fields of many features change.
-use Rattle.std.specs.Prelude.{ℕ, Bool, not, List, Option, is_some, map}
-use Rattle.std.specs.List.{flat_map, list_any}
-use Rattle.mvt_document.specs.Plain.{Field, Feature, LayerItem, Layer}
-use Rattle.mvt_change.specs.Changes.{Change, FeatureStep}
-use Rattle.mvt_view.specs.Found.{found_features}
+-- What becomes of the fields of each feature, where tags fields or the pairs of a key go.
+use Rattle.std.specs.Prelude.{ℕ, List, map}
+use Rattle.mvt_document.specs.Plain.{Field, LayerItem}
 use Rattle.mvt_meaning.specs.Tagging.{is_tags, removals}
 use Rattle.mvt_edit_steps.specs.Decided.{field_fates}
-use Rattle.mvt_edit_steps.specs.Fates.{goes_if, splices_of}
+use Rattle.mvt_edit_steps.specs.Fates.{goes_if}
 use Rattle.mvt_numbers.specs.declared.fate.Fate.{Fate}
-
--- the steps of what becomes of the fields of a feature, which is found with its position, in the layer at that position
-abbrev pub feature_steps : (List Field → List (Fate Field)) → ℕ → ℕ × (ℕ × Feature) → Change
-feature_steps fates layer found = map (λ s. FeatureStep layer found.1.0 s.index s.taken s.put) (splices_of (fates found.1.1.fields))
-
--- the steps of what becomes, in a layer of these items, of the fields of each feature; the layer is found with its
--- position
-abbrev pub layer_steps : (List LayerItem → List Field → List (Fate Field)) → ℕ × (ℕ × Layer) → Change
-layer_steps fates found = flat_map (feature_steps (fates found.1.1.items) found.1.0) (found_features found.1.1.items)
 
 -- the tags fields go, and the other fields of a feature stay (tiles 4.2)
 abbrev pub tags_go : List Field → List (Fate Field)
@@ -26,7 +14,3 @@ tags_go fields = map (λ field. goes_if (is_tags field)) fields
 -- (tiles 4.4)
 abbrev pub pairs_go : List ℕ → List LayerItem → List Field → List (Fate Field)
 pairs_go key items fields = field_fates 2 (removals key items fields) fields
-
--- some number goes, by a decision for each
-abbrev pub is_any_gone : List (Option ℕ) → Bool
-is_any_gone decisions = list_any (λ decision. not (is_some decision)) decisions

@@ -10,12 +10,15 @@ ghost use Rattle.mvt_meaning.specs.Tagging.{unreadable};
 ghost use Rattle.mvt_meaning.specs.declared.refusal.Refusal.TheVariants.{NoMemory};
 ghost use Rattle.mvt_view.specs.Seen.{found_layer_seen};
 ghost use Rattle.mvt_edit_steps.specs.Prepared.{Prepares};
-ghost use Rattle.mvt_edit_tags.specs.EachFeature.{is_any_gone, layer_steps, pairs_go};
+ghost use Rattle.mvt_edit_steps.specs.EachFeature.{layer_steps};
+ghost use Rattle.mvt_edit_steps.specs.Decided.{is_any_gone};
+ghost use Rattle.mvt_edit_tags.specs.EachFeature.{pairs_go};
 
 use crate::decide::{decide_or_refuse, named_keys};
-use crate::unset::renumber_tags;
 use mvt_change::{Change, Step};
+use mvt_document::tags::TAGS;
 use mvt_document::{Document, Items};
+use mvt_edit_steps::renumber_feature;
 use mvt_select::{FoundLayer, LayersChoice, Refusal, find_layers};
 use std::alloc::Global;
 
@@ -66,7 +69,15 @@ fn exclude_from(
             decisions,
         )?;
         if is_any_gone(decisions.as_slice()) {
-            renumber_tags(alloc, found.position, feature, decisions.as_slice(), steps)?;
+            renumber_feature(
+                alloc,
+                found.position,
+                feature,
+                TAGS,
+                decisions.as_slice(),
+                steps,
+                None,
+            )?;
         }
     }
     Ok(())

@@ -1,5 +1,5 @@
 -- An accepted command makes a document of a document.
-use Rattle.std.proofs.Common.{◌≡◌, ℕ, ◌^◌, ◌<◌, ◌≤◌, true, ◌&&◌, not, cond, ltb, ◌==◌, is_some, Some, IfOk, Err, Ok, List, [], ◌∷◌, ◌++◌, length, filter, slice_get, refl, subst, arith}
+use Rattle.std.proofs.Common.{◌≡◌, ℕ, ◌^◌, ◌<◌, ◌≤◌, Bool, true, ◌&&◌, not, cond, ltb, ◌==◌, is_some, Some, IfOk, Err, Ok, List, [], ◌∷◌, ◌++◌, length, map, filter, slice_get, refl, subst, arith}
 use Rattle.std.specs.List.{AllByRecursion, flat_map, list_any}
 use Rattle.std.specs.Str.{bytes_eq}
 use Rattle.std.proofs.lemmas.Bool.{cond_both, ltb-false, not-false}
@@ -17,21 +17,23 @@ use Rattle.mvt_geometry.specs.Shapes.{Geometry, kind_number}
 use Rattle.mvt_geometry.specs.declared.Kind.{Kind}
 use Rattle.mvt_geometry.specs.declared.Kind.TheVariants.{Dots, Lines, Areas}
 use Rattle.mvt_geometry.specs.Integers.{encoded}
-use Rattle.mvt_command.specs.Command.{LayersChoice, TheLayer, EachLayer, Command, IsCommand, RenameLayer, MoveLayer, DropLayer, KeepLayers, InsertFeature, MoveFeature, DropFeature, SetId, ClearId, SetAttribute, UnsetAttribute, RenameKey, Exclude, ExcludeAll, Shift, SetGeometry}
+use Rattle.mvt_command.specs.Command.{LayersChoice, TheLayer, EachLayer, Command, IsCommand, RenameLayer, MoveLayer, DropLayer, KeepLayers, InsertFeature, MoveFeature, DropFeature, SetId, ClearId, SetAttribute, UnsetAttribute, RenameKey, Exclude, ExcludeAll, Shift, SetGeometry, CompactKeys, CompactValues, Compact}
 use Rattle.mvt_view.specs.Views.{contents, key_field, layers, plain_fields, value_field}
 use Rattle.mvt_meaning.specs.Ordinals.{change_last, change_nth, without, move_nth, insert_nth}
 use Rattle.mvt_meaning.specs.Selection.{is_feature, is_layer, selected, selected_in, selected_layers}
+use Rattle.mvt_meaning.specs.Compaction.{compacted, is_any, is_entry, is_key_used, is_value_used, new_ordinals, staying, with_entries, with_new_ordinals}
 use Rattle.mvt_meaning.specs.Geometries.{can_move, geometry_among, is_geometry_field, is_kind, shifted, with_geometry, with_kind}
 use Rattle.mvt_meaning.specs.Tagging.{attributed, excluded, is_key, is_packed_last, is_tags, missing_entries, missing_entry, new_pair, pairs_with, removals, renamed_keys, replacements, unreadable, untagged, value_ordinal, with_attribute, with_more, with_more_content, with_more_tags, without_attribute, without_tags}
 use Rattle.mvt_geometry.specs.Checks.{is_in_range}
-use Rattle.mvt_meaning.specs.Meaning.{applied, refuse_if, can_shift, fields_of, layer_count, feature_count, has_key, has_pairs, is_drawn, is_id, items_of, refuse_first, repeats_key, is_kept, is_name, is_taken, within_limit, change_layer, change_layers, change_feature, identified, named_items, new_content, new_feature, new_number, with_content, with_field_value, with_id, with_number, with_text, with_value, without_id}
+use Rattle.mvt_meaning.specs.Meaning.{applied, refuse_if, can_shift, fields_of, layer_count, feature_count, has_key, has_pairs, is_drawn, is_id, items_of, refuse_first, repeats_key, is_kept, is_name, is_taken, within_limit, change_layer, change_layers, change_readable, change_feature, identified, named_items, new_content, new_feature, new_number, with_content, with_field_value, with_id, with_number, with_text, with_value, without_id}
 use Rattle.mvt_meaning.specs.declared.refusal.Refusal.TheVariants.{BadGeometry, BadPlace, BadTags, KeyTaken, NameTaken, NoKey, NoLayer, OutOfRange, RepeatedKey, TooLarge}
 use Rattle.mvt_meaning.specs.DocumentLaws.{CommandMakesDocument}
 use Rattle.mvt_numbers.specs.Renumbering.{renumber}
 use Rattle.mvt_numbers.proofs.Decisions.{all_joined}
 use Rattle.mvt_numbers.proofs.Redone.{stays_valid}
 use Rattle.mvt_meaning.proofs.Accepted.{not_refused, ok_so, then_given, then_so}
-use Rattle.mvt_meaning.proofs.Elements.{all_changed, all_changed_at, all_changed_within, all_filtered, all_inserted, all_last, all_mapped, all_moved, all_pushed, all_put, all_put_once, all_without}
+use Rattle.mvt_meaning.proofs.Elements.{all_changed, all_changed_at, all_changed_within, all_filtered, all_inserted, all_last, all_mapped, all_moved, all_pushed, all_put, all_put_once, all_staying, all_without}
+use Rattle.mvt_meaning.proofs.Compaction.{new_ordinals_short}
 use Rattle.mvt_meaning.proofs.Found.{fields_of_nth, items_of_nth}
 use Rattle.mvt_meaning.proofs.Moving.{shifted_valid}
 use Rattle.mvt_meaning.proofs.Removals.{removals_short}
@@ -129,6 +131,11 @@ layers_valid : (change : List LayerItem → List LayerItem) → ((items : List L
 layers_valid change keeps (TheLayer choice) document valid = then_so IsDocument (selected choice document) _ (λ ordinal. layer_valid change keeps ordinal document valid)
 layers_valid change keeps EachLayer document valid = all_mapped IsTileItem (in_layer change) (in_layer_valid change keeps) document valid
 
+readable_valid : (change : List LayerItem → List LayerItem) → ((items : List LayerItem) → AllByRecursion IsLayerItem items → AllByRecursion IsLayerItem (change items)) → (choice : LayersChoice) (document : Document) → IsDocument document → IfOk (change_readable change choice document) IsDocument
+readable_valid change keeps choice document valid =
+    then_so IsDocument (selected_layers choice document) _ (λ layers.
+    then_so IsDocument (refuse_first (unreadable layers)) _ (λ readable. layers_valid change keeps choice document valid))
+
 -- a feature of whose fields it is known which they are
 module _ (change : List Field → List Field) (ordinal feature : ℕ) (document : Document) (keeps : (fields : List Field) → fields_of ordinal feature document ≡ fields → AllByRecursion IsField fields → AllByRecursion IsField (change fields)) where
   feature_at : (items : List LayerItem) → items_of ordinal document ≡ items → (item : LayerItem) → slice_get (filter is_feature items) feature ≡ Some item → IsLayerItem item → IsLayerItem (in_feature change item)
@@ -176,6 +183,23 @@ unset_valid key items fields all = stays_valid 2 (removals key items fields) fie
 excluded_valid : (key : List ℕ) (items : List LayerItem) → AllByRecursion IsLayerItem items → AllByRecursion IsLayerItem (excluded key items)
 excluded_valid key items all =
     all_mapped IsLayerItem (in_feature (without_attribute key items)) (in_feature_valid (without_attribute key items) (unset_valid key items)) items all
+
+-- ---- keys and values that stay
+
+repointed_valid : (keys values : ℕ → Bool) (items : List LayerItem) (fields : List Field) → AllByRecursion IsField fields → AllByRecursion IsField (with_new_ordinals keys values items fields)
+repointed_valid keys values items fields all =
+    stays_valid 2 (new_ordinals keys values items fields) fields (new_ordinals_short keys values items fields) all
+
+entries_valid : (keys values : ℕ → Bool) (items : List LayerItem) → AllByRecursion IsLayerItem items → AllByRecursion IsLayerItem (with_entries keys values items)
+entries_valid keys values items all =
+    let change = with_new_ordinals keys values items in
+    let left = map (in_feature change) items in
+    all_staying IsLayerItem (is_entry value_field) values 0 (staying (is_entry key_field) keys 0 left)
+    (all_staying IsLayerItem (is_entry key_field) keys 0 left
+    (all_mapped IsLayerItem (in_feature change) (in_feature_valid change (repointed_valid keys values items)) items all))
+
+compacted_valid : (keys values : List LayerItem → ℕ → Bool) (items : List LayerItem) → AllByRecursion IsLayerItem items → AllByRecursion IsLayerItem (compacted keys values items)
+compacted_valid keys values items all = entries_valid (keys items) (values items) items all
 
 -- ---- a value for a key
 
@@ -293,9 +317,7 @@ made_valid (RenameKey choice old new) document fits valid =
     then_so IsDocument (refuse_if (not (has_key old ordinal document)) NoKey) _ (λ there.
     then_so IsDocument (refuse_if (has_key new ordinal document && not (bytes_eq old new)) KeyTaken) _ (λ free.
     limited_valid (change_layer (renamed_keys old new) ordinal document) (layer_valid (renamed_keys old new) (renamed_valid old new) ordinal document valid))))
-made_valid (Exclude choice key) document fits valid =
-    then_so IsDocument (selected_layers choice document) _ (λ layers.
-    then_so IsDocument (refuse_first (unreadable layers)) _ (λ readable. layers_valid (excluded key) (excluded_valid key) choice document valid))
+made_valid (Exclude choice key) document fits valid = readable_valid (excluded key) (excluded_valid key) choice document valid
 made_valid (ExcludeAll choice) document fits valid = layers_valid untagged untagged_valid choice document valid
 made_valid (Shift choice feature dx dy) document fits valid =
     then_so IsDocument (selected choice document) _ (λ ordinal.
@@ -315,6 +337,12 @@ made_valid (SetGeometry choice feature geometry) document fits valid =
     then_so IsDocument (selected_in feature ordinal document) _ (λ meant.
     then_so IsDocument (refuse_if (not (is_in_range geometry)) OutOfRange) _ (λ short.
     limited_valid (change_feature (with_geometry geometry) ordinal meant document) (feature_valid (with_geometry geometry) (geometry_valid geometry) ordinal meant document valid))))
+made_valid (CompactKeys choice) document fits valid =
+    readable_valid (compacted is_key_used is_any) (compacted_valid is_key_used is_any) choice document valid
+made_valid (CompactValues choice) document fits valid =
+    readable_valid (compacted is_any is_value_used) (compacted_valid is_any is_value_used) choice document valid
+made_valid (Compact choice) document fits valid =
+    readable_valid (compacted is_key_used is_value_used) (compacted_valid is_key_used is_value_used) choice document valid
 
 pub command_makes_document : CommandMakesDocument
 command_makes_document command document after fits valid is = ok_so IsDocument (applied command document) after (made_valid command document fits valid) is

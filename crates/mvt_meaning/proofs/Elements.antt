@@ -1,9 +1,10 @@
 -- What holds of each item of a list holds of each after a change of it.
-use Rattle.std.proofs.Common.{◌≡◌, ℕ, zero, suc, ◌-◌, ◌≤◌, Bool, false, ◌&&◌, not, cond, ltb, ◌==◌, Option, Some, None, List, [], ◌∷◌, ◌++◌, length, length-append, take, drop, map, filter, slice_get, refl, subst, inl, inr, arith}
+use Rattle.std.proofs.Common.{◌≡◌, ℕ, zero, suc, ◌+◌, ◌-◌, ◌≤◌, Bool, false, ◌&&◌, not, cond, ltb, ◌==◌, Option, Some, None, List, [], ◌∷◌, ◌++◌, length, length-append, take, drop, map, filter, slice_get, refl, subst, inl, inr, arith}
 use Rattle.std.specs.List.{AllByRecursion, flat_map, list_any}
 use Rattle.std.specs.Option.{option_map_or}
 use Rattle.std.proofs.lemmas.Bool.{cases_Bool, cond_both, ne_eqb}
 use Rattle.mvt_numbers.proofs.Decisions.{all_joined}
+use Rattle.mvt_meaning.specs.Compaction.{staying}
 use Rattle.mvt_meaning.specs.Ordinals.{from_nth, change_first, change_nth, change_last, put_last, put_once, count, without, before, behind, move_nth, insert_nth}
 
 module _ {A : Type 0} (P : A → Type 0) where
@@ -106,6 +107,15 @@ module _ {A : Type 0} (P : A → Type 0) where
       cond_both (list_any passes xs) (change_last passes change xs) (xs ++ new ∷ []) (AllByRecursion P)
       (λ _. all_last passes change keeps xs all)
       (λ _. all_pushed new valid xs all)
+
+  pub all_staying : (passes : A → Bool) (stays : ℕ → Bool) (ordinal : ℕ) (xs : List A) → AllByRecursion P xs → AllByRecursion P (staying passes stays ordinal xs)
+  all_staying passes stays ordinal [] all = tt
+  all_staying passes stays ordinal (x ∷ xs) all =
+      let later = all_staying passes stays (ordinal + 1) xs all.1 in
+      let behind = staying passes stays (ordinal + 1) xs in
+      cond_both (passes x) (cond (stays ordinal) (x ∷ behind) behind) (x ∷ staying passes stays ordinal xs) (AllByRecursion P)
+      (λ _. cond_both (stays ordinal) (x ∷ behind) behind (AllByRecursion P) (λ _. (all.0, later)) (λ _. later))
+      (λ _. (all.0, all_staying passes stays ordinal xs all.1))
 
   pub all_put_once : (passes : A → Bool) (new : A) → P new → (xs : List A) → AllByRecursion P xs → AllByRecursion P (put_once passes new xs)
   all_put_once passes new valid [] all = (valid, tt)

@@ -11,6 +11,8 @@ pub mod Selecting
 pub mod SelectionLemmas
 pub mod Removals
 pub mod Replacements
+pub mod Compaction
+pub mod Staying
 pub mod Moving
 pub mod OtherFields
 pub mod ReadValues

@@ -8,14 +8,15 @@ use Rattle.std.specs.Str.{bytes_eq}
 use Rattle.mvt_document.specs.declared.TheConstants.{MAX_FILE}
 use Rattle.mvt_document.specs.Plain.{Document, Layer, LayerItem, OfLayer}
 use Rattle.mvt_document.specs.Wire.{bytes_of}
-use Rattle.mvt_command.specs.Command.{LayerChoice, AtOrdinal, Named, LayersChoice, TheLayer, EachLayer, FeatureChoice, FeatureAtOrdinal, WithId, Command, RenameLayer, MoveLayer, DropLayer, KeepLayers, InsertFeature, MoveFeature, DropFeature, SetId, ClearId, SetAttribute, UnsetAttribute, RenameKey, Exclude, ExcludeAll, Shift, SetGeometry}
+use Rattle.mvt_command.specs.Command.{LayerChoice, AtOrdinal, Named, LayersChoice, TheLayer, EachLayer, FeatureChoice, FeatureAtOrdinal, WithId, Command, RenameLayer, MoveLayer, DropLayer, KeepLayers, InsertFeature, MoveFeature, DropFeature, SetId, ClearId, SetAttribute, UnsetAttribute, RenameKey, Exclude, ExcludeAll, Shift, SetGeometry, CompactKeys, CompactValues, Compact}
 use Rattle.mvt_command.proofs.Others.{Other, either}
 use Rattle.mvt_view.specs.Views.{features, has_id, is_named, layers, ordinals_of, the_one}
 use Rattle.mvt_meaning.specs.MemoryLaws.{NoCommandIsOutOfMemory}
 use Rattle.mvt_meaning.specs.Selection.{selected, selected_feature, selected_in, selected_layers}
 use Rattle.mvt_geometry.specs.Checks.{is_in_range}
+use Rattle.mvt_meaning.specs.Compaction.{compacted, is_any, is_key_used, is_value_used}
 use Rattle.mvt_meaning.specs.Tagging.{excluded, unreadable, untagged}
-use Rattle.mvt_meaning.specs.Meaning.{◌>>=◌, applied, can_shift, change_layers, has_pairs, is_drawn, refuse_first, repeats_key, refuse_if, within_limit, is_taken, is_kept, has_key, layer_count, feature_count}
+use Rattle.mvt_meaning.specs.Meaning.{◌>>=◌, applied, can_shift, change_layers, change_readable, has_pairs, is_drawn, refuse_first, repeats_key, refuse_if, within_limit, is_taken, is_kept, has_key, layer_count, feature_count}
 use Rattle.mvt_meaning.specs.declared.refusal.Refusal.{Refusal}
 use Rattle.mvt_meaning.specs.declared.refusal.Refusal.TheVariants.{NoMemory, NoLayer, AmbiguousLayer, NoFeature, AmbiguousFeature, NoKey, BadGeometry, BadPlace, BadTags, NameTaken, KeyTaken, OutOfRange, RepeatedKey, TooLarge}
 
@@ -70,6 +71,11 @@ first_refused : (list : List (ℕ × ℕ)) → NeverOutOfMemory (refuse_first li
 first_refused [] = tt
 first_refused (at ∷ more) = λ e. cc
 
+readable_meant : (change : List LayerItem → List LayerItem) (choice : LayersChoice) (document : Document) → NeverOutOfMemory (change_readable change choice document)
+readable_meant change choice document =
+    then (selected_layers choice document) _ (meant_layers choice document) (λ layers.
+    then (refuse_first (unreadable layers)) _ (first_refused (unreadable layers)) (λ readable. layers_meant change choice document))
+
 pub applied_other : (command : Command) (document : Document) → Other NoMemory (applied command document)
 applied_other (RenameLayer choice name) document =
     then (selected choice document) _ (layer_meant choice document) (λ ordinal.
@@ -122,9 +128,7 @@ applied_other (RenameKey choice old new) document =
     let taken = has_key new ordinal document && not (bytes_eq old new) in
     then (refuse_if gone NoKey) _ (either NoMemory gone (Err NoKey) (Ok tt) (λ e. cc) tt) (λ there.
     then (refuse_if taken KeyTaken) _ (either NoMemory taken (Err KeyTaken) (Ok tt) (λ e. cc) tt) (λ free. limited _)))
-applied_other (Exclude choice key) document =
-    then (selected_layers choice document) _ (meant_layers choice document) (λ layers.
-    then (refuse_first (unreadable layers)) _ (first_refused (unreadable layers)) (λ readable. layers_meant (excluded key) choice document))
+applied_other (Exclude choice key) document = readable_meant (excluded key) choice document
 applied_other (ExcludeAll choice) document = layers_meant untagged choice document
 applied_other (Shift choice feature dx dy) document =
     then (selected choice document) _ (layer_meant choice document) (λ ordinal.
@@ -138,6 +142,9 @@ applied_other (SetGeometry choice feature geometry) document =
     then (selected choice document) _ (layer_meant choice document) (λ ordinal.
     then (selected_in feature ordinal document) _ (feature_meant feature ordinal document) (λ meant.
     then (refuse_if far OutOfRange) _ (either NoMemory far (Err OutOfRange) (Ok tt) (λ e. cc) tt) (λ short. limited _)))
+applied_other (CompactKeys choice) document = readable_meant (compacted is_key_used is_any) choice document
+applied_other (CompactValues choice) document = readable_meant (compacted is_any is_value_used) choice document
+applied_other (Compact choice) document = readable_meant (compacted is_key_used is_value_used) choice document
 
 other_refusal : {A : Type 0} (result : Result A Refusal) → Other NoMemory result → result ≢ Err NoMemory
 other_refusal (Ok x) other e = absurd cc

@@ -4,6 +4,7 @@ pub mod Fields
 pub mod Decided
 pub mod Tagging
 pub mod Geometries
+pub mod Compaction
 pub mod Meaning
 pub mod Kept
 pub mod LayerLaws

@@ -17,10 +17,11 @@ use Rattle.mvt_geometry.specs.declared.faults.EncodeError.{EncodeError}
 use Rattle.mvt_geometry.specs.declared.faults.EncodeError.TheVariants as encode_errors
 use Rattle.mvt_view.specs.Views.{content_in, features_in, is_named, layers, ordinals_of, value_in}
 use Rattle.mvt_document.specs.Places.{fields_in, in_feature, in_layer}
-use Rattle.mvt_command.specs.Command.{LayersChoice, TheLayer, EachLayer, Command, RenameLayer, MoveLayer, DropLayer, KeepLayers, InsertFeature, MoveFeature, DropFeature, SetId, ClearId, SetAttribute, UnsetAttribute, RenameKey, Exclude, ExcludeAll, Shift, SetGeometry}
+use Rattle.mvt_command.specs.Command.{LayersChoice, TheLayer, EachLayer, Command, RenameLayer, MoveLayer, DropLayer, KeepLayers, InsertFeature, MoveFeature, DropFeature, SetId, ClearId, SetAttribute, UnsetAttribute, RenameKey, Exclude, ExcludeAll, Shift, SetGeometry, CompactKeys, CompactValues, Compact}
 use Rattle.mvt_meaning.specs.Ordinals.{change_nth, without, move_nth, insert_nth, put_last}
 use Rattle.mvt_meaning.specs.Selection.{is_feature, is_layer, selected, selected_in, selected_layers}
 use Rattle.mvt_meaning.specs.Tagging.{attributed, excluded, is_key, pairs_among, pairs_with, renamed_keys, unreadable, untagged, without_attribute}
+use Rattle.mvt_meaning.specs.Compaction.{compacted, is_any, is_key_used, is_value_used}
 use Rattle.mvt_meaning.specs.Geometries.{can_move, geometry_among, shifted, with_geometry}
 pub use Rattle.mvt_meaning.specs.Fields.{new_content, new_number, with_content, with_field_value, with_number, with_text, with_value}
 use Rattle.mvt_meaning.specs.declared.refusal.Refusal.{Refusal}
@@ -160,6 +161,14 @@ geometry_refusal encode_errors.NoMemory = NoMemory
 abbrev pub within_limit : Document → Result Document Refusal
 within_limit document = if nat_lt MAX_FILE (length (bytes_of document)) then Err TooLarge else Ok document
 
+-- the tile with the items of the layers changed that are meant, where the tags of each of their features make pairs; or
+-- the refusal (tiles 4.4)
+abbrev pub change_readable : (List LayerItem → List LayerItem) → LayersChoice → Document → Result Document Refusal
+change_readable change choice document = do
+  layers ← selected_layers choice document
+  readable ← refuse_first (unreadable layers)
+  change_layers change choice document
+
 -- ---- commands
 
 -- what the command makes of the document, or the first of its refusals
@@ -217,10 +226,7 @@ applied (RenameKey choice old new) document = do
   there ← refuse_if (not (has_key old ordinal document)) NoKey
   free ← refuse_if (has_key new ordinal document && not (bytes_eq old new)) KeyTaken
   within_limit (change_layer (renamed_keys old new) ordinal document)
-applied (Exclude choice key) document = do
-  layers ← selected_layers choice document
-  readable ← refuse_first (unreadable layers)
-  change_layers (excluded key) choice document
+applied (Exclude choice key) document = change_readable (excluded key) choice document
 applied (ExcludeAll choice) document = change_layers untagged choice document
 applied (Shift choice feature dx dy) document = do
   ordinal ← selected choice document
@@ -233,6 +239,9 @@ applied (SetGeometry choice feature geometry) document = do
   meant ← selected_in feature ordinal document
   short ← refuse_if (not (is_in_range geometry)) OutOfRange
   within_limit (change_feature (with_geometry geometry) ordinal meant document)
+applied (CompactKeys choice) document = change_readable (compacted is_key_used is_any) choice document
+applied (CompactValues choice) document = change_readable (compacted is_any is_value_used) choice document
+applied (Compact choice) document = change_readable (compacted is_key_used is_value_used) choice document
 
 -- the document after the command; a refused command changes nothing
 abbrev pub after : Command → Document → Document

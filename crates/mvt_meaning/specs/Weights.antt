@@ -1,12 +1,14 @@
 -- How many bytes a command takes out of a document, and how many it puts in: those of whole items.
-use Rattle.std.specs.Prelude.{ℕ, ◌+◌, ◌==◌, ℤ, Bool, not, List, length, map, filter, slice_get, Option, None, Result, Ok, Err, if◌then◌else◌}
-use Rattle.std.specs.List.{flat_map, last_or}
+use Rattle.std.specs.Prelude.{ℕ, ◌+◌, ◌==◌, ℤ, Bool, not, List, length, filter, slice_get, Option, None, Result, Ok, Err, if◌then◌else◌}
+use Rattle.std.specs.List.{flat_map, last_or, sum_by}
 use Rattle.std.specs.Option.{option_map_or}
-use Rattle.mvt_document.specs.Plain.{Field, LayerItem, Document}
+use Rattle.mvt_document.specs.Plain.{Field, LayerItem, Layer, Document}
 use Rattle.mvt_document.specs.Wire.{field_bytes, layer_item_bytes, tile_item_bytes}
 use Rattle.mvt_value.specs.Messages.{encoded_value}
-use Rattle.mvt_command.specs.Command.{LayerChoice, LayersChoice, FeatureChoice, Command, RenameLayer, DropLayer, KeepLayers, InsertFeature, DropFeature, SetId, ClearId, SetAttribute, UnsetAttribute, RenameKey, Exclude, ExcludeAll, Shift, SetGeometry}
+use Rattle.mvt_view.specs.Views.{key_field, value_field}
+use Rattle.mvt_command.specs.Command.{LayerChoice, LayersChoice, FeatureChoice, Command, RenameLayer, DropLayer, KeepLayers, InsertFeature, DropFeature, SetId, ClearId, SetAttribute, UnsetAttribute, RenameKey, Exclude, ExcludeAll, Shift, SetGeometry, CompactKeys, CompactValues, Compact}
 pub use Rattle.mvt_meaning.specs.Decided.{as_before, as_renumbered}
+use Rattle.mvt_meaning.specs.Compaction.{is_any, is_key_used, is_value_used, leaving, repointing}
 use Rattle.mvt_meaning.specs.Geometries.{is_geometry_field, is_kind, shifting}
 use Rattle.mvt_meaning.specs.Selection.{is_feature, is_layer, selected, selected_in, selected_layers}
 use Rattle.mvt_meaning.specs.Tagging.{is_key, is_packed_last, is_tags, losing, losing_in, missing_entries, pairs_with, revaluing, tags_fields, with_attribute}
@@ -90,6 +92,23 @@ shift_weight seen choice feature dx dy document = of_meant (selected choice docu
 abbrev pub geometry_weight : LayerChoice → FeatureChoice → Document → Document → ℕ
 geometry_weight choice feature document seen = of_meant (selected choice document) (λ ordinal. of_meant (selected_in feature ordinal document) (λ meant. weigh_last field_bytes is_kind (fields_of ordinal meant seen) + weigh field_bytes (filter is_geometry_field (fields_of ordinal meant seen))))
 
+-- ---- keys and values that go
+
+-- the bytes of the keys and values of a layer that do not stay, and of the tags fields in which a number gets another
+-- value, as they stand before
+abbrev pub compact_takes : (List LayerItem → ℕ → Bool) → (List LayerItem → ℕ → Bool) → Layer → ℕ
+compact_takes keys values layer =
+    weigh layer_item_bytes (leaving key_field (keys layer.items) layer.items) + weigh layer_item_bytes (leaving value_field (values layer.items) layer.items)
+    + weigh field_bytes (as_before (repointing (keys layer.items) (values layer.items) layer))
+
+-- the bytes of these tags fields, as they stand after
+abbrev pub compact_puts : (List LayerItem → ℕ → Bool) → (List LayerItem → ℕ → Bool) → Layer → ℕ
+compact_puts keys values layer = weigh field_bytes (as_after (repointing (keys layer.items) (values layer.items) layer))
+
+-- the weight of each layer that is meant, together
+abbrev pub layers_weight : (Layer → ℕ) → LayersChoice → Document → ℕ
+layers_weight weight choice document = of_meant (selected_layers choice document) (λ meant. sum_by (λ found. weight found.1.1) meant)
+
 -- ---- commands
 
 -- the bytes of the items that a command takes out or replaces, as they stand before it
@@ -107,6 +126,9 @@ taken_by (Exclude choice key) document = excluded_weight as_before choice key do
 taken_by (ExcludeAll choice) document = of_meant (selected_layers choice document) (λ meant. weigh field_bytes (flat_map (λ found. tags_fields found.1.1) meant))
 taken_by (Shift choice feature dx dy) document = shift_weight as_before choice feature dx dy document
 taken_by (SetGeometry choice feature geometry) document = geometry_weight choice feature document document
+taken_by (CompactKeys choice) document = layers_weight (compact_takes is_key_used is_any) choice document
+taken_by (CompactValues choice) document = layers_weight (compact_takes is_any is_value_used) choice document
+taken_by (Compact choice) document = layers_weight (compact_takes is_key_used is_value_used) choice document
 taken_by command document = 0
 
 -- the bytes of the items that a command puts in, new ones or those that replace others, as they stand after it
@@ -120,4 +142,7 @@ put_by (RenameKey choice old new) document = key_weight new choice document (aft
 put_by (Exclude choice key) document = excluded_weight as_after choice key document
 put_by (Shift choice feature dx dy) document = shift_weight (as_renumbered 4) choice feature dx dy document
 put_by (SetGeometry choice feature geometry) document = geometry_weight choice feature document (after (SetGeometry choice feature geometry) document)
+put_by (CompactKeys choice) document = layers_weight (compact_puts is_key_used is_any) choice document
+put_by (CompactValues choice) document = layers_weight (compact_puts is_any is_value_used) choice document
+put_by (Compact choice) document = layers_weight (compact_puts is_key_used is_value_used) choice document
 put_by command document = 0

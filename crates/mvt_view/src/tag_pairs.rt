@@ -67,6 +67,7 @@ impl<'a> Iterator for TagPairs<'a> {
 
     ghost remaining = { item_count (λ left. left) };
 
+    #[inline(always)]
     fn next(&mut self) -> Option<Result<TagPair, BadPair>> {
         let key = self.numbers.next()?;
         let Some(value) = self.numbers.next() else {
@@ -77,6 +78,7 @@ impl<'a> Iterator for TagPairs<'a> {
 }
 
 /// The pair that two tags are.
+#[inline(always)]
 fn pair_of(
     key: Result<Number, BadChunk>,
     value: Result<Number, BadChunk>,

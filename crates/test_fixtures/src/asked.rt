@@ -166,3 +166,24 @@ pub fn exclude_all() -> Command {
         layers: LayersChoice::All,
     }
 }
+
+/// No layer keeps a key that none of its features has.
+pub fn compact_keys() -> Command {
+    Command::CompactKeys {
+        layers: LayersChoice::All,
+    }
+}
+
+/// No layer keeps a value that none of its features has.
+pub fn compact_values() -> Command {
+    Command::CompactValues {
+        layers: LayersChoice::All,
+    }
+}
+
+/// No layer keeps a key or a value that none of its features has.
+pub fn compact() -> Command {
+    Command::Compact {
+        layers: LayersChoice::All,
+    }
+}

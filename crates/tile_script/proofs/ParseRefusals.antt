@@ -11,7 +11,7 @@ use Rattle.tile_arguments.proofs.Refusals.{then_other, text_other, texts_other, 
 use Rattle.mvt_command.specs.Requests.{HistoryRequest}
 use Rattle.tile_request.specs.Request.{Request, OnHistory}
 use Rattle.tile_script.specs.Line.{is_remark, requests_alone, requests_by_name, alone_of, name_of, list_of, requests, request_by, asked_by, request_in, answer_to}
-use Rattle.tile_script.specs.Commands.{chosen_of, two_texts_of, rename_layer_of, move_layer_of, drop_layer_of, keep_layers_of, insert_feature_of, move_feature_of, drop_feature_of, set_id_of, clear_id_of, set_of, unset_of, rename_key_of, exclude_of, exclude_all_of, shift_of, set_geometry_of, commands, read_by, command_by}
+use Rattle.tile_script.specs.Commands.{chosen_of, two_texts_of, layers_alone_of, rename_layer_of, move_layer_of, drop_layer_of, keep_layers_of, insert_feature_of, move_feature_of, drop_feature_of, set_id_of, clear_id_of, set_of, unset_of, rename_key_of, exclude_of, exclude_all_of, shift_of, set_geometry_of, compact_keys_of, compact_values_of, compact_of, commands, read_by, command_by}
 use Rattle.tile_words.specs.Answers.{◌>>=◌}
 use Rattle.tile_words.specs.declared.parse_error.ParseError.{ParseError}
 use Rattle.tile_words.specs.declared.parse_error.ParseError.TheVariants as parse
@@ -121,11 +121,27 @@ exclude_other (layers ∷ []) = λ e. cc
 exclude_other (layers ∷ key ∷ []) = then_other (layers_of layers) _ (layers_other layers) (λ choice. then_other (text_of key) _ (text_other key) (λ text. tt))
 exclude_other (layers ∷ key ∷ more ∷ others) = λ e. cc
 
+layers_alone_other : (arguments : List Word) → Other parse.NoMemory (layers_alone_of arguments)
+unfolding layers_alone_of
+layers_alone_other [] = λ e. cc
+layers_alone_other (layers ∷ []) = layers_other layers
+layers_alone_other (layers ∷ more ∷ others) = λ e. cc
+
 exclude_all_other : (arguments : List Word) → Other parse.NoMemory (exclude_all_of arguments)
 unfolding exclude_all_of
-exclude_all_other [] = λ e. cc
-exclude_all_other (layers ∷ []) = then_other (layers_of layers) _ (layers_other layers) (λ choice. tt)
-exclude_all_other (layers ∷ more ∷ others) = λ e. cc
+exclude_all_other arguments = then_other (layers_alone_of arguments) _ (layers_alone_other arguments) (λ choice. tt)
+
+compact_keys_other : (arguments : List Word) → Other parse.NoMemory (compact_keys_of arguments)
+unfolding compact_keys_of
+compact_keys_other arguments = then_other (layers_alone_of arguments) _ (layers_alone_other arguments) (λ choice. tt)
+
+compact_values_other : (arguments : List Word) → Other parse.NoMemory (compact_values_of arguments)
+unfolding compact_values_of
+compact_values_other arguments = then_other (layers_alone_of arguments) _ (layers_alone_other arguments) (λ choice. tt)
+
+compact_other : (arguments : List Word) → Other parse.NoMemory (compact_of arguments)
+unfolding compact_of
+compact_other arguments = then_other (layers_alone_of arguments) _ (layers_alone_other arguments) (λ choice. tt)
 
 shift_other : (arguments : List Word) → Other parse.NoMemory (shift_of arguments)
 unfolding shift_of
@@ -179,7 +195,7 @@ command_other name arguments = read_other commands (Err parse.UnknownCommand) na
                     set_other arguments,
                     (
                       unset_other arguments,
-                      (rename_key_other arguments, (exclude_other arguments, (exclude_all_other arguments, (shift_other arguments, (set_geometry_other arguments, tt))))),
+                      (rename_key_other arguments, (exclude_other arguments, (exclude_all_other arguments, (shift_other arguments, (set_geometry_other arguments, (compact_keys_other arguments, (compact_values_other arguments, (compact_other arguments, tt)))))))),
                     ),
                   ),
                 ),

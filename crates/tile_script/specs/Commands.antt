@@ -3,7 +3,7 @@ use Rattle.std.specs.Prelude.{ℕ, List, [], ◌∷◌, Result, Ok, Err, codes}
 use Rattle.std.specs.Map.{lookup}
 use Rattle.std.specs.Option.{option_map_or}
 use Rattle.std.specs.Str.{bytes_eq}
-use Rattle.mvt_command.specs.Command.{LayerChoice, FeatureChoice, Command, RenameLayer, MoveLayer, DropLayer, KeepLayers, InsertFeature, MoveFeature, DropFeature, SetId, ClearId, SetAttribute, UnsetAttribute, RenameKey, Exclude, ExcludeAll, Shift, SetGeometry}
+use Rattle.mvt_command.specs.Command.{LayerChoice, LayersChoice, FeatureChoice, Command, RenameLayer, MoveLayer, DropLayer, KeepLayers, InsertFeature, MoveFeature, DropFeature, SetId, ClearId, SetAttribute, UnsetAttribute, RenameKey, Exclude, ExcludeAll, Shift, SetGeometry, CompactKeys, CompactValues, Compact}
 use Rattle.tile_arguments.specs.Arguments.{text_of, texts_of, number_in, distance_of, layer_of, layers_of, feature_of, geometry_of, value_of}
 use Rattle.tile_words.specs.Words.{Word}
 use Rattle.tile_words.specs.Answers.{◌>>=◌}
@@ -23,6 +23,11 @@ two_texts_of first second = do
   one ← text_of first
   other ← text_of second
   Ok (one, other)
+
+-- the layers of arguments that are one word: one layer or all; or the refusal
+unfoldable pub layers_alone_of : List Word → Result LayersChoice ParseError
+layers_alone_of (layers ∷ []) = layers_of layers
+layers_alone_of words = Err BadArguments
 
 -- the rename of these arguments: a layer, and its new name as a text; or the first refusal
 unfoldable pub rename_layer_of : List Word → Result Command ParseError
@@ -130,10 +135,9 @@ exclude_of words = Err BadArguments
 
 -- the exclusion of all attributes by these arguments: one layer or all; or the first refusal
 unfoldable pub exclude_all_of : List Word → Result Command ParseError
-exclude_all_of (layers ∷ []) = do
-  choice ← layers_of layers
+exclude_all_of words = do
+  choice ← layers_alone_of words
   Ok (ExcludeAll choice)
-exclude_all_of words = Err BadArguments
 
 -- the shift of these arguments: a layer, a feature, and how far the geometry moves along x and along y; or the first
 -- refusal
@@ -152,6 +156,24 @@ set_geometry_of (layer ∷ feature ∷ kind ∷ points) = do
   geometry ← geometry_of (kind ∷ points)
   Ok (SetGeometry chosen.0 chosen.1 geometry)
 set_geometry_of words = Err BadArguments
+
+-- that unused keys go, of these arguments: one layer or all; or the refusal
+unfoldable pub compact_keys_of : List Word → Result Command ParseError
+compact_keys_of words = do
+  choice ← layers_alone_of words
+  Ok (CompactKeys choice)
+
+-- that unused values go, of these arguments: one layer or all; or the refusal
+unfoldable pub compact_values_of : List Word → Result Command ParseError
+compact_values_of words = do
+  choice ← layers_alone_of words
+  Ok (CompactValues choice)
+
+-- that unused keys and values go, of these arguments: one layer or all; or the refusal
+unfoldable pub compact_of : List Word → Result Command ParseError
+compact_of words = do
+  choice ← layers_alone_of words
+  Ok (Compact choice)
 
 -- the commands, each with its word and how its arguments are read
 abbrev pub commands : List (List ℕ × (List Word → Result Command ParseError))
@@ -172,6 +194,9 @@ commands =
     ∷ (codes "exclude-all", exclude_all_of)
     ∷ (codes "shift", shift_of)
     ∷ (codes "set-geometry", set_geometry_of)
+    ∷ (codes "compact-keys", compact_keys_of)
+    ∷ (codes "compact-values", compact_values_of)
+    ∷ (codes "compact", compact_of)
     ∷ []
 
 -- what the reader of this word among some makes of the arguments, or `unknown` where none has the word

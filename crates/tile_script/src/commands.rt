@@ -2,12 +2,12 @@
 
 ghost use Rattle.std.specs.Prelude.{◌≤◌, length, map};
 ghost use Rattle.std.specs.Result.{IsErrOf};
-ghost use Rattle.mvt_command.specs.CommandStands.{command_of, layer_choice_of, feature_choice_of};
-ghost use Rattle.tile_script.specs.Commands.{chosen_of, two_texts_of, rename_layer_of, move_layer_of, drop_layer_of, keep_layers_of, insert_feature_of, move_feature_of, drop_feature_of, set_id_of, clear_id_of, set_of, unset_of, rename_key_of, exclude_of, exclude_all_of, shift_of, set_geometry_of, command_by};
+ghost use Rattle.mvt_command.specs.CommandStands.{command_of, layer_choice_of, layers_choice_of, feature_choice_of};
+ghost use Rattle.tile_script.specs.Commands.{chosen_of, two_texts_of, layers_alone_of, rename_layer_of, move_layer_of, drop_layer_of, keep_layers_of, insert_feature_of, move_feature_of, drop_feature_of, set_id_of, clear_id_of, set_of, unset_of, rename_key_of, exclude_of, exclude_all_of, shift_of, set_geometry_of, compact_keys_of, compact_values_of, compact_of, command_by};
 ghost use Rattle.tile_words.specs.Answers.{Gives};
 ghost use Rattle.tile_words.specs.WordStands.{word_of};
 
-use mvt_command::{Command, FeatureChoice, LayerChoice};
+use mvt_command::{Command, FeatureChoice, LayerChoice, LayersChoice};
 use mvt_document::Items;
 use std::alloc::Global;
 use tile_arguments::{
@@ -58,6 +58,12 @@ pub(crate) fn command(
         shift(alloc, arguments)
     } else if name == b"set-geometry".as_slice() {
         set_geometry(alloc, arguments)
+    } else if name == b"compact-keys".as_slice() {
+        compact_keys(alloc, arguments)
+    } else if name == b"compact-values".as_slice() {
+        compact_values(alloc, arguments)
+    } else if name == b"compact".as_slice() {
+        compact(alloc, arguments)
     } else {
         Err(ParseError::UnknownCommand)
     }
@@ -255,10 +261,7 @@ fn exclude_all(alloc: Global, arguments: &[Word<'_>]) -> Result<Command, ParseEr
     ensures answer { Gives command_of result (exclude_all_of (map word_of arguments.now)) }
     ensures no_memory { IsErrOf result ParseError.NoMemory → 1 ≤ length arguments.now }
 {
-    let [layers] = arguments else {
-        return Err(ParseError::BadArguments);
-    };
-    let layers = layers_choice(alloc, *layers)?;
+    let layers = layers_alone(alloc, arguments)?;
     Ok(Command::ExcludeAll { layers })
 }
 
@@ -301,6 +304,33 @@ fn set_geometry(alloc: Global, arguments: &[Word<'_>]) -> Result<Command, ParseE
     })
 }
 
+#[tactic(auto, unfolding(crate::specs::Commands::compact_keys_of))]
+fn compact_keys(alloc: Global, arguments: &[Word<'_>]) -> Result<Command, ParseError>
+    ensures answer { Gives command_of result (compact_keys_of (map word_of arguments.now)) }
+    ensures no_memory { IsErrOf result ParseError.NoMemory → 1 ≤ length arguments.now }
+{
+    let layers = layers_alone(alloc, arguments)?;
+    Ok(Command::CompactKeys { layers })
+}
+
+#[tactic(auto, unfolding(crate::specs::Commands::compact_values_of))]
+fn compact_values(alloc: Global, arguments: &[Word<'_>]) -> Result<Command, ParseError>
+    ensures answer { Gives command_of result (compact_values_of (map word_of arguments.now)) }
+    ensures no_memory { IsErrOf result ParseError.NoMemory → 1 ≤ length arguments.now }
+{
+    let layers = layers_alone(alloc, arguments)?;
+    Ok(Command::CompactValues { layers })
+}
+
+#[tactic(auto, unfolding(crate::specs::Commands::compact_of))]
+fn compact(alloc: Global, arguments: &[Word<'_>]) -> Result<Command, ParseError>
+    ensures answer { Gives command_of result (compact_of (map word_of arguments.now)) }
+    ensures no_memory { IsErrOf result ParseError.NoMemory → 1 ≤ length arguments.now }
+{
+    let layers = layers_alone(alloc, arguments)?;
+    Ok(Command::Compact { layers })
+}
+
 /// A layer, and one of its features.
 #[tactic(auto, unfolding(crate::specs::Commands::chosen_of))]
 pub(crate) fn chosen(
@@ -313,6 +343,18 @@ pub(crate) fn chosen(
     let layer = layer_choice(alloc, layer)?;
     let feature = feature_choice(feature)?;
     Ok((layer, feature))
+}
+
+/// The layers of arguments that are one word: one layer or all.
+#[tactic(auto, unfolding(crate::specs::Commands::layers_alone_of))]
+fn layers_alone(alloc: Global, arguments: &[Word<'_>]) -> Result<LayersChoice, ParseError>
+    ensures answer { Gives layers_choice_of result (layers_alone_of (map word_of arguments.now)) }
+    ensures no_memory { IsErrOf result ParseError.NoMemory → 1 ≤ length arguments.now }
+{
+    let [layers] = arguments else {
+        return Err(ParseError::BadArguments);
+    };
+    layers_choice(alloc, *layers)
 }
 
 /// A text, and another.

@@ -6,11 +6,14 @@ use Rattle.mvt_document.specs.Stands.{layer_of}
 use Rattle.mvt_change.specs.ChangeStands.{step_of}
 use Rattle.mvt_view.specs.Seen.{found_feature_seen}
 use Rattle.mvt_view.specs.Views.{keys, values}
-use Rattle.mvt_edit_steps.specs.Decided.{field_fates}
-use Rattle.mvt_edit_tags.specs.EachFeature.{feature_steps, is_any_gone, pairs_go}
-use Rattle.mvt_edit_tags.proofs.Deciding.{no_pairs, on_pairs}
-use Rattle.mvt_edit_tags.proofs.StepsPassed.{no_steps, none_more, steps_more}
-use Rattle.mvt_edit_tags.proofs.Unreadable.{bad_among, feature_refused, readable_more, unreadable_in}
+use Rattle.mvt_edit_steps.specs.Decided.{field_fates, is_any_gone}
+use Rattle.mvt_edit_steps.specs.EachFeature.{feature_steps}
+use Rattle.mvt_edit_tags.specs.EachFeature.{pairs_go}
+use Rattle.mvt_edit_steps.proofs.Deciding.{no_pairs}
+use Rattle.mvt_edit_tags.proofs.Deciding.{on_pairs}
+use Rattle.mvt_edit_steps.proofs.StepsPassed.{none_more, steps_more}
+use Rattle.mvt_edit_tags.proofs.NoneLost.{no_steps}
+use Rattle.mvt_edit_steps.proofs.Unreadable.{bad_among, feature_refused, readable_more, unreadable_in}
 use Rattle.mvt_edit_tags.proofs.exclude.exclude_from.Goals as goal
 
 pub returns-in_err-decide_or_refuse-clause-refused : goal.returns-in_err-decide_or_refuse-clause-refused
@@ -28,8 +31,8 @@ returns-in_err-decide_or_refuse-clause-refused c =
           bad.0)
     ])
 
-pub loop-feature-preserved-in-Continue-branch-3 : goal.loop-feature-preserved-in-Continue-branch-3
-loop-feature-preserved-in-Continue-branch-3 c =
+pub loop-feature-preserved-in_ok-renumber_feature : goal.loop-feature-preserved-in_ok-renumber_feature
+loop-feature-preserved-in_ok-renumber_feature c =
     let layer = layer_of c.args.found.layer.now in
     let key = c.args.key.now in
     let found = found_feature_seen c.in-Some.feature in
@@ -40,7 +43,7 @@ loop-feature-preserved-in-Continue-branch-3 c =
     (sizes.ensures.keys ∙ ap (λ seen. length (keys seen)) c.view-layer.ensures) (sizes.ensures.values ∙ ap (λ seen. length (values seen)) c.view-layer.ensures) c.in_ok-decide_or_refuse.ensures.decided in
     record {
       steps = steps_more steps front _ _ found c.next.new.self
-          (c.in_ok-renumber_tags.ensures ∙ ap (λ decisions. front ++ feature_steps (field_fates 2 decisions) c.args.found.position found) (c.as_slice-then-is_any_gone.ensures.value ∙ on.decided))
+          (c.in_ok-renumber_feature.ensures.steps ∙ ap (λ decisions. front ++ feature_steps (field_fates 2 decisions) c.args.found.position found) (c.as_slice-then-is_any_gone.ensures.value ∙ on.decided))
           (ap (λ left. front ++ flat_map steps left) (sym c.in-Some.ensures.steps) ∙ c.loop-feature.invariant.steps);
       readable = sym (readable_more layer c.args.found.ordinal found c.next.new.self on.readable) ∙ ap (bad_among layer c.args.found.ordinal) (sym c.in-Some.ensures.steps) ∙ c.loop-feature.invariant.readable;
     }

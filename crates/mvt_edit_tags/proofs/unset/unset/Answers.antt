@@ -11,8 +11,9 @@ use Rattle.mvt_view.specs.Seen.{found_feature_seen}
 use Rattle.mvt_view.specs.Views.{keys, values}
 use Rattle.mvt_edit_steps.specs.Decided.{field_fates}
 use Rattle.mvt_edit_steps.proofs.FieldsLeft.{fields_left}
-use Rattle.mvt_edit_tags.specs.EachFeature.{feature_steps}
-use Rattle.mvt_edit_tags.proofs.Deciding.{has_named, no_pairs, on_pairs}
+use Rattle.mvt_edit_steps.specs.EachFeature.{feature_steps}
+use Rattle.mvt_edit_steps.proofs.Deciding.{no_pairs}
+use Rattle.mvt_edit_tags.proofs.Deciding.{has_named, on_pairs}
 use Rattle.mvt_edit_tags.proofs.PairsLost.{key_lacks, no_feature_loses, pairs_lack, tags_lose}
 use Rattle.mvt_edit_tags.proofs.unset.unset.Goals as goal
 
@@ -53,7 +54,7 @@ returns c =
     let left = fields_left 2 (removals key layer.items feature.fields) found.feature.now.fields.items (removals_short key layer.items feature.fields) in
     tags_lose choice key (document_of c.args.document.now) holder.ordinal holder.position layer is.meant is.placed is.there (feature_choice_of c.args.feature.now) found.ordinal found.position feature here.meant here.placed here.there has on.readable left _
     (ap (map step_of) c.from_vec.ensures.items
-    ∙ c.in_ok-renumber_tags.ensures
+    ∙ c.in_ok-renumber_feature.ensures.steps
     ∙ ap (λ list. map step_of list ++ feature_steps (field_fates 2 c.as_slice-3.result.now) holder.position (found_feature_seen found)) c.new-steps.ensures.items
     ∙ ap (λ decisions. feature_steps (field_fates 2 decisions) holder.position (found_feature_seen found)) (c.as_slice-3.ensures.value ∙ on.decided))
 

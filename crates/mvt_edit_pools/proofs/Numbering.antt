@@ -1,0 +1,25 @@
+-- New ordinals by the marks of entries.
+use Rattle.std.proofs.Common.{◌≡◌, ℕ, zero, suc, ◌+◌, ◌<◌, Bool, List, [], ◌∷◌, ◌++◌, Some, slice_get, length, drop, get_or, cond, append_assoc, refl, sym, ap, ◌∙◌, arith}
+use Rattle.std.proofs.lemmas.List.{drop_more}
+use Rattle.mvt_meaning.specs.Compaction.{new_ordinal}
+use Rattle.mvt_meaning.proofs.Staying.{next_ordinal}
+use Rattle.mvt_edit_pools.specs.Marks.{numbered_from, stays_from}
+
+-- the entry of an ordinal has the new one that it is to have
+got_from : (stays : ℕ → Bool) (m count n : ℕ) → n < count → slice_get (numbered_from (new_ordinal stays m) (stays_from stays m count)) n ≡ Some (new_ordinal stays (m + n))
+got_from stays m zero n below = absurd (omega arith)
+got_from stays m (suc count) zero below = let e : m ≡ m + 0 = omega arith in ap (λ k. Some (new_ordinal stays k)) e
+got_from stays m (suc count) (suc n) below =
+    let e : m + 1 + n ≡ m + suc n = omega arith in
+    ap (λ next. slice_get (numbered_from next (stays_from stays (m + 1) count)) n) (sym (next_ordinal stays m))
+    ∙ got_from stays (m + 1) count n (omega arith)
+    ∙ ap (λ k. Some (new_ordinal stays k)) e
+
+pub got_numbered : (stays : ℕ → Bool) (count n : ℕ) → n < count → slice_get (numbered_from 0 (stays_from stays 0 count)) n ≡ Some (new_ordinal stays n)
+got_numbered stays count n below = let e : 0 + n ≡ n = omega arith in got_from stays 0 count n below ∙ ap (λ k. Some (new_ordinal stays k)) e
+
+-- one entry more
+pub numbered_more : (front : List ℕ) (next : ℕ) (marks : List Bool) (index : ℕ) (d : Bool) → index < length marks → (front ++ next ∷ []) ++ numbered_from (next + cond (get_or marks index d) 1 0) (drop (index + 1) marks) ≡ front ++ numbered_from next (drop index marks)
+numbered_more front next marks index d within =
+    append_assoc front (next ∷ []) (numbered_from (next + cond (get_or marks index d) 1 0) (drop (index + 1) marks))
+    ∙ ap (λ rest. front ++ numbered_from next rest) (sym (drop_more marks index d within))

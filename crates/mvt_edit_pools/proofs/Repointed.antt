@@ -1,0 +1,156 @@
+-- What is decided on the tags of a feature by new ordinals: it is what the meaning decides; where no pair changes there is
+-- no step.
+use Rattle.std.proofs.Common.{◌≡◌, ℕ, zero, suc, ◌+◌, ◌==◌, ◌<◌, ◌^◌, Bool, true, false, ◌&&◌, not, is_some, Option, Some, None, List, [], ◌∷◌, ◌++◌, length, map, option_map, slice_get, refl, sym, ap, ◌∙◌, inl, inr, subst, arith}
+use Rattle.std.specs.Prelude.{nat_lt}
+use Rattle.std.proofs.lemmas.Bool.{and_parts, cases_Bool, eqb-true, ltb-true}
+use Rattle.std.proofs.lemmas.Simd.{map-map}
+use Rattle.std.specs.List.{flat_map, list_all}
+use Rattle.std.specs.Option.{option_map_or}
+use Rattle.mvt_document.specs.Plain.{Number, Field, Feature, Layer, LayerItem}
+use Rattle.mvt_numbers.specs.Laws.{NoneIsNew}
+use Rattle.mvt_numbers.specs.Numbers.{Placed, numbers}
+use Rattle.mvt_numbers.specs.Renumbering.{field_numbers}
+use Rattle.mvt_numbers.proofs.Reread.{read_of_fields}
+use Rattle.mvt_view.specs.Attributes.{is_ordinal, is_pair}
+use Rattle.mvt_view.specs.Found.{found_features}
+use Rattle.mvt_view.specs.Tags.{plain_pairs, tag_pairs}
+use Rattle.mvt_view.specs.Views.{contents, key_field, keys, plain_fields, value_field, values}
+use Rattle.mvt_view.proofs.Pairing.{tags_are_pairs}
+use Rattle.mvt_meaning.specs.Compaction.{new_ordinal, new_ordinals, repointed}
+use Rattle.mvt_meaning.specs.Tagging.{pairs_among}
+use Rattle.mvt_meaning.proofs.Removals.{flat, head_same, make_pairs}
+use Rattle.mvt_edit_steps.specs.Decided.{IsDecided, counted_by, decided_by, field_fates, is_any_gone}
+use Rattle.mvt_edit_steps.specs.EachFeature.{feature_steps, layer_steps}
+use Rattle.mvt_edit_steps.specs.Fates.{splices_from}
+use Rattle.mvt_edit_steps.proofs.Carrying.{in_feature_at}
+use Rattle.mvt_edit_steps.proofs.Deciding.{then_pairs}
+use Rattle.mvt_edit_steps.proofs.StepsPassed.{no_splices}
+use Rattle.mvt_edit_pools.specs.Marks.{keeps_ordinal, numbered_from, ordinals_in, pair_repointed, pairs_repointed, stays_from}
+use Rattle.mvt_edit_pools.specs.Pools.{ordinal_fates}
+use Rattle.mvt_edit_pools.proofs.Numbering.{got_numbered}
+
+-- ---- the new ordinals are those of the meaning
+
+module _ (keys_stay values_stay : ℕ → Bool) (items : List LayerItem) where
+  abbrev key_count : ℕ
+  key_count = length (contents key_field (plain_fields items))
+
+  abbrev value_count : ℕ
+  value_count = length (contents value_field (plain_fields items))
+
+  abbrev key_ordinals : List ℕ
+  key_ordinals = numbered_from 0 (stays_from keys_stay 0 key_count)
+
+  abbrev value_ordinals : List ℕ
+  value_ordinals = numbered_from 0 (stays_from values_stay 0 value_count)
+
+  pairs_as_meant : (pairs : List (ℕ × ℕ)) → list_all (is_pair key_count value_count) pairs ≡ true → decided_by (pair_repointed key_ordinals value_ordinals) pairs ≡ repointed keys_stay values_stay pairs
+  pairs_as_meant [] is = refl
+  pairs_as_meant (pair ∷ pairs) is =
+      let parts = and_parts (is_pair key_count value_count pair) (list_all (is_pair key_count value_count) pairs) is in
+      let both = and_parts (is_ordinal key_count pair.0) (is_ordinal value_count pair.1) parts.0 in
+      let key_below = ltb-true pair.0 key_count (and_parts (nat_lt pair.0 key_count) (nat_lt pair.0 (2 ^ 32)) both.0).0 in
+      let value_below = ltb-true pair.1 value_count (and_parts (nat_lt pair.1 value_count) (nat_lt pair.1 (2 ^ 32)) both.1).0 in
+      let rest = decided_by (pair_repointed key_ordinals value_ordinals) pairs in
+      ap (λ (n : Option ℕ). n ∷ slice_get value_ordinals pair.1 ∷ rest) (got_numbered keys_stay key_count pair.0 key_below)
+      ∙ ap (λ (n : Option ℕ). Some (new_ordinal keys_stay pair.0) ∷ n ∷ rest) (got_numbered values_stay value_count pair.1 value_below)
+      ∙ ap (λ (more : List (Option ℕ)). Some (new_ordinal keys_stay pair.0) ∷ Some (new_ordinal values_stay pair.1) ∷ more) (pairs_as_meant pairs parts.1)
+
+  found_as_meant : (fields : List Field) (found : Option (List (ℕ × ℕ))) → pairs_among items fields ≡ found → option_map_or (decided_by (pair_repointed key_ordinals value_ordinals)) found [] ≡ option_map_or (repointed keys_stay values_stay) found []
+  found_as_meant fields None is = refl
+  found_as_meant fields (Some pairs) is = pairs_as_meant pairs (make_pairs key_count value_count (numbers 2 fields) pairs is).each
+
+  pub ordinals_as_meant : (fields : List Field) → ordinals_in key_ordinals value_ordinals items fields ≡ new_ordinals keys_stay values_stay items fields
+  ordinals_as_meant fields = found_as_meant fields (pairs_among items fields) refl
+
+  steps_each : (layer : ℕ) (found : List (ℕ × (ℕ × Feature))) → flat_map (feature_steps (pairs_repointed key_ordinals value_ordinals items) layer) found ≡ flat_map (feature_steps (λ fields. field_fates 2 (new_ordinals keys_stay values_stay items fields) fields) layer) found
+  steps_each layer [] = refl
+  steps_each layer (at ∷ found) =
+      ap (λ decisions. feature_steps (λ fields. field_fates 2 decisions fields) layer at ++ flat_map (feature_steps (pairs_repointed key_ordinals value_ordinals items) layer) found) (ordinals_as_meant at.1.1.fields)
+      ∙ ap (λ rest. feature_steps (λ fields. field_fates 2 (new_ordinals keys_stay values_stay items fields) fields) layer at ++ rest) (steps_each layer found)
+
+-- the steps of the features of a layer
+pub features_as_meant : (keys_stay values_stay : List LayerItem → ℕ → Bool) (at : ℕ × (ℕ × Layer)) (key_ordinals value_ordinals : List ℕ) → key_ordinals ≡ numbered_from 0 (stays_from (keys_stay at.1.1.items) 0 (length (keys at.1.1))) → value_ordinals ≡ numbered_from 0 (stays_from (values_stay at.1.1.items) 0 (length (values at.1.1)))
+    → layer_steps (pairs_repointed key_ordinals value_ordinals) at ≡ layer_steps (ordinal_fates keys_stay values_stay) at
+features_as_meant keys_stay values_stay at key_ordinals value_ordinals are_keys are_values =
+    let layer = at.1.1 in
+    ap (λ ordinals. layer_steps (pairs_repointed ordinals value_ordinals) at) are_keys
+    ∙ ap (λ ordinals. layer_steps (pairs_repointed (numbered_from 0 (stays_from (keys_stay layer.items) 0 (length (keys layer)))) ordinals) at) are_values
+    ∙ steps_each (keys_stay layer.items) (values_stay layer.items) layer.items at.1.0 (found_features layer.items)
+
+-- ---- a feature of which no pair changes
+
+keeps : (ordinal : ℕ) (new : Option ℕ) → keeps_ordinal ordinal new ≡ true → new ≡ Some ordinal
+keeps ordinal None is = absurd cc
+keeps ordinal (Some n) is = ap Some (eqb-true n ordinal is)
+
+abbrev kept : List (ℕ × ℕ) → List (Option ℕ)
+kept pairs = map (λ (n : ℕ). Some n) (flat pairs)
+
+none_gone : (values : List ℕ) → is_any_gone (map (λ (n : ℕ). Some n) values) ≡ false
+none_gone [] = refl
+none_gone (n ∷ values) = none_gone values
+
+none_new : (values : List ℕ) (list : List Number) → map (λ (n : Number). n.value) list ≡ values → NoneIsNew (map (λ (n : ℕ). Some n) values) list
+none_new [] list is = tt
+none_new (n ∷ values) [] is = tt
+none_new (n ∷ values) (number ∷ list) is =
+    let first = head_same number.value n (map (λ (n : Number). n.value) list) values is in
+    (sym first.0, none_new values list first.1)
+
+module _ (key_ordinals value_ordinals : List ℕ) where
+  abbrev said : ℕ × ℕ → Option ℕ × Option ℕ × Bool
+  said pair = pair_repointed key_ordinals value_ordinals pair
+
+  pairs_keep : (pairs : List (ℕ × ℕ)) → counted_by said pairs ≡ 0 → decided_by said pairs ≡ kept pairs
+  pairs_keep [] none = refl
+  pairs_keep (pair ∷ pairs) none =
+      let key = slice_get key_ordinals pair.0 in
+      let value = slice_get value_ordinals pair.1 in
+      elim (cases_Bool (keeps_ordinal pair.0 key && keeps_ordinal pair.1 value)) [
+        | inl same ↦ (
+            let both = and_parts (keeps_ordinal pair.0 key) (keeps_ordinal pair.1 value) same in
+            let rest : counted_by said pairs ≡ 0 = rw same at none in
+            ap (λ (n : Option ℕ). n ∷ value ∷ decided_by said pairs) (keeps pair.0 key both.0)
+            ∙ ap (λ (n : Option ℕ). Some pair.0 ∷ n ∷ decided_by said pairs) (keeps pair.1 value both.1)
+            ∙ ap (λ (more : List (Option ℕ)). Some pair.0 ∷ Some pair.1 ∷ more) (pairs_keep pairs rest)
+            )
+        | inr other ↦ absurd (let some = rw other at none in omega (arith, some))
+      ]
+
+  -- what is decided on the tags of the feature is this, and so many pairs change
+  pub record OnTags (items : List LayerItem) (fields : List Field) (decisions : List (Option ℕ)) (changed : ℕ) : Type 0 where
+    pub pairs : List (ℕ × ℕ)
+    pub is : pairs_among items fields ≡ Some pairs
+    pub decided : decisions ≡ ordinals_in key_ordinals value_ordinals items fields
+    pub counted : counted_by said pairs ≡ changed
+
+  on_found : (items : List LayerItem) (fields : List Field) (decisions : List (Option ℕ)) (changed : ℕ) (found : Option (List (ℕ × ℕ))) → pairs_among items fields ≡ found → option_map (decided_by said) found ≡ Some decisions → option_map (counted_by said) found ≡ Some changed → OnTags items fields decisions changed
+  on_found items fields decisions changed None is decided counted = absurd cc
+  on_found items fields decisions changed (Some pairs) is decided counted =
+      let made : decided_by said pairs ≡ decisions = cc in
+      let count : counted_by said pairs ≡ changed = cc in
+      record { pairs = pairs; is = is; decided = sym made ∙ ap (λ found. option_map_or (decided_by said) found []) (sym is); counted = count }
+
+  pub on_tags : (layer : Layer) (feature : Feature) (key_count value_count : ℕ) (decisions : List (Option ℕ)) (changed : ℕ) → key_count ≡ length (keys layer) → value_count ≡ length (values layer)
+      → IsDecided said (plain_pairs (tag_pairs key_count value_count (numbers 2 feature.fields))) decisions changed → OnTags layer.items feature.fields decisions changed
+  on_tags layer feature key_count value_count decisions changed is_keys is_values is =
+      let here : IsDecided said (plain_pairs (tag_pairs (length (keys layer)) (length (values layer)) (numbers 2 feature.fields))) decisions changed = rw (is_keys, is_values) at is in
+      let same = sym (tags_are_pairs layer feature) in
+      on_found layer.items feature.fields decisions changed (pairs_among layer.items feature.fields) refl (ap (option_map (decided_by said)) same ∙ here.decided) (ap (option_map (counted_by said)) same ∙ here.counted)
+
+  -- where no pair changes the feature has no step
+  pub no_steps : (items : List LayerItem) (layer : ℕ) (at : ℕ × (ℕ × Feature)) (decisions : List (Option ℕ)) → OnTags items at.1.1.fields decisions 0 → feature_steps (pairs_repointed key_ordinals value_ordinals items) layer at ≡ []
+  no_steps items layer at decisions on =
+      let fields = at.1.1.fields in
+      let all = kept on.pairs in
+      let same : ordinals_in key_ordinals value_ordinals items fields ≡ all = ap (λ found. option_map_or (decided_by said) found []) on.is ∙ pairs_keep on.pairs on.counted in
+      let made = make_pairs (length (contents key_field (plain_fields items))) (length (contents value_field (plain_fields items))) (numbers 2 fields) on.pairs on.is in
+      let list = map (λ (p : Placed). p.number) made.placed in
+      let read : flat_map (field_numbers 2) fields ≡ list = read_of_fields 2 fields list (ap (option_map (map (λ (p : Placed). p.number))) made.good) in
+      let values_are : map (λ (n : Number). n.value) (flat_map (field_numbers 2) fields) ≡ flat on.pairs = ap (map (λ (n : Number). n.value)) read ∙ map-map (λ (n : Number). n.value) (λ (p : Placed). p.number) made.placed ∙ made.values in
+      ap (λ ordinals. map (in_feature_at layer at.1.0) (splices_from 0 (field_fates 2 ordinals fields))) same
+      ∙ ap (map (in_feature_at layer at.1.0)) (no_splices 2 all fields (none_gone (flat on.pairs)) (none_new (flat on.pairs) (flat_map (field_numbers 2) fields) values_are) 0)
+
+  pub readable : (items : List LayerItem) (fields : List Field) (decisions : List (Option ℕ)) (changed : ℕ) → OnTags items fields decisions changed → is_some (pairs_among items fields) ≡ true
+  readable items fields decisions changed on = ap (λ found. is_some found) on.is

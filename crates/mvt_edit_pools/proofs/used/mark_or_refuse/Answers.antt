@@ -1,0 +1,14 @@
+use Rattle.std.proofs.Common.{◌≡◌, Some, option_map, subst}
+use Rattle.mvt_document.specs.Plain as plain
+use Rattle.mvt_numbers.specs.Numbers.{numbers}
+use Rattle.mvt_view.specs.Tags.{plain_pairs, tag_pairs}
+use Rattle.mvt_edit_pools.specs.Marks.{marked, names_key, names_value}
+use Rattle.mvt_edit_pools.proofs.used.mark_or_refuse.Goals as goal
+
+pub returns-in-Ok-clause-keys : goal.returns-in-Ok-clause-keys
+returns-in-Ok-clause-keys c =
+    subst (λ (feature : plain.Feature). option_map (λ pairs. marked (names_key pairs) 0 c.args.marks.now.keys.items) (plain_pairs (tag_pairs c.args.sizes.keys c.args.sizes.values (numbers 2 feature.fields))) ≡ Some c.mark_pairs.new.marks.keys.items) c.view.ensures c.in-Ok.ensures.keys
+
+pub returns-in-Ok-clause-values : goal.returns-in-Ok-clause-values
+returns-in-Ok-clause-values c =
+    subst (λ (feature : plain.Feature). option_map (λ pairs. marked (names_value pairs) 0 c.args.marks.now.values.items) (plain_pairs (tag_pairs c.args.sizes.keys c.args.sizes.values (numbers 2 feature.fields))) ≡ Some c.mark_pairs.new.marks.values.items) c.view.ensures c.in-Ok.ensures.values

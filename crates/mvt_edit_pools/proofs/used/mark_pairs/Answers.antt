@@ -1,0 +1,39 @@
+use Rattle.std.proofs.Common.{◌≡◌, ◌∷◌, Ok, Some, List, Bool, option_map, sym, ap, ◌∙◌}
+use Rattle.mvt_numbers.specs.Numbers.{and_more}
+use Rattle.mvt_numbers.specs.Seen.{placed_of}
+use Rattle.mvt_view.specs.Seen.{pair_seen}
+use Rattle.mvt_view.specs.Tags.{plain_pairs}
+use Rattle.mvt_view.proofs.Pairing.{plain_more}
+use Rattle.mvt_edit_pools.specs.Marks.{marked, names_key, names_value}
+use Rattle.mvt_edit_pools.proofs.Marking.{keys_pair, marked_none, values_pair}
+use Rattle.mvt_edit_pools.proofs.used.mark_pairs.Goals as goal
+
+pub loop-tags-init : goal.loop-tags-init
+loop-tags-init c =
+    let read = c.into_iter-tags-iterator.ensures.into_iter_gives ∙ c.tag_pairs-tags-items.ensures in
+    record {
+      keys = ap (λ found. option_map (λ pairs. marked (names_key pairs) 0 c.args.marks.now.keys.items) (plain_pairs found)) read;
+      values = ap (λ found. option_map (λ pairs. marked (names_value pairs) 0 c.args.marks.now.values.items) (plain_pairs found)) read;
+    }
+
+pub loop-tags-preserved : goal.loop-tags-preserved
+loop-tags-preserved c =
+    let found = c.in_ok-pair.field-0 in
+    let pair = pair_seen found.pair in
+    let rest = plain_pairs c.next.new.self in
+    let read : c.loop-tags.tags-iterator ≡ Ok (pair, (placed_of found.key, placed_of found.value)) ∷ c.next.new.self = rw c.in_ok-pair.was at c.in-Some.ensures.steps in
+    let step : plain_pairs c.loop-tags.tags-iterator ≡ and_more pair rest = ap plain_pairs read ∙ plain_more (pair, (placed_of found.key, placed_of found.value)) c.next.new.self in
+    record {
+      keys = keys_pair pair c.loop-tags.marks.keys.items _ rest c.mark.ensures ∙ ap (option_map (λ pairs. marked (names_key pairs) 0 c.loop-tags.marks.keys.items)) (sym step) ∙ c.loop-tags.invariant.keys;
+      values = values_pair pair c.loop-tags.marks.values.items _ rest c.mark-in-loop-tags.ensures ∙ ap (option_map (λ pairs. marked (names_value pairs) 0 c.loop-tags.marks.values.items)) (sym step) ∙ c.loop-tags.invariant.values;
+    }
+
+pub returns-clause-keys : goal.returns-clause-keys
+returns-clause-keys c =
+    let marks = c.loop-tags.marks.keys.items in
+    sym c.loop-tags.invariant.keys ∙ ap (λ left. option_map (λ pairs. marked (names_key pairs) 0 marks) (plain_pairs left)) c.in-None.ensures.steps.0 ∙ ap Some (marked_none 0 marks)
+
+pub returns-clause-values : goal.returns-clause-values
+returns-clause-values c =
+    let marks = c.loop-tags.marks.values.items in
+    sym c.loop-tags.invariant.values ∙ ap (λ left. option_map (λ pairs. marked (names_value pairs) 0 marks) (plain_pairs left)) c.in-None.ensures.steps.0 ∙ ap Some (marked_none 0 marks)

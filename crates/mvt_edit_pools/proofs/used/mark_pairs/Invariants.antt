@@ -1,0 +1,14 @@
+use Rattle.std.proofs.Common.{◌≡◌, option_map}
+use Rattle.mvt_numbers.specs.Numbers.{numbers}
+use Rattle.mvt_view.specs.Seen.{feature_seen}
+use Rattle.mvt_view.specs.Tags.{plain_pairs, tag_pairs}
+use Rattle.mvt_edit_pools.specs.Marks.{marked, names_key, names_value}
+use Rattle.mvt_edit_pools.proofs.used.mark_pairs.Given as goal
+
+abbrev pub invariant-loop-tags : goal.invariant-loop-tags
+invariant-loop-tags l = record {
+  keys : option_map (λ pairs. marked (names_key pairs) 0 l.marks.keys.items) (plain_pairs l.tags-iterator)
+      ≡ option_map (λ pairs. marked (names_key pairs) 0 l.initial.marks.keys.items) (plain_pairs (tag_pairs l.fn.sizes.keys l.fn.sizes.values (numbers 2 (feature_seen l.feature).fields)));
+  values : option_map (λ pairs. marked (names_value pairs) 0 l.marks.values.items) (plain_pairs l.tags-iterator)
+      ≡ option_map (λ pairs. marked (names_value pairs) 0 l.initial.marks.values.items) (plain_pairs (tag_pairs l.fn.sizes.keys l.fn.sizes.values (numbers 2 (feature_seen l.feature).fields)));
+}

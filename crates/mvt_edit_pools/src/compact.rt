@@ -1,0 +1,129 @@
+//! Keys and values go that no feature uses.
+
+ghost use Rattle.std.specs.Prelude.{◌≡◌, ◌⊎◌, ◌++◌, [], ◌∷◌, Err, IfErr, IfOk, length, map};
+ghost use Rattle.mvt_document.specs.Stands.{document_of, layer_of};
+ghost use Rattle.mvt_change.specs.ChangeStands.{step_of};
+ghost use Rattle.mvt_command.specs.CommandStands.{layers_choice_of};
+ghost use Rattle.mvt_meaning.specs.Meaning.{refuse_first};
+ghost use Rattle.mvt_meaning.specs.Tagging.{unreadable};
+ghost use Rattle.mvt_meaning.specs.declared.refusal.Refusal.TheVariants.{NoMemory};
+ghost use Rattle.mvt_view.specs.Seen.{found_layer_seen};
+ghost use Rattle.mvt_view.specs.Views.{keys, values};
+ghost use Rattle.mvt_edit_steps.specs.Prepared.{Prepares};
+ghost use Rattle.mvt_edit_pools.specs.Pools.{all_keys, all_values, compaction, compacting, keys_stay, values_stay};
+ghost use Rattle.mvt_edit_pools.specs.Marks.{stays_from};
+
+use crate::entries::take_entries;
+use crate::repoint::repoint;
+use crate::used::{Marks, mark_used, number, same_marks};
+use mvt_change::{Change, Step};
+use mvt_document::{Document, Items};
+use mvt_select::{FoundLayer, LayersChoice, Refusal, find_layers};
+use mvt_view::PoolSizes;
+use std::alloc::Global;
+
+/// Which entries of a layer go where no feature uses them.
+#[derive(Clone, Copy, Debug, PartialEq, Eq)]
+pub enum Pools {
+    /// Keys alone.
+    Keys,
+    /// Values alone.
+    Values,
+    /// Keys and values.
+    Both,
+}
+
+impl Pools {
+    /// All keys stay, whether they are used or not.
+    fn all_keys(self) -> bool
+        ensures { result ≡ all_keys self }
+    {
+        matches!(self, Pools::Values)
+    }
+
+    /// All values stay, whether they are used or not.
+    fn all_values(self) -> bool
+        ensures { result ≡ all_values self }
+    {
+        matches!(self, Pools::Keys)
+    }
+}
+
+/// Each layer that is meant loses the keys and values that none of its features uses, those of the
+/// pools that are meant. Each number of tags becomes the new ordinal of what it named.
+pub fn compact(
+    alloc: Global,
+    document: &Document,
+    choice: &LayersChoice,
+    pools: Pools,
+) -> Result<Change, Refusal>
+    ensures { Prepares (compaction pools (layers_choice_of choice.now)) (document_of document.now) result }
+{
+    let layers = find_layers(document, choice)?;
+    let mut decisions = Vec::new(alloc);
+    let mut steps = Vec::new(alloc);
+    for found in layers {
+        compact_layer(alloc, found, pools, &mut decisions, &mut steps)?;
+    }
+    Ok(Change {
+        steps: Items::from_vec(steps),
+    })
+}
+
+/// Puts the steps by which the layer loses what it does not use behind the others: first those of
+/// its features, which move no item of the layer, and then those that take the entries out. The
+/// first feature whose tags make no pairs is refused.
+fn compact_layer(
+    alloc: Global,
+    found: FoundLayer<'_>,
+    pools: Pools,
+    decisions: &mut Vec<Option<u64>>,
+    steps: &mut Vec<Step>,
+) -> Result<(), Refusal>
+    ensures steps { IfOk result (λ done. map step_of steps.new.items ≡ map step_of steps.old.items ++ compacting (keys_stay pools) (values_stay pools) (found_layer_seen found.entry)) }
+    ensures readable { IfOk result (λ done. unreadable (found_layer_seen found.entry ∷ []) ≡ []) }
+    ensures refused { IfErr result (λ refusal. (refusal ≡ NoMemory) ⊎ (refuse_first (unreadable (found_layer_seen found.entry ∷ [])) ≡ Err refusal)) }
+{
+    let sizes = found.view().pool_sizes();
+    let marks = marks_of(alloc, found, sizes, pools)?;
+    let key_ordinals = number(alloc, marks.keys.as_slice())?;
+    let value_ordinals = number(alloc, marks.values.as_slice())?;
+    repoint(
+        alloc,
+        found,
+        sizes,
+        key_ordinals.as_slice(),
+        value_ordinals.as_slice(),
+        decisions,
+        steps,
+    )?;
+    take_entries(
+        alloc,
+        found,
+        marks.keys.as_slice(),
+        marks.values.as_slice(),
+        steps,
+    )?;
+    Ok(())
+}
+
+/// For each key and each value of the layer, in order, whether it stays.
+fn marks_of(
+    alloc: Global,
+    found: FoundLayer<'_>,
+    sizes: PoolSizes,
+    pools: Pools,
+) -> Result<Marks, Refusal>
+    requires keys { sizes.keys ≡ length (keys (layer_of found.layer.now)) }
+    requires values { sizes.values ≡ length (values (layer_of found.layer.now)) }
+    ensures keys { IfOk result (λ marks. marks.keys.items ≡ stays_from (keys_stay pools (layer_of found.entry.layer.now).items) 0 sizes.keys) }
+    ensures values { IfOk result (λ marks. marks.values.items ≡ stays_from (values_stay pools (layer_of found.entry.layer.now).items) 0 sizes.values) }
+    ensures readable { IfOk result (λ marks. unreadable (found_layer_seen found.entry ∷ []) ≡ []) }
+    ensures refused { IfErr result (λ refusal. (refusal ≡ NoMemory) ⊎ (refuse_first (unreadable (found_layer_seen found.entry ∷ [])) ≡ Err refusal)) }
+{
+    let keys = same_marks(alloc, sizes.keys, pools.all_keys())?;
+    let values = same_marks(alloc, sizes.values, pools.all_values())?;
+    let mut marks = Marks { keys, values };
+    mark_used(found, sizes, &mut marks)?;
+    Ok(marks)
+}

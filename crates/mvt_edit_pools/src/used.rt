@@ -1,0 +1,110 @@
+//! Which keys and which values of a layer stay, and the new ordinal of each.
+
+ghost use Rattle.std.specs.Prelude.{◌≡◌, [], ◌∷◌, None, Some, Err, IfErr, IfOk, length, option_map, replicate};
+ghost use Rattle.mvt_document.specs.Stands.{layer_of};
+ghost use Rattle.mvt_numbers.specs.Numbers.{numbers};
+ghost use Rattle.mvt_meaning.specs.Compaction.{is_key_used, is_value_used};
+ghost use Rattle.mvt_meaning.specs.Meaning.{refuse_first};
+ghost use Rattle.mvt_meaning.specs.Tagging.{unreadable};
+ghost use Rattle.mvt_meaning.specs.declared.refusal.Refusal.TheVariants.{BadTags};
+ghost use Rattle.mvt_view.specs.Seen.{feature_seen, found_feature_seen, found_layer_seen};
+ghost use Rattle.mvt_view.specs.Tags.{plain_pairs, tag_pairs};
+ghost use Rattle.mvt_view.specs.Views.{keys, values};
+ghost use Rattle.mvt_edit_pools.specs.Marks.{is_one, marked, names_key, names_value, numbered_from};
+
+use mvt_select::{FoundFeature, FoundLayer, Refusal};
+use mvt_view::{BadPair, FeatureView, PoolSizes};
+use std::alloc::{AllocError, Global};
+
+/// For each key and each value of a layer, in order, whether it stays.
+#[derive(Debug, Drop)]
+pub(crate) struct Marks {
+    pub(crate) keys: Vec<bool>,
+    pub(crate) values: Vec<bool>,
+}
+
+/// Marks each key and each value that a pair of a feature of the layer names. The first feature
+/// whose tags make no pairs is refused.
+pub(crate) fn mark_used(
+    found: FoundLayer<'_>,
+    sizes: PoolSizes,
+    marks: &mut Marks,
+) -> Result<(), Refusal>
+    requires keys { sizes.keys ≡ length (keys (layer_of found.layer.now)) }
+    requires values { sizes.values ≡ length (values (layer_of found.layer.now)) }
+    ensures keys { IfOk result (λ done. marks.new.keys.items ≡ marked (is_key_used (layer_of found.entry.layer.now).items) 0 marks.old.keys.items) }
+    ensures values { IfOk result (λ done. marks.new.values.items ≡ marked (is_value_used (layer_of found.entry.layer.now).items) 0 marks.old.values.items) }
+    ensures readable { IfOk result (λ done. unreadable (found_layer_seen found.entry ∷ []) ≡ []) }
+    ensures refused { IfErr result (λ refusal. refuse_first (unreadable (found_layer_seen found.entry ∷ [])) ≡ Err refusal) }
+{
+    for feature in found.view().features() {
+        mark_or_refuse(found.ordinal, feature, sizes, marks)?;
+    }
+    Ok(())
+}
+
+/// Marks the key and the value of each pair of the feature, or refuses the feature, which is in the
+/// layer of this ordinal.
+fn mark_or_refuse(
+    layer: usize,
+    found: FoundFeature<'_>,
+    sizes: PoolSizes,
+    marks: &mut Marks,
+) -> Result<(), Refusal>
+    ensures keys { IfOk result (λ done. option_map (λ pairs. marked (names_key pairs) 0 marks.old.keys.items) (plain_pairs (tag_pairs sizes.keys sizes.values (numbers 2 (found_feature_seen found.entry).1.1.fields))) ≡ Some marks.new.keys.items) }
+    ensures values { IfOk result (λ done. option_map (λ pairs. marked (names_value pairs) 0 marks.old.values.items) (plain_pairs (tag_pairs sizes.keys sizes.values (numbers 2 (found_feature_seen found.entry).1.1.fields))) ≡ Some marks.new.values.items) }
+    ensures refused { IfErr result (λ refusal. (refusal ≡ BadTags layer found.entry.ordinal) × (plain_pairs (tag_pairs sizes.keys sizes.values (numbers 2 (found_feature_seen found.entry).1.1.fields)) ≡ None)) }
+{
+    match mark_pairs(found.view(), sizes, marks) {
+        Ok(()) => Ok(()),
+        Err(BadPair) => Err(Refusal::BadTags {
+            layer,
+            feature: found.ordinal,
+        }),
+    }
+}
+
+/// Marks the key and the value of each pair of the feature, where its tags make pairs.
+fn mark_pairs(feature: FeatureView<'_>, sizes: PoolSizes, marks: &mut Marks) -> Result<(), BadPair>
+    ensures keys { IfOk result (λ done. option_map (λ pairs. marked (names_key pairs) 0 marks.old.keys.items) (plain_pairs (tag_pairs sizes.keys sizes.values (numbers 2 (feature_seen feature.entry).fields))) ≡ Some marks.new.keys.items) }
+    ensures values { IfOk result (λ done. option_map (λ pairs. marked (names_value pairs) 0 marks.old.values.items) (plain_pairs (tag_pairs sizes.keys sizes.values (numbers 2 (feature_seen feature.entry).fields))) ≡ Some marks.new.values.items) }
+    ensures bad { IfErr result (λ bad. plain_pairs (tag_pairs sizes.keys sizes.values (numbers 2 (feature_seen feature.entry).fields)) ≡ None) }
+{
+    for tags in feature.tag_pairs(sizes) {
+        let pair = tags?.pair;
+        mark(&mut marks.keys, pair.key);
+        mark(&mut marks.values, pair.value);
+    }
+    Ok(())
+}
+
+/// Marks the entry of this ordinal.
+fn mark(marks: &mut Vec<bool>, ordinal: u32)
+    ensures { marks.new.items ≡ marked (is_one ordinal) 0 marks.old.items }
+{
+    let index = ordinal as usize;
+    if index < marks.len() {
+        marks[index] = true;
+    }
+}
+
+/// So many marks, each of them this one.
+pub(crate) fn same_marks(alloc: Global, count: usize, mark: bool) -> Result<Vec<bool>, AllocError>
+    ensures { IfOk result (λ marks. marks.items ≡ replicate count mark) }
+{
+    vec![in alloc; mark; count]
+}
+
+/// For each entry, by the marks of those that stay, how many before it stay: its new ordinal, where
+/// it stays.
+pub(crate) fn number(alloc: Global, marks: &[bool]) -> Result<Vec<u64>, AllocError>
+    ensures { IfOk result (λ ordinals. ordinals.items ≡ numbered_from 0 marks.now) }
+{
+    let mut ordinals = Vec::with_capacity(alloc, marks.len())?;
+    let mut next = 0_u64;
+    for stays in marks {
+        ordinals.push(next)?;
+        next += u64::from(*stays);
+    }
+    Ok(ordinals)
+}
