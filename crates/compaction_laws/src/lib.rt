@@ -1,0 +1,38 @@
+//! Laws of the commands that take out the keys and the values that no feature uses. Each function does
+//! nothing: its contract is the law.
+#![tactic(auto)]
+
+ghost use Rattle.mvt_command.specs.Command.{Compact, CompactKeys, CompactValues, LayersChoice};
+ghost use Rattle.compaction_laws.specs.Laws.{AgainChangesNothing, CompactCompacts, CompactIsBoth, CompactKeysCompacts, CompactValuesCompacts};
+
+/// Where it is accepted that the unused keys go, each key of the layers that are meant is used by a
+/// feature, and each that was used has stayed, in its order and to the byte. Each feature has its
+/// attributes and its fields that are no tags. The features, all other fields of these layers and the
+/// other layers stand as they did.
+pub fn compact_keys_compacts()
+    ensures { CompactKeysCompacts }
+{}
+
+/// Where it is accepted that the unused values go, the same holds of values in place of keys.
+pub fn compact_values_compacts()
+    ensures { CompactValuesCompacts }
+{}
+
+/// Where it is accepted that the unused keys and values go, the same holds of both.
+pub fn compact_compacts()
+    ensures { CompactCompacts }
+{}
+
+/// Where it is accepted that unused keys, or values, or both go, the same command is accepted again,
+/// and changes nothing.
+pub fn compact_again_changes_nothing()
+    ensures keys { (choice : LayersChoice) → AgainChangesNothing (CompactKeys choice) }
+    ensures values { (choice : LayersChoice) → AgainChangesNothing (CompactValues choice) }
+    ensures both { (choice : LayersChoice) → AgainChangesNothing (Compact choice) }
+{}
+
+/// That unused keys and values go is that unused keys go, and then unused values: the same tile comes
+/// of it, or the same refusal.
+pub fn compact_is_both()
+    ensures { CompactIsBoth }
+{}
