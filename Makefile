@@ -20,7 +20,7 @@ quick: toolchain
 	tools/lint
 	tools/pages --check
 	$(MAKE) all
-	tools/build history_laws run_laws
+	tools/build compaction_laws geometry_laws history_laws run_laws
 	tools/transcripts
 	$(MAKE) rows
 
