@@ -10,9 +10,10 @@ import peers
 from generate import LAYERS
 from measure import (COUNTED_MILLISECONDS, RUNS, RUNS_OF_LARGE, Program, costliest, count_instructions, measure,
                      measure_alone, run_once, script_of)
-from report import Kept, Listed, Result, comparison, endings, growth, instructions, memory, put_section, shown, table, time
+from report import (Listed, Result, Undone, comparison, endings, growth, instructions, memory, put_section, shown, table,
+                    time)
 from sessions import sessions, stepped
-from targets import (ATTRIBUTES, EMPTY, EXCLUDED, IDS, JOB, KEPT, MANY, OURS, SHIFTS, UNTAGGED, session_targets, targets,
+from targets import (ATTRIBUTES, COMPACTED, EMPTY, EXCLUDED, IDS, JOB, KEPT, MANY, OURS, SHIFTS, UNTAGGED, session_targets, targets,
                      verdicts)
 from tiles import LARGE, MEBIBYTE, alternating_layers, generated_tiles, real_tiles, smallest_map, smallest_maps
 
@@ -32,18 +33,22 @@ JOBS = {
     SHIFTS: "".join(f'shift "{name}" {feature} -30 3\n' for feature in range(100) for name in LAYERS),
     EXCLUDED: 'exclude * "key:0"\n',
     UNTAGGED: "exclude-all *\n",
+    COMPACTED: 'exclude * "key:0"\ncompact *\n',
 }
 
 # Jobs that are left out on a large tile, and jobs of the smallest map alone.
 LONG_JOBS = [MANY, IDS, ATTRIBUTES, SHIFTS]
 SMALL_JOBS = [IDS, ATTRIBUTES, SHIFTS]
 
-# The jobs of tiles of one kind, which have no others: all features of the one have the key that goes. protobuf loses an empty packed field, where it is not to go.
-JOBS_OF_KIND = {"common key": [EMPTY, EXCLUDED], "empty tags": [UNTAGGED]}
+# The same of a large tile of one kind: a third of the crumbs are keys that go, and what is kept of them takes too much memory.
+LONG_JOBS_OF_KIND = {"crumbs": [COMPACTED]}
 
-# The job `alternating layers`, of tileshell alone: layers of one name in turns with layers of another, of which one
-# kind goes, and comes back. The first script is what it is held against.
-ALTERNATING = ["", 'keep "{layer}"\nundo\n']
+# The jobs of tiles of one kind, which have no others: all features of the one have the key that goes. protobuf loses an empty packed field, where it is not to go.
+JOBS_OF_KIND = {"common key": [EMPTY, EXCLUDED], "empty tags": [UNTAGGED], "half-used pools": [COMPACTED]}
+
+# Jobs that are undone, of tileshell alone, by the kind of tile: each second layer goes, or each second key and value,
+# and comes back. They are held against an empty script.
+UNDONE = {"alternating layers": ("one kind kept", 'keep "{layer}"\n'), "half-used pools": ("compacted", "compact *\n")}
 
 # The job `long script`: one script of few of these lines and one of many, of tileshell alone, for its memory.
 LONG_PAIR = 'rename-layer "{layer}" "renamed for the length of a line"\nundo\n'
@@ -86,8 +91,9 @@ def jobs_of(tile):
     """On a large tile the long jobs are left out."""
     if tile.kind in JOBS_OF_KIND:
         return JOBS_OF_KIND[tile.kind]
+    long_jobs = LONG_JOBS + LONG_JOBS_OF_KIND.get(tile.kind, [])
     return [job for job in JOBS
-            if not (tile.is_large and job in LONG_JOBS) and (tile.is_smallest_map or job not in SMALL_JOBS)]
+            if not (tile.is_large and job in long_jobs) and (tile.is_smallest_map or job not in SMALL_JOBS)]
 
 
 def results_of(programs, tiles, with_valgrind):
@@ -163,18 +169,21 @@ def listed(tileshell, tiles):
     return found
 
 
-def alternated(tileshell):
-    """The times of an empty script on a tile of alternating layers, and of one that keeps one kind and undoes it."""
-    tile = alternating_layers()
-    print(f"bench: {tile.name}", flush=True)
-    figures = [measure_alone(tileshell, tile, script_of(lines, tile)) for lines in ALTERNATING]
-    return Kept(tile, *(each and time(each) for each in figures))
+def undone(tileshell, tiles):
+    """The times of an empty script on each tile, and of one that does the job of its kind and undoes it."""
+    found = []
+    for tile in tiles:
+        job, lines = UNDONE[tile.kind]
+        print(f"bench: {tile.name}, {job}, and undone", flush=True)
+        figures = [measure_alone(tileshell, tile, script_of(script, tile)) for script in ("", lines + "undo\n")]
+        found.append(Undone(tile, job, *(each and time(each) for each in figures)))
+    return found
 
 
-def alternation(kept):
-    """What keeping one of two kinds takes beside an empty script."""
-    row = [kept.tile.name, shown(kept.empty, 1), shown(kept.both, 1), shown(kept.ratio, 2)]
-    return table(["Tile", "Empty script", "One kind kept, and undone", "Kept / empty"], [row])
+def undoing(undos):
+    """What a job and its undo take beside an empty script."""
+    rows = [[each.tile.name, each.job, shown(each.empty, 1), shown(each.both, 1), shown(each.ratio, 2)] for each in undos]
+    return table(["Tile", "Job", "Empty script", "Done and undone", "Done and undone / empty"], rows)
 
 
 def listing(lists):
@@ -183,17 +192,17 @@ def listing(lists):
     return table(["Tile", "Reading", "Reading and listing", "Listing / reading"], rows)
 
 
-def section(results, lists, kept, steps, names):
+def section(results, lists, undos, steps, names):
     """The tables of all results."""
     without_floor = [name for name in names if name != "cat"]
     parts = [
-        ("Targets", verdicts([*targets(results, lists, kept), *session_targets(steps)])),
+        ("Targets", verdicts([*targets(results, lists, undos), *session_targets(steps)])),
         (f"Wall time in milliseconds, {RUNS_MEASURED}", comparison(results, names, time, 1)),
         ("Peak memory, as a multiple of the tile", memory(results, names)),
         ("Millions of instructions", comparison(results, without_floor, instructions, 1e6)),
         ("Growth of time from the smallest to the largest tile, as an exponent", growth(results, names)),
         ("One layer listed: wall time in milliseconds, tileshell alone", listing(lists)),
-        ("Layers of two names in turns: wall time in milliseconds, tileshell alone", alternation(kept)),
+        ("Done and undone: wall time in milliseconds, tileshell alone", undoing(undos)),
         (SESSIONS, sessions(steps)),
         ("Not done", endings(results)),
     ]
@@ -214,10 +223,10 @@ def all_jobs(run):
     load_before = load()
     results = results_of(run, tiles, "valgrind" not in missing)
     lists = listed(run[0], [tile for tile in tiles if tile.kind == "map"])
-    kept = alternated(run[0])
+    undos = undone(run[0], [alternating_layers(), *(tile for tile in tiles if tile.kind in UNDONE)])
     steps = stepped(run[0], counted_maps(tiles)[:2])
     names = [program.name for program in run]
-    parts = [conditions(load_before, missing), section(results, lists, kept, steps, names)]
+    parts = [conditions(load_before, missing), section(results, lists, undos, steps, names)]
     parts.append(long_script(run[0], counted_maps(tiles)[0]))
     if "valgrind" not in missing:
         parts.append(costs(run[0], counted_maps(tiles)[-1]))

@@ -1,5 +1,5 @@
 #!/usr/bin/env python3
-"""Makes tiles from a seed: 'map', as a basemap has; 'common key', a map whose features all have one key; 'crumbs', of the smallest fields; features of empty tags; two kinds of groups; layers of two names in turns."""
+"""Makes tiles from a seed: 'map', as a basemap has; 'common key', a map whose features all have one key; 'crumbs', of the smallest fields; features of empty tags; two kinds of groups; layers of two names in turns; pools of which each second entry is used."""
 import argparse
 import random
 from pathlib import Path
@@ -17,6 +17,10 @@ GROUP, GROUP_END = b"\x0b", b"\x0c"
 
 # How many groups may be open at one place.
 MOST_OPEN = 100
+
+# A key or a value of large pools, with its share of a feature that has so many pairs, takes at most so many bytes.
+BYTES_OF_AN_ENTRY = 16
+PAIRS = 8
 
 
 def varint(number):
@@ -128,6 +132,20 @@ def alternating_tile(size):
     return size // len(pair) * pair
 
 
+def half_used_tile(size):
+    """One layer of as many keys as values, and of features whose pairs name each second one of both."""
+    places = range(size // BYTES_OF_AN_ENTRY // 2)
+    keys = [bytes_field(3, b"key:%06d" % place) for place in places]
+    values = [bytes_field(4, bytes_field(1, b"value %06d" % place)) for place in places]
+    features = [tagged(places[first:first + 2 * PAIRS:2]) for first in places[::2 * PAIRS]]
+    return layer("pools", b"".join(features), b"".join(keys + values))
+
+
+def tagged(places):
+    """A feature with a pair of the key and the value at each of these places."""
+    return bytes_field(2, bytes_field(2, b"".join(2 * varint(place) for place in places)))
+
+
 MAKERS = {
     "map": map_tile,
     "common key": lambda draw, size: map_tile(draw, size, is_keyed=True),
@@ -136,6 +154,7 @@ MAKERS = {
     "nested groups": lambda draw, size: groups_tile(MOST_OPEN, size),
     "flat groups": lambda draw, size: groups_tile(1, size),
     "alternating layers": lambda draw, size: alternating_tile(size),
+    "half-used pools": lambda draw, size: half_used_tile(size),
 }
 
 

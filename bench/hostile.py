@@ -2,7 +2,6 @@
 """Runs tileshell on hostile tiles: whether each is answered as it should be, in linear time and bounded memory."""
 import argparse
 import itertools
-import math
 import sys
 from dataclasses import dataclass
 from pathlib import Path
@@ -11,7 +10,7 @@ from typing import Callable
 import peers
 from generate import GROUP, GROUP_END, MOST_OPEN, SPARE, bytes_field, number_field, varint
 from measure import Program, run_once
-from report import shown, table
+from report import shown, steepness, table
 from targets import OURS
 from tiles import MEBIBYTE, SIZES, Tile
 
@@ -174,10 +173,10 @@ def is_answered(hostile, size, run):
     return run.status == REFUSED and run.said.endswith(f" BadWire place {hostile.place % size}")
 
 
-def steepness(small, large):
-    """The exponent of time."""
-    growth = large.quickest.milliseconds / small.quickest.milliseconds
-    return math.log(growth) / math.log(large.size / small.size)
+def exponent(sizes):
+    """That of time."""
+    small, large = sizes[0], sizes[-1]
+    return steepness(small.quickest.milliseconds, large.quickest.milliseconds, large.size / small.size)
 
 
 def runs_table(found):
@@ -194,7 +193,7 @@ def verdict(hostile, sizes):
     """Whether each run was answered, in linear time, in no more memory than small fields take."""
     return [
         all(is_answered(hostile, each.size, run) for each in sizes for run in each.runs),
-        steepness(sizes[0], sizes[-1]) <= MOST_EXPONENT,
+        exponent(sizes) <= MOST_EXPONENT,
         all(each.peak <= each.bound for each in sizes),
     ]
 
@@ -203,7 +202,7 @@ def verdicts_table(found):
     rows = []
     for hostile, sizes in found.items():
         holds = ["yes" if each else "no" for each in verdict(hostile, sizes)]
-        rows.append([hostile.name, shown(steepness(sizes[0], sizes[-1]), 2), *holds])
+        rows.append([hostile.name, shown(exponent(sizes), 2), *holds])
     return table(["Tile", "Exponent of time", "Answered", "Linear", "Memory bounded"], rows)
 
 

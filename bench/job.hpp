@@ -3,6 +3,7 @@
 #pragma once
 
 #include <algorithm>
+#include <cstdint>
 #include <fstream>
 #include <iomanip>
 #include <iostream>
@@ -55,9 +56,43 @@ inline bool is_among(const std::string& name, const std::vector<std::string>& na
     return std::find(names.begin(), names.end(), name) != names.end();
 }
 
+// A layer's keys or its values, by their ordinals: which of them stay, and the ordinals that these have then.
+class Pool {
+public:
+    // So many entries. Where the pool is compacted those stay that are used, else all.
+    Pool(std::size_t count, bool is_compacted) : stays_(count, !is_compacted), ordinals_(count) {}
+
+    void use(std::uint64_t entry) {
+        stays_.at(entry) = true;
+    }
+
+    // Numbers those that stay. Whether others go.
+    bool number() {
+        std::uint64_t next = 0;
+        for (std::size_t entry = 0; entry < stays_.size(); ++entry) {
+            ordinals_[entry] = next;
+            next += stays_[entry] ? 1 : 0;
+        }
+        return next < stays_.size();
+    }
+
+    bool stays(std::size_t entry) const {
+        return stays_[entry];
+    }
+
+    std::uint64_t ordinal(std::uint64_t entry) const {
+        return ordinals_[entry];
+    }
+
+private:
+    std::vector<bool> stays_;
+    std::vector<std::uint64_t> ordinals_;
+};
+
 // Carries out a script on a tile, and answers each line. A tile has `layer_named`, which gives a layer or none,
-// `keep_layers`, which keeps those whose name passes, and `exclude` and `exclude_all` over all layers; a layer has
-// `name`, `set_name`, `set_id`, `set_number`, which gives a feature a number as an attribute, and `shift`.
+// `keep_layers`, which keeps those whose name passes, and over all layers `exclude`, `exclude_all` and `compact`, of
+// keys, of values or of both; a layer has `name`, `set_name`, `set_id`, `set_number`, which gives a feature a number as
+// an attribute, and `shift`.
 template <typename Tile>
 class Script {
 public:
@@ -114,6 +149,11 @@ private:
         }
         if (request == "exclude-all" && words.at(1) == "*") {
             return tile_.exclude_all();
+        }
+        const bool of_keys = request == "compact-keys" || request == "compact";
+        const bool of_values = request == "compact-values" || request == "compact";
+        if ((of_keys || of_values) && words.at(1) == "*") {
+            return tile_.compact(of_keys, of_values);
         }
         return false;
     }

@@ -10,6 +10,18 @@ static std::uint32_t further(std::uint32_t way, std::int64_t by) {
     return static_cast<std::uint32_t>(sum >= 0 ? 2 * sum : -2 * sum - 1);
 }
 
+// Takes out the entries that do not stay.
+template <typename Entries>
+static void take_out(Entries& entries, const Pool& pool) {
+    int left = 0;
+    for (int entry = 0; entry < entries.size(); ++entry) {
+        if (pool.stays(static_cast<std::size_t>(entry))) {
+            entries.SwapElements(left++, entry);
+        }
+    }
+    entries.DeleteSubrange(left, entries.size() - left);
+}
+
 class Layer {
 public:
     explicit Layer(vector_tile::Tile::Layer& layer) : layer_(&layer) {}
@@ -90,8 +102,38 @@ public:
         }
     }
 
+    // Takes out the keys, the values or both that no pair names.
+    void compact(bool of_keys, bool of_values) {
+        Pool keys(static_cast<std::size_t>(layer_->keys_size()), of_keys);
+        Pool values(static_cast<std::size_t>(layer_->values_size()), of_values);
+        each_pair([&](std::uint32_t& key, std::uint32_t& value) {
+            keys.use(key);
+            values.use(value);
+        });
+        const bool lose_keys = keys.number();
+        const bool lose_values = values.number();
+        if (lose_keys || lose_values) {
+            each_pair([&](std::uint32_t& key, std::uint32_t& value) {
+                key = static_cast<std::uint32_t>(keys.ordinal(key));
+                value = static_cast<std::uint32_t>(values.ordinal(value));
+            });
+            take_out(*layer_->mutable_keys(), keys);
+            take_out(*layer_->mutable_values(), values);
+        }
+    }
+
 private:
     vector_tile::Tile::Layer* layer_;
+
+    template <typename See>
+    void each_pair(See see) {
+        for (auto& feature : *layer_->mutable_features()) {
+            auto& tags = *feature.mutable_tags();
+            for (int index = 0; index + 1 < tags.size(); index += 2) {
+                see(tags[index], tags[index + 1]);
+            }
+        }
+    }
 
     // The ordinal of a key, which comes at the end where it is missing.
     std::uint32_t key_of(const std::string& key) {
@@ -153,6 +195,13 @@ public:
     bool exclude_all() {
         for (Layer& layer : layers_) {
             layer.exclude_all();
+        }
+        return true;
+    }
+
+    bool compact(bool of_keys, bool of_values) {
+        for (Layer& layer : layers_) {
+            layer.compact(of_keys, of_values);
         }
         return true;
     }

@@ -126,6 +126,10 @@ struct Tile {
     bool exclude_all() const {
         return false;
     }
+
+    bool compact(bool, bool) const {
+        return false;
+    }
 };
 
 static Tile read_tile(const std::string& bytes) {

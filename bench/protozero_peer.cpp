@@ -64,6 +64,16 @@ struct Feature {
         return field.tag == feature_geometry ? std::get_if<std::string>(&field.body) : nullptr;
     }
 
+    template <typename See>
+    void each_tags(See see) {
+        for (Field& field : fields) {
+            std::string* tags = tags_in(field);
+            if (tags != nullptr) {
+                see(*tags);
+            }
+        }
+    }
+
     // Takes out the pairs of the keys that are marked, and the fields that lost all of theirs.
     void exclude(const std::vector<bool>& marked) {
         const auto is_emptied = [&](Field& field) {
@@ -85,6 +95,28 @@ struct Feature {
             return tags->empty();
         };
         fields.erase(std::remove_if(fields.begin(), fields.end(), is_emptied), fields.end());
+    }
+
+    // Marks the entries that a pair names.
+    void use(Pool& keys, Pool& values) {
+        each_tags([&](const std::string& tags) {
+            each_pair(tags, [&](std::uint64_t key, std::uint64_t value, const char*, const char*) {
+                keys.use(key);
+                values.use(value);
+            });
+        });
+    }
+
+    // Gives the pairs the new ordinals. None is longer than the old one, so they are written over what was read.
+    void renumber(const Pool& keys, const Pool& values) {
+        each_tags([&](std::string& tags) {
+            char* at = tags.data();
+            each_pair(tags, [&](std::uint64_t key, std::uint64_t value, const char*, const char*) {
+                at += protozero::add_varint_to_buffer(at, keys.ordinal(key));
+                at += protozero::add_varint_to_buffer(at, values.ordinal(value));
+            });
+            tags.resize(static_cast<std::size_t>(at - tags.data()));
+        });
     }
 
     // Takes out all tags.
@@ -156,7 +188,9 @@ struct Feature {
 };
 
 struct Layer {
-    std::vector<std::variant<Field, Feature>> items;
+    using Item = std::variant<Field, Feature>;
+
+    std::vector<Item> items;
 
     Field* name_field() {
         for (auto& item : items) {
@@ -216,11 +250,10 @@ struct Layer {
     std::uint64_t entry(pbf_tag_type pool, const std::string& bytes) {
         std::uint64_t ordinal = 0;
         for (const auto& item : items) {
-            const Field* field = std::get_if<Field>(&item);
-            if (field == nullptr || field->tag != pool) {
+            if (!is_entry(item, pool)) {
                 continue;
             }
-            if (std::get<std::string>(field->body) == bytes) {
+            if (std::get<std::string>(std::get<Field>(item).body) == bytes) {
                 return ordinal;
             }
             ++ordinal;
@@ -243,12 +276,44 @@ struct Layer {
     void exclude(const std::string& key) {
         std::vector<bool> marked;
         for (const auto& item : items) {
-            const Field* field = std::get_if<Field>(&item);
-            if (field != nullptr && field->tag == layer_key) {
-                marked.push_back(std::get<std::string>(field->body) == key);
+            if (is_entry(item, layer_key)) {
+                marked.push_back(std::get<std::string>(std::get<Field>(item).body) == key);
             }
         }
         each_feature([&](Feature& feature) { feature.exclude(marked); });
+    }
+
+    // Takes out the keys, the values or both that no pair names.
+    void compact(bool of_keys, bool of_values) {
+        Pool keys(count(layer_key), of_keys);
+        Pool values(count(layer_value), of_values);
+        each_feature([&](Feature& feature) { feature.use(keys, values); });
+        const bool lose_keys = keys.number();
+        const bool lose_values = values.number();
+        if (lose_keys || lose_values) {
+            each_feature([&](Feature& feature) { feature.renumber(keys, values); });
+            take_out(keys, values);
+        }
+    }
+
+private:
+    static bool is_entry(const Item& item, pbf_tag_type pool) {
+        const Field* field = std::get_if<Field>(&item);
+        return field != nullptr && field->tag == pool;
+    }
+
+    std::size_t count(pbf_tag_type pool) const {
+        return std::count_if(items.begin(), items.end(), [&](const Item& item) { return is_entry(item, pool); });
+    }
+
+    void take_out(const Pool& keys, const Pool& values) {
+        std::size_t key = 0;
+        std::size_t value = 0;
+        const auto goes = [&](const Item& item) {
+            return (is_entry(item, layer_key) && !keys.stays(key++))
+                || (is_entry(item, layer_value) && !values.stays(value++));
+        };
+        items.erase(std::remove_if(items.begin(), items.end(), goes), items.end());
     }
 };
 
@@ -291,6 +356,11 @@ struct Tile {
 
     bool exclude_all() {
         each_layer([](Layer& layer) { layer.each_feature([](Feature& feature) { feature.exclude_all(); }); });
+        return true;
+    }
+
+    bool compact(bool of_keys, bool of_values) {
+        each_layer([&](Layer& layer) { layer.compact(of_keys, of_values); });
         return true;
     }
 };

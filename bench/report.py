@@ -35,9 +35,10 @@ class Listed:
 
 
 @dataclass(frozen=True)
-class Kept:
-    """Milliseconds of an empty script, and of one that keeps some of a tile's layers and undoes that."""
+class Undone:
+    """Milliseconds of an empty script, and of one that does a job and undoes it."""
     tile: Tile
+    job: str
     empty: float
     both: float
 
@@ -134,8 +135,13 @@ def memory(results, programs):
 
 def exponent(small, large, program, value):
     """How a value grows with the tile: 1 is as the tile does."""
-    growth = divided(large.figure(program, value), small.figure(program, value))
-    return None if growth is None else math.log(growth) / math.log(large.tile.size / small.tile.size)
+    return steepness(small.figure(program, value), large.figure(program, value), large.tile.size / small.tile.size)
+
+
+def steepness(small, large, times):
+    """The exponent of what grows from the one number to the other where the tile grows so many times."""
+    growth = divided(large, small)
+    return None if growth is None else math.log(growth) / math.log(times)
 
 
 def grown(results):

@@ -1,5 +1,5 @@
 """What tileshell should reach, and whether it does."""
-from report import divided, exponent, grown, peak, shown, table, time
+from report import divided, exponent, grown, peak, shown, steepness, table, time
 
 OURS = "tileshell"
 
@@ -12,6 +12,10 @@ ATTRIBUTES = "1,000 attributes set"
 SHIFTS = "1,000 shifts"
 EXCLUDED = "one key excluded"
 UNTAGGED = "all attributes excluded"
+COMPACTED = "one key excluded and compacted"
+
+# Jobs whose change holds a field of each feature, or much of a layer.
+HOLDING = [UNTAGGED, COMPACTED]
 
 # Two measurements of the same growth differ by less.
 NOISE = 0.05
@@ -33,18 +37,21 @@ def session_targets(steps):
     ]
 
 
-def targets(results, lists, kept):
+def targets(results, lists, undos):
     """Each target, what was measured, and the most that it may be."""
     small, large = ends(results, "map", JOB)
     crumbs = ends(results, "crumbs", JOB)[1].tile
     few, many = ends(results, "empty tags", UNTAGGED)
     fewer, most = ends(results, "common key", EXCLUDED)
+    less, more = [each for each in undos if each.tile.kind == "half-used pools"]
     return [
         (f"{large.tile.name}, {JOB}: time to protozero's", time_to(large, "protozero"), 0.8),
         (f"{large.tile.name}, {JOB}: time to protobuf's", time_to(large, "protobuf"), 0.3),
         (f"{large.tile.name}, {KEPT}: time to protozero's", time_to(of_job(results, large.tile, KEPT), "protozero"), 1.1),
-        (f"{kept.tile.name}, one kind kept, and undone: time to that of an empty script", kept.ratio, 2.5),
-        (f"{large.tile.name}, in any job but {UNTAGGED}: peak memory to the tile", highest_peak(results, large.tile), 3.7),
+        *((f"{each.tile.name}, {each.job}, and undone: time to that of an empty script", each.ratio, 2.5) for each in undos),
+        (f"{less.tile.name} to {more.tile.name}, {more.job}, and undone: exponent of time",
+         steepness(less.both, more.both, more.tile.size / less.tile.size), 1 + SLOWER),
+        (f"{large.tile.name}, in any job but {' or '.join(HOLDING)}: peak memory to the tile", highest_peak(results, large.tile), 3.7),
         *((f"{result.tile.name}, {MANY}: time to protozero's", time_to(result, "protozero"), 2.5)
           for result in results if result.job == MANY and result.tile in [small.tile, *real(results)]),
         *((f"{small.tile.name}, {job}: time to protozero's", time_to(of_job(results, small.tile, job), "protozero"), 3)
@@ -53,17 +60,14 @@ def targets(results, lists, kept):
          exponent(small, large, OURS, time), 1 + NOISE),
         *((f"{each.tile.name}, its largest layer listed: time to that of reading", each.ratio, 2)
           for each in lists if each.tile == large.tile),
-        (f"{crumbs.name}, in any job but {UNTAGGED}: peak memory to the tile", highest_peak(results, crumbs), 31),
+        (f"{crumbs.name}, in any job but {' or '.join(HOLDING)}: peak memory to the tile", highest_peak(results, crumbs), 31),
         (f"{few.tile.name} to {many.tile.name}, {UNTAGGED}: exponent of time", exponent(few, many, OURS, time), 1 + SLOWER),
-        (f"{large.tile.name}, {UNTAGGED}: time to protozero's",
-         time_to(of_job(results, large.tile, UNTAGGED), "protozero"), 1.2),
-        (f"{large.tile.name}, {EXCLUDED}: time to protozero's",
-         time_to(of_job(results, large.tile, EXCLUDED), "protozero"), 1.2),
+        *((f"{large.tile.name}, {job}: time to protozero's", time_to(of_job(results, large.tile, job), "protozero"), 1.2)
+          for job in (UNTAGGED, EXCLUDED, COMPACTED)),
         (f"{fewer.tile.name} to {most.tile.name}, {EXCLUDED}: exponent of time", exponent(fewer, most, OURS, time), 1 + NOISE),
-        (f"{large.tile.name}, {UNTAGGED}: memory to that of an {EMPTY}",
-         divided(of_job(results, large.tile, UNTAGGED).figure(OURS, peak), of_job(results, large.tile, EMPTY).figure(OURS, peak)), 1.6),
-        (f"{most.tile.name}, {EXCLUDED}: memory to that of an {EMPTY}",
-         divided(most.figure(OURS, peak), of_job(results, most.tile, EMPTY).figure(OURS, peak)), 1.6),
+        *((f"{tile.name}, {job}: memory to that of an {EMPTY}",
+           divided(of_job(results, tile, job).figure(OURS, peak), of_job(results, tile, EMPTY).figure(OURS, peak)), 1.6)
+          for tile, job in (*((large.tile, job) for job in HOLDING), (most.tile, EXCLUDED))),
     ]
 
 
@@ -87,9 +91,9 @@ def time_to(result, peer):
 
 
 def highest_peak(results, tile):
-    """That of all jobs but the one whose change holds a field of each feature. None where a job was not done."""
+    """That of all jobs but those whose change holds so much. None where a job was not done."""
     multiples = [divided(result.figure(OURS, peak), tile.size)
-                 for result in results if result.tile == tile and result.job != UNTAGGED]
+                 for result in results if result.tile == tile and result.job not in HOLDING]
     return None if None in multiples else max(multiples)
 
 

@@ -25,6 +25,9 @@ EMPTY_TAGS = [1, 16]
 # The tile of alternating layers has three million of them.
 ALTERNATING = 15
 
+# The sizes of the tile of half-used pools, which have 2^16 and 2^20 entries.
+HALF_USED = [1, 16]
+
 # The world's states at two places: zoom, column and row.
 REAL_TILES = ["1/0/0", "2/2/1"]
 
@@ -75,6 +78,7 @@ def generated_tiles():
     tiles += [generated("crumbs", size, "crumbs") for size in SIZES]
     tiles += [generated("common key", size, "roads") for size in COMMON_KEY]
     tiles += [generated("empty tags", size, "tags") for size in EMPTY_TAGS]
+    tiles += [generated("half-used pools", size, "pools") for size in HALF_USED]
     return tiles + [generated(kind, size, "groups") for kind, size in GROUPS.items()]
 
 
