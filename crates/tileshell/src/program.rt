@@ -43,7 +43,8 @@ fn edit_files<R: Files + Input + Print + Eprint + AllocGlobal>(
 }
 
 /// Opens the tile and then the script, before either is read. Where no script is named, it is
-/// standard input.
+/// standard input. Where that is closed the tile would be opened in its place and read as the script,
+/// so it is looked at before.
 fn edit_file<R: Files + Input + Print + AllocGlobal>(
     rt: &R,
     tile: &str,
@@ -54,16 +55,23 @@ fn edit_file<R: Files + Input + Print + AllocGlobal>(
     requires some_depth { 1 ≤ options.depth }
     requires depth { options.depth ≤ MAX_DEPTH }
 {
+    let has_input = is_open(&mut rt.reader());
     let Ok(tile) = fs::open(rt, tile) else {
         return Outcome::Device(DeviceName::Tile);
     };
-    let Some(script) = script else {
-        return edit_opened(rt, tile, rt.reader(), out, options);
-    };
-    match fs::open(rt, script) {
-        Ok(script) => edit_opened(rt, tile, script, out, options),
-        Err(_) => Outcome::Device(DeviceName::Script),
+    match script {
+        Some(path) => match fs::open(rt, path) {
+            Ok(script) => edit_opened(rt, tile, script, out, options),
+            Err(_) => Outcome::Device(DeviceName::Script),
+        },
+        None if has_input => edit_opened(rt, tile, rt.reader(), out, options),
+        None => Outcome::Device(DeviceName::Script),
     }
+}
+
+/// A read of nothing succeeds.
+fn is_open(reader: &mut impl Read) -> bool {
+    reader.read(&mut []).is_ok()
 }
 
 fn edit_opened<R: Files + Print + AllocGlobal, S: Read + Drop>(
