@@ -1,7 +1,8 @@
 """What `list` tells of a tile, as docs/FORMATS.md has it."""
 import tiles
-from tiles import (EXTENT, FEATURE, GEOMETRY, ID, KEY, KIND, KINDS, LAYER, NAME, TAGS, VALUE, VERSION, last, number_at,
-                   places, quoted, read_items)
+from opening import fault_place
+from tiles import (EXTENT, FEATURE, ID, KEY, KIND, KINDS, LAYER, NAME, VALUE, VERSION, integers_of, last, number_at, pairs_in,
+                   places, quoted, read_items, unzigzag)
 
 
 def listed(tile, *chosen):
@@ -49,44 +50,49 @@ def pool(layer, key):
 
 def whole_feature(layer, place):
     fields = layer[place].content
-    tags, keys, values = numbers_of(fields, TAGS), pool(layer, KEY), pool(layer, VALUE)
-    pairs = zip(tags[::2], tags[1::2])
-    return [feature_line(layer, place),
-            *(f"attribute {quoted(keys[key])} {value_of(values[value])}" for key, value in pairs),
-            f"geometry {points_of(numbers_of(fields, GEOMETRY))}"]
+    return [feature_line(layer, place), *attribute_lines(layer, fields), f"geometry {geometry_of(fields)}"]
 
 
-def numbers_of(fields, key):
-    """The numbers that the fields pack."""
-    packed, numbers, at = b"".join(fields[place].content for place in places(fields, key)), [], 0
-    while at < len(packed):
-        number, at = number_at(packed, at)
-        numbers.append(number)
-    return numbers
+def attribute_lines(layer, fields):
+    keys, values = pool(layer, KEY), pool(layer, VALUE)
+    try:
+        return [f"attribute {quoted(keys[key])} {value_of(values[value])}" for key, value in pairs_in(layer, fields)]
+    except ValueError:
+        return ["attributes unreadable"]
+
+
+def numbered(shown):
+    """What a number is told as, by its bytes."""
+    return lambda content: shown(number_at(content, 0)[0])
+
+
+# How the content of a value is told, by the tag of its one field.
+SHOWN = {
+    1 << 3 | 2: ("string", quoted), 2 << 3 | 5: ("float", bytes.hex), 3 << 3 | 1: ("double", bytes.hex),
+    4 << 3: ("int", numbered(lambda number: number - 2**64 if number >= 2**63 else number)), 5 << 3: ("uint", numbered(int)),
+    6 << 3: ("sint", numbered(unzigzag)), 7 << 3: ("bool", numbered(lambda number: "true" if number else "false")),
+}
 
 
 def value_of(message):
-    """A string, or a number that is not below 0."""
-    (item,) = read_items(message, {})
-    kind = {1: "string", 4: "int", 5: "uint"}[item.key >> 3]
-    return f"{kind} {quoted(item.content) if kind == 'string' else number_at(item.content, 0)[0]}"
+    fields = read_items(message, {}) if fault_place(message, {}) is None else ()
+    if len(fields) != 1 or fields[0].key not in SHOWN:
+        return f"raw {message.hex()}" if message else "raw"
+    kind, shown = SHOWN[fields[0].key]
+    return f"{kind} {shown(fields[0].content)}"
 
 
-def points_of(numbers):
-    """A geometry of points, or of lines."""
-    x, y, at, parts, ways = 0, 0, 0, [], 0
+def geometry_of(fields):
+    try:
+        numbers = integers_of(fields)
+    except ValueError:
+        return "unreadable"
+    x, y, at, parts = 0, 0, 0, []
     while at < len(numbers):
-        command, behind = numbers[at] & 7, at + 1 + 2 * (numbers[at] >> 3)
-        if command not in (1, 2) or behind > len(numbers):
-            raise ValueError("a geometry of no points and no lines")
+        command, behind = tiles.command_at(numbers, at)
         parts += [[]] if command == 1 else []
-        ways += command == 2
-        for dx, dy in zip(numbers[at + 1 : behind : 2], numbers[at + 2 : behind : 2]):
-            x, y = x + way(dx), y + way(dy)
+        for dx, dy in zip(numbers[at + 1:behind:2], numbers[at + 2:behind:2]):
+            x, y = x + unzigzag(dx), y + unzigzag(dy)
             parts[-1].append(f"{x},{y}")
         at = behind
-    return " ".join(["line" if ways else "point", " / ".join(map(" ".join, parts))])
-
-
-def way(parameter):
-    return (parameter >> 1) ^ -(parameter & 1)
+    return " ".join([KINDS[last(fields, KIND)], " / ".join(map(" ".join, parts))])

@@ -1,25 +1,20 @@
 #!/usr/bin/env python3
 """Holds the model of `walks` against the rows of crates/row_tests, which the program is held against too.
 
-The model knows no groups, few refusals, and of what is told plain texts alone; it carries a script of some lines out to
-its end. Rows of anything else are passed over, and counted. `crates/row_tests/src/main.rt` says how a row is written.
+A script of many lines takes the model too long: such rows are passed over, and counted.
+`crates/row_tests/src/main.rt` says how a row is written.
 """
-import re
 import sys
 from collections import Counter
 from dataclasses import dataclass
 from pathlib import Path
 
-import tiles
-from walks import NAMES, State, plain_walk, replies_of
+from runs import ended
 
 CRATE = Path(__file__).resolve().parent.parent / "crates" / "row_tests"
 
 # The model goes through all standing commands at each line, and is asked for no more lines than this.
 MOST_LINES = 1000
-
-# The wire types of the ends of a group.
-GROUP = (3, 4)
 
 
 @dataclass
@@ -85,31 +80,23 @@ def read_rows():
 
 def unmodelled(row):
     """Why the model has no answer to a row, or None."""
-    if row.script.count(b"\n") > MOST_LINES:
-        return "a walk through all lines takes too long"
-    if row.ends not in ("Done", "SomeRefused"):
-        return "no tile is written"
-    if not {int(number) for number in re.findall(rb" refused (\d+) ", row.replies)} <= set(NAMES):
-        return "a refusal is none of the model's"
-    if re.search(rb'\\| x:|unreadable| raw', row.replies):
-        return "bytes are told as no plain text"
-    return "the tile has a group" if has_group(tiles.read_tile(row.tile)) else None
+    return "a walk through all lines takes too long" if row.script.count(b"\n") > MOST_LINES else None
 
 
-def has_group(items):
-    return any(item.key & 7 in GROUP or isinstance(item.content, tuple) and has_group(item.content) for item in items)
+def outcome_of(end):
+    """The outcome of a run that the model carried out, as a row has it."""
+    if end.status == 3:
+        return f"TileRefused(BadWire {{ place: {int(end.complaint.split()[-1])} }})"
+    return ["Done", "SomeRefused" if end.tile is not None else "StrictStop"][end.status]
 
 
 def fault_of(row):
     """What the model answers otherwise, or None."""
-    start = State(tiles.read_tile(row.tile), row.depth)
-    found = plain_walk(start, row.script.decode().split("\n"))
-    replies = replies_of(found)
-    edited = tiles.bytes_of((found[-1].state if found else start).tile())
-    ends = "SomeRefused" if any(answer.refusal for answer in found) else "Done"
-    if (ends, replies.encode(), edited) == (row.ends, row.replies, row.tile_wanted()):
+    end = ended(row.tile, row.script, row.depth, row.strict)
+    outcome = outcome_of(end)
+    if (outcome, end.replies, end.tile) == (row.ends, row.replies, row.tile_wanted()):
         return None
-    return f"{row.name}: the model ends {ends}, answers {replies[:2000]!r}, and leaves {edited.hex()[:2000]}"
+    return f"{row.name}: the model ends {outcome}, answers {end.replies[:2000]!r}, and leaves {end.tile!r:.2000}"
 
 
 def wrong_rows():

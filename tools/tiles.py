@@ -8,7 +8,7 @@ LAYER, FEATURE = 3 << 3 | 2, 2 << 3 | 2
 NAME, KEY, VALUE, EXTENT, VERSION = 1 << 3 | 2, 3 << 3 | 2, 4 << 3 | 2, 5 << 3, 15 << 3
 ID, TAGS, TAG, KIND, GEOMETRY, INTEGER = 1 << 3, 2 << 3 | 2, 2 << 3, 3 << 3, 4 << 3 | 2, 4 << 3
 
-LEN = 2
+LEN, GROUP, END = 2, 3, 4
 SIZES = {1: 8, 5: 4}
 KINDS = ["unknown", "point", "line", "polygon"]
 
@@ -91,7 +91,17 @@ def bounds(data, at, wire_type):
     if wire_type == LEN:
         length, begin = number_at(data, at)
         return begin, begin + length
+    if wire_type == GROUP:
+        return at, group_end(data, at)
     return at, at + SIZES[wire_type] if wire_type in SIZES else number_at(data, at)[1]
+
+
+def group_end(data, at):
+    """Where the end tag ends of the group whose first field begins there."""
+    key, behind = number_at(data, at)
+    while key & 7 != END:
+        key, behind = number_at(data, bounds(data, behind, key & 7)[1])
+    return behind
 
 
 def places(items, key):
@@ -436,11 +446,16 @@ def compact(tile, chosen):
     return compact_values(compact_keys(tile, chosen), chosen)
 
 
+def command_at(numbers, at):
+    """The command that stands there, and where it ends with its parameters."""
+    command, count = numbers[at] & 7, numbers[at] >> 3
+    return command, at + 1 + (2 * count if command != 7 else 0)
+
+
 def end_of_run(numbers, at, command, least, most):
     """Where the command ends that is carried out there, so often, with its parameters."""
-    count = numbers[at] >> 3 if at < len(numbers) else 0
-    end = at + 1 + (2 * count if command != 7 else 0)
-    if not least <= count <= most or numbers[at] & 7 != command or end > len(numbers):
+    found, end = command_at(numbers, at) if at < len(numbers) else (None, 0)
+    if found != command or not least <= numbers[at] >> 3 <= most or end > len(numbers):
         raise ValueError
     if max(numbers[at + 1:end], default=0) > zigzag(MAX_WAY):
         raise ValueError
@@ -487,5 +502,15 @@ def set_geometry(tile, chosen, feature, geometry):
 
 
 def quoted(text):
-    """A text of plain letters, as it is told."""
-    return f'"{text.decode()}"'
+    """A text as it is told."""
+    try:
+        letters = text.decode()
+    except UnicodeDecodeError:
+        return f"x:{text.hex()}"
+    return f'"{"".join(map(escaped, letters))}"'
+
+
+def escaped(letter):
+    if letter in '"\\':
+        return f"\\{letter}"
+    return f"\\x{ord(letter):02x}" if letter < " " or letter == "\x7f" else letter

@@ -5,6 +5,7 @@ line that is looked at for words by 60, with nothing changed, and a `back` or `c
 commands taken as it tells. A state is the tile at the start and the commands since; it keeps no tile between.
 """
 import re
+import sys
 from dataclasses import dataclass, field, replace
 
 import tiles
@@ -14,9 +15,14 @@ from tiles import Refused, refuse
 MAX_NUMBER = 2**64 - 1
 MAX_COORDINATE = 2**31 - 1
 MAX_MARKS = 256
+MAX_LINE = 65_536
+
+# Numbers may have any count of digits.
+sys.set_int_max_str_digits(0)
 
 NAMES = {
-    11: "BadWord", 12: "UnknownCommand", 13: "BadArguments", 14: "BadNumber", 15: "BadValue", 16: "BadGeometryText",
+    10: "BadUtf8", 11: "BadWord", 12: "UnknownCommand", 13: "BadArguments", 14: "BadNumber", 15: "BadValue", 16: "BadGeometryText",
+    17: "LineTooLong",
     20: "NoLayer", 21: "AmbiguousLayer", 22: "NoFeature", 23: "NoKey", 24: "BadPlace", 25: "AmbiguousFeature",
     30: "BadTags", 31: "RepeatedKey", 32: "BadGeometry", 40: "NameTaken", 41: "KeyTaken", 42: "OutOfRange",
     50: "NothingToUndo", 51: "NothingToRedo", 52: "NoMark", 53: "TooManyMarks", 54: "Stopped", 55: "GroupOpen",
@@ -327,7 +333,16 @@ def stops(state, line, request, after):
 
 
 def answers(state, line, content):
-    """Each answer that the line may have; the first is the plain one. None where it asks for nothing."""
+    """Each answer that the line, which is bytes, may have; the first is the plain one. None where it asks for nothing."""
+    if len(content) > MAX_LINE:
+        return [refusal(line, state, 17)]
+    try:
+        return answers_to(state, line, content.decode())
+    except UnicodeDecodeError:
+        return [refusal(line, state, 10)]
+
+
+def answers_to(state, line, content):
     if not content.strip(" \t\r") or content.lstrip(" \t\r").startswith("#"):
         return []
     try:
