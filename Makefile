@@ -2,7 +2,7 @@
 
 PREFIX ?= /usr/local
 
-.PHONY: all help quick crate rows pages check bench bench-hostile compare install clean toolchain
+.PHONY: all help quick crate rows pages fuzz check bench bench-hostile compare install clean toolchain
 
 ## make              proves the program, and leaves it as build/tileshell
 all: toolchain
@@ -41,7 +41,11 @@ rows: toolchain
 pages:
 	tools/pages
 
-## make check        the whole gate, from nothing: proofs, tests, rows, wrong bodies, transcripts, refused growths
+## make fuzz SECONDS=60  build/tileshell beside the model of tools/ on random tiles and scripts; a SEED gives the same again
+fuzz:
+	python3 tools/fuzz --seconds $(or $(SECONDS),60) $(if $(SEED),--seed $(SEED))
+
+## make check        the whole gate, from nothing: proofs, tests, rows, wrong bodies, transcripts, random runs, refused growths
 check: toolchain
 	tools/lint
 	tools/pages --check
@@ -50,6 +54,7 @@ check: toolchain
 	mkdir -p build
 	cp crates/tileshell_program/out/tileshell_program build/tileshell
 	tools/transcripts
+	python3 tools/fuzz --seconds 60
 	tools/types
 	tools/refused-growths
 

@@ -23,7 +23,11 @@ def ended(tile, script, depth=100, strict=False):
     if place is not None:
         return Ended(3, b"", b"tileshell: tile refused: 1 BadWire place %d\n" % place, None)
     start = State(tiles.read_tile(tile), depth)
-    found = plain_walk(start, script.split(b"\n"))
+    return end_of(start, plain_walk(start, script.split(b"\n")), strict)
+
+
+def end_of(start, found, strict):
+    """How the run ends from this state on whose lines have these answers."""
     refused = [place for place, answer in enumerate(found) if answer.refusal]
     if strict and refused:
         return Ended(1, replies_of(found[:refused[0] + 1]).encode(), b"", None)

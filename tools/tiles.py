@@ -1,5 +1,6 @@
 """Tiles as docs/FORMATS.md has them, and the commands that edit them: whole tiles in, whole tiles out."""
 from dataclasses import dataclass, replace
+from functools import cached_property
 
 # The tags of the messages that are read into.
 LAYER, FEATURE = 3 << 3 | 2, 2 << 3 | 2
@@ -37,7 +38,7 @@ class Item:
     width: int
     content: object
 
-    @property
+    @cached_property
     def key(self):
         return number_at(self.tag, 0)[0]
 

@@ -2,11 +2,12 @@
 
 A plain walk answers each line as docs/FORMATS.md says. Where memory is refused a line may be answered otherwise: a
 line that is looked at for words by 60, with nothing changed, and a `back` or `cancel` by 54 with as many steps or
-commands taken as it tells. A state is the tile at the start and the commands since; it keeps no tile between.
+commands taken as it tells. A state is the tile at the start and the commands since: its tile is made of these anew.
 """
 import re
 import sys
 from dataclasses import dataclass, field, replace
+from functools import cached_property
 
 import tiles
 from listings import listed
@@ -51,6 +52,10 @@ class State:
     opened: tuple = None
 
     def tile(self):
+        return self.edited
+
+    @cached_property
+    def edited(self):
         tile = self.start
         for step in (*self.steps[:self.point], self.opened or ()):
             for command, arguments in step:
