@@ -22,7 +22,7 @@ sys.path.insert(1, str(TOP / "tools"))
 
 import planting
 import walks
-from random_scripts import REQUESTS
+from random_words import REQUESTS
 from smaller import smaller
 from trials import by_model, by_program, random_trial
 
@@ -57,13 +57,17 @@ class Counts:
         if self.trials < ENOUGH:
             return []
         return ([f"no {request} was accepted" for request in REQUESTS if not self.accepted[request]]
-                + [f"no line was refused with {number} {walks.NAMES[number]}" for number in walks.NAMES if not self.refused[number] and number not in NEVER])
+                + [f"no line was refused with {number}" for number in refusals() if not self.refused[number]])
 
     def told(self):
         accepted = ", ".join(f"{self.accepted[request]} {request}" for request in REQUESTS)
-        refused = ", ".join(f"{self.refused[number]} {walks.NAMES[number]}" for number in walks.NAMES if number not in NEVER)
+        refused = ", ".join(f"{self.refused[number]} {walks.NAMES[number]}" for number in refusals())
         return (f"accepted: {accepted}\nrefused: {refused}\nfuzz: {self.trials} runs, {self.tiles} of them on tiles that open, {self.lines} lines"
                 f" answered, {self.accepted.total()} of them accepted")
+
+
+def refusals():
+    return [number for number in walks.NAMES if number not in NEVER]
 
 
 def up_to_stop(trial):
@@ -98,9 +102,12 @@ def end_told(name, end):
 
 
 def show_difference(trial, program_ends):
+    """Prints the trial, made smaller, and how both end."""
     small = smaller(trial, lambda other: by_model(other) != program_ends(other))
     words = [*small.words(), *["--script FILE"] * small.is_file, *["with OUT the file TILE"] * small.is_in_place]
-    print(*row_told(small), "", *end_told(" ".join(["the program", *words]), program_ends(small)), "", *end_told("the model", by_model(small)), sep="\n")
+    print(*row_told(small), "", sep="\n")
+    print(*end_told(" ".join(["the program", *words]), program_ends(small)), "", sep="\n")
+    print(*end_told("the model", by_model(small)), sep="\n")
 
 
 def run(arguments):

@@ -31,9 +31,9 @@ def planted(top, folder, path):
 def fault_of(path, top, arguments):
     """What is wrong where the mistake of the edit is not found as a difference, or None; prints what is found."""
     with tempfile.TemporaryDirectory(prefix="planted-") as name:
-        words = [sys.executable, planted(top, Path(name), path), arguments.program, "--seconds", str(arguments.seconds), "--seed", arguments.seed]
+        words = [arguments.program, "--seconds", str(arguments.seconds), "--seed", arguments.seed]
         begun = time.monotonic()
-        ran = subprocess.run(words, capture_output=True, text=True)
+        ran = subprocess.run([sys.executable, planted(top, Path(name), path), *words], capture_output=True, text=True)
     last = (ran.stdout + ran.stderr).strip().split("\n")[-1]
     if ran.returncode != 1 or "1 difference" not in last:
         return f"{path.stem}: NOT FOUND: {last}"

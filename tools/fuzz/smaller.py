@@ -56,8 +56,9 @@ def with_smaller_item(items, place, holds):
     else:
         content = item.content
     items = as_part(content)
-    short = replace(items[place], tag=spelled(item.key), width=min(item.width, 1), content=shorter(item, content))
-    each = [short, replace(items[place], tag=short.tag), replace(items[place], width=short.width), replace(items[place], content=short.content)]
+    left = items[place]
+    short = replace(left, tag=spelled(item.key), width=min(item.width, 1), content=shorter(item, content))
+    each = [short, replace(left, tag=short.tag), replace(left, width=short.width), replace(left, content=short.content)]
     return first_that_holds([put(items, place, other) for other in each], items, holds)
 
 

@@ -67,7 +67,8 @@ def by_program(program, folder, trial):
     script.write_bytes(trial.script)
     words = trial.words() + (["--script", script] if trial.is_file else [])
     try:
-        ran = subprocess.run([program, tile, out, *words], input=b"" if trial.is_file else trial.script, capture_output=True, timeout=LIMIT)
+        typed = b"" if trial.is_file else trial.script
+        ran = subprocess.run([program, tile, out, *words], input=typed, capture_output=True, timeout=LIMIT)
     except subprocess.TimeoutExpired:
         return Ended(f"none in {LIMIT} seconds", b"", b"", b"")
     return Ended(ran.returncode, ran.stdout, ran.stderr, out.read_bytes())
