@@ -110,6 +110,16 @@ def show_difference(trial, program_ends):
     print(*end_told("the model", by_model(small)), sep="\n")
 
 
+def drawn(seed, place):
+    """The trial of this place, and how the model ends; says which one it is where the model fails."""
+    try:
+        trial = random_trial(seed, place)
+        return trial, by_model(trial)
+    except Exception:
+        print(f"fuzz: the model fails in run {place} of seed {seed}:", flush=True)
+        raise
+
+
 def run(arguments):
     """Runs trials up to the first difference, and gives the status."""
     counts, ends = Counts(), time.monotonic() + arguments.seconds
@@ -117,8 +127,7 @@ def run(arguments):
     with tempfile.TemporaryDirectory(prefix="fuzz-") as name:
         place = arguments.first
         while time.monotonic() < ends and counts.trials != arguments.runs:
-            trial = random_trial(arguments.seed, place)
-            end = by_model(trial)
+            trial, end = drawn(arguments.seed, place)
             counts.add(trial, end)
             if end != by_program(arguments.program, Path(name), trial):
                 print(f"fuzz: run {place} of seed {arguments.seed} differs; smaller:", flush=True)
