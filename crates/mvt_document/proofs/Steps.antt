@@ -10,7 +10,7 @@ use Rattle.std.proofs.lemmas.List.Prefix.{front_fits, front_reads}
 use Rattle.std.proofs.Math.Nat.{mul_assoc}
 use Rattle.mvt_document.specs.Wire.{spell, width_within, minimal_width}
 use Rattle.mvt_document.specs.Shape.{IsSpelling}
-use Rattle.mvt_document.proofs.Spelling.{pow_more, pow_le, rest_below, spell-one, spell-more, length-spell, spelling_from, spelling_some}
+use Rattle.mvt_document.proofs.Spelling.{pow_more, pow_le, rest_below, spell-one, spell-more, length-spell, spelling_from, spelling_some, spelling_below}
 
 -- ---- the search for the least width
 pub width_within-low : (m v : ℕ) → v < 128 → width_within m v ≡ 1
@@ -207,6 +207,31 @@ first_is (first ∷ bytes) byte is low =
     let same : byte ≡ first = cc in
     let whole : first ≡ byte % 128 = omega arith in
     ap (λ n. n ∷ []) whole ∙ sym (spell-one byte)
+
+pub one_below : (v w : ℕ) → IsSpelling v w → w ≡ 1 → v < 128
+one_below v w s one = subst (λ w. v < 2 ^ (7 * w)) one (spelling_below v w s)
+
+pub one_is : (v w : ℕ) → IsSpelling v w → w ≡ 1 → v ∷ [] ≡ spell v w
+one_is v w s one =
+    let low : v < 128 = one_below v w s one in
+    let whole : v ≡ v % 128 = omega arith in
+    ap (λ n. n ∷ []) whole ∙ sym (spell-one v) ∙ ap (λ w. spell v w) (sym one)
+
+-- ---- a number of two bytes
+
+pub two_spelling : (low high : ℕ) → low < 128 → high < 128 → IsSpelling (high * 128 + low) 2
+two_spelling low high l h = spelling_from (high * 128 + low) 2 (omega arith) (omega arith) (omega arith) (omega arith)
+
+pub two_are : (bytes : List ℕ) (low high : ℕ) → 2 ≤ length bytes → get_or bytes 0 0 ≡ low + 128 → get_or bytes 1 0 ≡ high → low < 128 → high < 128 → take 2 bytes ≡ spell (high * 128 + low) 2
+two_are [] low high long first last l h = absurd (omega (arith, long))
+two_are (one ∷ []) low high long first last l h = absurd (omega (arith, long))
+two_are (one ∷ two ∷ bytes) low high long first last l h =
+    let same : one ≡ (high * 128 + low) % 128 + 128 = omega (arith, first) in
+    let whole : two ≡ (high * 128 + low) / 128 % 128 = omega (arith, last) in
+    ap (λ n. n ∷ two ∷ []) same
+    ∙ ap (λ n. ((high * 128 + low) % 128 + 128) ∷ n ∷ []) whole
+    ∙ ap (λ xs. ((high * 128 + low) % 128 + 128) ∷ xs) (sym (spell-one ((high * 128 + low) / 128)))
+    ∙ sym (spell-more (high * 128 + low) 0)
 
 -- ---- where no spelling stands at the front
 

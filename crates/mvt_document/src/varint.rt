@@ -41,6 +41,10 @@ impl Varint {
     pub fn put(self, bytes: &mut Vec<u8>) -> Result<(), AllocError>
         ensures { OnOk result (bytes.new.items ≡ bytes.old.items ++ spell self.value self.width) }
     {
+        if self.width == 1 {
+            bytes.push(self.value as u8)?;
+            return Ok(());
+        }
         let mut room = [0; WIDEST];
         let start = put_number(self.value, self.width, &mut room);
         bytes.extend_from_slice(&room[start..])
@@ -81,6 +85,21 @@ pub fn read_varint(bytes: &[u8]) -> Option<Varint>
 /// the loops that read them.
 #[inline(never)]
 fn number_at_front(bytes: &[u8]) -> Option<(u64, u8)>
+    ensures within { IfSome result (λ found. found.1 ≤ length bytes.now) }
+    ensures found { IfSome result (λ found. take found.1 bytes.now ≡ spell found.0 found.1) }
+    ensures valid { IfSome result (λ found. IsSpelling found.0 found.1) }
+    ensures none { IfNone result (¬ Begins IsNumber spelling bytes.now) }
+{
+    match bytes {
+        [first, last, ..] if *first >= 128 && *last < 128 => {
+            Some((u64::from(*last) * 128 + u64::from(*first - 128), 2))
+        }
+        _ => number_of_any_width(bytes),
+    }
+}
+
+/// The same, byte by byte from the last. Most others are two bytes wide.
+fn number_of_any_width(bytes: &[u8]) -> Option<(u64, u8)>
     ensures within { IfSome result (λ found. found.1 ≤ length bytes.now) }
     ensures found { IfSome result (λ found. take found.1 bytes.now ≡ spell found.0 found.1) }
     ensures valid { IfSome result (λ found. IsSpelling found.0 found.1) }

@@ -1,6 +1,6 @@
 use Rattle.std.proofs.Common.{◌≤◌}
 use Rattle.mvt_document.proofs.Steps.{EndsAt, IsReadFrom}
-use Rattle.mvt_document.proofs.varint.number_at_front.Given as goal
+use Rattle.mvt_document.proofs.varint.number_of_any_width.Given as goal
 
 abbrev pub invariant-loop-index : goal.invariant-loop-index
 invariant-loop-index l = record {
