@@ -44,11 +44,15 @@ SMALL_JOBS = [IDS, ATTRIBUTES, SHIFTS]
 LONG_JOBS_OF_KIND = {"crumbs": [COMPACTED]}
 
 # The jobs of tiles of one kind, which have no others: all features of the one have the key that goes. protobuf loses an empty packed field, where it is not to go.
-JOBS_OF_KIND = {"common key": [EMPTY, EXCLUDED], "empty tags": [UNTAGGED], "half-used pools": [COMPACTED]}
+JOBS_OF_KIND = {"common key": [EMPTY, EXCLUDED], "empty tags": [UNTAGGED], "tagged layers": [EXCLUDED], "half-used pools": [COMPACTED]}
 
-# Jobs that are undone, of tileshell alone, by the kind of tile: each second layer goes, or each second key and value,
-# and comes back. They are held against an empty script.
-UNDONE = {"alternating layers": ("one kind kept", 'keep "{layer}"\n'), "half-used pools": ("compacted", "compact *\n")}
+# Jobs that are undone, of tileshell alone, by the kind of tile: each second layer goes, or a pair of each feature, or
+# each second key and value, and comes back. They are held against an empty script.
+UNDONE = {
+    "alternating layers": ("one kind kept", 'keep "{layer}"\n'),
+    "common key": (EXCLUDED, JOBS[EXCLUDED]),
+    "half-used pools": ("compacted", "compact *\n"),
+}
 
 # The job `long script`: one script of few of these lines and one of many, of tileshell alone, for its memory.
 LONG_PAIR = 'rename-layer "{layer}" "renamed for the length of a line"\nundo\n'
@@ -170,20 +174,21 @@ def listed(tileshell, tiles):
 
 
 def undone(tileshell, tiles):
-    """The times of an empty script on each tile, and of one that does the job of its kind and undoes it."""
+    """The times of an empty script on each tile, of one that does the job of its kind, and of one that undoes it then."""
     found = []
     for tile in tiles:
         job, lines = UNDONE[tile.kind]
         print(f"bench: {tile.name}, {job}, and undone", flush=True)
-        figures = [measure_alone(tileshell, tile, script_of(script, tile)) for script in ("", lines + "undo\n")]
+        figures = [measure_alone(tileshell, tile, script_of(script, tile)) for script in ("", lines, lines + "undo\n")]
         found.append(Undone(tile, job, *(each and time(each) for each in figures)))
     return found
 
 
 def undoing(undos):
-    """What a job and its undo take beside an empty script."""
-    rows = [[each.tile.name, each.job, shown(each.empty, 1), shown(each.both, 1), shown(each.ratio, 2)] for each in undos]
-    return table(["Tile", "Job", "Empty script", "Done and undone", "Done and undone / empty"], rows)
+    """What a job and its undo take beside an empty script, and the undo beside the job."""
+    rows = [[each.tile.name, each.job, shown(each.empty, 1), shown(each.done, 1), shown(each.both, 1), shown(each.ratio, 2), shown(each.share, 2)]
+            for each in undos]
+    return table(["Tile", "Job", "Empty script", "Done", "Done and undone", "Done and undone / empty", "Undo / job"], rows)
 
 
 def listing(lists):

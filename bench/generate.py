@@ -1,5 +1,5 @@
 #!/usr/bin/env python3
-"""Makes tiles from a seed: 'map', as a basemap has; 'common key', a map whose features all have one key; 'crumbs', of the smallest fields; features of empty tags; two kinds of groups; layers of two names in turns; pools of which each second entry is used."""
+"""Makes tiles from a seed: 'map', as a basemap has; 'common key', a map whose features all have one key; 'crumbs', of the smallest fields; features of empty tags; two kinds of groups; layers of two names in turns; layers of one tagged feature; pools of which each second entry is used."""
 import argparse
 import random
 from pathlib import Path
@@ -132,6 +132,13 @@ def alternating_tile(size):
     return size // len(pair) * pair
 
 
+def tagged_layers_tile(size):
+    """Layers of one feature, each with the one key and the one value of its layer."""
+    entries = bytes_field(3, b"key:0") + bytes_field(4, bytes_field(1, b"value"))
+    tagged_layer = layer("a", tagged([0]), entries)
+    return size // len(tagged_layer) * tagged_layer
+
+
 def half_used_tile(size):
     """One layer of as many keys as values, and of features whose pairs name each second one of both."""
     places = range(size // BYTES_OF_AN_ENTRY // 2)
@@ -154,6 +161,7 @@ MAKERS = {
     "nested groups": lambda draw, size: groups_tile(MOST_OPEN, size),
     "flat groups": lambda draw, size: groups_tile(1, size),
     "alternating layers": lambda draw, size: alternating_tile(size),
+    "tagged layers": lambda draw, size: tagged_layers_tile(size),
     "half-used pools": lambda draw, size: half_used_tile(size),
 }
 

@@ -36,15 +36,23 @@ class Listed:
 
 @dataclass(frozen=True)
 class Undone:
-    """Milliseconds of an empty script, and of one that does a job and undoes it."""
+    """Milliseconds of an empty script, of one that does a job, and of one that undoes it then."""
     tile: Tile
     job: str
     empty: float
+    done: float
     both: float
 
     @property
     def ratio(self):
         return divided(self.both, self.empty)
+
+    @property
+    def share(self):
+        """How long the undo takes, to the job."""
+        if None in (self.empty, self.done, self.both):
+            return None
+        return (self.both - self.done) / (self.done - self.empty)
 
 
 @dataclass(frozen=True)

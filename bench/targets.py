@@ -43,6 +43,7 @@ def targets(results, lists, undos):
     crumbs = ends(results, "crumbs", JOB)[1].tile
     few, many = ends(results, "empty tags", UNTAGGED)
     fewer, most = ends(results, "common key", EXCLUDED)
+    thin, thick = ends(results, "tagged layers", EXCLUDED)
     less, more = [each for each in undos if each.tile.kind == "half-used pools"]
     return [
         (f"{large.tile.name}, {JOB}: time to protozero's", time_to(large, "protozero"), 0.8),
@@ -51,6 +52,8 @@ def targets(results, lists, undos):
         *((f"{each.tile.name}, {each.job}, and undone: time to that of an empty script", each.ratio, 2.5) for each in undos),
         (f"{less.tile.name} to {more.tile.name}, {more.job}, and undone: exponent of time",
          steepness(less.both, more.both, more.tile.size / less.tile.size), 1 + SLOWER),
+        *((f"{each.tile.name}, {each.job}: time of its undo to its own", each.share, 1)
+          for each in undos if each.tile == most.tile),
         (f"{large.tile.name}, in any job but {' or '.join(HOLDING)}: peak memory to the tile", highest_peak(results, large.tile), 3.7),
         *((f"{result.tile.name}, {MANY}: time to protozero's", time_to(result, "protozero"), 2.5)
           for result in results if result.job == MANY and result.tile in [small.tile, *real(results)]),
@@ -65,6 +68,7 @@ def targets(results, lists, undos):
         *((f"{large.tile.name}, {job}: time to protozero's", time_to(of_job(results, large.tile, job), "protozero"), 1.2)
           for job in (UNTAGGED, EXCLUDED, COMPACTED)),
         (f"{fewer.tile.name} to {most.tile.name}, {EXCLUDED}: exponent of time", exponent(fewer, most, OURS, time), 1 + NOISE),
+        (f"{thin.tile.name} to {thick.tile.name}, {EXCLUDED}: exponent of time", exponent(thin, thick, OURS, time), 1 + SLOWER),
         *((f"{tile.name}, {job}: memory to that of an {EMPTY}",
            divided(of_job(results, tile, job).figure(OURS, peak), of_job(results, tile, EMPTY).figure(OURS, peak)), 1.6)
           for tile, job in (*((large.tile, job) for job in HOLDING), (most.tile, EXCLUDED))),

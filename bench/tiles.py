@@ -22,6 +22,9 @@ COMMON_KEY = [1, 64]
 # The sizes of the tile of empty tags, whose features are the smallest that have some.
 EMPTY_TAGS = [1, 16]
 
+# The sizes of the tile of tagged layers, of which the larger has half a million.
+TAGGED_LAYERS = [1, 16]
+
 # The tile of alternating layers has three million of them.
 ALTERNATING = 15
 
@@ -78,6 +81,7 @@ def generated_tiles():
     tiles += [generated("crumbs", size, "crumbs") for size in SIZES]
     tiles += [generated("common key", size, "roads") for size in COMMON_KEY]
     tiles += [generated("empty tags", size, "tags") for size in EMPTY_TAGS]
+    tiles += [generated("tagged layers", size, "a") for size in TAGGED_LAYERS]
     tiles += [generated("half-used pools", size, "pools") for size in HALF_USED]
     return tiles + [generated(kind, size, "groups") for kind, size in GROUPS.items()]
 
