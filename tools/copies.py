@@ -1,0 +1,141 @@
+"""Copies of a crate with wrong bodies in them, and what the prover says of such a copy.
+
+A wrong body is put into the place of what it turns, or beside it: behind the function that it turns comes a further one, which has
+the same contract and the same proof files under a name of its own.
+"""
+import contextlib
+import re
+import resource
+import shutil
+import subprocess
+import threading
+import time
+from dataclasses import dataclass
+from pathlib import Path
+
+from functions import functions_of
+
+# A line that the prover prints as it ends with a function.
+ENDED = re.compile(r"checked \w+::(\S+), \d+ of \d+")
+
+
+def lines_of(folder, file):
+    return Path(folder, file).read_text().split("\n")
+
+
+def is_of_an_impl(lines, function):
+    """Returns whether the function stands in an impl of methods alone, which one more can be put into."""
+    head = next(at for at in range(function.first - 1, -1, -1) if re.match(r"\w", lines[at]))
+    header = " ".join(lines[head:function.first]).partition("{")[0]
+    return header.startswith("impl") and " for " not in header
+
+
+def is_known_outside(folder, function):
+    """Returns whether a lemma or the proof of another function names more of this one than that it meets its contract."""
+    path = function.name.split("::")
+    known = re.compile(rf"proofs\.{re.escape('.'.join(path))}\.(?!Met\b)")
+    proofs = Path(folder, "proofs")
+    return any(known.search(it.read_text()) for it in proofs.rglob("*.antt") if it.parent != proofs.joinpath(*path))
+
+
+def can_stand_beside(folder, edit):
+    """Returns whether the edit turns lines of one function alone, which can have one of another name beside it.
+
+    That is of no trait, does not call itself, and has its goals proved by its own proof files alone: these hold of the other one as well.
+    """
+    if len(edit.functions) != 1:
+        return False
+    of = edit.functions[0]
+    lines = lines_of(folder, of.file)
+    is_within = all(file == of.file and of.first <= at <= of.last for file, at in edit.lines)
+    is_free = not lines[of.last - 1].startswith(" ")
+    word = of.name.split("::")[-1]
+    calls_itself = len(re.findall(rf"\b{word}\(", "\n".join(lines[of.first - 1:of.last]))) > 1
+    return is_within and not calls_itself and not is_known_outside(folder, of) and (is_free or is_of_an_impl(lines, of))
+
+
+@dataclass
+class Turned:
+    """The functions that an edit turns, as they stand in a copy, and its lines there."""
+    functions: list
+    lines: set
+
+
+class Copy:
+    """A copy of a crate in a folder, with edits: `turned` has what each comes to there, by its name."""
+
+    def __init__(self, crate, room, parts, edits, beside):
+        self.crate, self.room, self.turned = crate, room, {}
+        for part in parts:
+            if Path(crate.folder, part).is_dir():
+                shutil.copytree(Path(crate.folder, part), Path(room, part))
+        self.files = {}
+        names = self.put_beside(edits) if beside else self.put_in_place(edits)
+        for file, lines in self.files.items():
+            Path(room, file).write_text("\n".join(lines))
+        self.functions = functions_of(room)
+        by_name = {it.name: it for it in self.functions}
+        for edit in edits:
+            functions = [by_name[it] for it in names[edit.name]]
+            moved = functions[0].first - edit.functions[0].first if beside else 0
+            self.turned[edit.name] = Turned(functions, {(file, at + moved) for file, at in edit.lines})
+
+    def lines(self, file):
+        return self.files.setdefault(file, lines_of(self.crate.folder, file))
+
+    def put_in_place(self, edits):
+        for edit in edits:
+            for (file, at), new in edit.lines.items():
+                self.lines(file)[at - 1] = new
+        return {edit.name: [it.name for it in edit.functions] for edit in edits}
+
+    def put_beside(self, edits):
+        """Puts a function for each edit behind the one that it turns, the last of a file first, and returns their names."""
+        names = {}
+        for number, edit in sorted(enumerate(edits, 1), key=lambda it: -it[1].functions[0].last):
+            of = edit.functions[0]
+            lines = self.lines(of.file)
+            body = "\n".join(edit.lines.get((of.file, at), lines[at - 1]) for at in range(of.first, of.last + 1))
+            *above, word = of.name.split("::")
+            name = f"{word}_wrong_{number}"
+            lines[of.last:of.last] = ["", *re.sub(rf"\bfn {word}\b", f"fn {name}", body, count=1).split("\n")]
+            self.copy_proof([*above, word], [*above, name])
+            names[edit.name] = ["::".join([*above, name])]
+        return names
+
+    def copy_proof(self, of, to):
+        """Gives a function the proof files of another, which name no other function's goals."""
+        folder = Path(self.room, "proofs", *of)
+        for file in folder.glob("*.antt"):
+            new = Path(self.room, "proofs", *to, file.name)
+            new.parent.mkdir(exist_ok=True)
+            new.write_text(file.read_text().replace(f"proofs.{'.'.join(of)}.", f"proofs.{'.'.join(to)}."))
+
+    def check(self, rt, kept):
+        """Has the prover check the functions that the edits turn. Returns its status, what it printed, and the seconds that each function took."""
+        only = sorted({it.name for turned in self.turned.values() for it in turned.functions})
+        stages = Path(self.room, "stages")
+        flags = ["--jobs", "1", "--progress", "--stage-times", str(stages), *(["--incremental", kept] if kept else [])]
+        words = self.crate.words([*flags, *(word for it in only for word in ("--only", it))], keeps=False)
+        how = {"cwd": self.room, "stdin": subprocess.DEVNULL, "stdout": subprocess.PIPE, "stderr": subprocess.STDOUT, "text": True, "errors": "replace"}
+        printed, seconds, last = [], {}, time.time()
+        with subprocess.Popen([*rt.rtlib.guarded(), rt.rtlib.RATTLE, "check", *words], **how) as ran:
+            threading.Thread(target=leave_out_offers, args=(ran, stages), daemon=True).start()
+            for line in ran.stdout:
+                printed.append(line)
+                if ended := ENDED.match(line):
+                    seconds[ended[1]], last = time.time() - last, time.time()
+        return ran.returncode, "".join(printed), seconds
+
+
+def leave_out_offers(ran, stages):
+    """Has a check end once it knows what it will say: behind that it would write proof files to offer, for a tenth of its time, which nobody reads.
+
+    It finds no module for them where it can open no more files, says so in a note, and prints its lines.
+    """
+    while ran.poll() is None:
+        if stages.exists() and "stage lines " in stages.read_text():
+            with contextlib.suppress(ProcessLookupError):
+                resource.prlimit(ran.pid, resource.RLIMIT_NOFILE, (0, 0))
+            return
+        time.sleep(0.05)
