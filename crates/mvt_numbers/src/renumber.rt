@@ -19,6 +19,7 @@ use std::alloc::{AllocError, Global};
 /// the value that it gets, or none where it goes. Beside it the decisions that are left for the
 /// fields behind it. Memory is asked for only where a packed body changes, and once where no
 /// number of it gets longer.
+#[inline(always)]
 pub fn renumber_field<'a>(
     alloc: Global,
     field: &Field,
@@ -68,6 +69,7 @@ fn renumber_unpacked<'a>(
 }
 
 /// What becomes of a packed field.
+#[inline(never)]
 fn renumber_packed<'a>(
     alloc: Global,
     tag: Varint,
@@ -238,6 +240,7 @@ impl Making {
     }
 
     /// Copies the bytes that stay, up to this place.
+    #[inline(always)]
     fn copy(&mut self, bytes: &[u8], place: usize) -> Result<(), AllocError>
         requires copied { self.old.copied ≤ place }
         requires within { place ≤ length bytes.now }
@@ -248,7 +251,7 @@ impl Making {
             return Ok(());
         }
         self.make_room(bytes.len())?;
-        self.made.extend_from_slice(&bytes[self.copied..place])
+        put_bytes(&mut self.made, &bytes[self.copied..place])
     }
 
     /// Makes room for a body of this length, where it is not there yet.
@@ -259,4 +262,21 @@ impl Making {
         self.made
             .reserve_exact(whole.saturating_sub(self.made.len()))
     }
+}
+
+// So many bytes are put one by one, which takes less than a call that copies any number of them.
+const FEW: usize = 8;
+
+/// Puts the bytes at the end.
+#[inline(always)]
+fn put_bytes(made: &mut Vec<u8>, bytes: &[u8]) -> Result<(), AllocError>
+    ensures { OnOk result (made.new.items ≡ made.old.items ++ bytes.now) }
+{
+    if bytes.len() > FEW {
+        return made.extend_from_slice(bytes);
+    }
+    for byte in bytes {
+        made.push(*byte)?;
+    }
+    Ok(())
 }
