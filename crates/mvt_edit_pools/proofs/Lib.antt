@@ -1,4 +1,5 @@
 mod Marking
+mod KeptPairs
 mod Numbering
 mod Repointed
 mod Gone

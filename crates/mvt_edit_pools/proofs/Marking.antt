@@ -1,5 +1,5 @@
 -- The marks of entries: one more, those of several lists of pairs, and those of all features.
-use Rattle.std.proofs.Common.{◌≡◌, ℕ, zero, suc, ◌+◌, ◌==◌, ◌<◌, ◌≤◌, Bool, true, false, ◌||◌, Option, Some, None, List, [], ◌∷◌, ◌++◌, is_some, length, option_map, replicate, set, refl, sym, ap, ◌∙◌, inl, inr, arith}
+use Rattle.std.proofs.Common.{◌≡◌, ℕ, zero, suc, ◌+◌, ◌==◌, ◌<◌, ◌≤◌, Bool, true, false, ◌||◌, Option, Some, None, List, [], ◌∷◌, ◌++◌, append_assoc, is_some, length, option_map, replicate, set, refl, sym, ap, ◌∙◌, arith}
 use Rattle.std.proofs.lemmas.Bool.{eq-eqb, ne_eqb}
 use Rattle.std.proofs.lemmas.List.Folds.{flat_map-map, list_any-append}
 use Rattle.std.specs.List.{flat_map}
@@ -14,7 +14,7 @@ use Rattle.mvt_view.proofs.Placing.{found_items}
 use Rattle.mvt_meaning.specs.Compaction.{all_pairs, is_key_used, is_value_used}
 use Rattle.mvt_meaning.specs.Tagging.{pairs_among}
 use Rattle.mvt_edit_steps.proofs.Deciding.{then_pairs}
-use Rattle.mvt_edit_pools.specs.Marks.{is_one, marked, names_key, names_value, stays_from}
+use Rattle.mvt_edit_pools.specs.Marks.{is_one, marked, names_key, names_value, pairs_at, stays_from}
 use Rattle.mvt_edit_pools.specs.Pools.{all_keys, all_values, keys_stay, values_stay}
 use Rattle.mvt_edit_pools.specs.declared.compact.Pools.{Pools}
 use Rattle.mvt_edit_pools.specs.declared.compact.Pools.TheVariants.{Keys, Values, Both}
@@ -91,13 +91,13 @@ pub values_pair : (pair : ℕ × ℕ) (marks after : List Bool) (rest : Option (
 values_pair pair marks after None is = refl
 values_pair pair marks after (Some pairs) is = ap Some (ap (marked (names_value pairs) 0) is ∙ marked_twice (is_one pair.1) (names_value pairs) 0 marks)
 
+pub pairs_pair : (pair : ℕ × ℕ) (front after : List (ℕ × ℕ)) (rest : Option (List (ℕ × ℕ))) → after ≡ front ++ pair ∷ [] → option_map (λ pairs. after ++ pairs) rest ≡ option_map (λ pairs. front ++ pairs) (and_more pair rest)
+pairs_pair pair front after None is = refl
+pairs_pair pair front after (Some pairs) is = ap Some (ap (λ list. list ++ pairs) is ∙ append_assoc front (pair ∷ []) pairs)
+
 -- ---- the features of a layer
 
--- the pairs of a feature that was found, in a layer of these items
-abbrev pub pairs_at : List LayerItem → ℕ × (ℕ × Feature) → List (ℕ × ℕ)
-pairs_at items at = unwrap_or (pairs_among items at.1.1.fields) []
-
--- those of the features that are left
+-- the pairs of the features that are left
 abbrev pub pairs_left : List LayerItem → List (ℕ × (ℕ × Feature)) → List (ℕ × ℕ)
 pairs_left items found = flat_map (pairs_at items) found
 
@@ -113,6 +113,10 @@ keys_of_found before after (Some pairs) is = let same : marked (names_key pairs)
 values_of_found : (before after : List Bool) (found : Option (List (ℕ × ℕ))) → option_map (λ pairs. marked (names_value pairs) 0 before) found ≡ Some after → after ≡ marked (names_value (unwrap_or found [])) 0 before
 values_of_found before after None is = absurd cc
 values_of_found before after (Some pairs) is = let same : marked (names_value pairs) 0 before ≡ after = cc in sym same
+
+pairs_of_found : (before after : List (ℕ × ℕ)) (found : Option (List (ℕ × ℕ))) → option_map (λ pairs. before ++ pairs) found ≡ Some after → after ≡ before ++ unwrap_or found []
+pairs_of_found before after None is = absurd cc
+pairs_of_found before after (Some pairs) is = let same : before ++ pairs ≡ after = cc in sym same
 
 -- what its tags make by the sizes of the layer is what they make in the layer
 by_layer : {A : Type 0} (f : Option (List (ℕ × ℕ)) → A) (layer : Layer) (feature : Feature) (key_count value_count : ℕ) → key_count ≡ length (keys layer) → value_count ≡ length (values layer) → f (plain_pairs (tag_pairs key_count value_count (numbers 2 feature.fields))) ≡ f (pairs_among layer.items feature.fields)
@@ -137,6 +141,11 @@ values_more layer at rest key_count value_count before after is_keys is_values i
     let made = sym (by_layer (option_map (λ pairs. marked (names_value pairs) 0 before)) layer at.1.1 key_count value_count is_keys is_values) ∙ is in
     ap (marked (names_value (pairs_left layer.items rest)) 0) (values_of_found before after (pairs_among layer.items at.1.1.fields) made)
     ∙ values_joined (pairs_at layer.items at) (pairs_left layer.items rest) before
+
+pub pairs_own : (layer : Layer) (at : ℕ × (ℕ × Feature)) (key_count value_count : ℕ) (before after : List (ℕ × ℕ)) → key_count ≡ length (keys layer) → value_count ≡ length (values layer)
+    → option_map (λ pairs. before ++ pairs) (plain_pairs (tag_pairs key_count value_count (numbers 2 at.1.1.fields))) ≡ Some after → after ≡ before ++ pairs_at layer.items at
+pairs_own layer at key_count value_count before after is_keys is_values is =
+    pairs_of_found before after (pairs_among layer.items at.1.1.fields) (sym (by_layer (option_map (λ pairs. before ++ pairs)) layer at.1.1 key_count value_count is_keys is_values) ∙ is)
 
 pub is_readable : (layer : Layer) (feature : Feature) (key_count value_count : ℕ) (before after : List Bool) → key_count ≡ length (keys layer) → value_count ≡ length (values layer)
     → option_map (λ pairs. marked (names_key pairs) 0 before) (plain_pairs (tag_pairs key_count value_count (numbers 2 feature.fields))) ≡ Some after → is_some (pairs_among layer.items feature.fields) ≡ true

@@ -1,11 +1,11 @@
 -- What is decided on the tags of a feature by new ordinals: it is what the meaning decides; where no pair changes there is
 -- no step.
-use Rattle.std.proofs.Common.{◌≡◌, ℕ, zero, suc, ◌+◌, ◌==◌, ◌<◌, ◌^◌, Bool, true, false, ◌&&◌, not, is_some, Option, Some, None, List, [], ◌∷◌, ◌++◌, length, map, option_map, slice_get, refl, sym, ap, ◌∙◌, inl, inr, subst, arith}
+use Rattle.std.proofs.Common.{◌≡◌, ℕ, ◌^◌, Bool, true, false, ◌&&◌, Option, Some, None, List, [], ◌∷◌, ◌++◌, length, map, option_map, slice_get, refl, sym, ap, ◌∙◌, inl, inr, arith}
 use Rattle.std.specs.Prelude.{nat_lt}
 use Rattle.std.proofs.lemmas.Bool.{and_parts, cases_Bool, eqb-true, ltb-true}
 use Rattle.std.proofs.lemmas.Simd.{map-map}
 use Rattle.std.specs.List.{flat_map, list_all}
-use Rattle.std.specs.Option.{option_map_or}
+use Rattle.std.specs.Option.{option_map_or, unwrap_or}
 use Rattle.mvt_document.specs.Plain.{Number, Field, Feature, Layer, LayerItem}
 use Rattle.mvt_numbers.specs.Laws.{NoneIsNew}
 use Rattle.mvt_numbers.specs.Numbers.{Placed, numbers}
@@ -13,19 +13,16 @@ use Rattle.mvt_numbers.specs.Renumbering.{field_numbers}
 use Rattle.mvt_numbers.proofs.Reread.{read_of_fields}
 use Rattle.mvt_view.specs.Attributes.{is_ordinal, is_pair}
 use Rattle.mvt_view.specs.Found.{found_features}
-use Rattle.mvt_view.specs.Tags.{plain_pairs, tag_pairs}
 use Rattle.mvt_view.specs.Views.{contents, key_field, keys, plain_fields, value_field, values}
-use Rattle.mvt_view.proofs.Pairing.{tags_are_pairs}
 use Rattle.mvt_meaning.specs.Compaction.{new_ordinal, new_ordinals, repointed}
 use Rattle.mvt_meaning.specs.Tagging.{pairs_among}
 use Rattle.mvt_meaning.proofs.Removals.{flat, head_same, make_pairs}
-use Rattle.mvt_edit_steps.specs.Decided.{IsDecided, counted_by, decided_by, field_fates, is_any_gone}
+use Rattle.mvt_edit_steps.specs.Decided.{counted_by, decided_by, field_fates, is_any_gone}
 use Rattle.mvt_edit_steps.specs.EachFeature.{feature_steps, layer_steps}
 use Rattle.mvt_edit_steps.specs.Fates.{splices_from}
 use Rattle.mvt_edit_steps.proofs.Carrying.{in_feature_at}
-use Rattle.mvt_edit_steps.proofs.Deciding.{then_pairs}
 use Rattle.mvt_edit_steps.proofs.StepsPassed.{no_splices}
-use Rattle.mvt_edit_pools.specs.Marks.{keeps_ordinal, numbered_from, ordinals_in, pair_repointed, pairs_repointed, stays_from}
+use Rattle.mvt_edit_pools.specs.Marks.{keeps_ordinal, numbered_from, ordinals_in, pair_repointed, pairs_at, pairs_repointed, stays_from}
 use Rattle.mvt_edit_pools.specs.Pools.{ordinal_fates}
 use Rattle.mvt_edit_pools.proofs.Numbering.{got_numbered}
 
@@ -118,39 +115,31 @@ module _ (key_ordinals value_ordinals : List ℕ) where
         | inr other ↦ absurd (let some = rw other at none in omega (arith, some))
       ]
 
-  -- what is decided on the tags of the feature is this, and so many pairs change
-  pub record OnTags (items : List LayerItem) (fields : List Field) (decisions : List (Option ℕ)) (changed : ℕ) : Type 0 where
-    pub pairs : List (ℕ × ℕ)
-    pub is : pairs_among items fields ≡ Some pairs
-    pub decided : decisions ≡ ordinals_in key_ordinals value_ordinals items fields
-    pub counted : counted_by said pairs ≡ changed
+  decided_found : (found : Option (List (ℕ × ℕ))) → decided_by said (unwrap_or found []) ≡ option_map_or (decided_by said) found []
+  decided_found None = refl
+  decided_found (Some pairs) = refl
 
-  on_found : (items : List LayerItem) (fields : List Field) (decisions : List (Option ℕ)) (changed : ℕ) (found : Option (List (ℕ × ℕ))) → pairs_among items fields ≡ found → option_map (decided_by said) found ≡ Some decisions → option_map (counted_by said) found ≡ Some changed → OnTags items fields decisions changed
-  on_found items fields decisions changed None is decided counted = absurd cc
-  on_found items fields decisions changed (Some pairs) is decided counted =
-      let made : decided_by said pairs ≡ decisions = cc in
-      let count : counted_by said pairs ≡ changed = cc in
-      record { pairs = pairs; is = is; decided = sym made ∙ ap (λ found. option_map_or (decided_by said) found []) (sym is); counted = count }
+  -- what is decided on the pairs of a feature is what is meant
+  pub as_ordinals : (items : List LayerItem) (at : ℕ × (ℕ × Feature)) (own : List (ℕ × ℕ)) → own ≡ pairs_at items at → decided_by said own ≡ ordinals_in key_ordinals value_ordinals items at.1.1.fields
+  as_ordinals items at own is = ap (decided_by said) is ∙ decided_found (pairs_among items at.1.1.fields)
 
-  pub on_tags : (layer : Layer) (feature : Feature) (key_count value_count : ℕ) (decisions : List (Option ℕ)) (changed : ℕ) → key_count ≡ length (keys layer) → value_count ≡ length (values layer)
-      → IsDecided said (plain_pairs (tag_pairs key_count value_count (numbers 2 feature.fields))) decisions changed → OnTags layer.items feature.fields decisions changed
-  on_tags layer feature key_count value_count decisions changed is_keys is_values is =
-      let here : IsDecided said (plain_pairs (tag_pairs (length (keys layer)) (length (values layer)) (numbers 2 feature.fields))) decisions changed = rw (is_keys, is_values) at is in
-      let same = sym (tags_are_pairs layer feature) in
-      on_found layer.items feature.fields decisions changed (pairs_among layer.items feature.fields) refl (ap (option_map (decided_by said)) same ∙ here.decided) (ap (option_map (counted_by said)) same ∙ here.counted)
-
-  -- where no pair changes the feature has no step
-  pub no_steps : (items : List LayerItem) (layer : ℕ) (at : ℕ × (ℕ × Feature)) (decisions : List (Option ℕ)) → OnTags items at.1.1.fields decisions 0 → feature_steps (pairs_repointed key_ordinals value_ordinals items) layer at ≡ []
-  no_steps items layer at decisions on =
+  none_found : (items : List LayerItem) (layer : ℕ) (at : ℕ × (ℕ × Feature)) (found : Option (List (ℕ × ℕ))) → pairs_among items at.1.1.fields ≡ found → counted_by said (unwrap_or found []) ≡ 0 → feature_steps (pairs_repointed key_ordinals value_ordinals items) layer at ≡ []
+  none_found items layer at None is none =
       let fields = at.1.1.fields in
-      let all = kept on.pairs in
-      let same : ordinals_in key_ordinals value_ordinals items fields ≡ all = ap (λ found. option_map_or (decided_by said) found []) on.is ∙ pairs_keep on.pairs on.counted in
-      let made = make_pairs (length (contents key_field (plain_fields items))) (length (contents value_field (plain_fields items))) (numbers 2 fields) on.pairs on.is in
+      let same : ordinals_in key_ordinals value_ordinals items fields ≡ [] = ap (λ found. option_map_or (decided_by said) found []) is in
+      ap (λ ordinals. map (in_feature_at layer at.1.0) (splices_from 0 (field_fates 2 ordinals fields))) same
+      ∙ ap (map (in_feature_at layer at.1.0)) (no_splices 2 [] fields refl tt 0)
+  none_found items layer at (Some pairs) is none =
+      let fields = at.1.1.fields in
+      let all = kept pairs in
+      let same : ordinals_in key_ordinals value_ordinals items fields ≡ all = ap (λ found. option_map_or (decided_by said) found []) is ∙ pairs_keep pairs none in
+      let made = make_pairs (length (contents key_field (plain_fields items))) (length (contents value_field (plain_fields items))) (numbers 2 fields) pairs is in
       let list = map (λ (p : Placed). p.number) made.placed in
       let read : flat_map (field_numbers 2) fields ≡ list = read_of_fields 2 fields list (ap (option_map (map (λ (p : Placed). p.number))) made.good) in
-      let values_are : map (λ (n : Number). n.value) (flat_map (field_numbers 2) fields) ≡ flat on.pairs = ap (map (λ (n : Number). n.value)) read ∙ map-map (λ (n : Number). n.value) (λ (p : Placed). p.number) made.placed ∙ made.values in
+      let values_are : map (λ (n : Number). n.value) (flat_map (field_numbers 2) fields) ≡ flat pairs = ap (map (λ (n : Number). n.value)) read ∙ map-map (λ (n : Number). n.value) (λ (p : Placed). p.number) made.placed ∙ made.values in
       ap (λ ordinals. map (in_feature_at layer at.1.0) (splices_from 0 (field_fates 2 ordinals fields))) same
-      ∙ ap (map (in_feature_at layer at.1.0)) (no_splices 2 all fields (none_gone (flat on.pairs)) (none_new (flat on.pairs) (flat_map (field_numbers 2) fields) values_are) 0)
+      ∙ ap (map (in_feature_at layer at.1.0)) (no_splices 2 all fields (none_gone (flat pairs)) (none_new (flat pairs) (flat_map (field_numbers 2) fields) values_are) 0)
 
-  pub readable : (items : List LayerItem) (fields : List Field) (decisions : List (Option ℕ)) (changed : ℕ) → OnTags items fields decisions changed → is_some (pairs_among items fields) ≡ true
-  readable items fields decisions changed on = ap (λ found. is_some found) on.is
+  -- where no pair changes the feature has no step
+  pub no_steps : (items : List LayerItem) (layer : ℕ) (at : ℕ × (ℕ × Feature)) (own : List (ℕ × ℕ)) → own ≡ pairs_at items at → counted_by said own ≡ 0 → feature_steps (pairs_repointed key_ordinals value_ordinals items) layer at ≡ []
+  no_steps items layer at own is none = none_found items layer at (pairs_among items at.1.1.fields) refl (ap (counted_by said) (sym is) ∙ none)

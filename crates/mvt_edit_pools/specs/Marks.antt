@@ -1,8 +1,8 @@
 -- Which entries of a layer stay, by a mark for each, and what the marks make of the layer.
-use Rattle.std.specs.Prelude.{ℕ, zero, suc, ◌+◌, ◌==◌, Bool, true, false, ◌&&◌, ◌||◌, not, List, [], ◌∷◌, map, drop, slice_get, Option, Some, None, if◌then◌else◌}
+use Rattle.std.specs.Prelude.{ℕ, zero, suc, ◌+◌, ◌==◌, Bool, false, ◌&&◌, ◌||◌, not, List, [], ◌∷◌, map, length, drop, slice_get, Option, if◌then◌else◌}
 use Rattle.std.specs.List.{list_any}
-use Rattle.std.specs.Option.{option_map_or}
-use Rattle.mvt_document.specs.Plain.{Field, LayerItem}
+use Rattle.std.specs.Option.{option_map_or, unwrap_or}
+use Rattle.mvt_document.specs.Plain.{Field, Feature, LayerItem}
 use Rattle.mvt_change.specs.Changes.{Change, LayerStep}
 use Rattle.mvt_view.specs.Views.{key_field, value_field}
 use Rattle.mvt_meaning.specs.Compaction.{is_entry}
@@ -34,6 +34,16 @@ names_key pairs ordinal = list_any (λ pair. pair.0 == ordinal) pairs
 -- one of the pairs names the value of this ordinal (tiles 4.4)
 abbrev pub names_value : List (ℕ × ℕ) → ℕ → Bool
 names_value pairs ordinal = list_any (λ pair. pair.1 == ordinal) pairs
+
+-- ---- pairs
+
+-- the pairs of a feature that was found with its position, in a layer of these items (tiles 4.4)
+abbrev pub pairs_at : List LayerItem → ℕ × (ℕ × Feature) → List (ℕ × ℕ)
+pairs_at items at = unwrap_or (pairs_among items at.1.1.fields) []
+
+-- how many pairs each of these features has, in a layer of these items (tiles 4.4)
+abbrev pub pair_counts : List LayerItem → List (ℕ × (ℕ × Feature)) → List ℕ
+pair_counts items found = map (λ at. length (pairs_at items at)) found
 
 -- ---- new ordinals
 

@@ -4,14 +4,16 @@ ghost use Rattle.std.specs.Prelude.{◌≡◌, ◌⊎◌, ◌++◌, [], ◌∷�
 ghost use Rattle.mvt_document.specs.Stands.{document_of, layer_of};
 ghost use Rattle.mvt_change.specs.ChangeStands.{step_of};
 ghost use Rattle.mvt_command.specs.CommandStands.{layers_choice_of};
+ghost use Rattle.mvt_meaning.specs.Compaction.{all_pairs};
 ghost use Rattle.mvt_meaning.specs.Meaning.{refuse_first};
 ghost use Rattle.mvt_meaning.specs.Tagging.{unreadable};
 ghost use Rattle.mvt_meaning.specs.declared.refusal.Refusal.TheVariants.{NoMemory};
-ghost use Rattle.mvt_view.specs.Seen.{found_layer_seen};
+ghost use Rattle.mvt_view.specs.Found.{found_features};
+ghost use Rattle.mvt_view.specs.Seen.{found_layer_seen, pair_seen};
 ghost use Rattle.mvt_view.specs.Views.{keys, values};
 ghost use Rattle.mvt_edit_steps.specs.Prepared.{Prepares};
 ghost use Rattle.mvt_edit_pools.specs.Pools.{all_keys, all_values, compaction, compacting, keys_stay, values_stay};
-ghost use Rattle.mvt_edit_pools.specs.Marks.{stays_from};
+ghost use Rattle.mvt_edit_pools.specs.Marks.{pair_counts, stays_from};
 
 use crate::entries::take_entries;
 use crate::repoint::repoint;
@@ -91,7 +93,7 @@ fn compact_layer(
     repoint(
         alloc,
         found,
-        sizes,
+        &marks,
         key_ordinals.as_slice(),
         value_ordinals.as_slice(),
         decisions,
@@ -107,7 +109,7 @@ fn compact_layer(
     Ok(())
 }
 
-/// For each key and each value of the layer, in order, whether it stays.
+/// For each key and each value of the layer, in order, whether it stays; and its pairs.
 fn marks_of(
     alloc: Global,
     found: FoundLayer<'_>,
@@ -118,12 +120,19 @@ fn marks_of(
     requires values { sizes.values ≡ length (values (layer_of found.layer.now)) }
     ensures keys { IfOk result (λ marks. marks.keys.items ≡ stays_from (keys_stay pools (layer_of found.entry.layer.now).items) 0 sizes.keys) }
     ensures values { IfOk result (λ marks. marks.values.items ≡ stays_from (values_stay pools (layer_of found.entry.layer.now).items) 0 sizes.values) }
+    ensures pairs { IfOk result (λ marks. map pair_seen marks.pairs.items ≡ all_pairs (layer_of found.entry.layer.now).items) }
+    ensures counts { IfOk result (λ marks. marks.counts.items ≡ pair_counts (layer_of found.entry.layer.now).items (found_features (layer_of found.entry.layer.now).items)) }
     ensures readable { IfOk result (λ marks. unreadable (found_layer_seen found.entry ∷ []) ≡ []) }
     ensures refused { IfErr result (λ refusal. (refusal ≡ NoMemory) ⊎ (refuse_first (unreadable (found_layer_seen found.entry ∷ [])) ≡ Err refusal)) }
 {
     let keys = same_marks(alloc, sizes.keys, pools.all_keys())?;
     let values = same_marks(alloc, sizes.values, pools.all_values())?;
-    let mut marks = Marks { keys, values };
+    let mut marks = Marks {
+        keys,
+        values,
+        pairs: Vec::new(alloc),
+        counts: Vec::new(alloc),
+    };
     mark_used(found, sizes, &mut marks)?;
     Ok(marks)
 }

@@ -1,49 +1,48 @@
 //! The tags of the features of a layer, with the new ordinals of what they name.
 
-ghost use Rattle.std.specs.Prelude.{◌≡◌, ◌⊎◌, ◌++◌, [], ◌∷◌, Err, IfErr, IfOk, length, map, slice_get};
+ghost use Rattle.std.specs.Prelude.{◌≡◌, ◌++◌, IfOk, map, slice_get};
 ghost use Rattle.mvt_document.specs.Stands.{layer_of};
 ghost use Rattle.mvt_change.specs.ChangeStands.{step_of};
-ghost use Rattle.mvt_meaning.specs.Meaning.{refuse_first};
-ghost use Rattle.mvt_meaning.specs.Tagging.{unreadable};
-ghost use Rattle.mvt_meaning.specs.declared.refusal.Refusal.TheVariants.{NoMemory};
+ghost use Rattle.mvt_meaning.specs.Compaction.{all_pairs};
+ghost use Rattle.mvt_view.specs.Found.{found_features};
 ghost use Rattle.mvt_view.specs.Seen.{found_layer_seen, pair_seen};
-ghost use Rattle.mvt_view.specs.Views.{keys, values};
+ghost use Rattle.mvt_edit_steps.specs.Decided.{counted_by, decided_by};
 ghost use Rattle.mvt_edit_steps.specs.EachFeature.{layer_steps};
-ghost use Rattle.mvt_edit_pools.specs.Marks.{keeps_ordinal, pair_repointed, pairs_repointed};
+ghost use Rattle.mvt_edit_pools.specs.Marks.{keeps_ordinal, pair_counts, pair_repointed, pairs_repointed};
 
+use crate::used::Marks;
 use mvt_change::Step;
 use mvt_document::tags::TAGS;
-use mvt_edit_steps::{decide_pairs, renumber_feature};
-use mvt_select::{FoundLayer, Refusal};
-use mvt_view::{Pair, PoolSizes};
-use std::alloc::Global;
+use mvt_edit_steps::renumber_feature;
+use mvt_select::FoundLayer;
+use mvt_view::Pair;
+use std::alloc::{AllocError, Global};
 
 /// Puts the steps by which the tags of each feature of the layer name what they named by its new
-/// ordinal behind the others, where the keys and the values have these. The first feature whose tags
-/// make no pairs is refused. A feature of whose numbers none changes has no step, and its tags are
+/// ordinal behind the others, where the keys and the values have these. The pairs are those that were
+/// kept as the layer was read. A feature of whose numbers none changes has no step, and its tags are
 /// not read again.
 pub(crate) fn repoint(
     alloc: Global,
     found: FoundLayer<'_>,
-    sizes: PoolSizes,
+    marks: &Marks,
     key_ordinals: &[u64],
     value_ordinals: &[u64],
     decisions: &mut Vec<Option<u64>>,
     steps: &mut Vec<Step>,
-) -> Result<(), Refusal>
-    requires keys { sizes.keys ≡ length (keys (layer_of found.layer.now)) }
-    requires values { sizes.values ≡ length (values (layer_of found.layer.now)) }
-    ensures steps { IfOk result (λ done. map step_of steps.new.items ≡ map step_of steps.old.items ++ layer_steps (pairs_repointed key_ordinals.now value_ordinals.now) (found_layer_seen found.entry)) }
-    ensures refused { IfErr result (λ refusal. (refusal ≡ NoMemory) ⊎ (refuse_first (unreadable (found_layer_seen found.entry ∷ [])) ≡ Err refusal)) }
+) -> Result<(), AllocError>
+    requires pairs { map pair_seen marks.now.pairs.items ≡ all_pairs (layer_of found.layer.now).items }
+    requires counts { marks.now.counts.items ≡ pair_counts (layer_of found.layer.now).items (found_features (layer_of found.layer.now).items) }
+    ensures { IfOk result (λ done. map step_of steps.new.items ≡ map step_of steps.old.items ++ layer_steps (pairs_repointed key_ordinals.now value_ordinals.now) (found_layer_seen found.entry)) }
 {
+    let mut pairs_left = marks.pairs.as_slice();
+    let mut counts_left = marks.counts.as_slice();
     for feature in found.view().features() {
-        let changed = decide_pairs(
-            found.ordinal,
-            feature,
-            sizes,
-            |pair| repointed(pair, key_ordinals, value_ordinals),
-            decisions,
-        )?;
+        let Some((count, counts_behind)) = counts_left.split_first() else {
+            unreachable!()
+        };
+        let (own, pairs_behind) = pairs_left.split_at(*count);
+        let changed = decide(own, key_ordinals, value_ordinals, decisions)?;
         if changed > 0 {
             renumber_feature(
                 alloc,
@@ -55,8 +54,32 @@ pub(crate) fn repoint(
                 None,
             )?;
         }
+        pairs_left = pairs_behind;
+        counts_left = counts_behind;
     }
     Ok(())
+}
+
+/// Decides on the two numbers of each pair, in place of what was decided before, where the keys and
+/// the values have these new ordinals. How many pairs change.
+fn decide(
+    pairs: &[Pair],
+    key_ordinals: &[u64],
+    value_ordinals: &[u64],
+    decisions: &mut Vec<Option<u64>>,
+) -> Result<usize, AllocError>
+    ensures decided { IfOk result (λ changed. decisions.new.items ≡ decided_by (pair_repointed key_ordinals.now value_ordinals.now) (map pair_seen pairs.now)) }
+    ensures counted { IfOk result (λ changed. changed ≡ counted_by (pair_repointed key_ordinals.now value_ordinals.now) (map pair_seen pairs.now)) }
+{
+    decisions.clear();
+    let mut changed = 0_usize;
+    for pair in pairs {
+        let (key, value, changes) = repointed(*pair, key_ordinals, value_ordinals);
+        decisions.push(key)?;
+        decisions.push(value)?;
+        changed += usize::from(changes);
+    }
+    Ok(changed)
 }
 
 /// What becomes of the two numbers of a pair, where the keys and the values have these new ordinals;

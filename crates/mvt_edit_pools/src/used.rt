@@ -1,30 +1,35 @@
 //! Which keys and which values of a layer stay, and the new ordinal of each.
 
-ghost use Rattle.std.specs.Prelude.{◌≡◌, [], ◌∷◌, None, Some, Err, IfErr, IfOk, length, option_map, replicate};
+ghost use Rattle.std.specs.Prelude.{◌≡◌, ◌⊎◌, [], ◌∷◌, ◌++◌, None, Some, Err, IfErr, IfOk, length, map, option_map, replicate};
+ghost use Rattle.std.specs.Result.{IsErrOf};
 ghost use Rattle.mvt_document.specs.Stands.{layer_of};
 ghost use Rattle.mvt_numbers.specs.Numbers.{numbers};
-ghost use Rattle.mvt_meaning.specs.Compaction.{is_key_used, is_value_used};
+ghost use Rattle.mvt_meaning.specs.Compaction.{all_pairs, is_key_used, is_value_used};
 ghost use Rattle.mvt_meaning.specs.Meaning.{refuse_first};
 ghost use Rattle.mvt_meaning.specs.Tagging.{unreadable};
-ghost use Rattle.mvt_meaning.specs.declared.refusal.Refusal.TheVariants.{BadTags};
-ghost use Rattle.mvt_view.specs.Seen.{feature_seen, found_feature_seen, found_layer_seen};
+ghost use Rattle.mvt_meaning.specs.declared.refusal.Refusal.TheVariants.{BadTags, NoMemory};
+ghost use Rattle.mvt_view.specs.Found.{found_features};
+ghost use Rattle.mvt_view.specs.Seen.{feature_seen, found_feature_seen, found_layer_seen, pair_seen};
 ghost use Rattle.mvt_view.specs.Tags.{plain_pairs, tag_pairs};
 ghost use Rattle.mvt_view.specs.Views.{keys, values};
-ghost use Rattle.mvt_edit_pools.specs.Marks.{is_one, marked, names_key, names_value, numbered_from};
+ghost use Rattle.mvt_edit_pools.specs.Marks.{is_one, marked, names_key, names_value, numbered_from, pair_counts};
 
 use mvt_select::{FoundFeature, FoundLayer, Refusal};
-use mvt_view::{BadPair, FeatureView, PoolSizes};
+use mvt_view::{FeatureView, Pair, PairsError, PoolSizes};
 use std::alloc::{AllocError, Global};
 
-/// For each key and each value of a layer, in order, whether it stays.
+/// What was read of the tags of a layer: for each of its keys and values, in order, whether it stays;
+/// the pairs of its features, one feature behind the other; and how many each feature has.
 #[derive(Debug, Drop)]
 pub(crate) struct Marks {
     pub(crate) keys: Vec<bool>,
     pub(crate) values: Vec<bool>,
+    pub(crate) pairs: Vec<Pair>,
+    pub(crate) counts: Vec<usize>,
 }
 
-/// Marks each key and each value that a pair of a feature of the layer names. The first feature
-/// whose tags make no pairs is refused.
+/// Marks each key and each value that a pair of a feature of the layer names, and keeps the pairs.
+/// The first feature whose tags make no pairs is refused.
 pub(crate) fn mark_used(
     found: FoundLayer<'_>,
     sizes: PoolSizes,
@@ -34,11 +39,15 @@ pub(crate) fn mark_used(
     requires values { sizes.values ≡ length (values (layer_of found.layer.now)) }
     ensures keys { IfOk result (λ done. marks.new.keys.items ≡ marked (is_key_used (layer_of found.entry.layer.now).items) 0 marks.old.keys.items) }
     ensures values { IfOk result (λ done. marks.new.values.items ≡ marked (is_value_used (layer_of found.entry.layer.now).items) 0 marks.old.values.items) }
+    ensures pairs { IfOk result (λ done. map pair_seen marks.new.pairs.items ≡ map pair_seen marks.old.pairs.items ++ all_pairs (layer_of found.entry.layer.now).items) }
+    ensures counts { IfOk result (λ done. marks.new.counts.items ≡ marks.old.counts.items ++ pair_counts (layer_of found.entry.layer.now).items (found_features (layer_of found.entry.layer.now).items)) }
     ensures readable { IfOk result (λ done. unreadable (found_layer_seen found.entry ∷ []) ≡ []) }
-    ensures refused { IfErr result (λ refusal. refuse_first (unreadable (found_layer_seen found.entry ∷ [])) ≡ Err refusal) }
+    ensures refused { IfErr result (λ refusal. (refusal ≡ NoMemory) ⊎ (refuse_first (unreadable (found_layer_seen found.entry ∷ [])) ≡ Err refusal)) }
 {
     for feature in found.view().features() {
+        let before = marks.pairs.len();
         mark_or_refuse(found.ordinal, feature, sizes, marks)?;
+        marks.counts.push(marks.pairs.len() - before)?;
     }
     Ok(())
 }
@@ -53,27 +62,39 @@ fn mark_or_refuse(
 ) -> Result<(), Refusal>
     ensures keys { IfOk result (λ done. option_map (λ pairs. marked (names_key pairs) 0 marks.old.keys.items) (plain_pairs (tag_pairs sizes.keys sizes.values (numbers 2 (found_feature_seen found.entry).1.1.fields))) ≡ Some marks.new.keys.items) }
     ensures values { IfOk result (λ done. option_map (λ pairs. marked (names_value pairs) 0 marks.old.values.items) (plain_pairs (tag_pairs sizes.keys sizes.values (numbers 2 (found_feature_seen found.entry).1.1.fields))) ≡ Some marks.new.values.items) }
-    ensures refused { IfErr result (λ refusal. (refusal ≡ BadTags layer found.entry.ordinal) × (plain_pairs (tag_pairs sizes.keys sizes.values (numbers 2 (found_feature_seen found.entry).1.1.fields)) ≡ None)) }
+    ensures pairs { IfOk result (λ done. option_map (λ pairs. map pair_seen marks.old.pairs.items ++ pairs) (plain_pairs (tag_pairs sizes.keys sizes.values (numbers 2 (found_feature_seen found.entry).1.1.fields))) ≡ Some (map pair_seen marks.new.pairs.items)) }
+    ensures counts { IfOk result (λ done. marks.new.counts.items ≡ marks.old.counts.items) }
+    ensures refused { IfErr result (λ refusal. (refusal ≡ NoMemory) ⊎ ((refusal ≡ BadTags layer found.entry.ordinal) × (plain_pairs (tag_pairs sizes.keys sizes.values (numbers 2 (found_feature_seen found.entry).1.1.fields)) ≡ None))) }
 {
     match mark_pairs(found.view(), sizes, marks) {
         Ok(()) => Ok(()),
-        Err(BadPair) => Err(Refusal::BadTags {
+        Err(PairsError::BadTags) => Err(Refusal::BadTags {
             layer,
             feature: found.ordinal,
         }),
+        Err(PairsError::NoMemory) => Err(Refusal::NoMemory),
     }
 }
 
-/// Marks the key and the value of each pair of the feature, where its tags make pairs.
-fn mark_pairs(feature: FeatureView<'_>, sizes: PoolSizes, marks: &mut Marks) -> Result<(), BadPair>
+/// Marks the key and the value of each pair of the feature, where its tags make pairs, and keeps the
+/// pair.
+#[inline(never)]
+fn mark_pairs(
+    feature: FeatureView<'_>,
+    sizes: PoolSizes,
+    marks: &mut Marks,
+) -> Result<(), PairsError>
     ensures keys { IfOk result (λ done. option_map (λ pairs. marked (names_key pairs) 0 marks.old.keys.items) (plain_pairs (tag_pairs sizes.keys sizes.values (numbers 2 (feature_seen feature.entry).fields))) ≡ Some marks.new.keys.items) }
     ensures values { IfOk result (λ done. option_map (λ pairs. marked (names_value pairs) 0 marks.old.values.items) (plain_pairs (tag_pairs sizes.keys sizes.values (numbers 2 (feature_seen feature.entry).fields))) ≡ Some marks.new.values.items) }
-    ensures bad { IfErr result (λ bad. plain_pairs (tag_pairs sizes.keys sizes.values (numbers 2 (feature_seen feature.entry).fields)) ≡ None) }
+    ensures pairs { IfOk result (λ done. option_map (λ pairs. map pair_seen marks.old.pairs.items ++ pairs) (plain_pairs (tag_pairs sizes.keys sizes.values (numbers 2 (feature_seen feature.entry).fields))) ≡ Some (map pair_seen marks.new.pairs.items)) }
+    ensures counts { IfOk result (λ done. marks.new.counts.items ≡ marks.old.counts.items) }
+    ensures bad_tags { IsErrOf result PairsError.BadTags → plain_pairs (tag_pairs sizes.keys sizes.values (numbers 2 (feature_seen feature.entry).fields)) ≡ None }
 {
     for tags in feature.tag_pairs(sizes) {
         let pair = tags?.pair;
         mark(&mut marks.keys, pair.key);
         mark(&mut marks.values, pair.value);
+        marks.pairs.push(pair)?;
     }
     Ok(())
 }

@@ -25,7 +25,7 @@ returns-clause-steps c =
     let features = layer_steps (pairs_repointed key_ordinals value_ordinals) at in
     let entries = entry_steps at.1.0 (gone_by key_marks value_marks layer.items) in
     c.in_ok-take_entries.ensures
-    ∙ ap (λ steps. steps ++ entries) c.in_ok-repoint.ensures.steps
+    ∙ ap (λ steps. steps ++ entries) c.in_ok-repoint.ensures
     ∙ append_assoc given features entries
     ∙ ap (λ steps. given ++ steps) (layer_as_meant (keys_stay pools) (values_stay pools) at key_marks value_marks key_ordinals value_ordinals
     (c.as_slice-5.ensures.value ∙ c.in_ok-marks.ensures.keys ∙ ap (stays_from (keys_stay pools layer.items) 0) key_count)

@@ -1,4 +1,5 @@
-use Rattle.std.proofs.Common.{◌≡◌, Some, option_map, subst}
+use Rattle.std.proofs.Common.{◌≡◌, ◌++◌, Some, map, option_map, subst}
+use Rattle.mvt_view.specs.Seen.{pair_seen}
 use Rattle.mvt_document.specs.Plain as plain
 use Rattle.mvt_numbers.specs.Numbers.{numbers}
 use Rattle.mvt_view.specs.Tags.{plain_pairs, tag_pairs}
@@ -12,3 +13,7 @@ returns-in-Ok-clause-keys c =
 pub returns-in-Ok-clause-values : goal.returns-in-Ok-clause-values
 returns-in-Ok-clause-values c =
     subst (λ (feature : plain.Feature). option_map (λ pairs. marked (names_value pairs) 0 c.args.marks.now.values.items) (plain_pairs (tag_pairs c.args.sizes.keys c.args.sizes.values (numbers 2 feature.fields))) ≡ Some c.mark_pairs.new.marks.values.items) c.view.ensures c.in-Ok.ensures.values
+
+pub returns-in-Ok-clause-pairs : goal.returns-in-Ok-clause-pairs
+returns-in-Ok-clause-pairs c =
+    subst (λ (feature : plain.Feature). option_map (λ pairs. map pair_seen c.args.marks.now.pairs.items ++ pairs) (plain_pairs (tag_pairs c.args.sizes.keys c.args.sizes.values (numbers 2 feature.fields))) ≡ Some (map pair_seen c.mark_pairs.new.marks.pairs.items)) c.view.ensures c.in-Ok.ensures.pairs

@@ -1,11 +1,13 @@
-use Rattle.std.proofs.Common.{◌≡◌, ◌∷◌, Ok, Some, List, Bool, option_map, sym, ap, ◌∙◌}
+use Rattle.std.proofs.Common.{◌≡◌, [], ◌∷◌, ◌++◌, Ok, Err, Some, is_some, map, option_map, refl, sym, ap, ◌∙◌}
+use Rattle.std.proofs.lemmas.List.{append-nil, map-append}
+use Rattle.mvt_edit_steps.proofs.Deciding.{more_some, none_is}
 use Rattle.mvt_numbers.specs.Numbers.{and_more}
 use Rattle.mvt_numbers.specs.Seen.{placed_of}
 use Rattle.mvt_view.specs.Seen.{pair_seen}
 use Rattle.mvt_view.specs.Tags.{plain_pairs}
 use Rattle.mvt_view.proofs.Pairing.{plain_more}
 use Rattle.mvt_edit_pools.specs.Marks.{marked, names_key, names_value}
-use Rattle.mvt_edit_pools.proofs.Marking.{keys_pair, marked_none, values_pair}
+use Rattle.mvt_edit_pools.proofs.Marking.{keys_pair, marked_none, pairs_pair, values_pair}
 use Rattle.mvt_edit_pools.proofs.used.mark_pairs.Goals as goal
 
 pub loop-tags-init : goal.loop-tags-init
@@ -14,6 +16,9 @@ loop-tags-init c =
     record {
       keys = ap (λ found. option_map (λ pairs. marked (names_key pairs) 0 c.args.marks.now.keys.items) (plain_pairs found)) read;
       values = ap (λ found. option_map (λ pairs. marked (names_value pairs) 0 c.args.marks.now.values.items) (plain_pairs found)) read;
+      pairs = ap (λ found. option_map (λ pairs. map pair_seen c.args.marks.now.pairs.items ++ pairs) (plain_pairs found)) read;
+      counts = refl;
+      read = ap (λ found. is_some (plain_pairs found)) read;
     }
 
 pub loop-tags-preserved : goal.loop-tags-preserved
@@ -21,11 +26,15 @@ loop-tags-preserved c =
     let found = c.in_ok-pair.field-0 in
     let pair = pair_seen found.pair in
     let rest = plain_pairs c.next.new.self in
+    let front = map pair_seen c.loop-tags.marks.pairs.items in
     let read : c.loop-tags.tags-iterator ≡ Ok (pair, (placed_of found.key, placed_of found.value)) ∷ c.next.new.self = rw c.in_ok-pair.was at c.in-Some.ensures.steps in
     let step : plain_pairs c.loop-tags.tags-iterator ≡ and_more pair rest = ap plain_pairs read ∙ plain_more (pair, (placed_of found.key, placed_of found.value)) c.next.new.self in
     record {
       keys = keys_pair pair c.loop-tags.marks.keys.items _ rest c.mark.ensures ∙ ap (option_map (λ pairs. marked (names_key pairs) 0 c.loop-tags.marks.keys.items)) (sym step) ∙ c.loop-tags.invariant.keys;
       values = values_pair pair c.loop-tags.marks.values.items _ rest c.mark-in-loop-tags.ensures ∙ ap (option_map (λ pairs. marked (names_value pairs) 0 c.loop-tags.marks.values.items)) (sym step) ∙ c.loop-tags.invariant.values;
+      pairs = pairs_pair pair front _ rest (ap (map pair_seen) c.in_ok-push.ensures.items ∙ map-append pair_seen c.loop-tags.marks.pairs.items (found.pair ∷ [])) ∙ ap (option_map (λ pairs. front ++ pairs)) (sym step) ∙ c.loop-tags.invariant.pairs;
+      counts = c.loop-tags.invariant.counts;
+      read = sym (ap (λ found. is_some found) step ∙ more_some pair rest) ∙ c.loop-tags.invariant.read;
     }
 
 pub returns-clause-keys : goal.returns-clause-keys
@@ -37,3 +46,16 @@ pub returns-clause-values : goal.returns-clause-values
 returns-clause-values c =
     let marks = c.loop-tags.marks.values.items in
     sym c.loop-tags.invariant.values ∙ ap (λ left. option_map (λ pairs. marked (names_value pairs) 0 marks) (plain_pairs left)) c.in-None.ensures.steps.0 ∙ ap Some (marked_none 0 marks)
+
+pub returns-clause-pairs : goal.returns-clause-pairs
+returns-clause-pairs c =
+    let front = map pair_seen c.loop-tags.marks.pairs.items in
+    sym c.loop-tags.invariant.pairs ∙ ap (λ left. option_map (λ pairs. front ++ pairs) (plain_pairs left)) c.in-None.ensures.steps.0 ∙ ap Some (append-nil front)
+
+pub returns-clause-counts : goal.returns-clause-counts
+returns-clause-counts c = c.loop-tags.invariant.counts
+
+pub returns-in_err-pair-clause-bad_tags : goal.returns-in_err-pair-clause-bad_tags
+returns-in_err-pair-clause-bad_tags c = λ bad.
+    let read : c.loop-tags.tags-iterator ≡ Err tt ∷ c.next.new.self = rw c.in_err-pair.was at c.in-Some.ensures.steps in
+    none_is _ (sym c.loop-tags.invariant.read ∙ ap (λ left. is_some (plain_pairs left)) read)

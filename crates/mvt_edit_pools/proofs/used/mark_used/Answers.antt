@@ -1,11 +1,12 @@
-use Rattle.std.proofs.Common.{◌≡◌, sym, ap, ◌∙◌}
+use Rattle.std.proofs.Common.{◌≡◌, ◌-◌, [], ◌∷◌, ◌++◌, length, length-append, append_assoc, map, inl, inr, sym, ap, ◌∙◌, arith}
+use Rattle.std.proofs.lemmas.List.{append-nil, length-map}
 use Rattle.std.proofs.lemmas.Result.{err_from_is_err_and}
 use Rattle.mvt_document.specs.Stands.{layer_of}
-use Rattle.mvt_view.specs.Seen.{found_feature_seen}
+use Rattle.mvt_view.specs.Seen.{found_feature_seen, pair_seen}
 use Rattle.mvt_edit_steps.proofs.Deciding.{no_pairs}
 use Rattle.mvt_edit_steps.proofs.Unreadable.{bad_among, feature_refused, readable_more, unreadable_in}
-use Rattle.mvt_edit_pools.specs.Marks.{marked, names_key, names_value}
-use Rattle.mvt_edit_pools.proofs.Marking.{is_readable, keys_more, marked_none, pairs_found, pairs_left, values_more}
+use Rattle.mvt_edit_pools.specs.Marks.{marked, names_key, names_value, pair_counts, pairs_at}
+use Rattle.mvt_edit_pools.proofs.Marking.{is_readable, keys_more, marked_none, pairs_found, pairs_left, pairs_own, values_more}
 use Rattle.mvt_edit_pools.proofs.used.mark_used.Goals as goal
 
 pub returns-in_err-mark_or_refuse-clause-refused : goal.returns-in_err-mark_or_refuse-clause-refused
@@ -13,12 +14,23 @@ returns-in_err-mark_or_refuse-clause-refused c =
     let layer = layer_of c.args.found.layer.now in
     let found = found_feature_seen c.in-Some.feature in
     let passed = err_from_is_err_and c.from_residual.result c.from_residual.ensures.1 in
-    let bad = c.in_err-mark_or_refuse.ensures.refused in
     rw (passed.1, passed.2) (
-    feature_refused c.args.found.ordinal c.args.found.position layer found c.next.new.self _
-    (ap (bad_among layer c.args.found.ordinal) (sym c.in-Some.ensures.steps) ∙ c.loop-feature.invariant.readable)
-    (no_pairs layer found.1.1 c.args.sizes.keys c.args.sizes.values c.requires.keys c.requires.values bad.1)
-    bad.0)
+    elim c.in_err-mark_or_refuse.ensures.refused [
+      | inl memory ↦ inl memory
+      | inr bad ↦ inr (feature_refused c.args.found.ordinal c.args.found.position layer found c.next.new.self _
+          (ap (bad_among layer c.args.found.ordinal) (sym c.in-Some.ensures.steps) ∙ c.loop-feature.invariant.readable)
+          (no_pairs layer found.1.1 c.args.sizes.keys c.args.sizes.values c.requires.keys c.requires.values bad.1)
+          bad.0)
+    ])
+
+pub overflow_sub-len : goal.overflow_sub-len
+overflow_sub-len c =
+    let layer = layer_of c.args.found.layer.now in
+    let found = found_feature_seen c.in-Some.feature in
+    let pairs_before = map pair_seen c.loop-feature.marks.pairs.items in
+    let is = pairs_own layer found c.args.sizes.keys c.args.sizes.values pairs_before _ c.requires.keys c.requires.values c.in_ok-mark_or_refuse.ensures.pairs in
+    let more = ap length is ∙ length-append pairs_before (pairs_at layer.items found) in
+    omega (arith, more, length-map c.loop-feature.marks.pairs.items pair_seen, length-map c.mark_or_refuse.new.marks.pairs.items pair_seen, c.len.ensures, c.len-before.ensures)
 
 pub loop-feature-preserved : goal.loop-feature-preserved
 loop-feature-preserved c =
@@ -28,7 +40,21 @@ loop-feature-preserved c =
     let made = c.in_ok-mark_or_refuse.ensures in
     let keys_before = c.loop-feature.marks.keys.items in
     let values_before = c.loop-feature.marks.values.items in
+    let pairs_before = map pair_seen c.loop-feature.marks.pairs.items in
+    let counts_before = c.loop-feature.marks.counts.items in
+    let own = pairs_at layer.items found in
+    let is = pairs_own layer found c.args.sizes.keys c.args.sizes.values pairs_before _ c.requires.keys c.requires.values made.pairs in
+    let more = ap length is ∙ length-append pairs_before own in
     record {
+      pairs = ap (λ list. list ++ pairs_left layer.items rest) is
+          ∙ append_assoc pairs_before own (pairs_left layer.items rest)
+          ∙ ap (λ left. pairs_before ++ pairs_left layer.items left) (sym c.in-Some.ensures.steps)
+          ∙ c.loop-feature.invariant.pairs;
+      counts = ap (λ list. list ++ pair_counts layer.items rest) (c.in_ok-push.ensures.items ∙ ap (λ list. list ++ (c.len.result - c.len-before.result) ∷ []) made.counts)
+          ∙ append_assoc counts_before ((c.len.result - c.len-before.result) ∷ []) (pair_counts layer.items rest)
+          ∙ ap (λ n. counts_before ++ n ∷ pair_counts layer.items rest) (let one : c.len.result - c.len-before.result ≡ length own = omega (arith, more, length-map c.loop-feature.marks.pairs.items pair_seen, length-map c.mark_or_refuse.new.marks.pairs.items pair_seen, c.len.ensures, c.len-before.ensures) in one)
+          ∙ ap (λ left. counts_before ++ pair_counts layer.items left) (sym c.in-Some.ensures.steps)
+          ∙ c.loop-feature.invariant.counts;
       keys = keys_more layer found rest c.args.sizes.keys c.args.sizes.values keys_before _ c.requires.keys c.requires.values made.keys
           ∙ ap (λ left. marked (names_key (pairs_left layer.items left)) 0 keys_before) (sym c.in-Some.ensures.steps)
           ∙ c.loop-feature.invariant.keys;
@@ -56,6 +82,23 @@ returns-clause-values c =
     ∙ ap (λ left. marked (names_value (pairs_left layer.items left)) 0 marks) (sym c.in-None.ensures.steps.0)
     ∙ c.loop-feature.invariant.values
     ∙ ap (λ pairs. marked (names_value pairs) 0 c.args.marks.now.values.items) (pairs_found layer.items)
+
+pub returns-clause-pairs : goal.returns-clause-pairs
+returns-clause-pairs c =
+    let layer = layer_of c.args.found.layer.now in
+    let front = map pair_seen c.loop-feature.marks.pairs.items in
+    sym (append-nil front)
+    ∙ ap (λ left. front ++ pairs_left layer.items left) (sym c.in-None.ensures.steps.0)
+    ∙ c.loop-feature.invariant.pairs
+    ∙ ap (λ pairs. map pair_seen c.args.marks.now.pairs.items ++ pairs) (pairs_found layer.items)
+
+pub returns-clause-counts : goal.returns-clause-counts
+returns-clause-counts c =
+    let layer = layer_of c.args.found.layer.now in
+    let front = c.loop-feature.marks.counts.items in
+    sym (append-nil front)
+    ∙ ap (λ left. front ++ pair_counts layer.items left) (sym c.in-None.ensures.steps.0)
+    ∙ c.loop-feature.invariant.counts
 
 pub returns-clause-readable : goal.returns-clause-readable
 returns-clause-readable c =
