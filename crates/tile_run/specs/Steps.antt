@@ -1,5 +1,5 @@
 -- What the steps of a run answer.
-use Rattle.std.specs.Prelude.{◌≡◌, ℕ, ◌+◌, ◌≤◌, Bool, true, false, List, [], ◌∷◌, ◌++◌, length, Option, Some, None, IsSome, Result, Ok, Err}
+use Rattle.std.specs.Prelude.{◌≡◌, ℕ, ◌+◌, ◌≤◌, Bool, true, false, List, [], ◌++◌, length, Option, Some, None, IsSome, Result, Ok, Err}
 use Rattle.mvt_document.specs.declared.Document.{Document}
 use Rattle.mvt_document.specs.Held.{Held}
 use Rattle.mvt_document.specs.Stands.{document_of}
