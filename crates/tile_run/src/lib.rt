@@ -1,9 +1,11 @@
 //! A run over any devices: a tile and a script are read, the replies and the edited tile are
 //! written.
 //!
-//! - `run` has the headline: its clauses and premises are in the README. Private
-//!   `Editor::carry_out_script` is the step on whose contract it stands: what the lines of a script
-//!   come to as they are read.
+//! - `run` has the headline: its clauses and premises are in the README. It is for a program that
+//!   ends behind it, and leaves what it holds to the system. `run_and_hold` hands that back beside
+//!   the outcome, and has the clause from which the headline follows (`course`).
+//! - Private `Editor::carry_out_script` is the step on whose contract both stand: what the lines of a
+//!   script come to as they are read.
 #![tactic(auto)]
 
 mod editor;
@@ -11,4 +13,4 @@ mod outcome;
 mod runs;
 
 pub use outcome::{DeviceName, Options, Outcome, TileFault};
-pub use runs::{MAX_RETRIES, MAX_SCRIPT, run};
+pub use runs::{Ended, MAX_RETRIES, MAX_SCRIPT, run, run_and_hold};

@@ -16,6 +16,7 @@ use mvt_document::{Document, MAX_FILE};
 use mvt_read::{ReadError, read_document};
 use mvt_write::write_document;
 use std::alloc::Global;
+use std::mem;
 use tile_device::{Retries, Sink, Source, read_to_limit, write_and_flush};
 
 /// The longest script in bytes.
@@ -24,8 +25,27 @@ pub const MAX_SCRIPT: usize = 16_777_216;
 /// How many interrupted calls are made again in a run, over all devices.
 pub const MAX_RETRIES: u32 = 1000;
 
+/// A run that is over: how it ended, and what it still holds, which is freed with this.
+#[derive(Drop)]
+pub struct Ended {
+    pub outcome: Outcome,
+    /// The session with its document, where the tile opened.
+    editor: Option<Editor>,
+}
+
+impl Ended {
+    fn new(outcome: Outcome, editor: Option<Editor>) -> Self
+        ensures { result.outcome ≡ outcome }
+    {
+        Ended { outcome, editor }
+    }
+}
+
 /// Edits the tile by the lines of the script, answers each line that asks for something, and
 /// writes the edited tile.
+///
+/// What the run still holds at its end, the session with its document, is not freed: it is left to
+/// the system. So this is for a program that ends behind it; `run_and_hold` is for one that goes on.
 pub fn run<R1: Source, R2: Source, W1: Sink, W2: Sink>(
     alloc: Global,
     tile: &mut R1,
@@ -64,45 +84,50 @@ pub fn run<R1: Source, R2: Source, W1: Sink, W2: Sink>(
     ensures script_as_it_was { LeavesReplies result → script.new ≡ script.old }
     ensures replies_as_they_were { LeavesReplies result → replies.new ≡ replies.old }
 {
-    edit(alloc, tile, script, replies, out, options)
+    let ended = run_and_hold(alloc, tile, script, replies, out, options);
+    let outcome = ended.outcome;
+    mem::forget(ended);
+    outcome
 }
 
-fn edit<R1: Source, R2: Source, W1: Sink, W2: Sink>(
+/// Does what `run` does, and hands back what it still holds beside the outcome, so that this can be
+/// freed. What `run` says besides follows from `course`.
+pub fn run_and_hold<R1: Source, R2: Source, W1: Sink, W2: Sink>(
     alloc: Global,
     tile: &mut R1,
     script: &mut R2,
     replies: &mut W1,
     out: &mut W2,
     options: Options,
-) -> Outcome
+) -> Ended
     requires some_depth { 1 ≤ options.depth }
     requires depth { options.depth ≤ MAX_DEPTH }
     ensures course { Runs options
         (devices_at R1.Source R2.Source W1.Sink W2.Sink tile.old script.old replies.old out.old)
         (devices_at R1.Source R2.Source W1.Sink W2.Sink tile.new script.new replies.new out.new)
-        result }
-    ensures out_as_it_was { LeavesOut result → out.new ≡ out.old }
-    ensures script_as_it_was { LeavesReplies result → script.new ≡ script.old }
-    ensures replies_as_they_were { LeavesReplies result → replies.new ≡ replies.old }
+        result.outcome }
+    ensures out_as_it_was { LeavesOut result.outcome → out.new ≡ out.old }
+    ensures script_as_it_was { LeavesReplies result.outcome → script.new ≡ script.old }
+    ensures replies_as_they_were { LeavesReplies result.outcome → replies.new ≡ replies.old }
 {
     let mut retries = Retries::new(MAX_RETRIES);
     let document = match open(alloc, tile, &mut retries) {
         Ok(document) => document,
-        Err(stop) => return stop.into(),
+        Err(stop) => return Ended::new(stop.into(), None),
     };
     let Some(mut editor) = Editor::start(alloc, document, options) else {
-        return Outcome::NoMemory;
+        return Ended::new(Outcome::NoMemory, None);
     };
     if let Err(stop) = editor.carry_out_script(alloc, script, replies, &mut retries) {
-        return stop.into();
+        return Ended::new(stop.into(), Some(editor));
     }
     if let Err(stop) = write_tile(alloc, editor.document(), out, &mut retries) {
-        return stop.into();
+        return Ended::new(stop.into(), Some(editor));
     }
     if editor.any_refused() {
-        Outcome::SomeRefused
+        Ended::new(Outcome::SomeRefused, Some(editor))
     } else {
-        Outcome::Done
+        Ended::new(Outcome::Done, Some(editor))
     }
 }
 

@@ -6,7 +6,7 @@ ghost use Rattle.tileshell.specs.InMemory.{EditsTile, RefusesFile, CutsLongScrip
 
 use std::alloc::Global;
 use tile_device::{Counts, Sink, Source, Trouble};
-use tile_run::{DeviceName, Options, Outcome, run};
+use tile_run::{DeviceName, Options, Outcome, run_and_hold};
 
 /// What an edit of a tile in memory gave.
 #[derive(Debug, Drop)]
@@ -19,8 +19,8 @@ pub struct Edited {
     pub tile: Option<Vec<u8>>,
 }
 
-/// Edits the tile by the lines of the script, as `run` does, with no devices. The tile and the
-/// script stay as they are.
+/// Edits the tile by the lines of the script, as `run` does, with no devices, and frees what the run
+/// held. The tile and the script stay as they are.
 ///
 /// Where memory was refused, the clauses say only when there is a tile, and that no device is named
 /// but a script that is too long. The clause `course` of `run` says more, of the devices here: a
@@ -45,14 +45,15 @@ pub fn edit(alloc: Global, tile: &[u8], script: &[u8], options: Options) -> Edit
 {
     let mut replies = Gathered::new(alloc);
     let mut out = Gathered::new(alloc);
-    let outcome = run(
+    let outcome = run_and_hold(
         alloc,
         &mut Unread { rest: tile },
         &mut Unread { rest: script },
         &mut replies,
         &mut out,
         options,
-    );
+    )
+    .outcome;
     hand_out(outcome, replies.bytes, out.bytes)
 }
 

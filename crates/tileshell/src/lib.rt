@@ -1,14 +1,15 @@
 //! A line editor for one vector tile, with exact undo: a run over bytes in memory, and the program
 //! as a function.
 //!
-//! - `edit` is `run` over bytes in memory; its clauses are in the README.
+//! - `edit` is `run` over bytes in memory, and frees what the run held; its clauses are in the
+//!   README.
 //! - `shell` is the program, from its words to its status: it opens the files that the command line
 //!   names, and has `run` go over them. That the run has the depth that is asked for is tested, and
 //!   so are the texts and statuses of the program.
 //!
-//! It passes on `run` and the types that `run` takes and gives, `parse_line`, `listing`, `quote`,
-//! the commands, requests and refusals with their limits, the devices of the standard library, and
-//! modules of laws of the crates below it.
+//! It passes on `run`, `run_and_hold` and the types that these take and give, `parse_line`,
+//! `listing`, `quote`, the commands, requests and refusals with their limits, the devices of the
+//! standard library, and modules of laws of the crates below it.
 #![tactic(auto)]
 
 mod created;
@@ -26,6 +27,8 @@ pub use tile_lines::laws as line_laws;
 pub use tile_listing::{laws as listing_laws, listing};
 pub use tile_reply::Refused;
 pub use tile_request::{Request, What};
-pub use tile_run::{DeviceName, MAX_RETRIES, MAX_SCRIPT, Options, Outcome, TileFault, run};
+pub use tile_run::{
+    DeviceName, Ended, MAX_RETRIES, MAX_SCRIPT, Options, Outcome, TileFault, run, run_and_hold,
+};
 pub use tile_script::{ParseError, laws as script_laws, parse_line};
 pub use tile_text::{laws as text_laws, quote};
