@@ -45,7 +45,7 @@ pages:
 fuzz:
 	python3 tools/fuzz --seconds $(or $(SECONDS),60) $(if $(SEED),--seed $(SEED))
 
-## make check        the whole gate, from nothing: proofs, tests, rows, wrong bodies, transcripts, random runs, refused growths
+## make check        the whole gate, from nothing: proofs, tests, rows, wrong bodies, transcripts, random runs, memory and calls that fail
 check: toolchain
 	tools/lint
 	tools/pages --check
@@ -57,6 +57,8 @@ check: toolchain
 	python3 tools/fuzz --seconds 60
 	tools/types
 	tools/refused-growths
+	tools/failing-calls --self-test
+	tools/failing-calls
 
 ## make bench        speed and memory beside other programs; TILESHELL=PATH measures a program that was built before
 bench: $(if $(TILESHELL),,all)
