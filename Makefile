@@ -68,9 +68,10 @@ bench: $(if $(TILESHELL),,all)
 bench-hostile: $(if $(TILESHELL),,all)
 	python3 bench/hostile.py $(or $(TILESHELL),build/tileshell)
 
-## make compare TILES=".."  what tileshell lists of TILES, and TILES with each geometry shifted, beside what GDAL says of them
+## make compare TILES=".."  what tileshell lists of TILES, as they are and edited, and TILES with each geometry shifted, beside what GDAL says
 compare: all
 	compare/gdal.py build/tileshell $(TILES)
+	compare/gdal.py --script compare/edits.script build/tileshell $(TILES)
 	compare/gdal.py --shift -30 3 build/tileshell $(TILES)
 
 ## make install      copies the program to PREFIX/bin

@@ -3,131 +3,40 @@
 
     compare/gdal.py TILESHELL TILE ..
     compare/gdal.py --shift DX DY TILESHELL TILE ..
+    compare/gdal.py --script FILE TILESHELL TILE ..
 
 Compared are the layers and their order, how many features each has, and the id, the attributes and the geometry of each
 feature. With `--shift` tileshell shifts each feature, and what GDAL says of the tile before and after is compared: every
-coordinate has to have moved by as much, and nothing else. What GDAL itself changes is mended first: see README.md beside
-this file. Each difference is printed, and the status is 1 where there is one.
+coordinate has to have moved by as much, and nothing else. With `--script` tileshell edits each tile by the script first.
+What GDAL itself changes is mended first: see README.md beside this file. Each difference is printed, and the status is 1
+where there is one.
 """
 import argparse
 import re
 import shutil
-import struct
 import subprocess
 import sys
 import tempfile
 from collections import Counter
-from dataclasses import dataclass, replace
+from dataclasses import replace
 from pathlib import Path
+
+sys.path.insert(1, str(Path(__file__).resolve().parent.parent / "tools"))
+
+from listed import Feature, Layer, extent_of, heads_listed, layers_listed, name_of, run, selected
 
 # No more differences of a layer are printed.
 SHOWN = 10
 
 
-@dataclass
-class Feature:
-    # None where there is none.
-    id: int
-    # Pairs of a key and a value, as texts or numbers.
-    attributes: Counter
-    # A kind, and its parts as lists of points.
-    kind: str
-    parts: list
-
-
-@dataclass
-class Layer:
-    name: str
-    extent: int
-    features: list
-
-
-# ---- what tileshell lists
-
-WORD = re.compile(r'"(?:[^"\\]|\\.)*"|[^ ]+')
-ESCAPE = re.compile(r'\\(x[0-9a-f]{2}|.)')
-
-
-def run(tileshell, tile, lines, out):
-    """What is replied to a script, of which no line is refused."""
-    done = subprocess.run([tileshell, tile, out], input="".join(f"{line}\n" for line in lines), capture_output=True, text=True)
-    if done.returncode != 0:
-        raise SystemExit(f"{tile}: status {done.returncode}: {done.stderr}{done.stdout[-200:]}")
-    return done.stdout
-
-
-def replies(tileshell, tile, lines):
-    """The lines before `ok` of the reply to each line of a script."""
-    with tempfile.NamedTemporaryFile() as out:
-        told = run(tileshell, tile, lines, out.name)
-    reply = []
-    for line in told.split("\n"):
-        if line == "ok":
-            yield reply
-            reply = []
-        else:
-            reply.append(line)
-
-
-def text_of(word):
-    if word.startswith("x:"):
-        return bytes.fromhex(word[2:]).decode(errors="surrogateescape")
-    return ESCAPE.sub(lambda found: chr(int(found[1][1:], 16)) if len(found[1]) > 1 else found[1], word[1:-1])
-
-
-def value_of(words):
-    """A text, or a number. A truth is 0 or 1, as GDAL has it."""
-    kind, word = words
-    if kind == "string":
-        return text_of(word)
-    if kind == "bool":
-        return float(word == "true")
-    if kind in ("float", "double"):
-        return struct.unpack("<f" if kind == "float" else "<d", bytes.fromhex(word))[0]
-    return float(word)
-
-
-def feature_listed(reply):
-    id, kind = WORD.findall(reply[0])[3:5]
-    attributes = Counter()
-    for line in reply[1:-1]:
-        _, key, *value = WORD.findall(line)
-        attributes[text_of(key), value_of(value)] += 1
-    points = reply[-1].split(" ")[2:]
-    parts = [[]]
-    for word in points:
-        if word == "/":
-            parts.append([])
-        else:
-            parts[-1].append(tuple(map(int, word.split(","))))
-    return Feature(None if id == "-" else int(id), attributes, kind, parts)
-
-
-def heads_listed(tileshell, tile):
-    """The words of the line of each layer."""
-    first, *rest = next(iter(replies(tileshell, tile, ["list"])))
-    heads = [WORD.findall(line) for line in rest]
-    if first != f"layers {len(heads)}":
-        raise SystemExit(f"{tile}: {first}, and then {len(heads)} of them")
-    return heads
-
-
-def selected(heads):
-    """The words that select each feature of a tile."""
-    return [f"#{ordinal} {feature}" for ordinal, head in enumerate(heads) for feature in range(int(head[8]))]
-
-
-def layers_listed(tileshell, tile):
-    heads = heads_listed(tileshell, tile)
-    features = map(feature_listed, replies(tileshell, tile, [f"list {each}" for each in selected(heads)]))
-    return [Layer(text_of(head[2]), int(head[6]), [next(features) for _ in range(int(head[8]))]) for head in heads]
-
-
 # ---- what GDAL says
 
-ATTRIBUTE = re.compile(r"^  (.+?) \((\w+)(?:\(\w+\))?\) = (.*)$")
+ATTRIBUTE = re.compile(r"^  (.*?) \((\w+(?:\(\w+\))?)\) = (.*)$")
 KINDS = {"POINT": "point", "MULTIPOINT": "point", "LINESTRING": "line", "MULTILINESTRING": "line",
          "POLYGON": "polygon", "MULTIPOLYGON": "polygon"}
+
+# How many digits of a number GDAL writes in a column of these kinds. In the others it is whole.
+DIGITS = {"Real": 15, "Real(Float32)": 8, "String": 16}
 
 
 def parts_of(text, extent):
@@ -135,6 +44,28 @@ def parts_of(text, extent):
     lists = re.findall(r"\(([^()]+)\)", text)
     points = [[tuple(round(float(number)) for number in point.split()) for point in each.split(",")] for each in lists]
     return [[(x, extent - y) for x, y in part] for part in points]
+
+
+def as_told(value, kind):
+    """The value as it is written in a column of this kind, where a whole number has 64 bits and a sign."""
+    if isinstance(value, int):
+        value = (value + 2**63) % 2**64 - 2**63
+    if isinstance(value, str) or kind not in DIGITS or isinstance(value, int) and kind == "String":
+        return str(value)
+    return f"{value:.{DIGITS[kind]}g}"
+
+
+def plain(text, kind):
+    """What GDAL wrote: a NaN without a sign, and 1 of a short float for 1.0."""
+    return as_told(float(text), kind) if kind == "Real(Float32)" or text == "-nan" else text
+
+
+def with_kinds(layer, kinds):
+    """The layer with its values as they are written in columns of these kinds."""
+    features = [replace(feature, attributes=Counter({(key, as_told(value, kinds.get(key))): count
+                                                     for (key, value), count in feature.attributes.items()}))
+                for feature in layer.features]
+    return replace(layer, features=features)
 
 
 def told_by_gdal(tile):
@@ -166,9 +97,10 @@ def take_line(line, layer):
     if attribute:
         key, kind, value = attribute.groups()
         if key == "mvt_id":
-            feature.id = int(value)
+            feature.id = int(value) % 2**64
         else:
-            feature.attributes[key, value if kind == "String" else float(value)] += 1
+            layer.kinds[key] = kind
+            feature.attributes[key, plain(value, kind)] += 1
     elif line.startswith("  ") and line.split()[0] in KINDS:
         feature.kind = KINDS[line.split()[0]]
         feature.parts = parts_of(line, layer.extent)
@@ -226,10 +158,21 @@ def is_told(tile, layers, found, done=""):
     return not found
 
 
-def compare(tileshell, tile):
-    ours = layers_listed(tileshell, tile)
-    theirs = layers_told(tile, {layer.name: layer.extent for layer in ours})
-    return is_told(tile, ours, list(differences(ours, theirs, "by GDAL")))
+def compare(tileshell, tile, read=None, done=""):
+    """Compares the tile, or what stands in its place."""
+    ours = layers_listed(tileshell, read or tile)
+    theirs = layers_told(read or tile, {layer.name: layer.extent for layer in ours})
+    kinds = {layer.name: layer.kinds for layer in theirs}
+    ours = [with_kinds(layer, kinds.get(layer.name, {})) for layer in ours]
+    return is_told(tile, ours, list(differences(ours, theirs, "by GDAL")), done)
+
+
+def compare_edited(tileshell, tile, script):
+    """Compares what comes of the tile by the lines of a script. Those that are refused are counted."""
+    with tempfile.NamedTemporaryFile() as out:
+        replies = run(tileshell, tile, script.read_text().splitlines(), out.name, statuses=(0, 1))
+        refused = len(re.findall("^line .* refused", replies, re.MULTILINE))
+        return compare(tileshell, tile, out.name, f" edited, {refused} lines refused")
 
 
 # ---- the same of a tile that is shifted
@@ -242,7 +185,7 @@ def moved(layer, dx, dy):
 
 def compare_shifted(tileshell, tile, dx, dy):
     heads = heads_listed(tileshell, tile)
-    extents = {text_of(head[2]): int(head[6]) for head in heads}
+    extents = {name_of(head): extent_of(head) for head in heads}
     before = layers_told(tile, extents)
     with tempfile.NamedTemporaryFile() as out:
         run(tileshell, tile, [f"shift {each} {dx} {dy}" for each in selected(heads)], out.name)
@@ -254,11 +197,17 @@ def compare_shifted(tileshell, tile, dx, dy):
 def main():
     parser = argparse.ArgumentParser(description=__doc__.split("\n")[0])
     parser.add_argument("--shift", nargs=2, type=int, metavar=("DX", "DY"), help="each feature is shifted by so much")
+    parser.add_argument("--script", type=Path, metavar="FILE", help="each tile is edited by this script first")
     parser.add_argument("tileshell", type=Path)
     parser.add_argument("tiles", nargs="+", metavar="tile")
     given = parser.parse_args()
     tileshell = given.tileshell.resolve()
-    same = [compare_shifted(tileshell, tile, *given.shift) if given.shift else compare(tileshell, tile) for tile in given.tiles]
+    if given.shift:
+        same = [compare_shifted(tileshell, tile, *given.shift) for tile in given.tiles]
+    elif given.script:
+        same = [compare_edited(tileshell, tile, given.script) for tile in given.tiles]
+    else:
+        same = [compare(tileshell, tile) for tile in given.tiles]
     return 0 if all(same) else 1
 
 
