@@ -6,7 +6,7 @@ import tempfile
 from collections import Counter
 from dataclasses import dataclass, field
 
-WORD = re.compile(r'"(?:[^"\\]|\\.)*"|[^ ]+')
+WORD = re.compile(r'"(?:[^"\\]|\\.)*"|[^ \t\r]+')
 ESCAPE = re.compile(r'\\(x[0-9a-f]{2}|.)')
 
 # What stands in place of a geometry that is not read.
