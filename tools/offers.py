@@ -1,0 +1,125 @@
+"""What the program offers to who uses it: options, requests, refusals, statuses and its version, as the code has them; and
+the pages that have to say the same.
+"""
+import re
+from pathlib import Path
+
+TOP = Path(__file__).resolve().parent.parent
+
+OPTIONS = "crates/tile_command_line/src/command_line.rt"
+REQUESTS = ["crates/tile_script/src/requests.rt", "crates/tile_script/src/commands.rt"]
+REFUSALS = "crates/tile_reply/src/refused.rt"
+FORMATS = "docs/FORMATS.md"
+README = "README.md"
+PROGRAM = "man/tileshell.1"
+SCRIPT = "man/tileshell-script.5"
+WORDS = "completions/requests.txt"
+
+# How each shell's completion writes an option.
+COMPLETIONS = {
+    "completions/tileshell.bash": r"(?<=[ (])--([a-z]+)(?=[ ;])",
+    "completions/tileshell.zsh": r"--([a-z]+)",
+    "completions/tileshell.fish": r"-l ([a-z]+)",
+}
+
+
+def read(place):
+    return (TOP / place).read_text()
+
+
+# ---- the code
+
+def version():
+    return re.search(r'^const VERSION: &str = "(.*)";$', read(OPTIONS), re.MULTILINE)[1]
+
+
+def options():
+    """The long options, with the two that are there unasked."""
+    return {*re.findall(r'\.long\("([\w-]+)"\)', read(OPTIONS)), "help", "version"}
+
+
+def requests():
+    """The words that a request begins with."""
+    return {word for place in REQUESTS for word in re.findall(r'name == b"([\w-]+)"', read(place))}
+
+
+def refusals():
+    """The number and the name of each refusal."""
+    return set(re.findall(r'=> \((\d+), "(\w+)"\)', read(REFUSALS)))
+
+
+# ---- pages
+
+def table(place, heads):
+    """The cells of the rows of each table whose head begins so."""
+    parts = re.findall(rf"^\| {re.escape(heads)}.*\n\|[-|]+\n((?:\|.*\n)+)", read(place), re.MULTILINE)
+    return [[cell.strip() for cell in row.strip("|").split("|")] for part in parts for row in part.splitlines()]
+
+
+def forms_in(place, *heads):
+    """The requests with their arguments, as the tables with these heads have them."""
+    return {form for head in heads for row in table(place, head) for form in re.findall(r"`([^`]+)`", row[0])}
+
+
+def section(place, name):
+    """A section of a manual page, with what it writes otherwise for the formatter."""
+    text = re.search(rf"^\.SH {name}\n(.*?)(?=^\.SH )", read(place), re.MULTILINE | re.DOTALL)[1]
+    return text.replace(r"\-", "-")
+
+
+def heads_in(place, name):
+    """What stands at the head of each paragraph of a section, where it has some text."""
+    lines = re.findall(r"^\.TP\n\.BI? (.*)\n(?!\.(?:TP|S[HS])\b)", section(place, name), re.MULTILINE)
+    return {line.replace('"', "").replace("  ", " ") for line in lines}
+
+
+# ---- what differs
+
+def differences(place, what, wanted, found):
+    yield from (f"{place}: it lacks the {what} {each}" for each in sorted(wanted - found))
+    yield from (f"{place}: there is no {what} {each}" for each in sorted(found - wanted))
+
+
+def request_faults():
+    forms = forms_in(FORMATS, "Command | Meaning |", "Request | Meaning | Refusals")
+    yield from differences(FORMATS, "request", requests(), {form.split()[0] for form in forms})
+    yield from differences(README, "request", forms, forms_in(README, "Request | Meaning |"))
+    yield from differences(SCRIPT, "request", forms, heads_in(SCRIPT, "REQUESTS"))
+    yield from differences(WORDS, "request", requests(), set(read(WORDS).split()))
+
+
+def refusal_faults():
+    wanted = {" ".join(refusal) for refusal in refusals()}
+    cells = [row[at:at + 2] for row in table(FORMATS, "N | NAME |") for at in (0, 2)]
+    yield from differences(FORMATS, "refusal", wanted, {" ".join(pair) for pair in cells if pair[0]})
+    yield from differences(SCRIPT, "refusal", wanted, heads_in(SCRIPT, "REFUSALS"))
+
+
+def option_faults():
+    found = set(re.findall(r"--([a-z]+)", section(PROGRAM, "OPTIONS")))
+    yield from differences(PROGRAM, "option", options(), found)
+    for place, pattern in COMPLETIONS.items():
+        yield from differences(place, "option", options(), set(re.findall(pattern, read(place))))
+    statuses = [{row[0] for row in table(place, "Status |")} for place in (FORMATS, README)]
+    yield from differences(README, "status", *statuses)
+    yield from differences(PROGRAM, "status", statuses[0], heads_in(PROGRAM, "EXIT STATUS"))
+
+
+# Where a version stands, with what is around it.
+VERSIONS = {
+    FORMATS: r"the version is `tileshell (.*?)`",
+    PROGRAM: r'^\.TH \S+ \S+ \S+ "tileshell (.*?)"',
+    SCRIPT: r'^\.TH \S+ \S+ \S+ "tileshell (.*?)"',
+}
+
+
+def version_faults():
+    for place, pattern in VERSIONS.items():
+        found = re.search(pattern, read(place), re.MULTILINE)
+        yield from differences(place, "version", {version()}, {found[1]} if found else set())
+
+
+def faults():
+    """A row for each that a page lacks, or has and the code has not."""
+    for of in (request_faults, refusal_faults, option_faults, version_faults):
+        yield from of()
