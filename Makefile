@@ -1,8 +1,10 @@
 # Proves, builds and checks tileshell. It needs the Rattle toolchain, whose command is `rt`, and Python 3.
 
 PREFIX ?= /usr/local
+VERSION := $(shell sed -n 's/^const VERSION: &str = "\(.*\)";/\1/p' crates/tile_command_line/src/command_line.rt)
+RELEASE := tileshell-$(VERSION)-$(shell uname -sm | tr 'A-Z ' 'a-z-')
 
-.PHONY: all help quick crate rows pages fuzz check bench bench-hostile compare install clean toolchain
+.PHONY: all help quick crate rows pages fuzz check bench bench-hostile compare install uninstall deb tar clean toolchain
 
 ## make              proves the program, and leaves it as build/tileshell
 all: toolchain
@@ -74,10 +76,28 @@ compare: all
 	compare/gdal.py --script compare/edits.script build/tileshell $(TILES)
 	compare/gdal.py --shift -30 3 build/tileshell $(TILES)
 
-## make install      copies the program to PREFIX/bin
+## make install      the program, its manual pages, completions and documents under PREFIX; `make -f install.mk install` builds nothing
 install: all
-	install -d $(DESTDIR)$(PREFIX)/bin
-	install -m 755 build/tileshell $(DESTDIR)$(PREFIX)/bin/tileshell
+	$(MAKE) -f install.mk install PREFIX=$(PREFIX)
+
+## make uninstall    takes away what `make install` put there
+uninstall:
+	$(MAKE) -f install.mk uninstall PREFIX=$(PREFIX)
+
+## make deb          a Debian package of the program, in build/deb
+deb: all
+	rm -rf build/deb
+	mkdir -p build/deb/tileshell
+	cp -r --parents build/tileshell install.mk debian man completions README.md CHANGELOG.md docs/FORMATS.md docs/EXAMPLE.md build/deb/tileshell
+	cd build/deb/tileshell && dpkg-buildpackage --build=binary --no-sign
+	lintian --fail-on error,warning build/deb/*.changes
+
+## make tar          a tar of what `make install` puts under PREFIX, with its checksum, in build
+tar: all
+	rm -rf build/$(RELEASE)
+	$(MAKE) -f install.mk install DESTDIR=build/$(RELEASE) PREFIX=
+	cd build && tar --sort=name --owner=0 --group=0 --numeric-owner --mtime="$$(git log -1 --format=%cI)" -c $(RELEASE) | gzip -9n > $(RELEASE).tar.gz
+	cd build && sha256sum $(RELEASE).tar.gz > $(RELEASE).tar.gz.sha256
 
 ## make clean        removes what was built, and the kept work of proofs
 clean:

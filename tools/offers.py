@@ -110,6 +110,8 @@ VERSIONS = {
     FORMATS: r"the version is `tileshell (.*?)`",
     PROGRAM: r'^\.TH \S+ \S+ \S+ "tileshell (.*?)"',
     SCRIPT: r'^\.TH \S+ \S+ \S+ "tileshell (.*?)"',
+    "CHANGELOG.md": r"^## (\S+), ",
+    "debian/changelog": r"^tileshell \((.*?)\)",
 }
 
 
