@@ -8,6 +8,7 @@ TOP = Path(__file__).resolve().parent.parent
 
 OPTIONS = "crates/tile_command_line/src/command_line.rt"
 REQUESTS = ["crates/tile_script/src/requests.rt", "crates/tile_script/src/commands.rt"]
+HELP = "crates/tile_command_line/src/help.rt"
 REFUSALS = "crates/tile_reply/src/refused.rt"
 FORMATS = "docs/FORMATS.md"
 README = "README.md"
@@ -75,6 +76,12 @@ def heads_in(place, name):
 
 # ---- what differs
 
+def forms_in_help():
+    """The requests of the help, each on a line with what it does."""
+    requests_alone = read(HELP).partition("Requests")[2].partition("\n\n")[0]
+    return set(re.findall(r"^  (\S+(?: \S+)*)  +\S", requests_alone, re.MULTILINE))
+
+
 def differences(place, what, wanted, found):
     yield from (f"{place}: it lacks the {what} {each}" for each in sorted(wanted - found))
     yield from (f"{place}: there is no {what} {each}" for each in sorted(found - wanted))
@@ -85,6 +92,7 @@ def request_faults():
     yield from differences(FORMATS, "request", requests(), {form.split()[0] for form in forms})
     yield from differences(README, "request", forms, forms_in(README, "Request | Meaning |"))
     yield from differences(SCRIPT, "request", forms, heads_in(SCRIPT, "REQUESTS"))
+    yield from differences(HELP, "request", forms, forms_in_help())
     yield from differences(WORDS, "request", requests(), set(read(WORDS).split()))
 
 
@@ -103,6 +111,7 @@ def option_faults():
     statuses = [{row[0] for row in table(place, "Status |")} for place in (FORMATS, README)]
     yield from differences(README, "status", *statuses)
     yield from differences(PROGRAM, "status", statuses[0], heads_in(PROGRAM, "EXIT STATUS"))
+    yield from differences(HELP, "status", statuses[0], set(re.findall(r"^  (\d)  ", read(HELP), re.MULTILINE)))
 
 
 # Where a version stands, with what is around it.

@@ -4,12 +4,17 @@ ghost use Rattle.std.specs.Prelude.{◌≤◌, IfOk};
 ghost use Rattle.mvt_history.specs.declared.TheConstants.{MAX_DEPTH};
 ghost use Rattle.tile_command_line.specs.Depth.{HasDepth, TellsDepth};
 
+use crate::help::SCRIPT_HELP;
 use clap::{Arg, ArgAction, ArgMatches, Command, value_parser};
 use mvt_history::MAX_DEPTH;
 use std::alloc::Global;
 
 /// What `--version` tells behind the name of the program.
 const VERSION: &str = "0.1.0";
+
+/// How the program is called.
+const USAGE: &str = "tileshell [OPTIONS] <TILE> <OUT> < SCRIPT
+       tileshell [OPTIONS] --script <FILE> <TILE> <OUT>";
 
 /// Reads the words of the program, of which the first is its name. What is refused, and `--help`
 /// and `--version`, are errors, which `clap` prints.
@@ -21,7 +26,7 @@ pub fn matched<'a>(alloc: Global, words: &'a [&'a str]) -> Result<ArgMatches<'a>
         .help("The tile to edit, uncompressed");
     let out = Arg::new(alloc, "OUT")
         .required(true)
-        .help("The file for the edited tile");
+        .help("The file that the edited tile is written to");
     let script = Arg::new(alloc, "script")
         .long("script")
         .value_name("FILE")
@@ -40,6 +45,8 @@ pub fn matched<'a>(alloc: Global, words: &'a [&'a str]) -> Result<ArgMatches<'a>
     Command::new(alloc, "tileshell")
         .version(VERSION)
         .about("Edits a vector tile by the lines of a script")
+        .override_usage(USAGE)
+        .after_long_help(SCRIPT_HELP)
         .arg(tile)?
         .arg(out)?
         .arg(script)?

@@ -6,5 +6,6 @@
 #![tactic(auto)]
 
 mod command_line;
+mod help;
 
 pub use command_line::{depth_in, matched};

@@ -24,11 +24,11 @@ depth_range = parsers.Signed (pos 1) (pos MAX_DEPTH)
 other_name : (a : Arg) (name : List ℕ) → a.id.now ≡ name → (slice_index name 0 ≡ slice_index depth_id 0 → ⊥) → a.id.now ≡ depth_id → ⊥
 other_name a name named differs same = differs (ap (λ (t : List ℕ). slice_index t 0) (sym named ∙ same))
 
-begun : (c : goal.After-try_get_matches_from) → Awaits depth_id c.about.result
-begun c = awaits_begun depth_id c.about.result (search rules) (search rules) (search rules)
+begun : (c : goal.After-try_get_matches_from) → Awaits depth_id c.after_long_help.result
+begun c = awaits_begun depth_id c.after_long_help.result (search rules) (search rules) (search rules)
 
 with_tile : (c : goal.After-try_get_matches_from) → Awaits depth_id c.in_ok-arg.field-0
-with_tile c = awaits_more depth_id c.about.result c.in_ok-arg.field-0 c.help-tile.result c.in_ok-arg.ensures
+with_tile c = awaits_more depth_id c.after_long_help.result c.in_ok-arg.field-0 c.help-tile.result c.in_ok-arg.ensures
     (rw (c.help-tile.ensures, c.required.ensures) c.new.ensures.plain) (rw (c.help-tile.ensures, c.required.ensures) c.new.ensures.optional.1)
     (other_name c.help-tile.result (codes "TILE") (rw (c.help-tile.ensures, c.required.ensures, c.new.ensures.id) refl) (λ (e : 84 ≡ 100). omega (arith, e))) (begun c)
 
