@@ -98,8 +98,7 @@ def request_faults():
 
 def refusal_faults():
     wanted = {" ".join(refusal) for refusal in refusals()}
-    cells = [row[at:at + 2] for row in table(FORMATS, "N | NAME |") for at in (0, 2)]
-    yield from differences(FORMATS, "refusal", wanted, {" ".join(pair) for pair in cells if pair[0]})
+    yield from differences(FORMATS, "refusal", wanted, {" ".join(row[:2]) for row in table(FORMATS, "N | NAME |")})
     yield from differences(SCRIPT, "refusal", wanted, heads_in(SCRIPT, "REFUSALS"))
 
 
