@@ -222,6 +222,20 @@ one_is v w s one =
 pub two_spelling : (low high : ℕ) → low < 128 → high < 128 → IsSpelling (high * 128 + low) 2
 two_spelling low high l h = spelling_from (high * 128 + low) 2 (omega arith) (omega arith) (omega arith) (omega arith)
 
+pub two_below : (v w : ℕ) → IsSpelling v w → w ≡ 2 → v / 128 < 128
+two_below v w s two =
+    let below : v < 2 ^ (7 * 2) = subst (λ w. v < 2 ^ (7 * w)) two (spelling_below v w s) in
+    omega arith
+
+pub two_is : (v w : ℕ) → IsSpelling v w → w ≡ 2 → (v % 128 + 128) ∷ (v / 128) ∷ [] ≡ spell v w
+two_is v w s two =
+    let low : v / 128 < 128 = two_below v w s two in
+    let whole : v / 128 ≡ v / 128 % 128 = omega arith in
+    ap (λ n. (v % 128 + 128) ∷ n ∷ []) whole
+    ∙ ap (λ xs. (v % 128 + 128) ∷ xs) (sym (spell-one (v / 128)))
+    ∙ sym (spell-more v 0)
+    ∙ ap (λ w. spell v w) (sym two)
+
 pub two_are : (bytes : List ℕ) (low high : ℕ) → 2 ≤ length bytes → get_or bytes 0 0 ≡ low + 128 → get_or bytes 1 0 ≡ high → low < 128 → high < 128 → take 2 bytes ≡ spell (high * 128 + low) 2
 two_are [] low high long first last l h = absurd (omega (arith, long))
 two_are (one ∷ []) low high long first last l h = absurd (omega (arith, long))

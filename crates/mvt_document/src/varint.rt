@@ -45,6 +45,11 @@ impl Varint {
             bytes.push(self.value as u8)?;
             return Ok(());
         }
+        if self.width == 2 {
+            bytes.push((self.value % 128) as u8 + 128)?;
+            bytes.push((self.value / 128) as u8)?;
+            return Ok(());
+        }
         let mut room = [0; WIDEST];
         let start = put_number(self.value, self.width, &mut room);
         bytes.extend_from_slice(&room[start..])
@@ -81,9 +86,8 @@ pub fn read_varint(bytes: &[u8]) -> Option<Varint>
     Some(Varint { value, width })
 }
 
-/// The value of that number, and its width. Most numbers are one byte wide, so this stays out of
-/// the loops that read them.
-#[inline(never)]
+/// The value of that number, and its width. Most numbers that are wider than a byte are two.
+#[inline(always)]
 fn number_at_front(bytes: &[u8]) -> Option<(u64, u8)>
     ensures within { IfSome result (λ found. found.1 ≤ length bytes.now) }
     ensures found { IfSome result (λ found. take found.1 bytes.now ≡ spell found.0 found.1) }
@@ -98,7 +102,9 @@ fn number_at_front(bytes: &[u8]) -> Option<(u64, u8)>
     }
 }
 
-/// The same, byte by byte from the last. Most others are two bytes wide.
+/// The same, byte by byte from the last. Few numbers come to this, so it stays out of the loops that
+/// read them.
+#[inline(never)]
 fn number_of_any_width(bytes: &[u8]) -> Option<(u64, u8)>
     ensures within { IfSome result (λ found. found.1 ≤ length bytes.now) }
     ensures found { IfSome result (λ found. take found.1 bytes.now ≡ spell found.0 found.1) }

@@ -1,7 +1,7 @@
 //! A run over any devices: a tile and a script are read, the replies and the edited tile are
 //! written.
 //!
-//! - `run` has the headline: its clauses and premises are in the README. It is for a program that
+//! - `run` has the headline: docs/PROVED.md has its clauses and premises. It is for a program that
 //!   ends behind it, and leaves what it holds to the system. `run_and_hold` hands that back beside
 //!   the outcome, and has the clause from which the headline follows (`course`).
 //! - Private `Editor::carry_out_script` is the step on whose contract both stand: what the lines of a

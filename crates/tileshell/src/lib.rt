@@ -1,8 +1,8 @@
 //! A line editor for one vector tile, with exact undo: a run over bytes in memory, and the program
 //! as a function.
 //!
-//! - `edit` is `run` over bytes in memory, and frees what the run held; its clauses are in the
-//!   README.
+//! - `edit` is `run` over bytes in memory, and frees what the run held; docs/PROVED.md has its
+//!   clauses.
 //! - `shell` is the program, from its words to its status: it opens the files that the command line
 //!   names, and has `run` go over them. That the run has the depth that is asked for is tested, and
 //!   so are the texts and statuses of the program.
