@@ -16,7 +16,10 @@ FILES = \
 	completions/requests.txt:share/tileshell/requests.txt \
 	README.md:share/doc/tileshell/README.md \
 	CHANGELOG.md:share/doc/tileshell/CHANGELOG.md \
+	docs/GUIDE.md:share/doc/tileshell/docs/GUIDE.md \
+	docs/FINDING.md:share/doc/tileshell/docs/FINDING.md \
 	docs/FORMATS.md:share/doc/tileshell/docs/FORMATS.md \
+	docs/PROVED.md:share/doc/tileshell/docs/PROVED.md \
 	docs/EXAMPLE.md:share/doc/tileshell/docs/EXAMPLE.md \
 	debian/copyright:share/doc/tileshell/copyright
 
