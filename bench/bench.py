@@ -7,6 +7,7 @@ import os
 from pathlib import Path
 
 import peers
+from figures import WholeRun, keep
 from generate import LAYERS
 from measure import (COUNTED_MILLISECONDS, RUNS, RUNS_OF_LARGE, Program, costliest, count_instructions, measure,
                      measure_alone, run_once, script_of)
@@ -197,25 +198,26 @@ def listing(lists):
     return table(["Tile", "Reading", "Reading and listing", "Listing / reading"], rows)
 
 
-def section(results, lists, undos, steps, names):
+def section(whole):
     """The tables of all results."""
+    results, names = whole.results, whole.programs
     without_floor = [name for name in names if name != "cat"]
     parts = [
-        ("Targets", verdicts([*targets(results, lists, undos), *session_targets(steps)])),
+        ("Targets", verdicts([*targets(results, whole.lists, whole.undos), *session_targets(whole.steps)])),
         (f"Wall time in milliseconds, {RUNS_MEASURED}", comparison(results, names, time, 1)),
         ("Peak memory, as a multiple of the tile", memory(results, names)),
         ("Millions of instructions", comparison(results, without_floor, instructions, 1e6)),
         ("Growth of time from the smallest to the largest tile, as an exponent", growth(results, names)),
-        ("One layer listed: wall time in milliseconds, tileshell alone", listing(lists)),
-        ("Done and undone: wall time in milliseconds, tileshell alone", undoing(undos)),
-        (SESSIONS, sessions(steps)),
+        ("One layer listed: wall time in milliseconds, tileshell alone", listing(whole.lists)),
+        ("Done and undone: wall time in milliseconds, tileshell alone", undoing(whole.undos)),
+        (SESSIONS, sessions(whole.steps)),
         ("Not done", endings(results)),
     ]
     return "\n\n".join([*(f"### {heading}\n\n{text}" for heading, text in parts), DASHES])
 
 
-def all_jobs(run):
-    """What is measured of these programs, as text, and when and where it was."""
+def all_jobs(run, title):
+    """What is measured of these programs, as text of that title, and when and where it was. The figures are kept."""
     peers.check_needed()
     missing = peers.missing_optional()
     for package, loss in missing.items():
@@ -230,8 +232,9 @@ def all_jobs(run):
     lists = listed(run[0], [tile for tile in tiles if tile.kind == "map"])
     undos = undone(run[0], [alternating_layers(), *(tile for tile in tiles if tile.kind in UNDONE)])
     steps = stepped(run[0], counted_maps(tiles)[:2])
-    names = [program.name for program in run]
-    parts = [conditions(load_before, missing), section(results, lists, undos, steps, names)]
+    whole = WholeRun(title, [program.name for program in run], results, lists, undos, steps)
+    keep(whole)
+    parts = [conditions(load_before, missing), section(whole)]
     parts.append(long_script(run[0], counted_maps(tiles)[0]))
     if "valgrind" not in missing:
         parts.append(costs(run[0], counted_maps(tiles)[-1]))
@@ -268,7 +271,7 @@ def main():
     arguments = parser.parse_args()
 
     run = programs(arguments.tileshell.resolve())
-    text = one_job(run, arguments.only) if arguments.only else all_jobs(run)
+    text = one_job(run, arguments.only) if arguments.only else all_jobs(run, arguments.title)
     print(text)
     put_section(RESULTS, arguments.title, text)
 

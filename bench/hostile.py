@@ -145,7 +145,7 @@ def highest(runs):
 
 def runs_on(program, content, lines=SCRIPT):
     """Some runs of a script on a tile of these bytes."""
-    tile = Tile("hostile", peers.BUILD / "hostile.pbf", layer=None)
+    tile = Tile("hostile", peers.BUILD / "hostile.pbf", layer=None, size=len(content))
     tile.path.write_bytes(content)
     script = peers.BUILD / "script"
     script.write_text(lines)

@@ -41,12 +41,10 @@ class Tile:
     path: Path
     # The layer that the jobs name.
     layer: str
+    # In bytes.
+    size: int
     # What is generated at several sizes has a kind.
     kind: str = None
-
-    @property
-    def size(self):
-        return self.path.stat().st_size
 
     @property
     def is_large(self):
@@ -59,8 +57,8 @@ class Tile:
 
 def generated(kind, mebibytes, layer):
     path = BUILD / f"{kind}-{mebibytes}.pbf"
-    path.write_bytes(generate(kind, mebibytes * MEBIBYTE, SEED))
-    return Tile(f"{kind} {mebibytes} MiB", path, layer, kind)
+    size = path.write_bytes(generate(kind, mebibytes * MEBIBYTE, SEED))
+    return Tile(f"{kind} {mebibytes} MiB", path, layer, size, kind)
 
 
 def smallest_map():
@@ -91,7 +89,8 @@ def real_tiles():
     folder = BUILD / "world"
     if not folder.exists():
         cut_world(folder)
-    return [Tile(f"states {place}", folder / f"{place}.pbf", "countries") for place in REAL_TILES]
+    paths = {place: folder / f"{place}.pbf" for place in REAL_TILES}
+    return [Tile(f"states {place}", path, "countries", path.stat().st_size) for place, path in paths.items()]
 
 
 def cut_world(folder):
