@@ -7,6 +7,7 @@ import os
 from pathlib import Path
 
 import peers
+import plots
 from figures import WholeRun, keep
 from generate import LAYERS
 from measure import (COUNTED_MILLISECONDS, RUNS, RUNS_OF_LARGE, Program, costliest, count_instructions, measure,
@@ -198,12 +199,13 @@ def listing(lists):
     return table(["Tile", "Reading", "Reading and listing", "Listing / reading"], rows)
 
 
-def section(whole):
-    """The tables of all results."""
+def section(whole, pictures):
+    """The tables of all results, and the pictures of some, if there are any."""
     results, names = whole.results, whole.programs
     without_floor = [name for name in names if name != "cat"]
     parts = [
         ("Targets", verdicts([*targets(results, whole.lists, whole.undos), *session_targets(whole.steps)])),
+        *([("Plots", pictures)] if pictures else []),
         (f"Wall time in milliseconds, {RUNS_MEASURED}", comparison(results, names, time, 1)),
         ("Peak memory, as a multiple of the tile", memory(results, names)),
         ("Millions of instructions", comparison(results, without_floor, instructions, 1e6)),
@@ -234,7 +236,8 @@ def all_jobs(run, title):
     steps = stepped(run[0], counted_maps(tiles)[:2])
     whole = WholeRun(title, [program.name for program in run], results, lists, undos, steps)
     keep(whole)
-    parts = [conditions(load_before, missing), section(whole)]
+    pictures = "" if plots.PACKAGE in missing else plots.pictures(whole, plots.drawn(whole))
+    parts = [conditions(load_before, missing), section(whole, pictures)]
     parts.append(long_script(run[0], counted_maps(tiles)[0]))
     if "valgrind" not in missing:
         parts.append(costs(run[0], counted_maps(tiles)[-1]))

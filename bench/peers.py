@@ -43,6 +43,7 @@ OPTIONAL = {
     "valgrind": (lambda: succeeds(["valgrind", "--version"]), "instructions are not counted"),
     "gdal-bin": (lambda: succeeds(["ogr2ogr", "--version"]), "the two real tiles are left out"),
     "qgis-common": (has_world_map, "the two real tiles are left out"),
+    "gnuplot-nox": (lambda: succeeds(["gnuplot", "--version"]), "the plots are left as they are, and not shown"),
 }
 
 
