@@ -73,7 +73,8 @@ class Copy:
         names = self.put_beside(edits) if beside else self.put_in_place(edits)
         for file, lines in self.files.items():
             Path(room, file).write_text("\n".join(lines))
-        self.functions = functions_of(room)
+        # in the place of what it turns an edit moves no line, and may end one as the layout does not
+        self.functions = functions_of(room if beside else crate.folder)
         by_name = {it.name: it for it in self.functions}
         for edit in edits:
             functions = [by_name[it] for it in names[edit.name]]
