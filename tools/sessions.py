@@ -75,3 +75,6 @@ RUNS = {
     "a tile cut short": Run(T0 + TWO_MORE[:-1], b"size\n", most=FEW),
     "nothing": Run(b"", b""),
 }
+
+# The first lines of the session, and one that is refused.
+SHORT = Run(T0 + TWO_MORE, b"".join(line.encode() + b"\n" for line in [*SESSION.split("\n")[:13], "frob"]))

@@ -1,0 +1,71 @@
+"""Single calls, as the rows of crates/call_tests have them, and what becomes of one where a growth is refused."""
+import re
+from pathlib import Path
+
+CRATE = Path(__file__).resolve().parent.parent / "crates" / "call_tests"
+PROGRAM = CRATE / "out" / "call_tests"
+
+# What the program says of a line of a table for which there was no memory.
+UNREAD = "no line of a table: "
+
+# Calls that read many tiles, and do not tell a tile that there was no memory to read from one that is none.
+UNTOLD = ["wire cuts"]
+
+# A piece that comes a thousand times or more: a row with one makes too many growths to refuse each.
+MANY = re.compile(r"\b\d{4,}\*")
+
+# What the program says of a row that cannot be tried, as its tile or what it is given cannot be read.
+UNTRIED = ["the tile does not open, or lacks what is looked at", "the call cannot be given this"]
+
+# What becomes of a row: it is answered as ever, or with want of memory, or is not come to.
+ANSWERED, WANTING, NOT_COME_TO = "answered", "wanting", "not come to"
+
+
+def tables():
+    """Tables of one row: of each call the first row of each kind of answer, which its first word tells."""
+    found, pieces = {}, {}
+    for file in (CRATE / "args").read_text().split():
+        call, tile, given = "", "", ""
+        for line in (CRATE / "data" / file).read_text().split("\n"):
+            word, _, rest = line.partition(" ")
+            if word == "piece":
+                pieces[rest.split(" ")[0]] = line
+            elif word == "call":
+                call, tile = line, ""
+            elif word == "tile":
+                tile = line
+            elif word in (">", ">>"):
+                given = line
+            elif word in ("<", "<<") and not MANY.search(f"{tile} {given} {line}"):
+                kind = rest.partition(" ")[0].partition("(")[0]
+                found.setdefault((call, kind), [call, tile, given, line])
+    return {" ".join([*call.split()[1:], kind]): table_of(lines, pieces)
+            for (call, kind), lines in found.items() if call.partition(" ")[2] not in UNTOLD}
+
+
+def table_of(lines, pieces):
+    """The lines, with the pieces that they need before them."""
+    needed = []
+    words = {word.rpartition("*")[2] for line in lines for word in line.split(" ")[1:]}
+    for name, piece in reversed(pieces.items()):
+        if name in words:
+            needed.insert(0, piece)
+            words |= {word.rpartition("*")[2] for word in piece.split(" ")[3:]}
+    return "\n".join([*needed, *filter(None, lines), ""])
+
+
+def judged(status, told, complaint):
+    """What became of the row of a table, by what the program printed; None where it is none of the known."""
+    if (status, told, complaint) == (0, "1 rows, 0 differ\n", ""):
+        return ANSWERED
+    lines = complaint.splitlines()
+    if status != 1 or not lines:
+        return None
+    if told == "" and lines == ["call_tests: out of memory"] or lines[0].startswith(UNREAD):
+        return NOT_COME_TO
+    if told != "1 rows, 1 differ\n" or not lines[0].startswith("call "):
+        return None
+    if lines[-1] in UNTRIED:
+        return NOT_COME_TO
+    answers = [line for line in lines if line.startswith("answers: ")]
+    return WANTING if lines[-1] == "out of memory" or answers and "NoMemory" in answers[0] else None

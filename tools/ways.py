@@ -1,0 +1,55 @@
+"""A run as crates/row_tests makes it, as a call, over readers and writers and one byte a call; and what becomes of it where
+a growth is refused."""
+import re
+from pathlib import Path
+
+from calls import UNREAD
+from runs import ended
+from wanting import PLAIN, RUN, Told, Wrong, judged_script
+
+CRATE = Path(__file__).resolve().parent.parent / "crates" / "row_tests"
+PROGRAM = CRATE / "out" / "row_tests"
+
+# What becomes of a growth that is none of the runs: the table is not read, or what came of a run is not compared.
+ELSEWHERE = "elsewhere"
+
+# What the program tells of a run that is not as its row has it.
+DIFFERS = re.compile(r"is (.*), with the replies\n(.*)\nand (?:no tile|the tile ([0-9a-f]*))\nshould be .*"
+                     r"differs, as (a call|streams|one byte a call): a run\n", re.DOTALL)
+
+
+def table_of(run):
+    """The run as a table of one row, with what comes of it where there is memory."""
+    end = ended(run.tile, run.script, run.depth, run.strict)
+    lines = [("row", ["a run"]), ("depth", [run.depth]), ("tile", [run.tile.hex()]), (">", run.script.decode().split("\n")[:-1]),
+             ("<", end.replies.decode().splitlines()), ("ends", [["Done", "SomeRefused"][end.status]]), ("gives", [end.tile.hex()])]
+    return "".join(f"{word} {rest}\n" for word, each in lines for rest in each)
+
+
+def judged(run, status, told, complaint):
+    """To what the growth was refused; None where what the program printed is none of the known."""
+    if (status, told, complaint) == (0, "1 rows, 0 differ\n", ""):
+        return PLAIN
+    if (status, told, complaint) == (1, "", "row_tests: out of memory\n") or status == 1 and complaint.startswith(UNREAD):
+        return ELSEWHERE
+    found = DIFFERS.fullmatch(complaint)
+    if not found or (status, told) != (1, "1 rows, 1 differ\n"):
+        return None
+    outcome, replies, tile, way = found.groups()
+    return judged_way(run, way, outcome, replies, None if tile is None else bytes.fromhex(tile))
+
+
+def judged_way(run, way, outcome, replies, tile):
+    """To what the growth was refused. Where a reply has no room, or the tile, what came of it is a prefix."""
+    plain = ended(run.tile, run.script, run.depth, run.strict)
+    is_prefix = plain.replies.startswith(replies.encode())
+    if way == "a call" and outcome == "NoMemory" and is_prefix and tile is None:
+        return RUN
+    if way != "a call" and outcome == "Device(Replies)" and is_prefix and tile is None:
+        return RUN
+    if way != "a call" and outcome == "Device(Out)" and replies.encode() == plain.replies and plain.tile.startswith(tile):
+        return RUN
+    if replies and not replies.endswith("\n"):
+        raise Wrong(f"a reply is cut short: {replies}")
+    script = run.script.decode().split("\n")
+    return judged_script(Told(outcome, run.depth, run.tile, script, replies.splitlines(), tile))
