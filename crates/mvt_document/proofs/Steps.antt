@@ -1,5 +1,5 @@
 -- The loops over a spelled number: for its least width, out to a list, and back from its last byte.
-use Rattle.std.proofs.Common.{◌≡◌, ℕ, zero, suc, ◌+◌, ◌-◌, ◌*◌, ◌/◌, ◌%◌, ◌^◌, ◌<◌, ◌≤◌, List, [], ◌∷◌, ◌++◌, length, length-set, set, take, drop, get_or, slice_get, inl, inr, min, Bool, ltb, true, false, Some, None, position, refl, sym, ap, ◌∙◌, subst, append_assoc, arith}
+use Rattle.std.proofs.Common.{◌≡◌, ℕ, zero, suc, ◌+◌, ◌-◌, ◌*◌, ◌/◌, ◌%◌, ◌^◌, ◌<◌, ◌≤◌, List, [], ◌∷◌, ◌++◌, length, length-set, set, take, drop, get_or, inl, inr, min, Bool, ltb, true, false, Some, None, position, refl, sym, ap, ◌∙◌, subst, append_assoc, arith}
 use Rattle.std.proofs.lemmas.Bool.{cond-true, cond-false, ltb-true, ltb-false, lt-ltb, le-ltb, cases_lt}
 use Rattle.std.proofs.lemmas.Nat.{pow-add, div_below}
 use Rattle.std.proofs.lemmas.List.{take_more, take_more_set, set_split, drop_all, drop_more, drop_at, length-take, length-take-le, get_or-take}
@@ -185,27 +185,25 @@ read_down_fits bytes last value index digit ends some down low r =
     read_fits bytes last value (index - 1) (digit + 128) (omega (arith, ends.ten)) (omega arith) (at_next bytes last value index some r) in
     omega arith
 
-pub read_spelling : (bytes : List ℕ) (last value : ℕ) → EndsAt bytes last → IsReadFrom bytes last value 0 → IsSpelling value (suc last)
-read_spelling bytes last value ends r =
+-- once the first byte is read too
+pub read_whole : (bytes : List ℕ) (last value index : ℕ) → EndsAt bytes last → index ≡ 0 → IsReadFrom bytes last value index → IsSpelling value (last + 1) × (take (last + 1) bytes ≡ spell value (last + 1))
+read_whole bytes last value index ends none r =
     let ten : last < 10 = ends.ten in
-    let all : suc last - 0 ≡ suc last = omega arith in
-    spelling_from value (suc last) (omega arith) (omega arith) r.below (subst (λ w. value < 2 ^ (7 * w)) all r.narrow)
-
-pub read_is : (bytes : List ℕ) (last value : ℕ) → IsReadFrom bytes last value 0 → take (suc last) bytes ≡ spell value (suc last)
-read_is bytes last value r =
-    let all : suc last - 0 ≡ suc last = omega arith in
-    sym r.spelled ∙ ap (λ w. spell value w) all
+    let all : suc last - index ≡ last + 1 = omega (arith, none) in
+    let next : suc last ≡ last + 1 = omega arith in (
+      spelling_from value (last + 1) (omega arith) (omega arith) (subst (λ i. value < 2 ^ (64 - 7 * i)) none r.below) (subst (λ w. value < 2 ^ (7 * w)) all r.narrow),
+      ap (λ n. take n bytes) (sym next) ∙ ap (λ i. drop i (take (suc last) bytes)) (sym none) ∙ sym r.spelled ∙ ap (λ w. spell value w) all,
+    )
 
 -- ---- a number of one byte
 
 pub first_spelling : (byte : ℕ) → byte < 128 → IsSpelling byte 1
 first_spelling byte low = spelling_from byte 1 (omega arith) (omega arith) (omega arith) low
 
-pub first_is : (bytes : List ℕ) (byte : ℕ) → Some byte ≡ slice_get bytes 0 → byte < 128 → take 1 bytes ≡ spell byte 1
-first_is [] byte is low = cc
-first_is (first ∷ bytes) byte is low =
-    let same : byte ≡ first = cc in
-    let whole : first ≡ byte % 128 = omega arith in
+pub first_is : (bytes : List ℕ) (byte : ℕ) → 1 ≤ length bytes → get_or bytes 0 0 ≡ byte → byte < 128 → take 1 bytes ≡ spell byte 1
+first_is [] byte some is low = absurd (omega (arith, some))
+first_is (first ∷ bytes) byte some is low =
+    let whole : first ≡ byte % 128 = omega (arith, is) in
     ap (λ n. n ∷ []) whole ∙ sym (spell-one byte)
 
 pub one_below : (v w : ℕ) → IsSpelling v w → w ≡ 1 → v < 128

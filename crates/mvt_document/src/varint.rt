@@ -73,37 +73,25 @@ pub fn least_width(value: u64) -> u8
 
 /// The number at the front, whose spelling is as many bytes as its width. There is none where
 /// each of the first ten bytes has its top bit set, or where the number takes more than 64 bits.
+/// Most numbers are one byte or two.
 #[inline(always)]
 pub fn read_varint(bytes: &[u8]) -> Option<Varint>
     ensures within { IfSome result (λ n. n.width ≤ length bytes.now) }
     ensures found { IfSome result (λ n. take n.width bytes.now ≡ spell n.value n.width) }
     ensures none { IfNone result (¬ Begins IsNumber spelling bytes.now) }
 {
-    let (value, width) = match bytes.first() {
-        Some(&byte) if byte < 128 => (u64::from(byte), 1),
-        _ => number_at_front(bytes)?,
+    let (value, width) = match bytes {
+        [only, ..] if *only < 128 => (u64::from(*only), 1),
+        [first, last, ..] if *first >= 128 && *last < 128 => {
+            (u64::from(*last) * 128 + u64::from(*first - 128), 2)
+        }
+        _ => number_of_any_width(bytes)?,
     };
     Some(Varint { value, width })
 }
 
-/// The value of that number, and its width. Most numbers that are wider than a byte are two.
-#[inline(always)]
-fn number_at_front(bytes: &[u8]) -> Option<(u64, u8)>
-    ensures within { IfSome result (λ found. found.1 ≤ length bytes.now) }
-    ensures found { IfSome result (λ found. take found.1 bytes.now ≡ spell found.0 found.1) }
-    ensures valid { IfSome result (λ found. IsSpelling found.0 found.1) }
-    ensures none { IfNone result (¬ Begins IsNumber spelling bytes.now) }
-{
-    match bytes {
-        [first, last, ..] if *first >= 128 && *last < 128 => {
-            Some((u64::from(*last) * 128 + u64::from(*first - 128), 2))
-        }
-        _ => number_of_any_width(bytes),
-    }
-}
-
-/// The same, byte by byte from the last. Few numbers come to this, so it stays out of the loops that
-/// read them.
+/// The value of the number at the front, and its width, byte by byte from the last. Few numbers come
+/// to this, so it stays out of the loops that read them.
 #[inline(never)]
 fn number_of_any_width(bytes: &[u8]) -> Option<(u64, u8)>
     ensures within { IfSome result (λ found. found.1 ≤ length bytes.now) }

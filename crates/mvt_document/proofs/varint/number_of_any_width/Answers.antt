@@ -1,7 +1,5 @@
-use Rattle.std.proofs.Common.{◌≡◌, ◌+◌, ◌-◌, ◌*◌, ◌^◌, ◌<◌, ◌≤◌, suc, take, get_or, subst, sym, arith}
-use Rattle.mvt_document.specs.Wire.{spell}
-use Rattle.mvt_document.specs.Shape.{IsSpelling}
-use Rattle.mvt_document.proofs.Steps.{EndsAt, IsReadFrom, ends_at, ends_nowhere, none_ends, none_fits, read-start, read-down, read_down_fits, read_spelling, read_is}
+use Rattle.std.proofs.Common.{◌≡◌, ◌+◌, ◌-◌, ◌*◌, ◌^◌, ◌<◌, ◌≤◌, get_or, subst, sym, arith}
+use Rattle.mvt_document.proofs.Steps.{EndsAt, IsReadFrom, ends_at, ends_nowhere, none_ends, none_fits, read-start, read-down, read_down_fits, read_whole}
 use Rattle.mvt_document.proofs.varint.number_of_any_width.Goals as goal
 use Rattle.mvt_document.proofs.varint.number_of_any_width.Goals.{else-last-eq9-via-then-last-eq9+else-bytes-gt-TENTH_BYTE_MAX, else-last-eq9-via-else-last-eq9}
 
@@ -53,17 +51,7 @@ loop-index-preserved c = record {
 }
 
 pub returns-clause-valid : goal.returns-clause-valid
-returns-clause-valid c =
-    let none : c.loop-index.index ≡ 0 = omega arith in
-    let next : suc c.in_ok-last.last ≡ c.in_ok-last.last + 1 = omega arith in
-    let read : IsReadFrom c.args.bytes.now c.in_ok-last.last c.loop-index.value 0 =
-    subst (λ i. IsReadFrom c.args.bytes.now c.in_ok-last.last c.loop-index.value i) none c.loop-index.invariant.read in
-    subst (λ w. IsSpelling c.loop-index.value w) next (read_spelling c.args.bytes.now c.in_ok-last.last c.loop-index.value c.loop-index.invariant.ends read)
+returns-clause-valid c = (read_whole c.args.bytes.now c.in_ok-last.last c.loop-index.value c.loop-index.index c.loop-index.invariant.ends (omega arith) c.loop-index.invariant.read).0
 
 pub returns-clause-found : goal.returns-clause-found
-returns-clause-found c =
-    let none : c.loop-index.index ≡ 0 = omega arith in
-    let next : suc c.in_ok-last.last ≡ c.in_ok-last.last + 1 = omega arith in
-    let read : IsReadFrom c.args.bytes.now c.in_ok-last.last c.loop-index.value 0 =
-    subst (λ i. IsReadFrom c.args.bytes.now c.in_ok-last.last c.loop-index.value i) none c.loop-index.invariant.read in
-    subst (λ w. take w c.args.bytes.now ≡ spell c.loop-index.value w) next (read_is c.args.bytes.now c.in_ok-last.last c.loop-index.value read)
+returns-clause-found c = (read_whole c.args.bytes.now c.in_ok-last.last c.loop-index.value c.loop-index.index c.loop-index.invariant.ends (omega arith) c.loop-index.invariant.read).1
