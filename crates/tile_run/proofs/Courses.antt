@@ -1,5 +1,5 @@
 -- How a run ends, from what its steps answer.
-use Rattle.std.proofs.Common.{◌≡◌, ℕ, ◌+◌, ◌≤◌, true, false, [], length, refl, arith, sym, ap, subst, ◌∙◌, inl, inr}
+use Rattle.std.proofs.Common.{◌≡◌, ℕ, ◌+◌, ◌≤◌, Bool, true, false, [], length, refl, arith, sym, ap, subst, ◌∙◌, inl, inr}
 use Rattle.std.specs.Prelude.{Result, Ok, Err}
 use Rattle.mvt_document.specs.declared.TheConstants.{MAX_FILE}
 use Rattle.mvt_document.specs.declared.Document as program
@@ -10,10 +10,10 @@ use Rattle.mvt_document.specs.Settle.{settle}
 use Rattle.tile_device.specs.Seen.{Seen, Intake, Output, Reads, Writes, nothing_read, written}
 use Rattle.tile_device.proofs.Sending.{receives_nothing}
 use Rattle.tile_device.proofs.Supplying.{supplies_nothing}
-use Rattle.tile_run.specs.Course.{Course, Ends, IsWritten, OpensAgain, RepliesToAll, StopsAtTile, start_of}
+use Rattle.tile_run.specs.Course.{Course, Ends, IsEdited, IsWritten, OpensAgain, RepliesToAll, StopsAtTile, start_of}
 use Rattle.tile_run.specs.Headline.{Devices, Runs}
 use Rattle.mvt_history.specs.History.{History, standing_document}
-use Rattle.tile_run.specs.Outcomes.{opening_outcome, script_outcome, writing_outcome}
+use Rattle.tile_run.specs.Outcomes.{edited_outcome, opening_outcome, script_outcome, writing_outcome}
 use Rattle.mvt_history.specs.Session.{StandsFor}
 use Rattle.tile_run.specs.Steps.{Moment, OpensTile, CarriesOutScript, WritesTile}
 use Rattle.tile_run.specs.declared.editor.Editor.{Editor}
@@ -187,18 +187,15 @@ module _ (options : Options) (t0 t1 o0 o1 : Seen) (before last : ℕ) (start end
   opens_again : OpensAs (bytes_of (document_of edited)) (settle (document_of edited)) → OpensAgain carried.ends.0
   opens_again opens = subst (λ d. OpensAs (bytes_of d) (settle d)) (present carried.ends.0.history carried.ends.2.stands) opens
 
-  pub runs_through : Writing edited o0 o1 end.retries last (Ok tt) → OpensAs (bytes_of (document_of edited)) (settle (document_of edited)) → editor.any_refused ≡ false → Runs options (seen t0 start.script start.replies o0) (seen t1 end.script end.replies o1) outcomes.Done
-  runs_through writing opens none = with_out outcomes.Done writing.0 writing.2 (record {
-    through = all_replied writing.0;
-    refused = sym carried.ends.2.refused ∙ none;
-    out = is_written writing.0 writing.1;
-    opens = opens_again opens;
-  })
+  edited_ends : (any_refused : Bool) (course : Course) → IsEdited options any_refused course → Ends options (edited_outcome any_refused) course
+  edited_ends false course edited = edited
+  edited_ends true course edited = edited
 
-  pub runs_with_refusals : Writing edited o0 o1 end.retries last (Ok tt) → OpensAs (bytes_of (document_of edited)) (settle (document_of edited)) → editor.any_refused ≡ true → Runs options (seen t0 start.script start.replies o0) (seen t1 end.script end.replies o1) outcomes.SomeRefused
-  runs_with_refusals writing opens some = with_out outcomes.SomeRefused writing.0 writing.2 (record {
-    through = all_replied writing.0;
-    refused = sym carried.ends.2.refused ∙ some;
-    out = is_written writing.0 writing.1;
-    opens = opens_again opens;
-  })
+  pub runs_through : (any_refused : Bool) (outcome : Outcome) → Writing edited o0 o1 end.retries last (Ok tt) → OpensAs (bytes_of (document_of edited)) (settle (document_of edited)) → any_refused ≡ editor.any_refused → outcome ≡ edited_outcome any_refused → Runs options (seen t0 start.script start.replies o0) (seen t1 end.script end.replies o1) outcome
+  runs_through any_refused outcome writing opens refused is =
+      subst (λ (t : Outcome). Runs options (seen t0 start.script start.replies o0) (seen t1 end.script end.replies o1) t) (sym is) (with_out (edited_outcome any_refused) writing.0 writing.2 (edited_ends any_refused (course_with writing.0) (record {
+        through = all_replied writing.0;
+        refused = sym carried.ends.2.refused ∙ sym refused;
+        out = is_written writing.0 writing.1;
+        opens = opens_again opens;
+      })))

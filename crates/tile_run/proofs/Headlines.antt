@@ -81,7 +81,7 @@ uninterrupted None retries last within = refl
 uninterrupted (Some Failed) retries last within = refl
 uninterrupted (Some Interrupted) retries last within = absurd (omega (arith, last refl, within))
 
-none_counted : (trouble : Option Trouble) → interruptions_in trouble ≡ 0 → failures_in trouble ≡ 0 → trouble ≡ None
+pub none_counted : (trouble : Option Trouble) → interruptions_in trouble ≡ 0 → failures_in trouble ≡ 0 → trouble ≡ None
 none_counted None i f = refl
 none_counted (Some Interrupted) i f = absurd (omega (arith, i))
 none_counted (Some Failed) i f = absurd (omega (arith, f))

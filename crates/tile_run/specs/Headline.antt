@@ -15,6 +15,7 @@ use Rattle.tile_run.specs.declared.outcome.Outcome.TheVariants as outcomes
 use Rattle.tile_run.specs.declared.outcome.DeviceName.TheVariants as devices
 use Rattle.tile_run.specs.declared.outcome.TileFault.{TileFault}
 use Rattle.tile_run.specs.Course.{Course, Ends, IsPatient, OpensAgain, IsFaultOf}
+use Rattle.tile_run.specs.Outcomes.{edited_outcome}
 use Rattle.tile_reply.specs.Replies.{NoneIsOutOfMemory}
 use Rattle.tile_lines.specs.Lines.{lines_of}
 use Rattle.tile_run.specs.Run.{Progress, after_lines, is_over, ran, tile_of}
@@ -73,7 +74,7 @@ WritesNoneOutOfMemory old new = ⊥
 -- the outcome of a run that comes to this progress: `StrictStop` where a strict run is over, else `SomeRefused` where a
 -- line was refused, else `Done`
 abbrev pub outcome_of : Bool → Progress → Outcome
-outcome_of strict progress = if is_over strict progress then outcomes.StrictStop else (if progress.any_refused then outcomes.SomeRefused else outcomes.Done)
+outcome_of strict progress = if is_over strict progress then outcomes.StrictStop else edited_outcome progress.any_refused
 
 -- the bytes written of the tile: those of the standing document, or none where a strict run is over
 abbrev pub tile_written : Bool → Progress → List ℕ

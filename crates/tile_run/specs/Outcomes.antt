@@ -1,4 +1,5 @@
--- Which outcome of a run each way is in which a step of it stops.
+-- Which outcome of a run each way is in which a step of it stops, or all are done.
+use Rattle.std.specs.Prelude.{Bool, if◌then◌else◌}
 use Rattle.tile_device.specs.declared.transfer.ReadFault.{ReadFault}
 use Rattle.tile_device.specs.declared.transfer.ReadFault.TheVariants as read_faults
 use Rattle.tile_run.specs.declared.outcome.DeviceName.TheVariants as devices
@@ -40,3 +41,7 @@ script_outcome script_stops.NoMemory = outcomes.NoMemory
 abbrev pub writing_outcome : Unwritten → Outcome
 writing_outcome unwritten.Device = outcomes.Device devices.Out
 writing_outcome unwritten.NoMemory = outcomes.NoMemory
+
+-- the outcome once the edited tile is written: `SomeRefused` where a line was refused, else `Done`
+abbrev pub edited_outcome : Bool → Outcome
+edited_outcome any_refused = if any_refused then outcomes.SomeRefused else outcomes.Done

@@ -2,7 +2,7 @@
 
 ghost use Rattle.std.specs.Prelude.{◌≡◌};
 ghost use Rattle.tile_run.specs.declared.outcome.ScriptStop.TheVariants as script_stops;
-ghost use Rattle.tile_run.specs.Outcomes.{fault_of, script_stop_of, opening_outcome, script_outcome, writing_outcome};
+ghost use Rattle.tile_run.specs.Outcomes.{fault_of, script_stop_of, edited_outcome, opening_outcome, script_outcome, writing_outcome};
 
 use std::alloc::AllocError;
 use thiserror::Error;
@@ -57,6 +57,19 @@ pub enum Outcome {
     Device(DeviceName),
     /// Memory was refused before the script was read, or for the tile to write.
     NoMemory,
+}
+
+impl Outcome {
+    /// How a run ends once the edited tile is written.
+    pub(crate) fn edited(any_refused: bool) -> Self
+        ensures { result ≡ edited_outcome any_refused }
+    {
+        if any_refused {
+            Outcome::SomeRefused
+        } else {
+            Outcome::Done
+        }
+    }
 }
 
 /// Why the tile was not opened.

@@ -124,11 +124,8 @@ pub fn run_and_hold<R1: Source, R2: Source, W1: Sink, W2: Sink>(
     if let Err(stop) = write_tile(alloc, editor.document(), out, &mut retries) {
         return Ended::new(stop.into(), Some(editor));
     }
-    if editor.any_refused() {
-        Ended::new(Outcome::SomeRefused, Some(editor))
-    } else {
-        Ended::new(Outcome::Done, Some(editor))
-    }
+    let outcome = Outcome::edited(editor.any_refused());
+    Ended::new(outcome, Some(editor))
 }
 
 /// Reads the tile to its end, or to the first byte that is too many, and opens it.

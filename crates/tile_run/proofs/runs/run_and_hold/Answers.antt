@@ -1,7 +1,7 @@
 use Rattle.std.proofs.Common.{◌∙◌, sym, subst}
 use Rattle.mvt_document.specs.Stands.{document_of}
 use Rattle.tile_run.specs.Headline.{Runs}
-use Rattle.tile_run.proofs.Courses.{runs_to_tile, runs_to_start, runs_to_script, runs_to_out, runs_through, runs_with_refusals}
+use Rattle.tile_run.proofs.Courses.{runs_to_tile, runs_to_start, runs_to_script, runs_to_out, runs_through}
 use Rattle.tile_run.proofs.runs.run_and_hold.Goals as goal
 
 pub returns-in-Err-clause-course : goal.returns-in-Err-clause-course
@@ -25,16 +25,8 @@ returns-in-Err-write_tile-clause-course g c =
     (c.in_default-carry_out_script.ensures c.args.options.strict (document_of c.in-Ok.document) c.args.options.depth c.in-Some.ensures) c.document.ensures.present
     c.in-Err-write_tile.stop _ c.in-Err-write_tile.ensures.writes (c.new-in-Err-write_tile.ensures ∙ c.into-in-Err-write_tile.ensures)
 
-pub returns-then-any_refused-clause-course : goal.returns-then-any_refused-clause-course
-returns-then-any_refused-clause-course g c =
-    subst (Runs c.args.options _ _) (sym c.new-then-any_refused.ensures)
-    (runs_with_refusals c.args.options _ _ _ _ _ _ _ _ c.in-Ok.document c.document.result.now _ c.new-retries.ensures c.in-Ok.ensures
+pub returns-clause-course : goal.returns-clause-course
+returns-clause-course g c =
+    runs_through c.args.options _ _ _ _ _ _ _ _ c.in-Ok.document c.document.result.now _ c.new-retries.ensures c.in-Ok.ensures
     (c.in_default-carry_out_script.ensures c.args.options.strict (document_of c.in-Ok.document) c.args.options.depth c.in-Some.ensures) c.document.ensures.present
-    c.in_default-write_tile.ensures.writes (c.in_default-write_tile.ensures.opens c.document.ensures.valid) (sym c.any_refused.ensures ∙ c.if-any_refused.true))
-
-pub returns-else-any_refused-clause-course : goal.returns-else-any_refused-clause-course
-returns-else-any_refused-clause-course g c =
-    subst (Runs c.args.options _ _) (sym c.new-else-any_refused.ensures)
-    (runs_through c.args.options _ _ _ _ _ _ _ _ c.in-Ok.document c.document.result.now _ c.new-retries.ensures c.in-Ok.ensures
-    (c.in_default-carry_out_script.ensures c.args.options.strict (document_of c.in-Ok.document) c.args.options.depth c.in-Some.ensures) c.document.ensures.present
-    c.in_default-write_tile.ensures.writes (c.in_default-write_tile.ensures.opens c.document.ensures.valid) (sym c.any_refused.ensures ∙ c.if-any_refused.false))
+    _ _ c.in_default-write_tile.ensures.writes (c.in_default-write_tile.ensures.opens c.document.ensures.valid) c.any_refused.ensures (c.new-2.ensures ∙ c.edited-outcome.ensures)
