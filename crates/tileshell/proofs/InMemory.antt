@@ -6,11 +6,11 @@ use Rattle.std.specs.declared.alloc.Global.{Global}
 use Rattle.std.proofs.lemmas.List.{drop_at}
 use Rattle.mvt_document.specs.Opens.{OpensAs, OpensAsNothing}
 use Rattle.mvt_document.specs.Plain.{Document}
-use Rattle.tile_device.specs.Seen.{Seen}
+use Rattle.tile_device.specs.Seen.{Seen, Intake, Supplies}
 use Rattle.tile_run.specs.Course.{IsFaultOf}
 use Rattle.tile_run.specs.DeviceLaws.{GivesUp, HasCause, HaveLowCounts}
 use Rattle.tile_run.specs.Headline.{Devices, AllServe, IsRunOf, Runs, outcome_of, tile_written}
-use Rattle.tileshell.specs.InMemory.{handed_out, bytes_in, tile_given, IsEditOf, EditsTile, RefusesFile, NamesLongScript}
+use Rattle.tileshell.specs.InMemory.{handed_out, bytes_in, tile_given, IsEditOf, EditsTile, RefusesFile, IsReadOf, IsRunInMemory, NamesLongScript}
 use Rattle.tile_reply.specs.Replies.{NoneIsOutOfMemory}
 use Rattle.tile_run.specs.Run.{Progress, is_over, ran, tile_of}
 use Rattle.tile_run.specs.declared.outcome.DeviceName.{DeviceName}
@@ -21,7 +21,7 @@ use Rattle.tile_run.specs.declared.outcome.Outcome.TheVariants as outcomes
 use Rattle.tile_run.specs.declared.outcome.TileFault.{TileFault}
 use Rattle.tile_run.specs.declared.runs.TheConstants.{MAX_SCRIPT}
 use Rattle.tile_run.proofs.DeviceLaws.{failed_is_named, named_for_cause}
-use Rattle.tile_run.proofs.Headlines.{headline, refuses_tile}
+use Rattle.tile_run.proofs.Headlines.{headline, none_counted, refuses_tile}
 
 -- a device in memory with these bytes, of which so many calls failed
 abbrev pub held : List ℕ → ℕ → Seen
@@ -168,6 +168,41 @@ module _ (options : Options) (tile script : List ℕ) (replies out : Vec ℕ Glo
   edits_tile (outcomes.Device devices.Replies) r document opens within memory none_out_of_memory = absurd (memory refl)
   edits_tile (outcomes.Device devices.Out) r document opens within memory none_out_of_memory = absurd (memory refl)
   edits_tile outcomes.NoMemory r document opens within memory none_out_of_memory = absurd (memory refl)
+
+  -- ---- where memory runs out too
+
+  -- what was read of a source that no call failed and none interrupted
+  read_of : (bytes left : List ℕ) (intake : Intake) → Supplies (held bytes 0) (held left 0) intake → IsReadOf bytes intake
+  read_of bytes left intake supplies = record {
+    left = left;
+    is_prefix = supplies.bytes refl;
+    whole = supplies.whole refl;
+    untroubled = none_counted intake.trouble (omega (arith, supplies.meets.interruptions)) (omega (arith, supplies.meets.failures));
+  }
+
+  same_replies : (outcome : Outcome) → (handed_out outcome replies out).replies ≡ replies
+  same_replies outcomes.Done = refl
+  same_replies outcomes.SomeRefused = refl
+  same_replies outcomes.StrictStop = refl
+  same_replies (outcomes.TileRefused fault) = refl
+  same_replies (outcomes.Device devices.Tile) = refl
+  same_replies (outcomes.Device devices.Script) = refl
+  same_replies (outcomes.Device devices.Replies) = refl
+  same_replies (outcomes.Device devices.Out) = refl
+  same_replies outcomes.NoMemory = refl
+
+  pub run_in_memory : (outcome : Outcome) → RunsInMemory options tile script replies.items out.items outcome → IsRunInMemory options tile script (handed_out outcome replies out)
+  run_in_memory outcome r = record {
+    outcome = outcome;
+    course = r.runs.course;
+    ends = r.runs.ends;
+    tile_read = read_of tile r.tile_left r.runs.course.tile r.runs.tile;
+    script_read = read_of script r.script_left r.runs.course.script r.runs.script;
+    out = out;
+    written = r.runs.out.bytes refl;
+    replies = ap (λ (v : Vec ℕ Global). v.items) (same_replies outcome) ∙ r.runs.replies.bytes refl;
+    handed = ap (λ (v : Vec ℕ Global). handed_out outcome v out) (sym (same_replies outcome));
+  }
 
   -- ---- a tile that opens as no document
 

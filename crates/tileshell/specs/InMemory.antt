@@ -1,12 +1,13 @@
 -- What an edit of a tile in memory gives.
-use Rattle.std.specs.Prelude.{◌≡◌, ◌≢◌, ◌⊎◌, ◌↔◌, ℕ, ◌<◌, ◌≤◌, Bool, List, [], length, take, Some, None, IsSome, if◌then◌else◌}
+use Rattle.std.specs.Prelude.{◌≡◌, ◌≢◌, ◌⊎◌, ◌↔◌, ℕ, ◌<◌, ◌≤◌, Bool, List, [], ◌++◌, length, take, Some, None, IsSome, IsTrue, if◌then◌else◌}
 use Rattle.std.specs.declared.option.Option.{Option}
 use Rattle.std.specs.declared.vec.Vec.{Vec}
 use Rattle.std.specs.declared.alloc.Global.{Global}
 use Rattle.mvt_document.specs.Opens.{OpensAs, OpensAsNothing}
 use Rattle.mvt_document.specs.Plain.{Document}
 use Rattle.tile_lines.specs.Lines.{whole_lines}
-use Rattle.tile_run.specs.Course.{IsFaultOf}
+use Rattle.tile_device.specs.Seen.{Intake}
+use Rattle.tile_run.specs.Course.{Course, Ends, IsFaultOf}
 use Rattle.tile_run.specs.Headline.{outcome_of}
 use Rattle.tile_reply.specs.Replies.{NoneIsOutOfMemory}
 use Rattle.tile_run.specs.Run.{Progress, after_lines, at_first, is_over, ran, tile_of}
@@ -32,6 +33,26 @@ handed_out outcome replies out = record { outcome = outcome; replies = replies; 
 abbrev pub bytes_in : Option (Vec ℕ Global) → Option (List ℕ)
 bytes_in None = None
 bytes_in (Some tile) = Some tile.items
+
+-- what was read of these bytes: a prefix, which is all of them where the intake is whole, without trouble
+pub record IsReadOf (bytes : List ℕ) (intake : Intake) : Type 0 where
+  pub left : List ℕ
+  pub is_prefix : bytes ≡ intake.bytes ++ left
+  pub whole : IsTrue intake.is_whole → left ≡ []
+  pub untroubled : intake.trouble ≡ None
+
+-- whatever growths were refused: there is a course of what was read of the tile and of the script, replied and written
+-- that ends with an outcome (`Ends`), and the edit is what is handed out then (`handed_out`)
+pub record IsRunInMemory (options : Options) (tile script : List ℕ) (edited : Edited) : Type 0 where
+  pub outcome : Outcome
+  pub course : Course
+  pub ends : Ends options outcome course
+  pub tile_read : IsReadOf tile course.tile
+  pub script_read : IsReadOf script course.script
+  pub out : Vec ℕ Global
+  pub written : out.items ≡ course.out.bytes
+  pub replies : edited.replies.items ≡ course.replies.bytes
+  pub handed : edited ≡ handed_out outcome edited.replies out
 
 -- the bytes of the standing document, or none where a strict run is over
 abbrev pub tile_given : Bool → Progress → Option (List ℕ)

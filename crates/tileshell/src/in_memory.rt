@@ -2,7 +2,7 @@
 
 ghost use Rattle.std.specs.Prelude.{◌≡◌, ◌≤◌, [], true, Some};
 ghost use Rattle.mvt_history.specs.declared.TheConstants.{MAX_DEPTH};
-ghost use Rattle.tileshell.specs.InMemory.{EditsTile, RefusesFile, CutsLongScript, NamesLongScript, GivesTile, handed_out};
+ghost use Rattle.tileshell.specs.InMemory.{EditsTile, RefusesFile, CutsLongScript, IsRunInMemory, NamesLongScript, GivesTile, handed_out};
 
 use std::alloc::Global;
 use tile_device::{Counts, Sink, Source, Trouble};
@@ -22,10 +22,8 @@ pub struct Edited {
 /// Edits the tile by the lines of the script, as `run` does, with no devices, and frees what the run
 /// held. The tile and the script stay as they are.
 ///
-/// Where memory was refused, the clauses say only when there is a tile, and that no device is named
-/// but a script that is too long. The clause `course` of `run` says more, of the devices here: a
-/// line to which memory was refused is replied to with 60 or 54, and a run that is not strict goes
-/// on behind it; with `NoMemory` the last reply may be cut short.
+/// A line to which memory was refused is replied to with 60 or 54, and a run that is not strict goes
+/// on behind it. With `NoMemory` the last reply may be cut short.
 pub fn edit(alloc: Global, tile: &[u8], script: &[u8], options: Options) -> Edited
     requires some_depth { 1 ≤ options.depth }
     requires depth { options.depth ≤ MAX_DEPTH }
@@ -38,6 +36,9 @@ pub fn edit(alloc: Global, tile: &[u8], script: &[u8], options: Options) -> Edit
 
     // Of a script that is too long, the lines that end within MAX_SCRIPT bytes.
     ensures cuts_long_script { CutsLongScript options tile.now script.now result }
+
+    // Where memory was refused too: what was read, replied and written.
+    ensures course { IsRunInMemory options tile.now script.now result }
 
     // No device is named, but the script where it is too long.
     ensures names_long_script { NamesLongScript script.now result }

@@ -1,6 +1,6 @@
 use Rattle.std.proofs.Common.{sym, subst}
-use Rattle.tileshell.specs.InMemory.{EditsTile, RefusesFile, CutsLongScript, NamesLongScript}
-use Rattle.tileshell.proofs.InMemory.{RunsInMemory, from_new, edits_tile, refuses_file, names_long_script}
+use Rattle.tileshell.specs.InMemory.{EditsTile, RefusesFile, CutsLongScript, IsRunInMemory, NamesLongScript}
+use Rattle.tileshell.proofs.InMemory.{RunsInMemory, from_new, edits_tile, refuses_file, run_in_memory, names_long_script}
 use Rattle.tileshell.proofs.LongScripts.{cuts_long_script}
 use Rattle.tileshell.proofs.in_memory.edit.Goals as goal
 
@@ -29,6 +29,11 @@ pub returns-clause-cuts_long_script : goal.returns-clause-cuts_long_script
 returns-clause-cuts_long_script c =
     subst (CutsLongScript c.args.options c.args.tile.now c.args.script.now) (sym c.hand_out.ensures)
     (cuts_long_script _ _ _ _ _ c.run_and_hold-outcome.result.outcome (in_memory c))
+
+pub returns-clause-course : goal.returns-clause-course
+returns-clause-course c =
+    subst (IsRunInMemory c.args.options c.args.tile.now c.args.script.now) (sym c.hand_out.ensures)
+    (run_in_memory _ _ _ _ _ c.run_and_hold-outcome.result.outcome (in_memory c))
 
 pub returns-clause-names_long_script : goal.returns-clause-names_long_script
 returns-clause-names_long_script c =
