@@ -12,7 +12,7 @@ use Rattle.std.proofs.lemmas.Slice.Eq.{bytes_eq-Decides}
 use Rattle.std.proofs.Math.Seq.{get_or-append_seam}
 use Rattle.std.proofs.lemmas.List.{get_or_append_left}
 use Rattle.clap.specs.Built.{AddsArg, IsAuto, IsParsedFrom, IsPlain, IsPlainArg, SameRules}
-use Rattle.clap.specs.Facts.{args_of, groups_of, Entry, EntryPasses, HasId, PassesArg, WantsDefault, least_values, parser_of, parser_of_value}
+use Rattle.clap.specs.Facts.{args_of, groups_of, Entry, EntryPasses, HasId, PassesArg, WantsDefault, parser_of, parser_of_value}
 use Rattle.clap.specs.Lexer.{without_minus}
 use Rattle.clap.specs.Matches.{found_of, matched_of, one_text}
 use Rattle.clap.specs.Values.{Accepts, IsSignedIn, read_as, reading_of}
@@ -25,6 +25,7 @@ use Rattle.clap.specs.declared.builder.value_parser.ValueParser.{ValueParser}
 use Rattle.clap.specs.declared.parser.matches.ArgMatches.{ArgMatches}
 use Rattle.clap.specs.declared.parser.matches.Found.{Found}
 use Rattle.clap.specs.declared.parser.matches.MatchedArg.{MatchedArg}
+use Rattle.tile_command_line.specs.Defaulted.{IsDefaulted}
 use Rattle.clap.proofs.CallerLemmas.{added_plain, default_present, entry_by_id, same_rules_by_id}
 use Rattle.clap.proofs.BuiltLemmas.{plain_same}
 
@@ -56,17 +57,6 @@ awaits_more id old new a added plain local other awaits = record {
 }
 
 -- ---- an option that takes one value, as the parser says, and has a default
-
-pub record IsDefaulted (option : Arg) (parser : ValueParser) : Type 0 where
-  pub plain : IsPlainArg option
-  pub local : option.global ≡ false
-  pub default : WantsDefault option
-  pub action : option.action ≡ Some Set
-  pub delimiter : option.val_delim ≡ None
-  pub least : 1 ≤ least_values option
-  pub named : option.id.now ≡ [] → ⊥
-  pub own : IsAuto option → ⊥
-  pub value : option.value_parser ≡ Some parser
 
 -- the entry of an id
 has_entry : (xs : List Entry) (id : List ℕ) (i : ℕ) → i < length xs → ((d : Entry) → bytes_eq (slice_index_or xs i d).0.now id ≡ true)

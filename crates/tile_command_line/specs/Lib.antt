@@ -1,1 +1,2 @@
+pub mod Defaulted
 pub mod Depth

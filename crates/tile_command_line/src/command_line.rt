@@ -1,8 +1,10 @@
 //! The options of the program, and what its words say of them.
 
-ghost use Rattle.std.specs.Prelude.{◌≤◌, IfOk};
+ghost use Rattle.std.specs.Prelude.{◌≡◌, ◌≤◌, IfOk, codes, pos};
+ghost use Rattle.clap.specs.declared.builder.value_parser.ValueParser.TheVariants.{Signed};
 ghost use Rattle.mvt_history.specs.declared.TheConstants.{MAX_DEPTH};
 ghost use Rattle.tile_command_line.specs.Depth.{HasDepth, TellsDepth};
+ghost use Rattle.tile_command_line.specs.Defaulted.{IsDefaulted};
 
 use crate::help::SCRIPT_HELP;
 use clap::{Arg, ArgAction, ArgMatches, Command, value_parser};
@@ -35,13 +37,6 @@ pub fn matched<'a>(alloc: Global, words: &'a [&'a str]) -> Result<ArgMatches<'a>
         .long("strict")
         .action(ArgAction::SetTrue)
         .help("Stop at the first refused line");
-    let depth = Arg::new(alloc, "depth")
-        .long("depth")
-        .value_name("N")
-        .action(ArgAction::Set)
-        .value_parser(value_parser!(u32).range(1..=i64::from(MAX_DEPTH)))
-        .default_value("100")
-        .help("How many steps undo goes back at most, from 1 to 10000");
     Command::new(alloc, "tileshell")
         .version(VERSION)
         .about("Edits a vector tile by the lines of a script")
@@ -51,8 +46,22 @@ pub fn matched<'a>(alloc: Global, words: &'a [&'a str]) -> Result<ArgMatches<'a>
         .arg(out)?
         .arg(script)?
         .arg(strict)?
-        .arg(depth)?
+        .arg(depth_option(alloc))?
         .try_get_matches_from(words)
+}
+
+/// The option `--depth`.
+fn depth_option<'a>(alloc: Global) -> Arg<'a>
+    ensures id { result.id.now ≡ codes "depth" }
+    ensures number { IsDefaulted result (Signed (pos 1) (pos MAX_DEPTH)) }
+{
+    Arg::new(alloc, "depth")
+        .long("depth")
+        .value_name("N")
+        .action(ArgAction::Set)
+        .value_parser(value_parser!(u32).range(1..=i64::from(MAX_DEPTH)))
+        .default_value("100")
+        .help("How many steps undo goes back at most, from 1 to 10000")
 }
 
 /// The depth that the words ask for, or else the default.

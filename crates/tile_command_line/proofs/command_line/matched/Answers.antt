@@ -1,4 +1,4 @@
-use Rattle.std.proofs.Common.{rules, ◌≡◌, ◌∙◌, ℕ, List, Some, refl, sym, ap, subst, inl, inr, arith, codes, slice_index}
+use Rattle.std.proofs.Common.{rules, ◌≡◌, ◌∙◌, ℕ, List, Some, refl, sym, ap, subst, arith, codes, slice_index}
 use Rattle.std.specs.Prelude.{pos}
 use Rattle.std.proofs.lemmas.Result.{IfOk-weaker}
 use Rattle.clap.specs.Matches.{found_of, one_text}
@@ -10,7 +10,7 @@ use Rattle.clap.specs.declared.parser.matches.ArgMatches.{ArgMatches}
 use Rattle.clap.specs.Built.{IsParsedFrom}
 use Rattle.mvt_history.specs.declared.TheConstants.{MAX_DEPTH}
 use Rattle.tile_command_line.specs.Depth.{HasDepth}
-use Rattle.tile_command_line.proofs.NumberOption.{Awaits, IsDefaulted, awaits_begun, awaits_more, last_option_text, in_range}
+use Rattle.tile_command_line.proofs.NumberOption.{Awaits, awaits_begun, awaits_more, last_option_text, in_range}
 use Rattle.tile_command_line.proofs.command_line.matched.Goals as goal
 
 abbrev depth_id : List ℕ
@@ -47,52 +47,14 @@ with_strict c = awaits_more depth_id c.in_ok-arg-3.field-0 c.in_ok-arg-4.field-0
     (rw (c.help-strict.ensures, c.action.ensures, c.long-2.ensures) c.new-4.ensures.plain) (rw (c.help-strict.ensures, c.action.ensures, c.long-2.ensures) c.new-4.ensures.optional.1)
     (other_name c.help-strict.result (codes "strict") (rw (c.help-strict.ensures, c.action.ensures, c.long-2.ensures, c.new-4.ensures.id) refl) (λ (e : 115 ≡ 100). omega (arith, e))) (with_script c)
 
--- ---- the option
-
--- all but its default and its help
-bare : (c : goal.After-try_get_matches_from) → c.value_parser-2.result ≡ record c.new-5.result {
-  long = c.value_parser-2.result.long;
-  val_names = c.value_parser-2.result.val_names;
-  action = c.value_parser-2.result.action;
-  value_parser = c.value_parser-2.result.value_parser;
-}
-bare c = rw (c.value_parser-2.ensures.others, c.action-2.ensures, c.value_name-2.ensures, c.long-3.ensures) refl
-
-option_id : (c : goal.After-try_get_matches_from) → c.help-depth.result.id.now ≡ depth_id
-option_id c = rw (c.help-depth.ensures, c.default_value.ensures, bare c, c.new-5.ensures.id) refl
-
-range_parser : (c : goal.After-try_get_matches_from) → c.range.result ≡ depth_range
-range_parser c = rw (c.value_parser.ensures, c.new-6.ensures.start, c.new-6.ensures.end, c.from.ensures) at c.range.ensures
-
-option_parser : (c : goal.After-try_get_matches_from) → c.help-depth.result.value_parser ≡ Some depth_range
-option_parser c =
-    let given = c.value_parser-2.ensures.given in
-    rw (c.help-depth.ensures, c.default_value.ensures) (given.1 ∙ ap (λ (q : ValueParser). Some q) (given.2 ∙ range_parser c))
-
-is_defaulted : (c : goal.After-try_get_matches_from) → IsDefaulted c.help-depth.result depth_range
-is_defaulted c = record {
-  plain = rw (c.help-depth.ensures, c.default_value.ensures, bare c) c.new-5.ensures.plain;
-  local = rw (c.help-depth.ensures, c.default_value.ensures, bare c) c.new-5.ensures.optional.1;
-  default = rw (c.help-depth.ensures, c.default_value.ensures, bare c) (c.new-5.ensures.defaults.1, omega arith);
-  action = rw (c.help-depth.ensures, c.default_value.ensures, c.value_parser-2.ensures.others, c.action-2.ensures) refl;
-  delimiter = rw (c.help-depth.ensures, c.default_value.ensures, bare c) c.new-5.ensures.values.0;
-  least = rw (c.help-depth.ensures, c.default_value.ensures, bare c, c.new-5.ensures.values.1) (omega arith);
-  named = λ empty. let no : 100 ≡ 0 = ap (λ (t : List ℕ). slice_index t 0) (sym (option_id c) ∙ empty) in omega (arith, no);
-  own = λ auto. elim auto [
-    | inl help ↦ let no : 100 ≡ 104 = ap (λ (t : List ℕ). slice_index t 0) (sym (option_id c) ∙ help) in omega (arith, no)
-    | inr version ↦ let no : 100 ≡ 118 = ap (λ (t : List ℕ). slice_index t 0) (sym (option_id c) ∙ version) in omega (arith, no)
-  ];
-  value = option_parser c;
-}
-
 -- ---- what the matches hold
 
 has_depth : (c : goal.After-try_get_matches_from) (matches : ArgMatches) → IsParsedFrom c.in_ok-arg-5.field-0 matches → HasDepth matches
 has_depth c matches parsed =
-    let got = last_option_text c.in_ok-arg-4.field-0 c.in_ok-arg-5.field-0 c.help-depth.result matches depth_range c.in_ok-arg-5.ensures
-    (subst (λ (t : List ℕ). Awaits t c.in_ok-arg-4.field-0) (sym (option_id c)) (with_strict c)) (is_defaulted c) parsed in
+    let got = last_option_text c.in_ok-arg-4.field-0 c.in_ok-arg-5.field-0 c.depth_option.result matches depth_range c.in_ok-arg-5.ensures
+    (subst (λ (t : List ℕ). Awaits t c.in_ok-arg-4.field-0) (sym c.depth_option.ensures.id) (with_strict c)) c.depth_option.ensures.number parsed in
     let number = in_range 1 MAX_DEPTH got.0 (omega arith) got.2 in
-    let told : one_text (found_of matches) depth_id ≡ Some (without_minus got.0) = subst (λ (t : List ℕ). one_text (found_of matches) t ≡ Some (without_minus got.0)) (option_id c) got.1 in
+    let told : one_text (found_of matches) depth_id ≡ Some (without_minus got.0) = subst (λ (t : List ℕ). one_text (found_of matches) t ≡ Some (without_minus got.0)) c.depth_option.ensures.id got.1 in
     (_, (without_minus got.0, told, number.0, refl), number.1, number.2)
 
 pub returns : goal.returns
