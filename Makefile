@@ -88,7 +88,7 @@ uninstall:
 deb: all
 	rm -rf build/deb
 	mkdir -p build/deb/tileshell
-	cp -r --parents build/tileshell install.mk debian man completions README.md CHANGELOG.md docs/GUIDE.md docs/FINDING.md docs/FORMATS.md docs/PROVED.md docs/EXAMPLE.md build/deb/tileshell
+	cp -r --parents build/tileshell install.mk debian man completions README.md CHANGELOG.md docs/GUIDE.md docs/FINDING.md docs/FORMATS.md docs/PROVED.md docs/EXAMPLE.md docs/LIBRARY.md build/deb/tileshell
 	cd build/deb/tileshell && dpkg-buildpackage --build=binary --no-sign
 	lintian --fail-on error,warning build/deb/*.changes
 

@@ -21,6 +21,7 @@ FILES = \
 	docs/FORMATS.md:share/doc/tileshell/docs/FORMATS.md \
 	docs/PROVED.md:share/doc/tileshell/docs/PROVED.md \
 	docs/EXAMPLE.md:share/doc/tileshell/docs/EXAMPLE.md \
+	docs/LIBRARY.md:share/doc/tileshell/docs/LIBRARY.md \
 	debian/copyright:share/doc/tileshell/copyright
 
 .PHONY: install uninstall

@@ -57,6 +57,13 @@ def crates():
     return {name.split()[0]: used.split() for name, _, used in named if name.strip()}
 
 
+@cache
+def below(crate):
+    """All libraries that a crate stands on, and those that they stand on."""
+    used = crates().get(crate, [])
+    return set(used).union(*map(below, used))
+
+
 def root_of(crate):
     sources = CRATES / crate / "src"
     path = next(path for name in ("lib.rt", "main.rt") if (path := sources / name).exists())
