@@ -13,4 +13,4 @@ pub use mvt_document::{
     size_beside_part, size_of_all, sum_within, tags,
 };
 pub use mvt_read::{BodyRef, FieldRef, ReadError, field_at_front, read_document};
-pub use mvt_write::{WriteError, size, write_document};
+pub use mvt_write::{WriteError, size, write_document, write_document_into};

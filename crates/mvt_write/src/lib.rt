@@ -2,7 +2,9 @@
 //!
 //! - A document is written as its bytes (`bytes`), so one that was read is written as the file that
 //!   it was read from. It is refused as too large exactly where these are more than 67,108,864
-//!   (`too_large`): `write_document`. Its size is theirs, where they are no more: `size`.
+//!   (`too_large`): `write_document`. `write_document_into` says the same, writes into memory that is
+//!   there, and asks for none where that is enough (`no_memory`). The size of a document is that of
+//!   its bytes, where they are no more: `size`.
 #![tactic(auto)]
 
 mod encode;
@@ -11,4 +13,4 @@ mod messages;
 mod write;
 
 pub use faults::WriteError;
-pub use write::{size, write_document};
+pub use write::{size, write_document, write_document_into};
