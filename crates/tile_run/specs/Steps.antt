@@ -28,6 +28,11 @@ use Rattle.mvt_history.specs.Session.{StandsFor}
 
 -- ---- the tile
 
+-- the document that opening gave beside something else, or why it gave none
+abbrev pub document_in : {A : Type 0} → Result (Document × A) Unopened → Result Document Unopened
+document_in (Ok opened) = Ok opened.0
+document_in (Err stop) = Err stop
+
 -- how opening the tile ended, for what was read of it: with its document, with trouble, with what is wrong with it, or
 -- out of memory
 abbrev pub OpensTile : Result Document Unopened → Intake → Type 0

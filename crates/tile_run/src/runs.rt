@@ -8,13 +8,13 @@ ghost use Rattle.mvt_document.specs.Wire.{bytes_of};
 ghost use Rattle.mvt_history.specs.declared.TheConstants.{MAX_DEPTH};
 ghost use Rattle.tile_device.specs.Seen.{Intake, Output, Reads, Writes, source_at, sink_at};
 ghost use Rattle.tile_run.specs.Headline.{Headline, RefusesTile, Runs, WritesATile, LeavesOut, LeavesReplies, devices_at};
-ghost use Rattle.tile_run.specs.Steps.{OpensTile, WritesTile};
+ghost use Rattle.tile_run.specs.Steps.{OpensTile, WritesTile, document_in};
 
 use crate::editor::Editor;
 use crate::outcome::{Options, Outcome, TileFault, Unopened, Unwritten};
 use mvt_document::{Document, MAX_FILE};
 use mvt_read::{ReadError, read_document};
-use mvt_write::write_document;
+use mvt_write::write_document_into;
 use std::alloc::Global;
 use std::mem;
 use tile_device::{Retries, Sink, Source, read_to_limit, write_and_flush};
@@ -111,8 +111,8 @@ pub fn run_and_hold<R1: Source, R2: Source, W1: Sink, W2: Sink>(
     ensures replies_as_they_were { LeavesReplies result.outcome → replies.new ≡ replies.old }
 {
     let mut retries = Retries::new(MAX_RETRIES);
-    let document = match open(alloc, tile, &mut retries) {
-        Ok(document) => document,
+    let (document, file) = match open(alloc, tile, &mut retries) {
+        Ok(opened) => opened,
         Err(stop) => return Ended::new(stop.into(), None),
     };
     let Some(mut editor) = Editor::start(alloc, document, options) else {
@@ -121,31 +121,37 @@ pub fn run_and_hold<R1: Source, R2: Source, W1: Sink, W2: Sink>(
     if let Err(stop) = editor.carry_out_script(alloc, script, replies, &mut retries) {
         return Ended::new(stop.into(), Some(editor));
     }
-    if let Err(stop) = write_tile(alloc, editor.document(), out, &mut retries) {
+    if let Err(stop) = write_tile(alloc, editor.document(), file, out, &mut retries) {
         return Ended::new(stop.into(), Some(editor));
     }
     let outcome = Outcome::edited(editor.any_refused());
     Ended::new(outcome, Some(editor))
 }
 
-/// Reads the tile to its end, or to the first byte that is too many, and opens it.
-fn open<R: Source>(alloc: Global, tile: &mut R, retries: &mut Retries) -> Result<Document, Unopened>
-    ensures { (intake : Intake) × (length intake.bytes ≤ MAX_FILE + 1) × OpensTile result intake
+/// Reads the tile to its end, or to the first byte that is too many, and opens it. Beside the
+/// document is the vector that the tile was read into.
+fn open<R: Source>(
+    alloc: Global,
+    tile: &mut R,
+    retries: &mut Retries,
+) -> Result<(Document, Vec<u8>), Unopened>
+    ensures { (intake : Intake) × (length intake.bytes ≤ MAX_FILE + 1) × OpensTile (document_in result) intake
         × Reads (source_at R.Source tile.old) (source_at R.Source tile.new) retries.old retries.new intake }
 {
     let file = read_to_limit(alloc, tile, MAX_FILE + 1, retries)?;
     match read_document(alloc, &file) {
-        Ok(document) => Ok(document),
+        Ok(document) => Ok((document, file)),
         Err(ReadError::BadWire { place }) => Err(Unopened::Refused(TileFault::BadWire { place })),
         Err(ReadError::FileTooLarge) => Err(Unopened::Refused(TileFault::FileTooLarge)),
         Err(ReadError::NoMemory) => Err(Unopened::NoMemory),
     }
 }
 
-/// Writes the bytes of the document.
+/// Writes the bytes of the document. They are made in the memory of this vector.
 fn write_tile<W: Sink>(
     alloc: Global,
     document: &Document,
+    room: Vec<u8>,
     out: &mut W,
     retries: &mut Retries,
 ) -> Result<(), Unwritten>
@@ -155,7 +161,7 @@ fn write_tile<W: Sink>(
     ensures opens { IsDocument (document_of document.now) →
         OnOk result (OpensAs (bytes_of (document_of document.now)) (settle (document_of document.now))) }
 {
-    let Ok(file) = write_document(alloc, document) else {
+    let Ok(file) = write_document_into(alloc, document, room) else {
         return Err(Unwritten::NoMemory);
     };
     if write_and_flush(out, &file, retries).is_err() {
