@@ -13,6 +13,9 @@ PROGRAM = CRATE / "out" / "row_tests"
 # What becomes of a growth that is none of the runs: the table is not read, or what came of a run is not compared.
 ELSEWHERE = "elsewhere"
 
+# A run as a call ends for want of memory behind so many lines of replies.
+CUT = "cut behind"
+
 # What the program tells of a run that is not as its row has it.
 DIFFERS = re.compile(r"is (.*), with the replies\n(.*)\nand (?:no tile|the tile ([0-9a-f]*))\nshould be .*"
                      r"differs, as (a call|streams|one byte a call): a run\n", re.DOTALL)
@@ -24,6 +27,19 @@ def table_of(run):
     lines = [("row", ["a run"]), ("depth", [run.depth]), ("tile", [run.tile.hex()]), (">", run.script.decode().split("\n")[:-1]),
              ("<", end.replies.decode().splitlines()), ("ends", [["Done", "SomeRefused"][end.status]]), ("gives", [end.tile.hex()])]
     return "".join(f"{word} {rest}\n" for word, each in lines for rest in each)
+
+
+def count(replies):
+    """How many lines they are, the last one whole or not."""
+    return len(replies.splitlines())
+
+
+def lost(run, said):
+    """What is wrong with how much is replied by calls that end for want of memory: the later the growth, the more, up to all."""
+    found = [int(what.removeprefix(CUT)) for what in said if what.startswith(CUT)]
+    most = count(ended(run.tile, run.script, run.depth, run.strict).replies)
+    if found != sorted(found) or most not in found or not any(0 < lines < most for lines in found):
+        yield f"a call that ends for want of memory has so many lines of replies, growth by growth, of {most}: {found}"
 
 
 def judged(run, status, told, complaint):
@@ -44,7 +60,7 @@ def judged_way(run, way, outcome, replies, tile):
     plain = ended(run.tile, run.script, run.depth, run.strict)
     is_prefix = plain.replies.startswith(replies.encode())
     if way == "a call" and outcome == "NoMemory" and is_prefix and tile is None:
-        return RUN
+        return f"{CUT} {count(replies)}"
     if way != "a call" and outcome == "Device(Replies)" and is_prefix and tile is None:
         return RUN
     if way != "a call" and outcome == "Device(Out)" and replies.encode() == plain.replies and plain.tile.startswith(tile):
