@@ -2,7 +2,9 @@
 
 use crate::broken::{Answer, Broken};
 use crate::given::Given;
-use crate::{arguments, changes, geometries, limits, numbers, scripts, texts, values, views, wire};
+use crate::{
+    arguments, changes, errors, geometries, limits, numbers, scripts, texts, values, views, wire,
+};
 use std::alloc::Global;
 
 /// What the call of this module and name answers.
@@ -19,6 +21,7 @@ pub fn answer(alloc: Global, call: &str, given: Given<'_>) -> Answer {
         "texts" => texts::answer(alloc, name, given),
         "changes" => changes::answer(alloc, name, given),
         "limits" => limits::answer(alloc, name, given),
+        "errors" => errors::answer(alloc, name, given),
         _ => Err(Broken::NoCall),
     }
 }

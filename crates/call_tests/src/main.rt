@@ -16,6 +16,7 @@ mod arguments;
 mod broken;
 mod calls;
 mod changes;
+mod errors;
 mod geometries;
 mod given;
 mod limits;

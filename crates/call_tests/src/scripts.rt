@@ -92,7 +92,7 @@ fn put_cut(lines: &mut Vec<u8>, cut: Cut<'_>) -> Result<(), AllocError> {
 }
 
 /// All reasons for which a line is refused.
-const REASONS: [Refused; 34] = [
+pub const REASONS: [Refused; 34] = [
     Refused::Parse(ParseError::BadUtf8),
     Refused::Parse(ParseError::BadWord),
     Refused::Parse(ParseError::UnknownCommand),
