@@ -1,5 +1,6 @@
 pub mod Options
 pub mod Beside
+pub mod Running
 pub mod Prefixes
 pub mod SameBytes
 pub mod Settling

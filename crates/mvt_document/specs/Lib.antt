@@ -9,8 +9,10 @@ pub mod Opens
 pub mod BodyShape
 pub mod Lending
 pub mod Kept
+pub mod Runs
 pub mod LendingKept
 pub mod Stands
+pub mod Kinds
 pub mod Parts
 pub mod Settle
 pub mod Splicing

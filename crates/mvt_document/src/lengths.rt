@@ -1,7 +1,10 @@
-//! The sizes of the messages of a tile. That of a layer comes from the size that its message keeps.
+//! The sizes of the messages of a tile, and which items are messages. The size of a layer comes from
+//! the one that its message keeps.
 
+ghost use Rattle.std.specs.Prelude.{true, false};
 ghost use Rattle.mvt_document.specs.Wire.{body_bytes, field_bytes, feature_bytes, layer_item_bytes, layer_bytes, tile_item_bytes};
 ghost use Rattle.mvt_document.specs.Stands.{body_of, field_of, feature_of, layer_item_of, layer_of, tile_item_of};
+ghost use Rattle.mvt_document.specs.Kinds.{is_feature, is_layer};
 
 use crate::body::Body;
 use crate::document::{Feature, Field, Layer, LayerItem, TileItem};
@@ -9,6 +12,12 @@ use crate::measure::{Measured, delimited_size, message_size, size_of_all, sum_wi
 
 impl Measured for Body {
     ghost bytes = { λ b. body_bytes (body_of b) };
+
+    ghost message = { λ _. false };
+
+    fn is_message(&self) -> bool {
+        false
+    }
 
     fn size_within(&self, limit: usize) -> Option<usize> {
         match self {
@@ -24,6 +33,12 @@ impl Measured for Body {
 impl Measured for Field {
     ghost bytes = { λ f. field_bytes (field_of f) };
 
+    ghost message = { λ _. false };
+
+    fn is_message(&self) -> bool {
+        false
+    }
+
     fn size_within(&self, limit: usize) -> Option<usize> {
         sum_within(
             self.tag.size_within(limit)?,
@@ -35,6 +50,12 @@ impl Measured for Field {
 
 impl Measured for Feature {
     ghost bytes = { λ f. feature_bytes (feature_of f) };
+
+    ghost message = { λ _. true };
+
+    fn is_message(&self) -> bool {
+        true
+    }
 
     fn size_within(&self, limit: usize) -> Option<usize> {
         message_size(
@@ -49,6 +70,13 @@ impl Measured for Feature {
 impl Measured for LayerItem {
     ghost bytes = { λ i. layer_item_bytes (layer_item_of i) };
 
+    ghost message = { is_feature };
+
+    #[inline(always)]
+    fn is_message(&self) -> bool {
+        matches!(self, LayerItem::Feature(_))
+    }
+
     fn size_within(&self, limit: usize) -> Option<usize> {
         match self {
             LayerItem::Feature(feature) => feature.size_within(limit),
@@ -60,6 +88,12 @@ impl Measured for LayerItem {
 impl Measured for Layer {
     ghost bytes = { λ l. layer_bytes (layer_of l) };
 
+    ghost message = { λ _. true };
+
+    fn is_message(&self) -> bool {
+        true
+    }
+
     fn size_within(&self, limit: usize) -> Option<usize> {
         message_size(self.tag, self.width, self.items.size_within(limit)?, limit)
     }
@@ -67,6 +101,13 @@ impl Measured for Layer {
 
 impl Measured for TileItem {
     ghost bytes = { λ i. tile_item_bytes (tile_item_of i) };
+
+    ghost message = { is_layer };
+
+    #[inline(always)]
+    fn is_message(&self) -> bool {
+        matches!(self, TileItem::Layer(_))
+    }
 
     fn size_within(&self, limit: usize) -> Option<usize> {
         match self {

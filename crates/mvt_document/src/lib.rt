@@ -11,6 +11,9 @@
 //!   beside a part of a list (`size_beside_part`), and those of a message with a content of a given
 //!   length (`message_size`). A message may keep that number; where it does, it is the right one
 //!   after every change, which its type keeps (`IsKept`).
+//! - Which items are messages themselves, the layers of a tile and the features of a layer, a list of
+//!   items may keep where they stand in one run; where it does, just the items of that run are, after
+//!   every change, which its type keeps (`IsKnownRun`): `Message::run`.
 //! - Items of a list change places with those of another, as many for as many or for more or fewer,
 //!   and an item moves within its list: `exchange` and `move_item` of `Items` and of `Message`.
 //!   Where memory runs out nothing has changed, and it does not where both lists have the room
@@ -41,6 +44,7 @@ mod lengths;
 mod measure;
 mod message;
 mod places;
+mod run;
 pub mod tags;
 mod varint;
 mod zigzag;
@@ -50,6 +54,7 @@ pub use document::{Document, Feature, Field, Layer, LayerItem, TileItem};
 pub use items::Items;
 pub use measure::{Measured, message_size, size_beside_part, size_of_all, sum_within};
 pub use message::Message;
+pub use run::Run;
 pub use varint::{Varint, least_width, put_number, read_varint};
 pub use zigzag::{from_zigzag, to_zigzag};
 

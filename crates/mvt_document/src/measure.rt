@@ -1,6 +1,7 @@
-//! How many bytes a value takes, by one trait that each type of a document has.
+//! How many bytes a value takes, and whether it is a message, by one trait that each type of a
+//! document has.
 
-ghost use Rattle.std.specs.Prelude.{ℕ, ◌+◌, ◌≤◌, List, [], ◌++◌, length, max};
+ghost use Rattle.std.specs.Prelude.{◌≡◌, ℕ, ◌+◌, ◌≤◌, Bool, false, List, [], ◌++◌, length, max};
 ghost use Rattle.std.specs.Option.{SomeIff};
 ghost use Rattle.std.specs.List.{flat_map};
 ghost use Rattle.mvt_document.specs.declared.TheConstants.{MAX_FILE};
@@ -10,9 +11,16 @@ ghost use Rattle.mvt_document.specs.Splicing.{splice};
 use crate::MAX_FILE;
 use crate::varint::{Varint, least_width};
 
-/// A value that is written as bytes, of which it is known how many they are.
+/// A value that is written as bytes, of which it is known how many they are, and whether they are a
+/// message whose fields are known.
 pub trait Measured {
     ghost bytes: { Self → List ℕ };
+
+    ghost message: { Self → Bool };
+
+    /// Whether it is a message whose fields are known.
+    fn is_message(&self) -> bool
+        ensures { result ≡ message self.now };
 
     /// How many bytes it takes, where they are within the limit.
     fn size_within(&self, limit: usize) -> Option<usize>
@@ -84,6 +92,12 @@ pub fn message_size(tag: Varint, width: u8, length: usize, limit: usize) -> Opti
 
 impl Measured for Varint {
     ghost bytes = { λ n. spell n.value n.width };
+
+    ghost message = { λ _. false };
+
+    fn is_message(&self) -> bool {
+        false
+    }
 
     fn size_within(&self, limit: usize) -> Option<usize> {
         sum_within(usize::from(self.width), 0, limit)

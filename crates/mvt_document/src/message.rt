@@ -1,5 +1,6 @@
-//! The items of a tile or of a layer, with how many bytes they take: known from where they were
-//! read, and kept over changes. A feature is small, and is measured where it has to be.
+//! The items of a tile or of a layer, with how many bytes they take, and which of them are messages:
+//! known from where they were read, and kept over changes. A feature is small, and is measured where
+//! it has to be.
 
 ghost use Rattle.std.specs.Prelude.{◌≡◌, ◌≤◌, ◌+◌, ◌++◌, ℕ, length, Some, IfSome};
 ghost use Rattle.std.specs.List.{flat_map};
@@ -10,27 +11,30 @@ use crate::MAX_FILE;
 use crate::exchange::move_item;
 use crate::items::Items;
 use crate::measure::{Measured, size_beside_part, size_of_all, sum_within};
+use crate::run::{Run, run_of};
 use std::alloc::{AllocError, AllocFailed};
 use std::marker::Model;
 
-/// The items of a message, and how many bytes they take, where that is known. Contracts see the
-/// items, and beside them the room for more.
+/// The items of a message, and where that is known how many bytes they take, and in which run those
+/// stand that are messages themselves. Contracts see the items, and beside them the room for more.
 #[derive(Debug, Drop)]
 pub struct Message<T: Measured> {
     inner: Vec<T>,
     sum: Option<usize>,
+    run: Option<Run>,
 }
 
 impl<T: Measured> Model for Message<T> {
     ghost use Rattle.std.specs.Prelude.{◌-◌, vec_len, vec_capacity};
     ghost use Rattle.mvt_document.specs.Held.{Held};
     ghost use Rattle.mvt_document.specs.Kept.{IsKept};
+    ghost use Rattle.mvt_document.specs.Runs.{IsKnownRun};
 
     ghost Value = { Held T };
 
     ghost view = { λ l. record { items = l.inner.items; room = vec_capacity l.inner - vec_len l.inner } };
 
-    ghost invariant = { λ l. IsKept T.bytes l.inner.items l.sum };
+    ghost invariant = { λ l. IsKept T.bytes l.inner.items l.sum × IsKnownRun T.message l.inner.items l.run };
 }
 
 impl<T: Measured> Message<T> {
@@ -38,6 +42,7 @@ impl<T: Measured> Message<T> {
     ghost use Rattle.mvt_document.specs.Splicing.{moved, part, splice};
     ghost use Rattle.std.specs.Borrow.{sem};
     ghost use Rattle.mvt_document.specs.Kept.{IsKept, bytes_beside};
+    ghost use Rattle.mvt_document.specs.Runs.{IsKnownRun, IsRunBeside};
     ghost use Rattle.mvt_document.specs.Lending.{held_in};
     ghost use Rattle.mvt_document.specs.LendingKept.{LendsKept, LendsVecKept};
 
@@ -47,9 +52,11 @@ impl<T: Measured> Message<T> {
         requires { sum ≡ length (flat_map T.bytes inner.items) }
         ensures { result.items ≡ inner.items }
     {
+        let run = run_of(inner.as_slice());
         Message {
             inner,
             sum: Some(sum),
+            run,
         }
     }
 
@@ -63,6 +70,13 @@ impl<T: Measured> Message<T> {
         ensures { result ≡ length self.now.items }
     {
         self.inner.len()
+    }
+
+    /// The run of the items that are messages themselves, where they are known to stand in one.
+    pub fn run(&self) -> Option<Run>
+        ensures { IsKnownRun T.message self.now.items result }
+    {
+        self.run
     }
 
     /// How many bytes the items take, where they are within the limit.
@@ -103,6 +117,24 @@ impl<T: Measured> Message<T> {
         sum_within(sum - part, 0, limit)
     }
 
+    /// The run of those that are messages, which stays known whatever the item at this index becomes.
+    pub(crate) fn run_beside(&self, index: usize) -> Option<Run>
+        requires { index < length self.now.items }
+        ensures { IfSome result (λ run. IsRunBeside T.message index run self.now.items) }
+    {
+        self.run
+    }
+
+    /// The run of those that are messages, where it is known but for the item at this index.
+    fn run_with(&self, index: usize, beside: Option<Run>) -> Option<Run>
+        requires { IfSome beside (λ run. IsRunBeside T.message index run self.now.items) }
+        ensures { IsKnownRun T.message self.now.items result }
+    {
+        let item = self.inner.get(index)?;
+        let run = beside?;
+        run.spliced(index, 1, Run::of_one(item.is_message()), 1)
+    }
+
     /// How many bytes the items take, where those beside this one take so many. What is not known is
     /// measured.
     fn size_with(&self, index: usize, beside: Option<usize>) -> Option<usize>
@@ -116,21 +148,25 @@ impl<T: Measured> Message<T> {
         sum_within(beside, item.size()?, MAX_FILE)
     }
 
-    /// Knows the size again, where the items beside this one take so many bytes.
-    pub(crate) fn remember(&mut self, index: usize, beside: Option<usize>)
-        requires { IfSome beside (λ n. n ≡ bytes_beside T.bytes index self.old.items) }
+    /// Knows the size and the run again, where the items beside this one take so many bytes, and have
+    /// this run whatever it is.
+    pub(crate) fn remember(&mut self, index: usize, beside: Option<usize>, run: Option<Run>)
+        requires size { IfSome beside (λ n. n ≡ bytes_beside T.bytes index self.old.items) }
+        requires run { IfSome run (λ run. IsRunBeside T.message index run self.old.items) }
         ensures { self.new ≡ self.old }
     {
         self.sum = self.size_with(index, beside);
+        self.run = self.run_with(index, run);
     }
 
-    /// The item at this index. The size is no longer known: see `remember`.
+    /// The item at this index. The size and the run are no longer known: see `remember`.
     pub(crate) fn item_mut(&mut self, index: usize) -> &mut T
         requires { index < length self.old.items }
         ensures* writes_back { sem 𝓛 (LendsKept T.row T.Measured self.entry index result) }
         ensures value { slice_get self.old.items index ≡ Some result.now }
     {
         self.sum = None;
+        self.run = None;
         &mut self.inner[index]
     }
 
@@ -141,21 +177,23 @@ impl<T: Measured> Message<T> {
         self.sum
     }
 
-    /// The vector that the items are in. The size is no longer known: see `know_size`.
+    /// The vector that the items are in. The size and the run are no longer known: see `know_size`.
     pub fn as_vec_mut(&mut self) -> &mut Vec<T>
         ensures* writes_back { sem 𝓛 (LendsVecKept T.row T.Measured self.entry result) }
         ensures value { held_in result.now ≡ self.old }
     {
         self.sum = None;
+        self.run = None;
         &mut self.inner
     }
 
-    /// Knows the size again.
+    /// Knows the size again, and the run.
     pub fn know_size(&mut self, known: Option<usize>)
         requires { IsKept T.bytes self.old.items known }
         ensures { self.new ≡ self.old }
     {
         self.sum = known;
+        self.run = run_of(self.inner.as_slice());
     }
 
     /// Adds an item at the end. An `Err` changes nothing.
@@ -163,9 +201,19 @@ impl<T: Measured> Message<T> {
         ensures items { self.new.items ≡ (if is_ok result then self.old.items ++ item ∷ [] else self.old.items) }
     {
         let sum = sum_known(self.sum, item.size());
+        let run = self.run_pushed(&item);
         self.inner.push(item)?;
         self.sum = sum;
+        self.run = run;
         Ok(())
+    }
+
+    /// The run of those that are messages once this item is behind the others, where it is known.
+    fn run_pushed(&self, item: &T) -> Option<Run>
+        ensures { IsKnownRun T.message (self.now.items ++ item.now ∷ []) result }
+    {
+        let run = self.run?;
+        run.joined(self.len(), Run::of_one(item.is_message()))
     }
 
     /// How many bytes the items take once so many from an index on are exchanged for the ones to
@@ -178,6 +226,17 @@ impl<T: Measured> Message<T> {
         let gone = size_of_all(&self.inner[index..index + taken], usize::MAX)?;
         let come = size_of_all(put.as_slice(), usize::MAX)?;
         sum_within(sum - gone, come, usize::MAX)
+    }
+
+    /// The run of those that are messages once so many from an index on are exchanged for the ones to
+    /// put, where it is known.
+    fn run_exchanged(&self, index: usize, taken: usize, put: &Items<T>) -> Option<Run>
+        requires { index + taken ≤ length self.now.items }
+        ensures { IsKnownRun T.message (splice index taken put.now.items self.now.items) result }
+    {
+        let run = self.run?;
+        let put_run = run_of(put.as_slice())?;
+        run.spliced(index, taken, put_run, put.len())
     }
 
     /// Exchanges `taken` items from `index` for the ones to put, as `Items::exchange` does. The size,
@@ -196,9 +255,23 @@ impl<T: Measured> Message<T> {
         ensures succeeds { length put.old.items ≤ self.old.room + taken → taken ≤ length put.old.items + put.old.room → IsOk result }
     {
         let size = self.size_exchanged(index, taken, put);
+        let run = self.run_exchanged(index, taken, put);
         put.exchange_in(&mut self.inner, index, taken)?;
         self.sum = size;
+        self.run = run;
         Ok(())
+    }
+
+    /// The run of those that are messages once the item at one position stands at the other, where it
+    /// is known.
+    fn run_moved(&self, from: usize, to: usize) -> Option<Run>
+        requires { to < length self.now.items }
+        ensures { IsKnownRun T.message (moved from to self.now.items) result }
+    {
+        let item = self.inner.get(from)?;
+        let run = self.run?;
+        let left = run.spliced(from, 1, Run::of_none(), 0)?;
+        left.spliced(to, 0, Run::of_one(item.is_message()), 1)
     }
 
     /// Takes the item at one position out and puts it back so that it stands at the other.
@@ -208,7 +281,9 @@ impl<T: Measured> Message<T> {
         ensures items { self.new.items ≡ moved from to self.old.items }
         ensures room { self.new.room ≡ self.old.room }
     {
+        let run = self.run_moved(from, to);
         move_item(self.inner.as_mut_slice(), from, to);
+        self.run = run;
     }
 }
 
