@@ -1,5 +1,5 @@
 -- What comes of the items of an iterator.
-use Rattle.std.proofs.Common.{◌≡◌, ◌≤◌, ◌<◌, ◌^◌, ℕ, suc, Option, Some, None, List, [], ◌∷◌, length, map, option_map, refl, ap, ◌∙◌, arith}
+use Rattle.std.proofs.Common.{◌≡◌, ◌≤◌, ◌<◌, ◌^◌, ℕ, suc, Option, Some, None, List, [], ◌∷◌, ◌++◌, length, map, option_map, refl, ap, ◌∙◌, arith}
 use Rattle.std.proofs.lemmas.List.{length-map}
 use Rattle.std.proofs.lemmas.Iterator.{YieldsList, items_from_drains}
 use Rattle.std.specs.Iterator.{AlwaysYields, Drains}
@@ -28,8 +28,13 @@ length-filter_map h (x ∷ xs) = cons_length (h x) (filter_map h xs) (length xs)
 pub picked_fit : {X A B : Type 0} (view : X → A) (h : A → Option B) (xs : List X) → length xs < 2 ^ 64 → length (filter_map h (map view xs)) < 2 ^ 64
 picked_fit view h xs fits = omega (arith, length-filter_map h (map view xs), length-map xs view, fits)
 
-pub twice_picked_fit : {X A B C : Type 0} (view : X → A) (h : A → Option B) (k : B → Option C) (xs : List X) → length xs < 2 ^ 64 → length (filter_map k (filter_map h (map view xs))) < 2 ^ 64
-twice_picked_fit view h k xs fits = omega (arith, length-filter_map k (filter_map h (map view xs)), picked_fit view h xs fits)
+pub twice_picked_within : {X A B C : Type 0} (view : X → A) (h : A → Option B) (k : B → Option C) (xs : List X) → length (filter_map k (filter_map h (map view xs))) ≤ length xs
+twice_picked_within view h k xs = omega (arith, length-filter_map k (filter_map h (map view xs)), length-filter_map h (map view xs), length-map xs view)
 
 pub always_from_yields_List : {S A B : Type 0} {steps : S → Option A → S → Type 0} {v : A → B} {s : S} {all : List B} → YieldsList steps v s all → AlwaysYields steps v s all
 always_from_yields_List e = e.runs
+
+-- the last of two lists, one behind the other
+pub last_joined : {A : Type 0} (last : Option A) (xs ys : List A) → last_or last (xs ++ ys) ≡ last_or (last_or last xs) ys
+last_joined last [] ys = refl
+last_joined last (x ∷ xs) ys = last_joined (Some x) xs ys

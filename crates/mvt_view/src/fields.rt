@@ -1,13 +1,18 @@
 //! What a field holds, and the items of a message that hold something.
 
-ghost use Rattle.std.specs.Prelude.{◌≡◌, ◌+◌, ◌<◌, ◌≤◌, ◌∷◌, [], length, map, IfSome, MatchOption};
+ghost use Rattle.std.specs.Prelude.{◌≡◌, ◌+◌, ◌^◌, ◌<◌, ◌≤◌, ◌∷◌, [], ◌++◌, length, map, option_map, slice_get, IfSome, MatchOption};
+ghost use Rattle.std.specs.List.{filter_map, last_or};
 ghost use Rattle.std.specs.Option.{option_copied};
+ghost use Rattle.mvt_document.specs.Kinds.{is_feature};
+ghost use Rattle.mvt_document.specs.Runs.{IsKnownRun, IsRunOf};
 ghost use Rattle.mvt_document.specs.Stands.{feature_of, field_of, layer_item_of, layer_of, tile_item_of};
-ghost use Rattle.mvt_view.specs.Found.{placed_from};
+ghost use Rattle.mvt_view.specs.Found.{found_features, placed_from};
 ghost use Rattle.mvt_view.specs.Pools.{entry_in};
+ghost use Rattle.mvt_view.specs.Seen.{found_feature_seen};
 ghost use Rattle.mvt_view.specs.Views.{content_in, contents, feature_in, last_value, layer_in, plain_fields, value_in};
 
-use mvt_document::{Body, Feature, Field, Layer, LayerItem, TileItem};
+use crate::found::FoundFeature;
+use mvt_document::{Body, Feature, Field, Layer, LayerItem, Run, TileItem};
 
 /// The value of a VARINT field of this number.
 fn value_in(field: &Field, number: u64) -> Option<u64>
@@ -40,11 +45,42 @@ pub(crate) fn last_value(fields: &[Field], number: u64) -> Option<u64>
     last
 }
 
-/// The same among the fields of a layer.
-pub(crate) fn last_value_in_layer(items: &[LayerItem], number: u64) -> Option<u64>
-    ensures { result ≡ last_value number (plain_fields (map layer_item_of items.now)) }
+/// The items of a layer before its features and those behind them, where they stand in one run; else
+/// all items, and none.
+pub(crate) fn beside_features(layer: &Layer) -> (&[LayerItem], &[LayerItem])
+    ensures items { plain_fields (layer_of layer.now).items ≡ plain_fields (map layer_item_of result.0.now) ++ plain_fields (map layer_item_of result.1.now) }
+    ensures fits { length result.0.now + length result.1.now < 2 ^ 64 }
 {
-    let mut last = None;
+    beside_run(layer.items.as_slice(), layer.items.run())
+}
+
+/// The items before this run of the features and those behind it, where it is known; else all, and none.
+#[tactic(auto, using(crate::proofs::InRun::run_within))]
+fn beside_run(items: &[LayerItem], features: Option<Run>) -> (&[LayerItem], &[LayerItem])
+    requires { IsKnownRun is_feature items.now features }
+    ensures items { plain_fields (map layer_item_of items.now) ≡ plain_fields (map layer_item_of result.0.now) ++ plain_fields (map layer_item_of result.1.now) }
+    ensures fits { length result.0.now + length result.1.now < 2 ^ 64 }
+{
+    match features {
+        Some(run) => (&items[..run.first], &items[run.first + run.count..]),
+        None => (items, &[]),
+    }
+}
+
+/// The same among the fields of a layer.
+pub(crate) fn last_value_in_layer(layer: &Layer, number: u64) -> Option<u64>
+    ensures { result ≡ last_value number (plain_fields (layer_of layer.now).items) }
+{
+    let (front, back) = beside_features(layer);
+    let last = last_value_in_items(None, front, number);
+    last_value_in_items(last, back, number)
+}
+
+/// The same among items of a layer; the one before where there is none.
+fn last_value_in_items(before: Option<u64>, items: &[LayerItem], number: u64) -> Option<u64>
+    ensures { result ≡ last_or before (filter_map (value_in number) (plain_fields (map layer_item_of items.now))) }
+{
+    let mut last = before;
     for item in items {
         if let LayerItem::Plain(plain) = item {
             last = value_in(plain, number).or(last);
@@ -79,6 +115,29 @@ pub(crate) fn first_feature(items: &[LayerItem], start: usize) -> Option<(usize,
         }
     }
     None
+}
+
+/// The feature of this ordinal, where the features stand in this run.
+pub(crate) fn feature_in_run(
+    items: &[LayerItem],
+    features: Run,
+    ordinal: usize,
+) -> Option<FoundFeature<'_>>
+    requires { IsRunOf is_feature features items.now }
+    ensures { option_map found_feature_seen result ≡ slice_get (found_features (map layer_item_of items.now)) ordinal }
+{
+    if ordinal >= features.count {
+        return None;
+    }
+    let position = features.first + ordinal;
+    match &items[position] {
+        LayerItem::Feature(feature) => Some(FoundFeature {
+            ordinal,
+            position,
+            feature,
+        }),
+        LayerItem::Plain(_) => None,
+    }
 }
 
 /// The content of an item that is a LEN field of this number.

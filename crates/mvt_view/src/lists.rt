@@ -1,8 +1,8 @@
 //! The layers of a tile, and the features, keys and values of a layer, as iterators.
 
-use crate::fields::{first_content, first_feature, first_layer};
+use crate::fields::{beside_features, first_content, first_feature, first_layer};
 use crate::found::{FoundFeature, FoundLayer};
-use mvt_document::{LayerItem, TileItem};
+use mvt_document::{Layer, LayerItem, TileItem};
 use std::marker::Model;
 
 /// The layers of a tile, in order, each with its ordinal and its position. Contracts see those that
@@ -138,32 +138,32 @@ impl<'a> Iterator for FeatureViews<'a> {
 #[derive(Clone, Debug, Drop)]
 pub struct Contents<'a> {
     rest: &'a [LayerItem],
+    // The items behind the features, until it has come to them.
+    back: &'a [LayerItem],
     number: u64,
 }
 
 impl<'a> Model for Contents<'a> {
-    ghost use Rattle.std.specs.Prelude.{ℕ, List, map};
+    ghost use Rattle.std.specs.Prelude.{ℕ, ◌++◌, List, map};
     ghost use Rattle.mvt_document.specs.Stands.{layer_item_of};
     ghost use Rattle.mvt_view.specs.Views.{contents, plain_fields};
 
     ghost Value = { List (List ℕ) };
 
-    ghost view = { λ l. contents l.number (plain_fields (map layer_item_of l.rest.now)) };
+    ghost view = { λ l. contents l.number (plain_fields (map layer_item_of l.rest.now)) ++ contents l.number (plain_fields (map layer_item_of l.back.now)) };
 }
 
 impl<'a> Contents<'a> {
-    ghost use Rattle.std.specs.Prelude.{◌≡◌, ◌<◌, ◌^◌, length, map};
-    ghost use Rattle.mvt_document.specs.Stands.{layer_item_of};
+    ghost use Rattle.std.specs.Prelude.{◌≡◌, ◌<◌, ◌^◌, length};
+    ghost use Rattle.mvt_document.specs.Stands.{layer_of};
     ghost use Rattle.mvt_view.specs.Views.{contents, plain_fields};
 
-    pub(crate) fn of(items: &'a [LayerItem], number: u64) -> Contents<'a>
-        ensures items { result ≡ contents number (plain_fields (map layer_item_of items.now)) }
+    pub(crate) fn of(layer: &'a Layer, number: u64) -> Contents<'a>
+        ensures items { result ≡ contents number (plain_fields (layer_of layer.now).items) }
         ensures bound { length result < 2 ^ 64 }
     {
-        Contents {
-            rest: items,
-            number,
-        }
+        let (rest, back) = beside_features(layer);
+        Contents { rest, back, number }
     }
 }
 
@@ -177,8 +177,13 @@ impl<'a> Iterator for Contents<'a> {
     ghost remaining = { item_count (λ left. left) };
 
     fn next(&mut self) -> Option<&'a [u8]> {
-        let (content, behind) = first_content(self.rest, self.number)?;
+        if let Some((content, behind)) = first_content(self.rest, self.number) {
+            self.rest = behind;
+            return Some(content);
+        }
+        let (content, behind) = first_content(self.back, self.number)?;
         self.rest = behind;
+        self.back = &[];
         Some(content)
     }
 }

@@ -11,7 +11,7 @@ ghost use Rattle.mvt_view.specs.Seen.{feature_seen, found_entry_seen, found_feat
 ghost use Rattle.mvt_view.specs.Tags.{tag_pairs};
 
 use crate::entries::{Entries, first_equal};
-use crate::fields::{last_value, last_value_in_layer};
+use crate::fields::{feature_in_run, last_value, last_value_in_layer};
 use crate::found::{FoundEntry, FoundFeature};
 use crate::lists::{Contents, FeatureViews};
 use crate::tag_pairs::{PoolSizes, TagPairs};
@@ -43,21 +43,21 @@ impl<'a> LayerView<'a> {
     pub fn name(self) -> Option<&'a [u8]>
         ensures { option_copied result ≡ name_of (layer_seen self.entry) }
     {
-        Contents::of(self.layer.items.as_slice(), NAME).last()
+        Contents::of(self.layer, NAME).last()
     }
 
     /// The last version is the one that counts.
     pub fn version(self) -> u64
         ensures { result ≡ version_of (layer_seen self.entry) }
     {
-        last_value_in_layer(self.layer.items.as_slice(), VERSION).unwrap_or(DEFAULT_VERSION)
+        last_value_in_layer(self.layer, VERSION).unwrap_or(DEFAULT_VERSION)
     }
 
     /// The last extent is the one that counts.
     pub fn extent(self) -> u64
         ensures { result ≡ extent_of (layer_seen self.entry) }
     {
-        last_value_in_layer(self.layer.items.as_slice(), EXTENT).unwrap_or(DEFAULT_EXTENT)
+        last_value_in_layer(self.layer, EXTENT).unwrap_or(DEFAULT_EXTENT)
     }
 
     /// The features, in order.
@@ -73,7 +73,7 @@ impl<'a> LayerView<'a> {
         ensures items { result ≡ keys (layer_seen self.entry) }
         ensures bound { length result < 2 ^ 64 }
     {
-        Contents::of(self.layer.items.as_slice(), KEYS)
+        Contents::of(self.layer, KEYS)
     }
 
     /// The values, in order. Each is the bytes of a Value message.
@@ -81,7 +81,7 @@ impl<'a> LayerView<'a> {
         ensures items { result ≡ values (layer_seen self.entry) }
         ensures bound { length result < 2 ^ 64 }
     {
-        Contents::of(self.layer.items.as_slice(), VALUES)
+        Contents::of(self.layer, VALUES)
     }
 
     /// The keys, in order, each with its ordinal and its position.
@@ -117,7 +117,10 @@ impl<'a> LayerView<'a> {
     pub fn feature_count(self) -> usize
         ensures { result ≡ length (features (layer_seen self.entry)) }
     {
-        self.features().count()
+        match self.layer.items.run() {
+            Some(run) => run.count,
+            None => self.features().count(),
+        }
     }
 
     pub fn key_count(self) -> usize
@@ -147,7 +150,10 @@ impl<'a> LayerView<'a> {
     pub fn feature(self, ordinal: usize) -> Option<FoundFeature<'a>>
         ensures { option_map found_feature_seen result ≡ slice_get (found_features (layer_seen self.entry).items) ordinal }
     {
-        self.features().nth(ordinal)
+        match self.layer.items.run() {
+            Some(run) => feature_in_run(self.layer.items.as_slice(), run, ordinal),
+            None => self.features().nth(ordinal),
+        }
     }
 
     /// The key of this ordinal.
