@@ -60,7 +60,7 @@ fn naming(alloc: Global, position: usize, layer: &Layer, name: &[u8]) -> Result<
         (layer_of layer.now).items (named_items name.now (layer_of layer.now).items) (step_of step)) }
 {
     let items = layer.items.as_slice();
-    let spot = Spot::of(last_name(items), items.len());
+    let spot = Spot::of(last_name(&layer.items), items.len());
     let item = name_item(alloc, items.get(spot.index), name)?;
     Ok(Step::InLayer {
         layer: position,

@@ -1,3 +1,4 @@
 pub mod Meant
 mod Named
 pub mod Chosen
+mod Names

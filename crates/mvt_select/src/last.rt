@@ -1,22 +1,50 @@
 //! The position of the last name of a layer.
 
-ghost use Rattle.std.specs.Prelude.{◌≡◌, None, map};
+ghost use Rattle.std.specs.Prelude.{◌≡◌, ◌+◌, ◌^◌, ◌<◌, None, length, map};
 ghost use Rattle.std.specs.List.{last_or};
+ghost use Rattle.mvt_document.specs.Kinds.{is_feature};
+ghost use Rattle.mvt_document.specs.Runs.{IsKnownRun};
 ghost use Rattle.mvt_document.specs.Stands.{layer_item_of};
 ghost use Rattle.mvt_meaning.specs.Meaning.{is_name};
 ghost use Rattle.mvt_meaning.specs.Ordinals.{positions_of};
+ghost use Rattle.mvt_select.specs.Names.{name_positions};
 
 use mvt_document::tags::NAME;
-use mvt_document::{Body, LayerItem};
+use mvt_document::{Body, LayerItem, Message, Run};
 
-/// The position of the last name field.
-pub fn last_name(items: &[LayerItem]) -> Option<usize>
+/// The position of the last name field. Features that stand in one run are not looked at.
+pub fn last_name(items: &Message<LayerItem>) -> Option<usize>
+    ensures { result ≡ last_or None (positions_of is_name (map layer_item_of items.now.items)) }
+{
+    last_name_beside(items.as_slice(), items.run())
+}
+
+/// The position of the last name field among items whose features stand in this run, where it is known.
+#[tactic(auto, using(mvt_view::proofs::InRun::run_within))]
+fn last_name_beside(items: &[LayerItem], features: Option<Run>) -> Option<usize>
+    requires { IsKnownRun is_feature items.now features }
     ensures { result ≡ last_or None (positions_of is_name (map layer_item_of items.now)) }
 {
-    let mut last = None;
-    for (position, item) in items.iter().enumerate() {
+    match features {
+        Some(run) => {
+            let end = run.first + run.count;
+            let last = last_name_from(None, &items[..run.first], 0);
+            last_name_from(last, &items[end..], end)
+        }
+        None => last_name_from(None, items, 0),
+    }
+}
+
+/// The position of the last name field among these items, of which the first stands at `start`; the one
+/// before where there is none.
+fn last_name_from(before: Option<usize>, items: &[LayerItem], start: usize) -> Option<usize>
+    requires { start + length items.now < 2 ^ 64 }
+    ensures { result ≡ last_or before (name_positions start (map layer_item_of items.now)) }
+{
+    let mut last = before;
+    for (index, item) in items.iter().enumerate() {
         if is_name(item) {
-            last = Some(position);
+            last = Some(start + index);
         }
     }
     last

@@ -96,11 +96,12 @@ run_parts run items h =
     let F = replicate run.first false in
     let C = replicate run.count true in
     let B = replicate h.behind false in
-    let rest = drop run.first items in
-    (sym (take-append-drop run.first items) ∙ ap (λ xs. take run.first items ++ xs) (sym (take-append-drop run.count rest) ∙ ap (λ xs. take run.count rest ++ xs) (drop-drop run.count run.first items)),
-    sym (take-map is_feature run.count rest)
-    ∙ ap (take run.count) (sym (drop-map is_feature run.first items) ∙ ap (drop run.first) h.is ∙ drop_at F (C ++ B) run.first (length-replicate run.first false))
-    ∙ take_at C B run.count (length-replicate run.count true))
+    let rest = drop run.first items in (
+      sym (take-append-drop run.first items) ∙ ap (λ xs. take run.first items ++ xs) (sym (take-append-drop run.count rest) ∙ ap (λ xs. take run.count rest ++ xs) (drop-drop run.count run.first items)),
+      sym (take-map is_feature run.count rest)
+          ∙ ap (take run.count) (sym (drop-map is_feature run.first items) ∙ ap (drop run.first) h.is ∙ drop_at F (C ++ B) run.first (length-replicate run.first false))
+          ∙ take_at C B run.count (length-replicate run.count true),
+    )
 
 pub fields_beside : (run : Run) (items : List LayerItem) → IsRunOf is_feature run items
     → plain_fields (map layer_item_of items) ≡ plain_fields (map layer_item_of (take run.first items)) ++ plain_fields (map layer_item_of (drop (run.first + run.count) items))

@@ -11,16 +11,18 @@ use Rattle.mvt_edit_lists.proofs.rename_layer.naming.Goals as goal
 pub name_item-requires : goal.name_item-requires
 name_item-requires c =
     let name = c.args.name.now in
-    old_passes layer_item_of is_name (with_text name) (PlainInLayer (new_content 10 name)) refl (name_kept name) layer_item_bytes c.as_slice-items.result.now c.last_name.result c.of-spot.result.index c.get.result c.last_name.ensures c.of-spot.ensures.index c.get.ensures.lookup
+    let last = rw (← c.as_slice-items.ensures) at c.last_name.ensures in
+    old_passes layer_item_of is_name (with_text name) (PlainInLayer (new_content 10 name)) refl (name_kept name) layer_item_bytes c.as_slice-items.result.now c.last_name.result c.of-spot.result.index c.get.result last c.of-spot.ensures.index c.get.ensures.lookup
 
 pub returns : goal.returns
 returns c =
     let name = c.args.name.now in
+    let last = rw (← c.as_slice-items.ensures) at c.last_name.ensures in
     rw (← c.as_slice-items.ensures) (record {
       index = c.of-spot.result.index;
       taken = c.of-spot.result.take;
       put = map layer_item_of c.in_ok-one_item.field-0.items;
       parts = refl;
       replaces =
-          run_puts layer_item_of is_name (with_text name) (PlainInLayer (new_content 10 name)) refl (name_kept name) layer_item_bytes IsLayerItem c.as_slice-items.result.now c.last_name.result c.of-spot.result.index c.of-spot.result.take c.get.result c.in_ok-item.item c.in_ok-one_item.field-0.items c.last_name.ensures c.of-spot.ensures.index c.of-spot.ensures.take c.get.ensures.lookup c.in_ok-item.ensures.item c.in_ok-item.ensures.valid c.in_ok-one_item.ensures;
+          run_puts layer_item_of is_name (with_text name) (PlainInLayer (new_content 10 name)) refl (name_kept name) layer_item_bytes IsLayerItem c.as_slice-items.result.now c.last_name.result c.of-spot.result.index c.of-spot.result.take c.get.result c.in_ok-item.item c.in_ok-one_item.field-0.items last c.of-spot.ensures.index c.of-spot.ensures.take c.get.ensures.lookup c.in_ok-item.ensures.item c.in_ok-item.ensures.valid c.in_ok-one_item.ensures;
     })

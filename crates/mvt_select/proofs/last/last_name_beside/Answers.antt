@@ -1,0 +1,23 @@
+use Rattle.std.proofs.Common.{◌+◌, ◌-◌, None, length, length-drop, map, take, drop, sym, ap, ◌∙◌, arith}
+use Rattle.std.specs.List.{last_or}
+use Rattle.std.proofs.lemmas.List.{take_all}
+use Rattle.mvt_document.specs.Stands.{layer_item_of}
+use Rattle.mvt_view.proofs.Yielded.{last_joined}
+use Rattle.mvt_select.specs.Names.{name_positions}
+use Rattle.mvt_select.proofs.Names.{names_beside}
+use Rattle.mvt_select.proofs.last.last_name_beside.Goals as goal
+
+pub returns-in-Some : goal.returns-in-Some
+returns-in-Some c =
+    let items = c.args.items.now in
+    let run = c.in-Some.run' in
+    let known = rw c.in-Some.is at c.requires in
+    let end = run.first + run.count in
+    let whole = take_all (length items - end) (drop end items) (omega (arith, length-drop end items)) in
+    let front = name_positions 0 (map layer_item_of (take run.first items)) in
+    let back = name_positions end (map layer_item_of (drop end items)) in
+    c.last_name_from.ensures
+    ∙ ap (λ xs. last_or c.last_name_from-last.result (name_positions end (map layer_item_of xs))) whole
+    ∙ ap (λ last. last_or last back) c.last_name_from-last.ensures
+    ∙ sym (last_joined None front back)
+    ∙ ap (last_or None) (sym (names_beside run items known))
