@@ -11,9 +11,9 @@
 //!   beside a part of a list (`size_beside_part`), and those of a message with a content of a given
 //!   length (`message_size`). A message may keep that number; where it does, it is the right one
 //!   after every change, which its type keeps (`IsKept`).
-//! - Which items are messages themselves, the layers of a tile and the features of a layer, a list of
-//!   items may keep where they stand in one run; where it does, just the items of that run are, after
-//!   every change, which its type keeps (`IsKnownRun`): `Message::run`.
+//! - The features of a layer, and the layers of a tile, may be known to stand in one run, with
+//!   nothing between them. Where that is known, just the items of the run are such messages, after
+//!   every change, which the type of the list keeps (`IsKnownRun`): `Message::run`.
 //! - Items of a list change places with those of another, as many for as many or for more or fewer,
 //!   and an item moves within its list: `exchange` and `move_item` of `Items` and of `Message`.
 //!   Where memory runs out nothing has changed, and it does not where both lists have the room

@@ -1,5 +1,5 @@
-//! The items of a list that are messages themselves, where they stand in one run: of which run that
-//! is when lists are joined, parted or spliced, nothing but the runs of the parts has to be known.
+//! The run of a list: the items that are messages themselves, where nothing stands between them. The
+//! run of a list that is joined, parted or spliced is made of those of its parts.
 
 ghost use Rattle.std.specs.Prelude.{◌≡◌, Bool, List, [], ◌∷◌, ◌++◌, ◌≤◌, length, map, take, drop, replicate, IfSome};
 ghost use Rattle.mvt_document.specs.Runs.{IsRun, IsKnownRun};
