@@ -1,9 +1,9 @@
 -- A layer whose features stand in one run: which feature has an ordinal, and the fields before them and behind.
 use Rattle.std.proofs.Common.{◌≡◌, ℕ, zero, suc, ◌+◌, ◌-◌, ◌<◌, ◌≤◌, Bool, true, false, Option, Some, None, List, [], ◌∷◌, ◌++◌, length, length-drop, map, take, drop, take-append-drop, option_map, refl, sym, ap, ◌∙◌, arith}
-use Rattle.std.specs.Prelude.{replicate, slice_get}
+use Rattle.std.specs.Prelude.{replicate, slice_get, MatchOption}
 use Rattle.std.specs.List.{filter_map, enumerate_from}
 use Rattle.std.specs.Option.{option_and_then}
-use Rattle.std.proofs.lemmas.List.{drop-drop, drop-map, drop_at, length-map, length-replicate, length-take-le, map-append, take-map, take_all, take_at}
+use Rattle.std.proofs.lemmas.List.{drop-drop, drop-map, drop_all, drop_at, length-map, length-replicate, length-take-le, map-append, take-map, take_all, take_at}
 use Rattle.std.proofs.lemmas.List.Elements.{filter_map-append}
 use Rattle.std.proofs.lemmas.Option.{slice_get_past}
 use Rattle.mvt_document.specs.declared.document.LayerItem.{LayerItem}
@@ -14,7 +14,8 @@ use Rattle.mvt_document.specs.Plain.{Feature}
 use Rattle.mvt_document.specs.Runs.{one_run, IsRunOf}
 use Rattle.mvt_document.specs.Stands.{layer_item_of}
 use Rattle.mvt_document.proofs.Running.{run_length}
-use Rattle.mvt_view.specs.Found.{with_position, found_features}
+use Rattle.mvt_view.specs.Found.{with_position, placed_from, found_features}
+use Rattle.mvt_view.specs.Pools.{PassesOver, entry_in}
 use Rattle.mvt_view.specs.Views.{feature_in, plain_fields}
 use Rattle.mvt_view.proofs.Placing.{found_count}
 
@@ -68,7 +69,12 @@ run_count run items h = count_in run.first run.count h.behind items h.is
 
 -- the feature of an ordinal stands as far behind the first
 pub feature_there : (run : Run) (items : List LayerItem) (k : ℕ) → IsRunOf is_feature run items → k < run.count → slice_get (found_features (map layer_item_of items)) k ≡ there k (run.first + k) (slice_get items (run.first + k))
-feature_there run items k h inside = in_run 0 0 run.first run.count h.behind k items h.is inside
+feature_there run items k h inside =
+    let same : 0 + k ≡ k = omega arith in
+    let at : 0 + (run.first + k) ≡ run.first + k = omega arith in
+    in_run 0 0 run.first run.count h.behind k items h.is inside
+    ∙ ap (λ o. there o (0 + (run.first + k)) (slice_get items (run.first + k))) same
+    ∙ ap (λ p. there k p (slice_get items (run.first + k))) at
 
 pub no_feature : (run : Run) (items : List LayerItem) (k : ℕ) → IsRunOf is_feature run items → run.count ≤ k → slice_get (found_features (map layer_item_of items)) k ≡ None
 no_feature run items k h past =
@@ -128,3 +134,44 @@ parted_length run items h =
     let within = run_within run items h in
     let back = ap length (take_all (length items - end) (drop end items) (omega (arith, length-drop end items))) in
     omega (arith, within, back, length-drop end items, length-take-le run.first items (omega (arith, within)))
+
+-- ---- the keys and the values
+
+none_placed : (number n position : ℕ) (part back : List LayerItem) → map is_feature part ≡ replicate n true
+    → filter_map (with_position (entry_in number)) (enumerate_from position (map layer_item_of (part ++ back))) ≡ filter_map (with_position (entry_in number)) (enumerate_from (position + n) (map layer_item_of back))
+none_placed number zero position [] back e =
+    let same : position ≡ position + 0 = omega arith in
+    ap (λ p. filter_map (with_position (entry_in number)) (enumerate_from p (map layer_item_of back))) same
+none_placed number (suc n) position [] back e = absurd (cc)
+none_placed number zero position (item ∷ part) back e = absurd (cc)
+none_placed number (suc n) position (in_layer.Plain field ∷ part) back e = absurd (cc)
+none_placed number (suc n) position (in_layer.Feature feature ∷ part) back e =
+    let next : position + 1 + n ≡ position + suc n = omega arith in
+    none_placed number n (position + 1) part back (ap (drop 1) e)
+    ∙ ap (λ p. filter_map (with_position (entry_in number)) (enumerate_from p (map layer_item_of back))) next
+
+pub passes_over : (number : ℕ) (run : Run) (items : List LayerItem) → IsRunOf is_feature run items → PassesOver number run (map layer_item_of items)
+passes_over number run items h =
+    let parts = run_parts run items h in
+    let rest = drop run.first items in
+    let part = take run.count rest in
+    let back = drop (run.first + run.count) items in
+    record {
+      within = omega (arith, run_within run items h, length-map items layer_item_of);
+      none = ap (λ xs. filter_map (with_position (entry_in number)) (enumerate_from run.first xs))
+          (drop-map layer_item_of run.first items ∙ ap (map layer_item_of) (sym (take-append-drop run.count rest) ∙ ap (λ xs. part ++ xs) (drop-drop run.count run.first items)))
+          ∙ none_placed number run.count run.first part back parts.1
+          ∙ ap (λ xs. filter_map (with_position (entry_in number)) (enumerate_from (run.first + run.count) xs)) (sym (drop-map layer_item_of (run.first + run.count) items));
+    }
+
+pub passes_none : (number : ℕ) (items : List LayerItem) → PassesOver number (record { first = 0; count = 0 }) (map layer_item_of items)
+passes_none number items = record { within = omega arith; none = refl }
+
+-- nothing is found behind all items
+pub placed_past : (number : ℕ) (items : List LayerItem) → placed_from (entry_in number) (length items) (map layer_item_of items) ≡ []
+placed_past number items = ap (λ xs. filter_map (with_position (entry_in number)) (enumerate_from (length items) xs)) (drop_all (length items) (map layer_item_of items) (omega (arith, length-map items layer_item_of)))
+
+-- what is found in a part is found in the whole that begins with it
+pub matched : {X Y : Type 0} (found : Option X) (whole part last end : List Y) (next : X → List Y) → whole ≡ part → last ≡ end → MatchOption found (part ≡ last) (λ x. part ≡ next x) → MatchOption found (whole ≡ end) (λ x. whole ≡ next x)
+matched None whole part last end next same past h = same ∙ h ∙ past
+matched (Some x) whole part last end next same past h = same ∙ h

@@ -7,7 +7,7 @@ ghost use Rattle.mvt_document.specs.Kinds.{is_feature};
 ghost use Rattle.mvt_document.specs.Runs.{IsKnownRun, IsRunOf};
 ghost use Rattle.mvt_document.specs.Stands.{feature_of, field_of, layer_item_of, layer_of, tile_item_of};
 ghost use Rattle.mvt_view.specs.Found.{found_features, placed_from};
-ghost use Rattle.mvt_view.specs.Pools.{entry_in};
+ghost use Rattle.mvt_view.specs.Pools.{PassesOver, entry_in};
 ghost use Rattle.mvt_view.specs.Seen.{found_feature_seen};
 ghost use Rattle.mvt_view.specs.Views.{content_in, contents, feature_in, last_value, layer_in, plain_fields, value_in};
 
@@ -150,13 +150,41 @@ fn entry_in(item: &LayerItem, number: u64) -> Option<&[u8]>
     }
 }
 
-/// The content of the first LEN field of this number from this position on, and its position.
-pub(crate) fn first_entry(items: &[LayerItem], number: u64, start: usize) -> Option<(usize, &[u8])>
-    requires { start ≤ length items.now }
+/// The content of the first LEN field of this number from this position on, and its position. The items of
+/// the run are passed over.
+pub(crate) fn first_entry(
+    items: &[LayerItem],
+    number: u64,
+    start: usize,
+    passed: Run,
+) -> Option<(usize, &[u8])>
+    requires there { start ≤ length items.now }
+    requires passed { PassesOver number passed (map layer_item_of items.now) }
     ensures found { MatchOption result (placed_from (entry_in number) start (map layer_item_of items.now) ≡ []) (λ found. placed_from (entry_in number) start (map layer_item_of items.now) ≡ (found.0, found.1.now) ∷ placed_from (entry_in number) (found.0 + 1) (map layer_item_of items.now)) }
     ensures within { IfSome result (λ found. (start ≤ found.0) × (found.0 < length items.now)) }
 {
-    for position in start..items.len() {
+    if start >= passed.first {
+        return entry_before(items, number, start, items.len());
+    }
+    match entry_before(items, number, start, passed.first) {
+        Some(found) => Some(found),
+        None => entry_before(items, number, passed.first + passed.count, items.len()),
+    }
+}
+
+/// The same from this position to that one.
+fn entry_before(
+    items: &[LayerItem],
+    number: u64,
+    start: usize,
+    end: usize,
+) -> Option<(usize, &[u8])>
+    requires order { start ≤ end }
+    requires there { end ≤ length items.now }
+    ensures found { MatchOption result (placed_from (entry_in number) start (map layer_item_of items.now) ≡ placed_from (entry_in number) end (map layer_item_of items.now)) (λ found. placed_from (entry_in number) start (map layer_item_of items.now) ≡ (found.0, found.1.now) ∷ placed_from (entry_in number) (found.0 + 1) (map layer_item_of items.now)) }
+    ensures within { IfSome result (λ found. (start ≤ found.0) × (found.0 < end)) }
+{
+    for position in start..end {
         if let Some(content) = entry_in(&items[position], number) {
             return Some((position, content));
         }

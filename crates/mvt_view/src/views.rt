@@ -89,7 +89,7 @@ impl<'a> LayerView<'a> {
         ensures items { result ≡ found_keys (layer_seen self.entry) }
         ensures bound { length result < 2 ^ 64 }
     {
-        Entries::of(self.layer.items.as_slice(), KEYS)
+        Entries::of(self.layer, KEYS)
     }
 
     /// The values, in order, each with its ordinal and its position.
@@ -97,7 +97,7 @@ impl<'a> LayerView<'a> {
         ensures items { result ≡ found_values (layer_seen self.entry) }
         ensures bound { length result < 2 ^ 64 }
     {
-        Entries::of(self.layer.items.as_slice(), VALUES)
+        Entries::of(self.layer, VALUES)
     }
 
     /// The first key that is these bytes.

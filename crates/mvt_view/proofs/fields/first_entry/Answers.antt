@@ -1,19 +1,16 @@
-use Rattle.std.proofs.Common.{refl, sym, ◌∙◌, ◌≤◌, arith}
+use Rattle.std.proofs.Common.{◌+◌, ◌∷◌, map, refl, ◌∙◌, arith}
 use Rattle.mvt_document.specs.Stands.{layer_item_of}
+use Rattle.mvt_view.specs.Found.{placed_from}
 use Rattle.mvt_view.specs.Pools.{entry_in}
-use Rattle.mvt_view.proofs.Placing.{placed_from-more}
+use Rattle.mvt_view.proofs.InRun.{matched, placed_past}
 use Rattle.mvt_view.proofs.fields.first_entry.Goals as goal
 
-pub returns-in-Some-clause-found : goal.returns-in-Some-clause-found
-returns-in-Some-clause-found c =
-    c.loop-position.invariant.rest
-    ∙ placed_from-more layer_item_of (entry_in c.args.number) c.loop-position.position c.args.items.now c.index-items-position.result c.loop-position-test.true c.index-items-position.is
-    ∙ rw (sym c.entry_in.ensures, c.in-Some.is) refl
+pub returns-then-start-passed-clause-found : goal.returns-then-start-passed-clause-found
+returns-then-start-passed-clause-found c =
+    let items = map layer_item_of c.args.items.now in
+    matched c.entry_before.result _ _ _ _ (λ found. (found.0, found.1.now) ∷ placed_from (entry_in c.args.number) (found.0 + 1) items) refl (placed_past c.args.number c.args.items.now) c.entry_before.ensures.found
 
-pub loop-position-preserved : goal.loop-position-preserved
-loop-position-preserved c = record {
-  after = omega (arith, c.loop-position.invariant.after);
-  rest = c.loop-position.invariant.rest
-      ∙ placed_from-more layer_item_of (entry_in c.args.number) c.loop-position.position c.args.items.now c.index-items-position.result c.loop-position-test.true c.index-items-position.is
-      ∙ rw (sym c.entry_in.ensures, c.in_default.is) refl;
-}
+pub returns-in-None-clause-found : goal.returns-in-None-clause-found
+returns-in-None-clause-found c =
+    let items = map layer_item_of c.args.items.now in
+    matched c.entry_before-in-None.result _ _ _ _ (λ found. (found.0, found.1.now) ∷ placed_from (entry_in c.args.number) (found.0 + 1) items) (c.in-None.ensures.found ∙ c.requires.passed.none) (placed_past c.args.number c.args.items.now) c.entry_before-in-None.ensures.found

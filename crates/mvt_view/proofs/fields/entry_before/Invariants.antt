@@ -2,7 +2,7 @@ use Rattle.std.proofs.Common.{◌≡◌, ◌≤◌, map}
 use Rattle.mvt_document.specs.Stands.{layer_item_of}
 use Rattle.mvt_view.specs.Found.{placed_from}
 use Rattle.mvt_view.specs.Pools.{entry_in}
-use Rattle.mvt_view.proofs.fields.first_entry.Given as goal
+use Rattle.mvt_view.proofs.fields.entry_before.Given as goal
 
 abbrev pub invariant-loop-position : goal.invariant-loop-position
 invariant-loop-position l = record {
