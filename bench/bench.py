@@ -8,6 +8,7 @@ from pathlib import Path
 
 import peers
 import plots
+from features import features, walked
 from figures import WholeRun, keep
 from generate import LAYERS
 from measure import (COUNTED_MILLISECONDS, RUNS, RUNS_OF_LARGE, Program, costliest, count_instructions, measure,
@@ -16,8 +17,8 @@ from report import (Listed, Result, Undone, comparison, endings, growth, instruc
                     time)
 from sessions import sessions, stepped
 from targets import (ATTRIBUTES, COMPACTED, EMPTY, EXCLUDED, IDS, JOB, KEPT, MANY, OURS, SHIFTS, UNTAGGED, session_targets, targets,
-                     verdicts)
-from tiles import LARGE, MEBIBYTE, alternating_layers, generated_tiles, real_tiles, smallest_map, smallest_maps
+                     verdicts, walk_targets)
+from tiles import LARGE, MEBIBYTE, alternating_layers, generated_tiles, points, real_tiles, smallest_map, smallest_maps
 
 RESULTS = peers.HERE / "RESULTS.md"
 
@@ -65,6 +66,8 @@ LONG_SECONDS = 300
 # first reads the tile, the second lists a layer too.
 READING = "undo\n"
 LISTING = 'list "{layer}"\n' + READING
+
+FEATURES_WALKED = "A line for each of many features: wall time in milliseconds, one run each"
 
 SESSIONS = "Renames, and undos and redos over them, tileshell alone"
 
@@ -204,7 +207,8 @@ def section(whole, pictures):
     results, names = whole.results, whole.programs
     without_floor = [name for name in names if name != "cat"]
     parts = [
-        ("Targets", verdicts([*targets(results, whole.lists, whole.undos), *session_targets(whole.steps)])),
+        ("Targets", verdicts([*targets(results, whole.lists, whole.undos), *session_targets(whole.steps),
+                               *walk_targets(whole.walks)])),
         *([("Plots", pictures)] if pictures else []),
         (f"Wall time in milliseconds, {RUNS_MEASURED}", comparison(results, names, time, 1)),
         ("Peak memory, as a multiple of the tile", memory(results, names)),
@@ -212,6 +216,7 @@ def section(whole, pictures):
         ("Growth of time from the smallest to the largest tile, as an exponent", growth(results, names)),
         ("One layer listed: wall time in milliseconds, tileshell alone", listing(whole.lists)),
         ("Done and undone: wall time in milliseconds, tileshell alone", undoing(whole.undos)),
+        (FEATURES_WALKED, features(whole.walks)),
         (SESSIONS, sessions(whole.steps)),
         ("Not done", endings(results)),
     ]
@@ -234,7 +239,8 @@ def all_jobs(run, title):
     lists = listed(run[0], [tile for tile in tiles if tile.kind == "map"])
     undos = undone(run[0], [alternating_layers(), *(tile for tile in tiles if tile.kind in UNDONE)])
     steps = stepped(run[0], counted_maps(tiles)[:2])
-    whole = WholeRun(title, [program.name for program in run], results, lists, undos, steps)
+    walks = walked(run[0], points(), "gdal-bin" not in missing)
+    whole = WholeRun(title, [program.name for program in run], results, lists, undos, steps, walks)
     keep(whole)
     pictures = "" if plots.PACKAGE in missing else plots.pictures(whole, plots.drawn(whole))
     parts = [conditions(load_before, missing), section(whole, pictures)]
@@ -253,8 +259,13 @@ def sessions_alone(run):
     return f"### Targets\n\n{verdicts(session_targets(steps))}\n\n### {SESSIONS}\n\n{sessions(steps)}"
 
 
+def features_alone(run):
+    walks = walked(run[0], points(), "gdal-bin" not in peers.missing_optional())
+    return f"### Targets\n\n{verdicts(walk_targets(walks))}\n\n### {FEATURES_WALKED}\n\n{features(walks)}"
+
+
 # The jobs that can be measured alone, of the first program.
-ALONE = {"long-script": long_script_alone, "sessions": sessions_alone}
+ALONE = {"long-script": long_script_alone, "sessions": sessions_alone, "features": features_alone}
 
 
 def one_job(run, job):

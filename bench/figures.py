@@ -6,7 +6,7 @@ from pathlib import Path
 
 from measure import Figures
 from peers import BUILD
-from report import Listed, Result, Stepped, Undone
+from report import Listed, Result, Stepped, Undone, Walked
 from tiles import Tile
 
 FIGURES = BUILD / "figures.json"
@@ -22,9 +22,10 @@ class WholeRun:
     lists: list
     undos: list
     steps: list
+    walks: list
 
 
-KEPT = [WholeRun, Result, Listed, Undone, Stepped, Figures, Tile]
+KEPT = [WholeRun, Result, Listed, Undone, Stepped, Walked, Figures, Tile]
 
 
 def keep(run, path=FIGURES):

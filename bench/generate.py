@@ -1,5 +1,5 @@
 #!/usr/bin/env python3
-"""Makes tiles from a seed: 'map', as a basemap has; 'common key', a map whose features all have one key; 'crumbs', of the smallest fields; features of empty tags; two kinds of groups; layers of two names in turns; layers of one tagged feature; pools of which each second entry is used."""
+"""Makes tiles from a seed: 'map', as a basemap has; 'common key', a map whose features all have one key; 'crumbs', of the smallest fields; features of empty tags; two kinds of groups; layers of two names in turns; layers of one tagged feature; a layer of points; pools of which each second entry is used."""
 import argparse
 import random
 from pathlib import Path
@@ -10,7 +10,7 @@ LAYERS = ["water", "landcover", "landuse", "roads", "buildings",
 # Room that a tile leaves below its size, so that a layer's name may grow.
 SPARE = 64
 
-LINE, POLYGON = 2, 3
+POINT, LINE, POLYGON = 1, 2, 3
 
 # The tags around a group of number 1.
 GROUP, GROUP_END = b"\x0b", b"\x0c"
@@ -139,6 +139,23 @@ def tagged_layers_tile(size):
     return size // len(tagged_layer) * tagged_layer
 
 
+def points_tile(draw, size):
+    """One layer of points, each with an id, from 1 on, and a name of its own."""
+    key = bytes_field(3, b"name")
+    room = size - len(layer("points", b"", key)) - len(varint(size))
+    features, values = [], []
+    while True:
+        place = len(features)
+        last = bytes_field(2, number_field(1, place + 1) + bytes_field(2, varint(0) + varint(place)) + number_field(3, POINT)
+                           + bytes_field(4, command(1, 1) + b"".join(draw.choices(PLACES, k=2))))
+        name = bytes_field(4, bytes_field(1, b"place %d" % place))
+        room -= len(last) + len(name)
+        if room < 0:
+            return layer("points", b"".join(features), key + b"".join(values))
+        features.append(last)
+        values.append(name)
+
+
 def half_used_tile(size):
     """One layer of as many keys as values, and of features whose pairs name each second one of both."""
     places = range(size // BYTES_OF_AN_ENTRY // 2)
@@ -162,6 +179,7 @@ MAKERS = {
     "flat groups": lambda draw, size: groups_tile(1, size),
     "alternating layers": lambda draw, size: alternating_tile(size),
     "tagged layers": lambda draw, size: tagged_layers_tile(size),
+    "points": points_tile,
     "half-used pools": lambda draw, size: half_used_tile(size),
 }
 

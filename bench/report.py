@@ -56,6 +56,22 @@ class Undone:
 
 
 @dataclass(frozen=True)
+class Walked:
+    """Milliseconds of a script that has a line for each of many features of a layer, and of GDAL, which lists them in one go."""
+    tile: Tile
+    # What a line does.
+    job: str
+    lines: int
+    milliseconds: float
+    # None where GDAL does something else, or is not there.
+    by_gdal: float
+
+    @property
+    def ratio(self):
+        return divided(self.milliseconds, self.by_gdal)
+
+
+@dataclass(frozen=True)
 class Stepped:
     """What an empty script took on a tile, what many renames, and what these with undos and redos over them."""
     tile: Tile

@@ -1,4 +1,5 @@
 """What tileshell should reach, and whether it does."""
+from features import LISTED, LISTED_BY_ID, SET_BY_ID
 from report import divided, exponent, grown, peak, shown, steepness, table, time
 
 OURS = "tileshell"
@@ -34,6 +35,17 @@ def session_targets(steps):
          divided(large.kibibytes, small.kibibytes), 1.1),
         *((f"{each.tile.name}, depth {each.depth:,}: time of an undo or redo to that of a rename", each.ratio, 1)
           for each in steps),
+    ]
+
+
+def walk_targets(walks):
+    """The same of lines that go over many features: by ordinal as GDAL, which goes over them once, and by id in so many seconds."""
+    found = {each.job: each for each in walks}
+    listed = found[LISTED]
+    return [
+        (f"{listed.tile.name}, {listed.lines:,} features {LISTED}: time to ogrinfo's", listed.ratio, 2),
+        *((f"{each.tile.name}, {each.lines:,} features, {each.job}: seconds", divided(each.milliseconds, 1000), 2)
+          for each in (found[LISTED_BY_ID], found[SET_BY_ID])),
     ]
 
 

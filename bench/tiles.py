@@ -74,6 +74,11 @@ def alternating_layers():
     return generated("alternating layers", ALTERNATING, "a")
 
 
+def points():
+    """Some 25,000 of them."""
+    return generated("points", SIZES[0], "points")
+
+
 def generated_tiles():
     tiles = [generated("map", size, "roads") for size in SIZES]
     tiles += [generated("crumbs", size, "crumbs") for size in SIZES]
