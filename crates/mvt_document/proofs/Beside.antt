@@ -33,6 +33,10 @@ spliced_size f index taken put items =
 pub part_size : {T : Type 0} (f : T → List ℕ) (index count : ℕ) (items : List T) → length (flat_map f (part index count items)) ≤ length (flat_map f items)
 part_size f index count items = omega (arith, front_and_back f index items, front_and_back f count (drop index items))
 
+pub pushed_size : {T : Type 0} (f : T → List ℕ) (items : List T) (x : T) → length (flat_map f (items ++ x ∷ [])) ≡ length (flat_map f items) + length (f x)
+pushed_size f items x =
+    omega (arith, ap length (flat_map-append f items (x ∷ [])), length-append (flat_map f items) (f x ++ []), length-append (f x) [])
+
 -- an item that moves weighs the same
 pub moved_size : {T : Type 0} (f : T → List ℕ) (from to : ℕ) (items : List T) → length (flat_map f (moved from to items)) ≡ length (flat_map f items)
 moved_size f from to items =

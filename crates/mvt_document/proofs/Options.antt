@@ -1,5 +1,5 @@
 -- What holds of what an option has, and of what is made of it.
-use Rattle.std.proofs.Common.{Option, Some, None, option_map}
+use Rattle.std.proofs.Common.{◌≡◌, Option, Some, None, option_map, sym, subst}
 use Rattle.std.specs.Option.{IfSome, IsSomeAnd}
 
 module _ {X : Type 0} where
@@ -22,3 +22,7 @@ module _ {X : Type 0} where
   pub mapped_some : {Y : Type 0} (f : X → Y) (o : Option X) (P : X → Type 0) (Q : Y → Type 0) → ((x : X) → Q (f x) → P x) → IsSomeAnd (option_map f o) Q → IsSomeAnd o P
   mapped_some f None P Q each there = absurd there
   mapped_some f (Some x) P Q each there = each x there
+
+  pub if_kept : (o : Option X) (P : X → Type 0) (x : X) → IfSome o (λ kept. kept ≡ x) → P x → IfSome o P
+  if_kept None P x same holds = tt
+  if_kept (Some kept) P x same holds = subst P (sym same) holds

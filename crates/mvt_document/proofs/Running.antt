@@ -1,9 +1,12 @@
--- Lists of which one run is true: joined, parted and spliced.
+-- Lists of which one run is true, as far as they are known: joined, parted and spliced.
 use Rattle.std.proofs.Common.{◌≡◌, ℕ, zero, suc, ◌+◌, ◌-◌, ◌<◌, ◌≤◌, Bool, true, false, List, [], ◌∷◌, ◌++◌, length, length-append, length-drop, take, drop, take-append-drop, get_or, map, min, refl, sym, ap, ◌∙◌, subst, append_assoc, arith}
-use Rattle.std.specs.Prelude.{replicate, slice_set, Option, Some, None, IfSome}
-use Rattle.std.proofs.lemmas.List.{append-nil, drop-map, drop-replicate, drop_at, drop_more, length-map, length-replicate, length-take-le, map-append, replicate-append-replicate, replicate_more, take-map, take_all, take_at, take_more, take-set, drop-set-lt}
+use Rattle.std.specs.Prelude.{if◌then◌else◌, replicate, slice_set}
+use Rattle.std.proofs.lemmas.List.{append-nil, drop-map, drop-replicate, drop_all, drop_at, drop_more, length-map, length-replicate, length-take-le, map-append, replicate-append-replicate, replicate_more, take-map, take_all, take_at, take_more, take-set, drop-set-lt}
+use Rattle.mvt_document.specs.declared.run.Kind.{Kind}
+use Rattle.mvt_document.specs.declared.run.Kind.TheVariants as kind
 use Rattle.mvt_document.specs.declared.run.Run.{Run}
-use Rattle.mvt_document.specs.Runs.{one_run, IsRun, IsRunOf, IsKnownRun, IsRunAround, IsRunBeside}
+use Rattle.mvt_document.specs.declared.run.Runs.{Runs}
+use Rattle.mvt_document.specs.Runs.{one_run, IsRun, IsRunOf, AreRunsOf, IsRunAround, IsRunBeside, AreRunsBeside}
 use Rattle.mvt_document.specs.Splicing.{moved, part, splice}
 
 -- ---- parts of joined lists
@@ -71,75 +74,161 @@ drop_run k f c b =
     ∙ ap (λ rest. rest ++ drop (k - f - c) (replicate b false)) (drop-replicate (k - f) c true)
     ∙ ap (λ rest. replicate (c - (k - f)) true ++ rest) (drop-replicate (k - f - c) b false))
 
-pub front_of : (run made : Run) (k : ℕ) (items : List Bool) → made.first ≡ min run.first k → made.count ≡ min run.count (k - run.first) → IsRun run items → IsRun made (take k items)
-front_of run made k items first count h = record {
-  behind = min h.behind (k - run.first - run.count);
-  is = ap (take k) h.is ∙ take_run k run.first run.count h.behind
-      ∙ ap (λ f. one_run f (min run.count (k - run.first)) (min h.behind (k - run.first - run.count))) (sym first)
-      ∙ ap (λ c. one_run made.first c (min h.behind (k - run.first - run.count))) (sym count);
+-- ---- runs of lists that are parted
+
+pub front_of : (run made : Run) (k : ℕ) (items : List Bool) → made.first ≡ min run.first k → made.count ≡ min run.count (k - run.first) → made.until ≡ min run.until k → IsRun run items → IsRun made (take k items)
+front_of run made k items first count until h =
+    let known = one_run run.first run.count h.behind in
+    let b = min h.behind (k - run.first - run.count) in
+    record {
+      behind = b;
+      rest = take (k - length known) h.rest;
+      until = omega (arith, first, count, until, h.until);
+      is = ap (take k) h.is ∙ take_joined k known h.rest
+          ∙ ap (λ t. t ++ take (k - length known) h.rest) (take_run k run.first run.count h.behind
+          ∙ ap (λ f. one_run f (min run.count (k - run.first)) b) (sym first)
+          ∙ ap (λ c. one_run made.first c b) (sym count));
+    }
+
+pub back_of : (run made : Run) (k : ℕ) (items : List Bool) → made.first ≡ run.first - k → made.count ≡ run.count - (k - run.first) → made.until ≡ run.until - k → k ≤ run.until → IsRun run items → IsRun made (drop k items)
+back_of run made k items first count until within h =
+    let known = one_run run.first run.count h.behind in
+    let b = h.behind - (k - run.first - run.count) in
+    let all : k - length known ≡ 0 = omega (arith, run_length run.first run.count h.behind, h.until) in
+    record {
+      behind = b;
+      rest = h.rest;
+      until = omega (arith, first, count, until, h.until);
+      is = ap (drop k) h.is ∙ drop_joined k known h.rest
+          ∙ ap (λ n. drop k known ++ drop n h.rest) all
+          ∙ ap (λ t. t ++ h.rest) (drop_run k run.first run.count h.behind
+          ∙ ap (λ f. one_run f (run.count - (k - run.first)) b) (sym first)
+          ∙ ap (λ c. one_run made.first c b) (sym count));
+    }
+
+-- what is known of a list holds of each that begins with it
+pub run_more : (run : Run) (items more : List Bool) → IsRun run items → IsRun run (items ++ more)
+run_more run items more h = record {
+  behind = h.behind;
+  rest = h.rest ++ more;
+  until = h.until;
+  is = ap (λ t. t ++ more) h.is ∙ append_assoc (one_run run.first run.count h.behind) h.rest more;
 }
 
-pub back_of : (run made : Run) (k : ℕ) (items : List Bool) → made.first ≡ run.first - k → made.count ≡ run.count - (k - run.first) → IsRun run items → IsRun made (drop k items)
-back_of run made k items first count h = record {
-  behind = h.behind - (k - run.first - run.count);
-  is = ap (drop k) h.is ∙ drop_run k run.first run.count h.behind
-      ∙ ap (λ f. one_run f (run.count - (k - run.first)) (h.behind - (k - run.first - run.count))) (sym first)
-      ∙ ap (λ c. one_run made.first c (h.behind - (k - run.first - run.count))) (sym count);
+pub nothing_known : (run : Run) (items : List Bool) → run.first ≡ 0 → run.count ≡ 0 → run.until ≡ 0 → IsRun run items
+nothing_known run items first count until = record {
+  behind = 0;
+  rest = items;
+  until = omega (arith, first, count, until);
+  is = sym (ap (λ f. one_run f run.count 0 ++ items) first ∙ ap (λ c. one_run 0 c 0 ++ items) count);
 }
 
--- ---- lists with one run, joined
+-- ---- runs of lists that are joined
 
--- behind a list comes one of which nothing is true
-pub with_none : (run behind : Run) (items more : List Bool) → behind.count ≡ 0 → IsRun run items → IsRun behind more → IsRun run (items ++ more)
-with_none run behind items more none h m =
+nothing_left : (items : List Bool) → length items ≡ 0 → items ≡ []
+nothing_left [] none = refl
+nothing_left (x ∷ items) none = absurd (omega arith)
+
+-- of a list of which all is known nothing is left
+all_known : (run : Run) (items : List Bool) (h : IsRun run items) → run.until ≡ length items → items ≡ one_run run.first run.count h.behind
+all_known run items h all =
+    let known = one_run run.first run.count h.behind in
+    let none = nothing_left h.rest (omega (arith, all, ap length h.is, length-append known h.rest, run_length run.first run.count h.behind, h.until)) in
+    h.is ∙ ap (λ t. known ++ t) none ∙ append-nil known
+
+-- the same, joined with a list
+joined_known : (run : Run) (items more : List Bool) (h : IsRun run items) → run.until ≡ length items → items ++ more ≡ replicate run.first false ++ (replicate run.count true ++ (replicate h.behind false ++ more))
+joined_known run items more h all =
     let F = replicate run.first false in
     let C = replicate run.count true in
     let B = replicate h.behind false in
-    let rest : more ≡ replicate (behind.first + m.behind) false =
-    m.is ∙ ap (λ n. one_run behind.first n m.behind) none ∙ replicate-append-replicate behind.first m.behind false in
-    let R = replicate (behind.first + m.behind) false in
-    record {
-      behind = h.behind + (behind.first + m.behind);
-      is = ap (λ t. t ++ more) h.is ∙ ap (λ t. one_run run.first run.count h.behind ++ t) rest
-          ∙ append_assoc F (C ++ B) R ∙ ap (λ t. F ++ t) (append_assoc C B R)
-          ∙ ap (λ t. F ++ (C ++ t)) (replicate-append-replicate h.behind (behind.first + m.behind) false);
-    }
+    ap (λ t. t ++ more) (all_known run items h all) ∙ append_assoc F (C ++ B) more ∙ ap (λ t. F ++ t) (append_assoc C B more)
 
--- before a list stands one of which nothing is true
-pub after_none : (run behind made : Run) (items more : List Bool) → run.count ≡ 0 → made.first ≡ length items + behind.first → made.count ≡ behind.count → IsRun run items → IsRun behind more → IsRun made (items ++ more)
-after_none run behind made items more none first count h m =
-    let n = run.first + h.behind in
-    let all : items ≡ replicate n false =
-    h.is ∙ ap (λ c. one_run run.first c h.behind) none ∙ replicate-append-replicate run.first h.behind false in
-    let long : length items ≡ n = ap length all ∙ length-replicate n false in
-    let sum : n + behind.first ≡ made.first = omega (arith, long, first) in
-    let C = replicate behind.count true ++ replicate m.behind false in
-    record {
-      behind = m.behind;
-      is = ap (λ t. t ++ more) all ∙ ap (λ t. replicate n false ++ t) m.is
-          ∙ sym (append_assoc (replicate n false) (replicate behind.first false) C)
-          ∙ ap (λ t. t ++ C) (replicate-append-replicate n behind.first false)
-          ∙ ap (λ f. one_run f behind.count m.behind) sum
-          ∙ ap (λ c. one_run made.first c m.behind) (sym count);
-    }
-
--- what is true at the end of a list goes on at the front of the one behind it
-pub runs_meet : (run behind made : Run) (items more : List Bool) → run.first + run.count ≡ length items → behind.first ≡ 0 → made.first ≡ run.first → made.count ≡ run.count + behind.count → IsRun run items → IsRun behind more → IsRun made (items ++ more)
-runs_meet run behind made items more last start first count h m =
-    let none : h.behind ≡ 0 = omega (arith, last, ap length h.is, run_length run.first run.count h.behind) in
+-- what is known of the list behind, in parts
+parts_known : (run : Run) (items : List Bool) (h : IsRun run items) → items ≡ replicate run.first false ++ (replicate run.count true ++ (replicate h.behind false ++ h.rest))
+parts_known run items h =
     let F = replicate run.first false in
     let C = replicate run.count true in
-    let D = replicate behind.count true in
-    let B = replicate m.behind false in
+    let B = replicate h.behind false in
+    h.is ∙ append_assoc F (C ++ B) h.rest ∙ ap (λ t. F ++ t) (append_assoc C B h.rest)
+
+-- from parts to a run
+known_parts : (run : Run) (behind : ℕ) (rest items : List Bool) → run.until ≡ run.first + (run.count + behind) → items ≡ replicate run.first false ++ (replicate run.count true ++ (replicate behind false ++ rest)) → IsRun run items
+known_parts run behind rest items until is =
+    let F = replicate run.first false in
+    let C = replicate run.count true in
+    let B = replicate behind false in
     record {
-      behind = m.behind;
-      is = ap (λ t. t ++ more) (h.is ∙ ap (λ n. one_run run.first run.count n) none ∙ ap (λ t. F ++ t) (append-nil C))
-          ∙ ap (λ t. (F ++ C) ++ t) (m.is ∙ ap (λ n. one_run n behind.count m.behind) start)
-          ∙ append_assoc F C (D ++ B) ∙ ap (λ t. F ++ t) (sym (append_assoc C D B))
-          ∙ ap (λ t. F ++ (t ++ B)) (replicate-append-replicate run.count behind.count true)
-          ∙ ap (λ f. one_run f (run.count + behind.count) m.behind) (sym first)
-          ∙ ap (λ c. one_run made.first c m.behind) (sym count);
+      behind = behind;
+      rest = rest;
+      until = until;
+      is = is ∙ sym (append_assoc F (C ++ B) rest ∙ ap (λ t. F ++ t) (append_assoc C B rest));
     }
+
+-- so many of the same and then as many more
+same_joined : (n m : ℕ) (y : Bool) (rest : List Bool) → replicate n y ++ (replicate m y ++ rest) ≡ replicate (n + m) y ++ rest
+same_joined n m y rest = sym (append_assoc (replicate n y) (replicate m y) rest) ∙ ap (λ t. t ++ rest) (replicate-append-replicate n m y)
+
+-- before a list stands one of which nothing is true
+pub after_none : (run behind made : Run) (items more : List Bool) → run.count ≡ 0 → made.first ≡ run.until + behind.first → made.count ≡ behind.count → made.until ≡ run.until + behind.until → IsRun run items → run.until ≡ length items → IsRun behind more → IsRun made (items ++ more)
+after_none run behind made items more none first count until h all m =
+    let tail = replicate behind.count true ++ (replicate m.behind false ++ m.rest) in
+    let sum : run.first + h.behind + behind.first ≡ made.first = omega (arith, none, h.until, first) in
+    known_parts made m.behind m.rest (items ++ more) (omega (arith, until, first, count, m.until))
+    (joined_known run items more h all
+    ∙ ap (λ c. replicate run.first false ++ (replicate c true ++ (replicate h.behind false ++ more))) none
+    ∙ same_joined run.first h.behind false more
+    ∙ ap (λ t. replicate (run.first + h.behind) false ++ t) (parts_known behind more m)
+    ∙ same_joined (run.first + h.behind) behind.first false tail
+    ∙ ap (λ f. replicate f false ++ tail) sum
+    ∙ ap (λ c. replicate made.first false ++ (replicate c true ++ (replicate m.behind false ++ m.rest))) (sym count))
+
+-- what is true at the end of a list goes on at the front of the one behind it
+pub runs_meet : (run behind made : Run) (items more : List Bool) → run.first + run.count ≡ run.until → behind.first ≡ 0 → made.first ≡ run.first → made.count ≡ run.count + behind.count → made.until ≡ run.until + behind.until → IsRun run items → run.until ≡ length items → IsRun behind more → IsRun made (items ++ more)
+runs_meet run behind made items more last start first count until h all m =
+    let F = replicate run.first false in
+    let C = replicate run.count true in
+    let tail = replicate m.behind false ++ m.rest in
+    let none : h.behind ≡ 0 = omega (arith, last, h.until) in
+    known_parts made m.behind m.rest (items ++ more) (omega (arith, until, first, count, start, last, m.until))
+    (joined_known run items more h all
+    ∙ ap (λ n. F ++ (C ++ (replicate n false ++ more))) none
+    ∙ ap (λ t. F ++ (C ++ t)) (parts_known behind more m ∙ ap (λ n. replicate n false ++ (replicate behind.count true ++ tail)) start)
+    ∙ ap (λ t. F ++ t) (same_joined run.count behind.count true tail)
+    ∙ ap (λ f. replicate f false ++ (replicate (run.count + behind.count) true ++ tail)) (sym first)
+    ∙ ap (λ c. replicate made.first false ++ (replicate c true ++ tail)) (sym count))
+
+-- behind a list comes one of which nothing that is known is true
+pub with_none : (run behind made : Run) (items more : List Bool) → behind.count ≡ 0 → made.first ≡ run.first → made.count ≡ run.count → made.until ≡ run.until + behind.until → IsRun run items → run.until ≡ length items → IsRun behind more → IsRun made (items ++ more)
+with_none run behind made items more none first count until h all m =
+    let F = replicate run.first false in
+    let C = replicate run.count true in
+    let b = h.behind + (behind.first + m.behind) in
+    known_parts made b m.rest (items ++ more) (omega (arith, until, first, count, none, h.until, m.until))
+    (joined_known run items more h all
+    ∙ ap (λ t. F ++ (C ++ t)) (ap (λ t. replicate h.behind false ++ t) (parts_known behind more m
+    ∙ ap (λ c. replicate behind.first false ++ (replicate c true ++ (replicate m.behind false ++ m.rest))) none
+    ∙ same_joined behind.first m.behind false m.rest)
+    ∙ same_joined h.behind (behind.first + m.behind) false m.rest)
+    ∙ ap (λ f. replicate f false ++ (C ++ (replicate b false ++ m.rest))) (sym first)
+    ∙ ap (λ c. replicate made.first false ++ (replicate c true ++ (replicate b false ++ m.rest))) (sym count))
+
+-- behind a list comes one of which some is true, with others before: up to there it is known
+pub with_others : (run behind made : Run) (items more : List Bool) → made.first ≡ run.first → made.count ≡ run.count → made.until ≡ run.until + behind.first → IsRun run items → run.until ≡ length items → IsRun behind more → IsRun made (items ++ more)
+with_others run behind made items more first count until h all m =
+    let F = replicate run.first false in
+    let C = replicate run.count true in
+    let b = h.behind + behind.first in
+    let tail = replicate behind.count true ++ (replicate m.behind false ++ m.rest) in
+    known_parts made b tail (items ++ more) (omega (arith, until, first, count, h.until))
+    (joined_known run items more h all
+    ∙ ap (λ t. F ++ (C ++ t)) (ap (λ t. replicate h.behind false ++ t) (parts_known behind more m) ∙ same_joined h.behind behind.first false tail)
+    ∙ ap (λ f. replicate f false ++ (C ++ (replicate b false ++ tail))) (sym first)
+    ∙ ap (λ c. replicate made.first false ++ (replicate c true ++ (replicate b false ++ tail))) (sym count))
+
+pub one_known : (run : Run) (x : Bool) → run.first ≡ 0 → run.until ≡ 1 → run.count ≡ (if x then 1 else 0) → IsRun run (x ∷ [])
+one_known run true first until count = known_parts run 0 [] (true ∷ []) (omega (arith, first, until, count)) (sym (ap (λ f. replicate f false ++ (replicate run.count true ++ [])) first ∙ ap (λ c. replicate c true ++ []) count))
+one_known run false first until count = known_parts run 1 [] (false ∷ []) (omega (arith, first, until, count)) (sym (ap (λ f. replicate f false ++ (replicate run.count true ++ (false ∷ []))) first ∙ ap (λ c. replicate c true ++ (false ∷ [])) count))
 
 -- ---- the values of items
 
@@ -205,17 +294,27 @@ values_before f items index between inside =
     let B = map f (drop (suc index) items) in
     omega (arith, length-append A (between ∷ B), length-map (take index items) f, length-take-le index items (omega arith))
 
-pub known_beside : {T : Type 0} (f : T → Bool) (items : List T) (index : ℕ) (known : Option Run) → index < length items → IsKnownRun f items known → IfSome known (λ run. IsRunBeside f index run items)
-known_beside f items index None inside h = tt
-known_beside f items index (Some run) inside h = run_beside_of f run items index inside h
+pub runs_beside_of : {T : Type 0} (of_kind : Kind → T → Bool) (runs : Runs) (items : List T) (index : ℕ) → index < length items → AreRunsOf of_kind runs items → AreRunsBeside of_kind index runs items
+runs_beside_of of_kind runs items index inside h = record {
+  messages = run_beside_of (of_kind kind.Message) runs.messages items index inside h.messages;
+  keys = run_beside_of (of_kind kind.Key) runs.keys items index inside h.keys;
+  values = run_beside_of (of_kind kind.Value) runs.values items index inside h.values;
+}
 
 -- it stays so when the item at the index is another
-pub beside_set : {T : Type 0} (f : T → Bool) (index : ℕ) (items : List T) (x : T) (known : Option Run) → IfSome known (λ run. IsRunBeside f index run items) → IfSome known (λ run. IsRunBeside f index run (slice_set items index x))
-beside_set f index items x known h =
+run_set : {T : Type 0} (f : T → Bool) (index : ℕ) (items : List T) (x : T) (run : Run) → IsRunBeside f index run items → IsRunBeside f index run (slice_set items index x)
+run_set f index items x run h =
     let front = sym (take-set items index x) in
     let back = sym (drop-set-lt (suc index) items index x (omega arith)) in
-    subst (λ ys. IfSome known (λ run. IsRunAround f run (take index (slice_set items index x)) ys)) back
-    (subst (λ ys. IfSome known (λ run. IsRunAround f run ys (drop (suc index) items))) front h)
+    subst (λ ys. IsRunAround f run (take index (slice_set items index x)) ys) back
+    (subst (λ ys. IsRunAround f run ys (drop (suc index) items)) front h)
+
+pub beside_set : {T : Type 0} (of_kind : Kind → T → Bool) (index : ℕ) (items : List T) (x : T) (runs : Runs) → AreRunsBeside of_kind index runs items → AreRunsBeside of_kind index runs (slice_set items index x)
+beside_set of_kind index items x runs h = record {
+  messages = run_set (of_kind kind.Message) index items x runs.messages h.messages;
+  keys = run_set (of_kind kind.Key) index items x runs.keys h.keys;
+  values = run_set (of_kind kind.Value) index items x runs.values h.values;
+}
 
 -- ---- an item taken out
 
@@ -226,16 +325,23 @@ left_length from items inside =
 
 -- ---- the run that is found
 
-pub whole_run : {T : Type 0} (f : T → Bool) (items rest last : List T) (run : Run) → rest ≡ drop run.first items → last ≡ drop run.count rest → map f (take run.first items) ≡ replicate run.first false → map f (take run.count rest) ≡ replicate run.count true
-    → (behind : ℕ) → behind ≡ length last → map f (take behind last) ≡ replicate behind false → IsRunOf f run items
-whole_run f items rest last run rest_is last_is front middle behind all back =
-    let whole : take behind last ≡ last = take_all behind last (omega (arith, all)) in
-    record {
-      behind = behind;
-      is = ap (map f) (sym (take-append-drop run.first items) ∙ ap (λ t. take run.first items ++ t) (sym rest_is ∙ sym (take-append-drop run.count rest) ∙ ap (λ t. take run.count rest ++ t) (sym last_is)))
-          ∙ map-append f (take run.first items) (take run.count rest ++ last)
-          ∙ ap (λ t. map f (take run.first items) ++ t) (map-append f (take run.count rest) last)
-          ∙ ap (λ t. t ++ (map f (take run.count rest) ++ map f last)) front
-          ∙ ap (λ t. replicate run.first false ++ (t ++ map f last)) middle
-          ∙ ap (λ t. replicate run.first false ++ (replicate run.count true ++ t)) (sym (ap (map f) whole) ∙ back);
-    }
+pub found_run : {T : Type 0} (f : T → Bool) (items rest last : List T) (run : Run) → rest ≡ drop run.first items → last ≡ drop run.count rest → map f (take run.first items) ≡ replicate run.first false → map f (take run.count rest) ≡ replicate run.count true
+    → (behind : ℕ) → run.until ≡ run.first + (run.count + behind) → map f (take behind last) ≡ replicate behind false → IsRunOf f run items
+found_run f items rest last run rest_is last_is front middle behind until back =
+    known_parts run behind (map f (drop behind last)) (map f items) until
+    (ap (map f) (sym (take-append-drop run.first items) ∙ ap (λ t. take run.first items ++ t) (sym rest_is ∙ sym (take-append-drop run.count rest) ∙ ap (λ t. take run.count rest ++ t) (sym last_is ∙ sym (take-append-drop behind last))))
+    ∙ map-append f (take run.first items) (take run.count rest ++ (take behind last ++ drop behind last))
+    ∙ ap (λ t. map f (take run.first items) ++ t) (map-append f (take run.count rest) (take behind last ++ drop behind last) ∙ ap (λ t. map f (take run.count rest) ++ t) (map-append f (take behind last) (drop behind last)))
+    ∙ ap (λ t. t ++ (map f (take run.count rest) ++ (map f (take behind last) ++ map f (drop behind last)))) front
+    ∙ ap (λ t. replicate run.first false ++ (t ++ (map f (take behind last) ++ map f (drop behind last)))) middle
+    ∙ ap (λ t. replicate run.first false ++ (replicate run.count true ++ (t ++ map f (drop behind last)))) back)
+
+-- ---- an item behind the others
+
+pub spliced_at_end : {A : Type 0} (items put : List A) (n : ℕ) → n ≡ length items → splice n 0 put items ≡ items ++ put
+spliced_at_end items put n all =
+    let behind : n + 0 ≡ n = omega arith in
+    ap (λ t. (t ++ put) ++ drop (n + 0) items) (take_all n items (omega (arith, all)))
+    ∙ ap (λ k. (items ++ put) ++ drop k items) behind
+    ∙ ap (λ t. (items ++ put) ++ t) (drop_all n items (omega (arith, all)))
+    ∙ append-nil (items ++ put)

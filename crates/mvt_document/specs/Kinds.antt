@@ -1,16 +1,47 @@
--- Which items are messages themselves.
-use Rattle.std.specs.Prelude.{Bool, true, false}
+-- Of which kind an item is.
+use Rattle.std.specs.Prelude.{ℕ, ◌/◌, ◌==◌, Bool, true, false, if◌then◌else◌}
+use Rattle.mvt_document.specs.declared.body.Body.{Body}
+use Rattle.mvt_document.specs.declared.body.Body.TheVariants as in_body
+use Rattle.mvt_document.specs.declared.document.Field.{Field}
 use Rattle.mvt_document.specs.declared.document.LayerItem.{LayerItem}
 use Rattle.mvt_document.specs.declared.document.LayerItem.TheVariants as in_layer
 use Rattle.mvt_document.specs.declared.document.TileItem.{TileItem}
 use Rattle.mvt_document.specs.declared.document.TileItem.TheVariants as in_tile
+use Rattle.mvt_document.specs.declared.run.Kind.{Kind}
+use Rattle.mvt_document.specs.declared.run.Kind.TheVariants as kind
+
+-- the body is one of a length and that many bytes
+abbrev pub is_delimited : Body → Bool
+is_delimited (in_body.Bytes width bytes) = true
+is_delimited body = false
+
+-- the field is a LEN field of this number
+abbrev pub is_delimited_field : ℕ → Field → Bool
+is_delimited_field number field = if field.tag.value / 8 == number then is_delimited field.body else false
 
 -- the item of a layer is a feature
 abbrev pub is_feature : LayerItem → Bool
 is_feature (in_layer.Feature feature) = true
 is_feature (in_layer.Plain field) = false
 
+-- the item of a layer is a LEN field of this number
+abbrev pub is_entry : ℕ → LayerItem → Bool
+is_entry number (in_layer.Feature feature) = false
+is_entry number (in_layer.Plain field) = is_delimited_field number field
+
+-- the item of a layer is of this kind (tiles 4.1)
+abbrev pub in_layer_of_kind : Kind → LayerItem → Bool
+in_layer_of_kind kind.Message item = is_feature item
+in_layer_of_kind kind.Key item = is_entry 3 item
+in_layer_of_kind kind.Value item = is_entry 4 item
+
 -- the item of a tile is a layer
 abbrev pub is_layer : TileItem → Bool
 is_layer (in_tile.Layer layer) = true
 is_layer (in_tile.Plain field) = false
+
+-- the item of a tile is of this kind; no tile has keys or values (tiles 4.1)
+abbrev pub in_tile_of_kind : Kind → TileItem → Bool
+in_tile_of_kind kind.Message item = is_layer item
+in_tile_of_kind kind.Key item = false
+in_tile_of_kind kind.Value item = false

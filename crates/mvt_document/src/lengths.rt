@@ -1,21 +1,23 @@
-//! The sizes of the messages of a tile, and which items are messages. The size of a layer comes from
-//! the one that its message keeps.
+//! The sizes of the messages of a tile, and the kinds of items. The size of a layer comes from the one
+//! that its message keeps.
 
-ghost use Rattle.std.specs.Prelude.{true, false};
+ghost use Rattle.std.specs.Prelude.{◌≡◌, false};
 ghost use Rattle.mvt_document.specs.Wire.{body_bytes, field_bytes, feature_bytes, layer_item_bytes, layer_bytes, tile_item_bytes};
 ghost use Rattle.mvt_document.specs.Stands.{body_of, field_of, feature_of, layer_item_of, layer_of, tile_item_of};
-ghost use Rattle.mvt_document.specs.Kinds.{is_feature, is_layer};
+ghost use Rattle.mvt_document.specs.Kinds.{in_layer_of_kind, in_tile_of_kind, is_delimited_field};
 
 use crate::body::Body;
 use crate::document::{Feature, Field, Layer, LayerItem, TileItem};
 use crate::measure::{Measured, delimited_size, message_size, size_of_all, sum_within};
+use crate::run::Kind;
+use crate::tags::{KEYS, VALUES};
 
 impl Measured for Body {
     ghost bytes = { λ b. body_bytes (body_of b) };
 
-    ghost message = { λ _. false };
+    ghost of_kind = { λ _ _. false };
 
-    fn is_message(&self) -> bool {
+    fn is_of(&self, _kind: Kind) -> bool {
         false
     }
 
@@ -33,9 +35,9 @@ impl Measured for Body {
 impl Measured for Field {
     ghost bytes = { λ f. field_bytes (field_of f) };
 
-    ghost message = { λ _. false };
+    ghost of_kind = { λ _ _. false };
 
-    fn is_message(&self) -> bool {
+    fn is_of(&self, _kind: Kind) -> bool {
         false
     }
 
@@ -51,10 +53,10 @@ impl Measured for Field {
 impl Measured for Feature {
     ghost bytes = { λ f. feature_bytes (feature_of f) };
 
-    ghost message = { λ _. true };
+    ghost of_kind = { λ _ _. false };
 
-    fn is_message(&self) -> bool {
-        true
+    fn is_of(&self, _kind: Kind) -> bool {
+        false
     }
 
     fn size_within(&self, limit: usize) -> Option<usize> {
@@ -70,11 +72,16 @@ impl Measured for Feature {
 impl Measured for LayerItem {
     ghost bytes = { λ i. layer_item_bytes (layer_item_of i) };
 
-    ghost message = { is_feature };
+    ghost of_kind = { in_layer_of_kind };
 
     #[inline(always)]
-    fn is_message(&self) -> bool {
-        matches!(self, LayerItem::Feature(_))
+    fn is_of(&self, kind: Kind) -> bool {
+        match (self, kind) {
+            (LayerItem::Feature(_), Kind::Message) => true,
+            (LayerItem::Plain(field), Kind::Key) => is_delimited_field(field, KEYS),
+            (LayerItem::Plain(field), Kind::Value) => is_delimited_field(field, VALUES),
+            _ => false,
+        }
     }
 
     fn size_within(&self, limit: usize) -> Option<usize> {
@@ -88,10 +95,10 @@ impl Measured for LayerItem {
 impl Measured for Layer {
     ghost bytes = { λ l. layer_bytes (layer_of l) };
 
-    ghost message = { λ _. true };
+    ghost of_kind = { λ _ _. false };
 
-    fn is_message(&self) -> bool {
-        true
+    fn is_of(&self, _kind: Kind) -> bool {
+        false
     }
 
     fn size_within(&self, limit: usize) -> Option<usize> {
@@ -102,11 +109,11 @@ impl Measured for Layer {
 impl Measured for TileItem {
     ghost bytes = { λ i. tile_item_bytes (tile_item_of i) };
 
-    ghost message = { is_layer };
+    ghost of_kind = { in_tile_of_kind };
 
     #[inline(always)]
-    fn is_message(&self) -> bool {
-        matches!(self, TileItem::Layer(_))
+    fn is_of(&self, kind: Kind) -> bool {
+        matches!((self, kind), (TileItem::Layer(_), Kind::Message))
     }
 
     fn size_within(&self, limit: usize) -> Option<usize> {
@@ -114,5 +121,15 @@ impl Measured for TileItem {
             TileItem::Layer(layer) => layer.size_within(limit),
             TileItem::Plain(field) => field.size_within(limit),
         }
+    }
+}
+
+/// Whether a field is a LEN field of this number.
+fn is_delimited_field(field: &Field, number: u64) -> bool
+    ensures { result ≡ is_delimited_field number field.now }
+{
+    match &field.body {
+        Body::Bytes { .. } => field.tag.value / 8 == number,
+        _ => false,
     }
 }

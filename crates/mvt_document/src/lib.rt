@@ -11,9 +11,10 @@
 //!   beside a part of a list (`size_beside_part`), and those of a message with a content of a given
 //!   length (`message_size`). A message may keep that number; where it does, it is the right one
 //!   after every change, which its type keeps (`IsKept`).
-//! - The features of a layer, and the layers of a tile, may be known to stand in one run, with
-//!   nothing between them. Where that is known, just the items of the run are such messages, after
-//!   every change, which the type of the list keeps (`IsKnownRun`): `Message::run`.
+//! - The features, the keys and the values of a layer, and the layers of a tile, may be known to stand
+//!   each in one run, with nothing between them, up to some position. Before that just the items of the
+//!   run are of the kind, after every change, which the type of the list keeps (`AreRunsOf`):
+//!   `Message::runs`.
 //! - Items of a list change places with those of another, as many for as many or for more or fewer,
 //!   and an item moves within its list: `exchange` and `move_item` of `Items` and of `Message`.
 //!   Where memory runs out nothing has changed, and it does not where both lists have the room
@@ -39,6 +40,7 @@ mod body;
 mod document;
 mod exchange;
 mod items;
+mod kept_runs;
 pub mod laws;
 mod lengths;
 mod measure;
@@ -54,7 +56,7 @@ pub use document::{Document, Feature, Field, Layer, LayerItem, TileItem};
 pub use items::Items;
 pub use measure::{Measured, message_size, size_beside_part, size_of_all, sum_within};
 pub use message::Message;
-pub use run::Run;
+pub use run::{Kind, Run, Runs};
 pub use varint::{Varint, least_width, put_number, read_varint};
 pub use zigzag::{from_zigzag, to_zigzag};
 

@@ -1,5 +1,5 @@
-//! How many bytes a value takes, and whether it is a message, by one trait that each type of a
-//! document has.
+//! How many bytes a value takes, and of which kind it is, by one trait that each type of a document
+//! has.
 
 ghost use Rattle.std.specs.Prelude.{◌≡◌, ℕ, ◌+◌, ◌≤◌, Bool, false, List, [], ◌++◌, length, max};
 ghost use Rattle.std.specs.Option.{SomeIff};
@@ -7,20 +7,22 @@ ghost use Rattle.std.specs.List.{flat_map};
 ghost use Rattle.mvt_document.specs.declared.TheConstants.{MAX_FILE};
 ghost use Rattle.mvt_document.specs.Wire.{spell, minimal_width};
 ghost use Rattle.mvt_document.specs.Splicing.{splice};
+ghost use Rattle.mvt_document.specs.declared.run.Kind.{Kind};
 
 use crate::MAX_FILE;
+use crate::run::Kind;
 use crate::varint::{Varint, least_width};
 
-/// A value that is written as bytes, of which it is known how many they are, and whether they are a
-/// message whose fields are known.
+/// A value that is written as bytes, of which it is known how many they are, and of which kind it is in
+/// the list of a message.
 pub trait Measured {
     ghost bytes: { Self → List ℕ };
 
-    ghost message: { Self → Bool };
+    ghost of_kind: { Kind → Self → Bool };
 
-    /// Whether it is a message whose fields are known.
-    fn is_message(&self) -> bool
-        ensures { result ≡ message self.now };
+    /// Whether it is of this kind.
+    fn is_of(&self, kind: Kind) -> bool
+        ensures { result ≡ of_kind kind self.now };
 
     /// How many bytes it takes, where they are within the limit.
     fn size_within(&self, limit: usize) -> Option<usize>
@@ -93,9 +95,9 @@ pub fn message_size(tag: Varint, width: u8, length: usize, limit: usize) -> Opti
 impl Measured for Varint {
     ghost bytes = { λ n. spell n.value n.width };
 
-    ghost message = { λ _. false };
+    ghost of_kind = { λ _ _. false };
 
-    fn is_message(&self) -> bool {
+    fn is_of(&self, _kind: Kind) -> bool {
         false
     }
 

@@ -1,40 +1,45 @@
-//! The items of a tile or of a layer, with how many bytes they take, and which of them are messages:
-//! known from where they were read, and kept over changes. A feature is small, and is measured where
+//! The items of a tile or of a layer, with how many bytes they take, and the runs in which those of a
+//! kind stand: known from where they were read, and kept over changes. A feature is small, and is measured where
 //! it has to be.
 
 ghost use Rattle.std.specs.Prelude.{◌≡◌, ◌≤◌, ◌+◌, ◌++◌, ℕ, length, Some, IfSome};
 ghost use Rattle.std.specs.List.{flat_map};
 ghost use Rattle.std.specs.Option.{SomeIff};
 ghost use Rattle.mvt_document.specs.declared.TheConstants.{MAX_FILE};
+ghost use Rattle.mvt_document.specs.Runs.{AreRunsOf};
 
 use crate::MAX_FILE;
 use crate::exchange::move_item;
 use crate::items::Items;
+use crate::kept_runs::KeptRuns;
 use crate::measure::{Measured, size_beside_part, size_of_all, sum_within};
-use crate::run::{Run, run_of};
+use crate::run::{Kind, Run, Runs, runs_of};
 use std::alloc::{AllocError, AllocFailed};
 use std::marker::Model;
 
-/// The items of a message, and where that is known how many bytes they take, and in which run those
-/// stand that are messages themselves. Contracts see the items, and beside them the room for more.
+/// How many items a list has at least that keeps its runs.
+const MANY_ITEMS: usize = 32;
+
+/// The items of a message, and where that is known how many bytes they take, and in which runs those of a
+/// kind stand, as far as that is known. Contracts see the items, and beside them the room for more.
 #[derive(Debug, Drop)]
 pub struct Message<T: Measured> {
     inner: Vec<T>,
     sum: Option<usize>,
-    run: Option<Run>,
+    runs: KeptRuns,
 }
 
 impl<T: Measured> Model for Message<T> {
-    ghost use Rattle.std.specs.Prelude.{◌-◌, vec_len, vec_capacity};
+    ghost use Rattle.std.specs.Prelude.{◌-◌, IfSome, vec_len, vec_capacity};
     ghost use Rattle.mvt_document.specs.Held.{Held};
     ghost use Rattle.mvt_document.specs.Kept.{IsKept};
-    ghost use Rattle.mvt_document.specs.Runs.{IsKnownRun};
+    ghost use Rattle.mvt_document.specs.Runs.{AreRunsOf};
 
     ghost Value = { Held T };
 
     ghost view = { λ l. record { items = l.inner.items; room = vec_capacity l.inner - vec_len l.inner } };
 
-    ghost invariant = { λ l. IsKept T.bytes l.inner.items l.sum × IsKnownRun T.message l.inner.items l.run };
+    ghost invariant = { λ l. IsKept T.bytes l.inner.items l.sum × IfSome l.runs (λ runs. AreRunsOf T.of_kind runs l.inner.items) };
 }
 
 impl<T: Measured> Message<T> {
@@ -42,7 +47,7 @@ impl<T: Measured> Message<T> {
     ghost use Rattle.mvt_document.specs.Splicing.{moved, part, splice};
     ghost use Rattle.std.specs.Borrow.{sem};
     ghost use Rattle.mvt_document.specs.Kept.{IsKept, bytes_beside};
-    ghost use Rattle.mvt_document.specs.Runs.{IsKnownRun, IsRunBeside};
+    ghost use Rattle.mvt_document.specs.Runs.{AreRunsBeside, AreRunsOf, IsRunBeside, IsRunOf};
     ghost use Rattle.mvt_document.specs.Lending.{held_in};
     ghost use Rattle.mvt_document.specs.LendingKept.{LendsKept, LendsVecKept};
 
@@ -52,11 +57,11 @@ impl<T: Measured> Message<T> {
         requires { sum ≡ length (flat_map T.bytes inner.items) }
         ensures { result.items ≡ inner.items }
     {
-        let run = run_of(inner.as_slice());
+        let runs = runs_to_keep(&inner);
         Message {
             inner,
             sum: Some(sum),
-            run,
+            runs,
         }
     }
 
@@ -72,11 +77,26 @@ impl<T: Measured> Message<T> {
         self.inner.len()
     }
 
-    /// The run of the items that are messages themselves, where they are known to stand in one.
-    pub fn run(&self) -> Option<Run>
-        ensures { IsKnownRun T.message self.now.items result }
+    /// The runs in which the items of each kind stand.
+    pub fn runs(&self) -> Runs
+        ensures { AreRunsOf T.of_kind result self.now.items }
     {
-        self.run
+        match self.runs.get() {
+            Some(runs) => runs,
+            None => Runs::unknown(),
+        }
+    }
+
+    /// The run of the items of this kind.
+    fn run(&self, kind: Kind) -> Run
+        ensures { IsRunOf (T.of_kind kind) result self.now.items }
+    {
+        let runs = self.runs();
+        match kind {
+            Kind::Message => runs.messages,
+            Kind::Key => runs.keys,
+            Kind::Value => runs.values,
+        }
     }
 
     /// How many bytes the items take, where they are within the limit.
@@ -117,22 +137,35 @@ impl<T: Measured> Message<T> {
         sum_within(sum - part, 0, limit)
     }
 
-    /// The run of those that are messages, which stays known whatever the item at this index becomes.
-    pub(crate) fn run_beside(&self, index: usize) -> Option<Run>
+    /// The runs, which stay known whatever the item at this index becomes.
+    pub(crate) fn runs_beside(&self, index: usize) -> Runs
         requires { index < length self.now.items }
-        ensures { IfSome result (λ run. IsRunBeside T.message index run self.now.items) }
+        ensures { AreRunsBeside T.of_kind index result self.now.items }
     {
-        self.run
+        self.runs()
     }
 
-    /// The run of those that are messages, where it is known but for the item at this index.
-    fn run_with(&self, index: usize, beside: Option<Run>) -> Option<Run>
-        requires { IfSome beside (λ run. IsRunBeside T.message index run self.now.items) }
-        ensures { IsKnownRun T.message self.now.items result }
+    /// The run of the items of a kind, where it is known but for the item at this index.
+    fn run_with(&self, kind: Kind, index: usize, beside: Run) -> Run
+        requires there { index < length self.now.items }
+        requires beside { IsRunBeside (T.of_kind kind) index beside self.now.items }
+        ensures { IsRunOf (T.of_kind kind) result self.now.items }
     {
-        let item = self.inner.get(index)?;
-        let run = beside?;
-        run.spliced(index, 1, Run::of_one(item.is_message()), 1)
+        let items = self.as_slice();
+        beside.spliced(index, 1, Run::of_one(items[index].is_of(kind)), 1)
+    }
+
+    /// The same of each kind.
+    fn runs_with(&self, index: usize, beside: Runs) -> Runs
+        requires there { index < length self.now.items }
+        requires beside { AreRunsBeside T.of_kind index beside self.now.items }
+        ensures { AreRunsOf T.of_kind result self.now.items }
+    {
+        Runs {
+            messages: self.run_with(Kind::Message, index, beside.messages),
+            keys: self.run_with(Kind::Key, index, beside.keys),
+            values: self.run_with(Kind::Value, index, beside.values),
+        }
     }
 
     /// How many bytes the items take, where those beside this one take so many. What is not known is
@@ -148,25 +181,27 @@ impl<T: Measured> Message<T> {
         sum_within(beside, item.size()?, MAX_FILE)
     }
 
-    /// Knows the size and the run again, where the items beside this one take so many bytes, and have
-    /// this run whatever it is.
-    pub(crate) fn remember(&mut self, index: usize, beside: Option<usize>, run: Option<Run>)
+    /// Knows the size and the runs again, where the items beside this one take so many bytes, and have
+    /// these runs whatever it is.
+    pub(crate) fn remember(&mut self, index: usize, beside: Option<usize>, runs: Runs)
+        requires there { index < length self.old.items }
         requires size { IfSome beside (λ n. n ≡ bytes_beside T.bytes index self.old.items) }
-        requires run { IfSome run (λ run. IsRunBeside T.message index run self.old.items) }
+        requires runs { AreRunsBeside T.of_kind index runs self.old.items }
         ensures { self.new ≡ self.old }
     {
+        let runs = self.runs_with(index, runs);
         self.sum = self.size_with(index, beside);
-        self.run = self.run_with(index, run);
+        self.runs.set(runs);
     }
 
-    /// The item at this index. The size and the run are no longer known: see `remember`.
+    /// The item at this index. The size and the runs are no longer known: see `remember`.
     pub(crate) fn item_mut(&mut self, index: usize) -> &mut T
         requires { index < length self.old.items }
         ensures* writes_back { sem 𝓛 (LendsKept T.row T.Measured self.entry index result) }
         ensures value { slice_get self.old.items index ≡ Some result.now }
     {
         self.sum = None;
-        self.run = None;
+        self.runs.set(Runs::unknown());
         &mut self.inner[index]
     }
 
@@ -177,43 +212,63 @@ impl<T: Measured> Message<T> {
         self.sum
     }
 
-    /// The vector that the items are in. The size and the run are no longer known: see `know_size`.
+    /// The vector that the items are in. The size and the runs are no longer known: see `know_size`.
     pub fn as_vec_mut(&mut self) -> &mut Vec<T>
         ensures* writes_back { sem 𝓛 (LendsVecKept T.row T.Measured self.entry result) }
         ensures value { held_in result.now ≡ self.old }
     {
         self.sum = None;
-        self.run = None;
+        self.runs.set(Runs::unknown());
         &mut self.inner
     }
 
-    /// Knows the size again, and the run.
+    /// Knows the size again, and the runs.
     pub fn know_size(&mut self, known: Option<usize>)
         requires { IsKept T.bytes self.old.items known }
         ensures { self.new ≡ self.old }
     {
         self.sum = known;
-        self.run = run_of(self.inner.as_slice());
+        if self.runs.are_kept() {
+            self.runs.set(runs_of(self.inner.as_slice()));
+        }
     }
 
     /// Adds an item at the end. An `Err` changes nothing.
     pub fn push(&mut self, item: T) -> Result<(), AllocFailed<T>>
         ensures items { self.new.items ≡ (if is_ok result then self.old.items ++ item ∷ [] else self.old.items) }
     {
-        let sum = sum_known(self.sum, item.size());
-        let run = self.run_pushed(&item);
+        let sum = self.size_pushed(&item);
+        let runs = self.runs_pushed(&item);
         self.inner.push(item)?;
         self.sum = sum;
-        self.run = run;
+        self.runs.set(runs);
         Ok(())
     }
 
-    /// The run of those that are messages once this item is behind the others, where it is known.
-    fn run_pushed(&self, item: &T) -> Option<Run>
-        ensures { IsKnownRun T.message (self.now.items ++ item.now ∷ []) result }
+    /// How many bytes the items take once this item is behind the others, where that is known.
+    fn size_pushed(&self, item: &T) -> Option<usize>
+        ensures { IsKept T.bytes (self.now.items ++ item.now ∷ []) result }
     {
-        let run = self.run?;
-        run.joined(self.len(), Run::of_one(item.is_message()))
+        sum_within(self.sum?, item.size()?, MAX_FILE)
+    }
+
+    /// The run of the items of a kind once this item is behind the others.
+    fn run_pushed(&self, kind: Kind, item: &T) -> Run
+        ensures { IsRunOf (T.of_kind kind) result (self.now.items ++ item.now ∷ []) }
+    {
+        self.run(kind)
+            .spliced(self.len(), 0, Run::of_one(item.is_of(kind)), 1)
+    }
+
+    /// The same of each kind.
+    fn runs_pushed(&self, item: &T) -> Runs
+        ensures { AreRunsOf T.of_kind result (self.now.items ++ item.now ∷ []) }
+    {
+        Runs {
+            messages: self.run_pushed(Kind::Message, item),
+            keys: self.run_pushed(Kind::Key, item),
+            values: self.run_pushed(Kind::Value, item),
+        }
     }
 
     /// How many bytes the items take once so many from an index on are exchanged for the ones to
@@ -228,15 +283,34 @@ impl<T: Measured> Message<T> {
         sum_within(sum - gone, come, usize::MAX)
     }
 
-    /// The run of those that are messages once so many from an index on are exchanged for the ones to
-    /// put, where it is known.
-    fn run_exchanged(&self, index: usize, taken: usize, put: &Items<T>) -> Option<Run>
-        requires { index + taken ≤ length self.now.items }
-        ensures { IsKnownRun T.message (splice index taken put.now.items self.now.items) result }
+    /// The run of the items of a kind once so many from an index on are exchanged for the ones to put, of
+    /// which that is the run.
+    fn run_exchanged(
+        &self,
+        kind: Kind,
+        index: usize,
+        taken: usize,
+        put: &Items<T>,
+        put_run: Run,
+    ) -> Run
+        requires there { index + taken ≤ length self.now.items }
+        requires put { IsRunOf (T.of_kind kind) put_run put.now.items }
+        ensures { IsRunOf (T.of_kind kind) result (splice index taken put.now.items self.now.items) }
     {
-        let run = self.run?;
-        let put_run = run_of(put.as_slice())?;
-        run.spliced(index, taken, put_run, put.len())
+        self.run(kind).spliced(index, taken, put_run, put.len())
+    }
+
+    /// The same of each kind.
+    fn runs_exchanged(&self, index: usize, taken: usize, put: &Items<T>) -> Runs
+        requires { index + taken ≤ length self.now.items }
+        ensures { AreRunsOf T.of_kind result (splice index taken put.now.items self.now.items) }
+    {
+        let runs = runs_of(put.as_slice());
+        Runs {
+            messages: self.run_exchanged(Kind::Message, index, taken, put, runs.messages),
+            keys: self.run_exchanged(Kind::Key, index, taken, put, runs.keys),
+            values: self.run_exchanged(Kind::Value, index, taken, put, runs.values),
+        }
     }
 
     /// Exchanges `taken` items from `index` for the ones to put, as `Items::exchange` does. The size,
@@ -255,23 +329,35 @@ impl<T: Measured> Message<T> {
         ensures succeeds { length put.old.items ≤ self.old.room + taken → taken ≤ length put.old.items + put.old.room → IsOk result }
     {
         let size = self.size_exchanged(index, taken, put);
-        let run = self.run_exchanged(index, taken, put);
+        let runs = self.runs_exchanged(index, taken, put);
         put.exchange_in(&mut self.inner, index, taken)?;
         self.sum = size;
-        self.run = run;
+        self.runs.set(runs);
         Ok(())
     }
 
-    /// The run of those that are messages once the item at one position stands at the other, where it
-    /// is known.
-    fn run_moved(&self, from: usize, to: usize) -> Option<Run>
-        requires { to < length self.now.items }
-        ensures { IsKnownRun T.message (moved from to self.now.items) result }
+    /// The run of the items of a kind once the item at one position stands at the other.
+    fn run_moved(&self, kind: Kind, from: usize, to: usize) -> Run
+        requires there { from < length self.now.items }
+        requires within { to < length self.now.items }
+        ensures { IsRunOf (T.of_kind kind) result (moved from to self.now.items) }
     {
-        let item = self.inner.get(from)?;
-        let run = self.run?;
-        let left = run.spliced(from, 1, Run::of_none(), 0)?;
-        left.spliced(to, 0, Run::of_one(item.is_message()), 1)
+        let items = self.as_slice();
+        let left = self.run(kind).spliced(from, 1, Run::unknown(), 0);
+        left.spliced(to, 0, Run::of_one(items[from].is_of(kind)), 1)
+    }
+
+    /// The same of each kind.
+    fn runs_moved(&self, from: usize, to: usize) -> Runs
+        requires there { from < length self.now.items }
+        requires within { to < length self.now.items }
+        ensures { AreRunsOf T.of_kind result (moved from to self.now.items) }
+    {
+        Runs {
+            messages: self.run_moved(Kind::Message, from, to),
+            keys: self.run_moved(Kind::Key, from, to),
+            values: self.run_moved(Kind::Value, from, to),
+        }
     }
 
     /// Takes the item at one position out and puts it back so that it stands at the other.
@@ -281,15 +367,18 @@ impl<T: Measured> Message<T> {
         ensures items { self.new.items ≡ moved from to self.old.items }
         ensures room { self.new.room ≡ self.old.room }
     {
-        let run = self.run_moved(from, to);
+        let runs = self.runs_moved(from, to);
         move_item(self.inner.as_mut_slice(), from, to);
-        self.run = run;
+        self.runs.set(runs);
     }
 }
 
-/// The sum of two sizes, where both are known and a file may have so many bytes.
-fn sum_known(size: Option<usize>, more: Option<usize>) -> Option<usize>
-    ensures { IfSome result (λ n. (a : ℕ) × (b : ℕ) × (size ≡ Some a) × (more ≡ Some b) × (n ≡ a + b)) }
+/// What is kept of the runs of these items.
+fn runs_to_keep<T: Measured>(items: &Vec<T>) -> KeptRuns
+    ensures { IfSome result (λ runs. AreRunsOf T.of_kind runs items.now.items) }
 {
-    sum_within(size?, more?, MAX_FILE)
+    if items.len() < MANY_ITEMS {
+        return KeptRuns::none();
+    }
+    KeptRuns::new(*items.allocator(), runs_of(items.as_slice()))
 }

@@ -22,9 +22,9 @@ impl Document {
         ensures { MakesThere F.FnOnce change (held_items_at layer self.old) beside.old result beside.new (λ made. self.new ≡ change_held_items (λ _. made) layer self.old) }
     {
         let size = self.items.size_beside(layer);
-        let run = self.items.run_beside(layer);
+        let runs = self.items.runs_beside(layer);
         let result = change_in_layer(self.items.item_mut(layer), beside, change);
-        self.items.remember(layer, size, run);
+        self.items.remember(layer, size, runs);
         result
     }
 
@@ -62,9 +62,9 @@ fn change_in_items<W, R, F: FnOnce(&mut Items<Field>, &mut [W]) -> R>(
     ensures { MakesThere F.FnOnce change (held_fields_in_at item items.old) beside.old result beside.new (λ made. items.new ≡ change_held_at (in_held_feature (λ _. made)) item items.old) }
 {
     let size = items.size_beside(item);
-    let run = items.run_beside(item);
+    let runs = items.runs_beside(item);
     let result = change_in_feature(items.item_mut(item), beside, change);
-    items.remember(item, size, run);
+    items.remember(item, size, runs);
     result
 }
 

@@ -1,117 +1,220 @@
-//! The run of a list: the items that are messages themselves, where nothing stands between them. The
-//! run of a list that is joined, parted or spliced is made of those of its parts.
+//! The runs of a list: its items of one kind, as far as nothing stands between them. The run of a list
+//! that is joined, parted or spliced is made of those of its parts.
 
-ghost use Rattle.std.specs.Prelude.{◌≡◌, Bool, List, [], ◌∷◌, ◌++◌, ◌≤◌, length, map, take, drop, replicate, IfSome};
-ghost use Rattle.mvt_document.specs.Runs.{IsRun, IsKnownRun};
+ghost use Rattle.std.specs.Prelude.{◌≡◌, ◌+◌, Bool, List, [], ◌∷◌, ◌++◌, ◌≤◌, length, map, min, take, drop, replicate, IfSome};
+ghost use Rattle.mvt_document.specs.Runs.{IsRun, IsRunOf, AreRunsOf};
 ghost use Rattle.mvt_document.specs.Splicing.{splice};
 
 use crate::measure::Measured;
 
-/// So many items from the first on.
-#[derive(Clone, Copy, Debug, PartialEq, Eq)]
+/// How many items are looked at for each kind at a time.
+const PART: usize = 256;
+
+/// What an item of a list can be. A layer has features as its messages, and keys and values; a tile has
+/// layers as its messages, and neither of the others.
+#[derive(Clone, Copy, Debug)]
+pub enum Kind {
+    Message,
+    Key,
+    Value,
+}
+
+/// Of the items before `until`, those of one kind: so many from the first on. Of those behind nothing is
+/// known.
+#[derive(Clone, Copy, Debug)]
 pub struct Run {
     pub first: usize,
     pub count: usize,
+    pub until: usize,
+}
+
+/// The run of each kind.
+#[derive(Clone, Copy, Debug)]
+pub struct Runs {
+    pub messages: Run,
+    pub keys: Run,
+    pub values: Run,
 }
 
 impl Run {
-    /// That of a list with no message.
-    pub(crate) fn of_none() -> Run
-        ensures { IsRun result [] }
+    /// That of a list of which nothing is known.
+    #[tactic(auto, using(crate::proofs::Running::nothing_known))]
+    pub(crate) fn unknown() -> Run
+        ensures { (items : List Bool) → IsRun result items }
     {
-        Run { first: 0, count: 0 }
+        Run {
+            first: 0,
+            count: 0,
+            until: 0,
+        }
     }
 
     /// That of one item.
     #[inline(always)]
-    pub(crate) fn of_one(is_message: bool) -> Run
-        ensures { IsRun result (is_message ∷ []) }
+    #[tactic(auto, using(crate::proofs::Running::one_known))]
+    pub(crate) fn of_one(is_of_kind: bool) -> Run
+        ensures { IsRun result (is_of_kind ∷ []) }
     {
         Run {
             first: 0,
-            count: usize::from(is_message),
+            count: usize::from(is_of_kind),
+            until: 1,
         }
     }
 
-    /// That of a list of so many items with this run, and of one behind it.
+    /// That of a list of which all is known, and of one behind it.
     #[inline(always)]
-    #[tactic(auto, using(crate::proofs::Running::with_none, crate::proofs::Running::after_none, crate::proofs::Running::runs_meet))]
-    pub(crate) fn joined(self, before: usize, behind: Run) -> Option<Run>
-        ensures { (items more : List Bool) → IsRun self items → before ≡ length items → IsRun behind more → IfSome result (λ run. IsRun run (items ++ more)) }
+    #[tactic(auto, using(crate::proofs::Running::after_none, crate::proofs::Running::runs_meet, crate::proofs::Running::with_none, crate::proofs::Running::with_others))]
+    pub(crate) fn joined(self, behind: Run) -> Option<Run>
+        ensures { (items more : List Bool) → IsRun self items → self.until ≡ length items → IsRun behind more → IfSome result (λ run. IsRun run (items ++ more)) }
     {
-        if behind.count == 0 {
-            return Some(self);
-        }
+        let until = self.until.checked_add(behind.until)?;
         if self.count == 0 {
             return Some(Run {
-                first: before.checked_add(behind.first)?,
+                first: self.until.checked_add(behind.first)?,
                 count: behind.count,
+                until,
             });
         }
-        if behind.first != 0 || self.first.checked_add(self.count)? != before {
-            return None;
+        if behind.first == 0 && self.first.checked_add(self.count)? == self.until {
+            return Some(Run {
+                first: self.first,
+                count: self.count.checked_add(behind.count)?,
+                until,
+            });
+        }
+        if behind.count == 0 {
+            return Some(Run { until, ..self });
         }
         Some(Run {
-            first: self.first,
-            count: self.count.checked_add(behind.count)?,
+            until: self.until.checked_add(behind.first)?,
+            ..self
         })
     }
 
     /// That of the items before an index.
     #[tactic(auto, using(crate::proofs::Running::front_of))]
     fn front(self, index: usize) -> Run
-        ensures { (items : List Bool) → IsRun self items → IsRun result (take index items) }
+        ensures items { (items : List Bool) → IsRun self items → IsRun result (take index items) }
+        ensures until { result.until ≡ min self.until index }
     {
         Run {
             first: self.first.min(index),
             count: self.count.min(index.saturating_sub(self.first)),
+            until: self.until.min(index),
         }
     }
 
-    /// That of the items from an index on.
+    /// That of the items from an index on, up to which all is known.
     #[tactic(auto, using(crate::proofs::Running::back_of))]
     fn back(self, index: usize) -> Run
-        ensures { (items : List Bool) → IsRun self items → IsRun result (drop index items) }
+        ensures { (items : List Bool) → IsRun self items → index ≤ self.until → IsRun result (drop index items) }
     {
         Run {
             first: self.first.saturating_sub(index),
             count: self.count.saturating_sub(index.saturating_sub(self.first)),
+            until: self.until.saturating_sub(index),
         }
     }
 
-    /// That of the list once so many items from an index on are exchanged for others, which are so many and have a
-    /// run of their own.
-    pub(crate) fn spliced(self, index: usize, taken: usize, put: Run, given: usize) -> Option<Run>
-        ensures { (items come : List Bool) → IsRun self items → index ≤ length items → IsRun put come → given ≡ length come → IfSome result (λ run. IsRun run (splice index taken come items)) }
+    /// That of the list once so many items from an index on are exchanged for others, which are so many and
+    /// have a run of their own.
+    pub(crate) fn spliced(self, index: usize, taken: usize, put: Run, given: usize) -> Run
+        ensures { (items come : List Bool) → IsRun self items → index ≤ length items → IsRun put come → given ≡ length come → IsRun result (splice index taken come items) }
     {
-        let middle = index.checked_add(given)?;
+        let front = self.front(index);
+        if self.until < index {
+            return front;
+        }
+        let Some(middle) = front.joined(put) else {
+            return front;
+        };
+        match self.with_back(index, taken, middle, given) {
+            Some(whole) => whole,
+            None => middle,
+        }
+    }
+
+    /// The same, where all is known up to what is behind the exchange.
+    fn with_back(self, index: usize, taken: usize, middle: Run, given: usize) -> Option<Run>
+        ensures { (items come : List Bool) → IsRun self items → IsRun middle come → index + given ≡ length come → IfSome result (λ run. IsRun run (come ++ drop (index + taken) items)) }
+    {
         let end = index.checked_add(taken)?;
-        let front = self.front(index).joined(index, put)?;
-        front.joined(middle, self.back(end))
+        if middle.until != index.checked_add(given)? || self.until < end {
+            return None;
+        }
+        middle.joined(self.back(end))
     }
 }
 
-/// The run of the items that are messages, where they stand in one.
-pub(crate) fn run_of<T: Measured>(items: &[T]) -> Option<Run>
-    ensures { IsKnownRun T.message items.now result }
+impl Runs {
+    /// Those of a list of which nothing is known.
+    pub(crate) fn unknown() -> Runs
+        ensures { (items : List Bool) → IsRun result.messages items × IsRun result.keys items × IsRun result.values items }
+    {
+        let unknown = Run::unknown();
+        Runs {
+            messages: unknown,
+            keys: unknown,
+            values: unknown,
+        }
+    }
+}
+
+/// The run of the items of this kind.
+fn run_of<T: Measured>(items: &[T], kind: Kind) -> Run
+    ensures { IsRunOf (T.of_kind kind) result items.now }
 {
-    let first = leading(items, false);
+    let first = leading(items, kind, false);
     let behind = &items[first..];
-    let count = leading(behind, true);
+    let count = leading(behind, kind, true);
     let rest = &behind[count..];
-    if leading(rest, false) < rest.len() {
-        return None;
+    let others = leading(rest, kind, false);
+    Run {
+        first,
+        count,
+        until: first + count + others,
     }
-    Some(Run { first, count })
 }
 
-/// How many items at the front are messages, or are none.
-fn leading<T: Measured>(items: &[T], wanted: bool) -> usize
+/// The run of the items and of a part behind them, where that of so many items is known.
+fn run_with_part<T: Measured>(run: Run, seen: usize, part: &[T], kind: Kind) -> Run
+    ensures { (items : List T) → IsRunOf (T.of_kind kind) run items → seen ≡ length items → IsRunOf (T.of_kind kind) result (items ++ part.now) }
+{
+    run.spliced(seen, 0, run_of(part, kind), part.len())
+}
+
+/// The same of each kind.
+fn runs_with_part<T: Measured>(runs: Runs, seen: usize, part: &[T]) -> Runs
+    ensures { (items : List T) → AreRunsOf T.of_kind runs items → seen ≡ length items → AreRunsOf T.of_kind result (items ++ part.now) }
+{
+    Runs {
+        messages: run_with_part(runs.messages, seen, part, Kind::Message),
+        keys: run_with_part(runs.keys, seen, part, Kind::Key),
+        values: run_with_part(runs.values, seen, part, Kind::Value),
+    }
+}
+
+/// The run of each kind. A part of the items is looked at for each kind while it is near the processor.
+pub(crate) fn runs_of<T: Measured>(items: &[T]) -> Runs
+    ensures { AreRunsOf T.of_kind result items.now }
+{
+    let mut runs = Runs::unknown();
+    let mut seen = 0;
+    for part in items.chunks(PART) {
+        runs = runs_with_part(runs, seen, part);
+        seen += part.len();
+    }
+    runs
+}
+
+/// How many items at the front are of the kind, or are not.
+fn leading<T: Measured>(items: &[T], kind: Kind, wanted: bool) -> usize
     ensures within { result ≤ length items.now }
-    ensures items { map T.message (take result items.now) ≡ replicate result wanted }
+    ensures items { map (T.of_kind kind) (take result items.now) ≡ replicate result wanted }
 {
     for index in 0..items.len() {
-        let found = items[index].is_message();
+        let found = items[index].is_of(kind);
         if found != wanted {
             return index;
         }

@@ -6,7 +6,8 @@ use Rattle.std.proofs.lemmas.List.{length-map, length-replicate, length-take-le,
 use Rattle.mvt_document.specs.declared.document.LayerItem.{LayerItem}
 use Rattle.mvt_document.specs.declared.document.LayerItem.TheVariants as in_layer
 use Rattle.mvt_document.specs.declared.run.Run.{Run}
-use Rattle.mvt_document.specs.Kinds.{is_feature}
+use Rattle.mvt_document.specs.declared.run.Kind.TheVariants.{Message}
+use Rattle.mvt_document.specs.Kinds.{in_layer_of_kind, is_feature}
 use Rattle.mvt_document.specs.Runs.{IsRunOf}
 use Rattle.mvt_document.specs.Stands.{layer_item_of}
 use Rattle.mvt_view.proofs.InRun.{run_parts, run_within}
@@ -34,7 +35,7 @@ none_named (suc n) start (in_layer.Plain field ∷ items) e = absurd (cc)
 none_named (suc n) start (in_layer.Feature feature ∷ items) e = none_named n (start + 1) items (ap (drop 1) e)
 
 -- the names stand before the features and behind them
-pub names_beside : (run : Run) (items : List LayerItem) → IsRunOf is_feature run items
+pub names_beside : (run : Run) (items : List LayerItem) → IsRunOf (in_layer_of_kind Message) run items
     → name_positions 0 (map layer_item_of items) ≡ name_positions 0 (map layer_item_of (take run.first items)) ++ name_positions (run.first + run.count) (map layer_item_of (drop (run.first + run.count) items))
 names_beside run items h =
     let parts = run_parts run items h in
@@ -42,7 +43,7 @@ names_beside run items h =
     let part = take run.count (drop run.first items) in
     let middle = map layer_item_of part in
     let back = map layer_item_of (drop (run.first + run.count) items) in
-    let within = run_within run items h in
+    let within = run_within (in_layer_of_kind Message) run items h in
     let before : length front ≡ run.first = length-map (take run.first items) layer_item_of ∙ length-take-le run.first items (omega arith) in
     let count : length middle ≡ run.count = length-map part layer_item_of ∙ sym (length-map part is_feature) ∙ ap length parts.1 ∙ length-replicate run.count true in
     let start : 0 + length front ≡ run.first = omega (arith, before) in

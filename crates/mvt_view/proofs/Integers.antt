@@ -1,8 +1,6 @@
 -- The integers of a feature's geometry.
-use Rattle.std.proofs.Common.{◌≡◌, ℕ, ◌-◌, ◌^◌, ◌<◌, ℤ, pos, negsuc, Bool, true, false, List, [], ◌∷◌, ◌++◌, length, Option, Some, None, refl, sym, ap, ◌∙◌, subst, arith}
-use Rattle.std.specs.Prelude.{if◌then◌else◌}
+use Rattle.std.proofs.Common.{◌≡◌, ℕ, ◌-◌, ◌^◌, ◌<◌, ℤ, pos, negsuc, true, List, [], ◌∷◌, ◌++◌, length, Some, None, refl, ap, arith}
 use Rattle.std.specs.List.{list_all, AllByRecursion}
-use Rattle.std.specs.Option.{option_and_then}
 use Rattle.std.proofs.lemmas.Bool.Decides.{nat_tests}
 use Rattle.std.proofs.lemmas.List.{append-nil}
 use Rattle.mvt_document.specs.Signed.{zigzag}
@@ -14,9 +12,7 @@ use Rattle.mvt_geometry.specs.declared.shapes.Kind.TheVariants.{Dots, Lines, Are
 use Rattle.mvt_geometry.specs.Shapes.{Geometry, IsPartCount}
 use Rattle.mvt_geometry.specs.Integers.{command, ways, parameters, last_from, path, paths, all_points, origin, integers_of, IsWay, IsRepeated, HasGeometry}
 use Rattle.mvt_geometry.proofs.Parts.{ways_apart}
-use Rattle.mvt_view.specs.Views.{kind_of}
-use Rattle.mvt_view.specs.Attributes.{values_in}
-use Rattle.mvt_view.specs.FeatureGeometry.{HasFeatureGeometry, is_short, if_short, integers_in}
+use Rattle.mvt_view.specs.FeatureGeometry.{HasFeatureGeometry, is_short, integers_in}
 
 abbrev IsShort : ℕ → Type 0
 IsShort integer = integer < 2 ^ 32

@@ -8,7 +8,7 @@ use Rattle.mvt_document.specs.Plain.{Layer}
 use Rattle.mvt_numbers.specs.Numbers.{Placed, numbers, all_good, and_more}
 use Rattle.mvt_view.specs.Views.{keys, values}
 use Rattle.mvt_view.specs.Attributes.{values_in, in_pairs, is_ordinal, is_pair, if_pairs, pairs_in}
-use Rattle.mvt_view.specs.Tags.{PlacedPair, plain_pairs, pair_in, tag_pairs}
+use Rattle.mvt_view.specs.Tags.{PlacedPair, plain_pairs, tag_pairs}
 use Rattle.mvt_view.specs.Laws.{Names, PairsName, TagsArePairs}
 
 -- ---- one pair more

@@ -1,8 +1,8 @@
 -- What is found in a list, one item after the other.
-use Rattle.std.proofs.Common.{◌≡◌, ℕ, ◌+◌, ◌<◌, ◌≤◌, ◌^◌, Option, Some, None, List, [], ◌∷◌, length, get_or, map, drop, option_map, refl, sym, ap, ◌∙◌, arith}
+use Rattle.std.proofs.Common.{◌≡◌, ℕ, ◌+◌, ◌<◌, ◌^◌, Option, Some, None, List, [], ◌∷◌, length, get_or, map, option_map, refl, sym, ap, ◌∙◌, arith}
 use Rattle.std.specs.List.{cons_option, filter_map, enumerate_from}
 use Rattle.std.proofs.lemmas.List.{drop_more, length-map, get_or-map}
-use Rattle.mvt_view.specs.Found.{with_position, placed_from, found_from, found_in}
+use Rattle.mvt_view.specs.Found.{with_position, placed_from, found_in}
 use Rattle.mvt_view.proofs.Yielded.{picked_fit}
 
 -- what is found from a position on: what stands there, and what is found from the next one on

@@ -3,7 +3,7 @@ use Rattle.std.specs.Prelude.{ℕ, ◌/◌, ◌==◌, Bool, false, List, [], ◌
 use Rattle.std.specs.List.{filter_map, last_or, enumerate_from}
 use Rattle.std.specs.Option.{option_map_or, unwrap_or}
 use Rattle.std.specs.Str.{bytes_eq}
-use Rattle.mvt_document.specs.Plain.{Body, Spelled, Eight, Four, Delimited, Group, Field, Feature, LayerItem, OfFeature, PlainInLayer, Layer, TileItem, OfLayer, PlainInTile, Document}
+use Rattle.mvt_document.specs.Plain.{Body, Spelled, Delimited, Field, Feature, LayerItem, OfFeature, PlainInLayer, Layer, TileItem, OfLayer, PlainInTile, Document}
 
 -- ---- the fields of a message
 

@@ -1,13 +1,16 @@
 //! The keys and values of a layer with where they stand, as an iterator, and the first that is given.
 
-ghost use Rattle.std.specs.Prelude.{◌≡◌, ℕ, map, option_map};
-ghost use Rattle.mvt_document.specs.Kinds.{is_feature};
-ghost use Rattle.mvt_document.specs.Runs.{IsKnownRun};
+ghost use Rattle.std.specs.Prelude.{◌≡◌, length, map, option_map, slice_get};
+ghost use Rattle.std.specs.Option.{option_copied};
+ghost use Rattle.mvt_document.specs.declared.run.Kind.TheVariants.{Message};
+ghost use Rattle.mvt_document.specs.Kinds.{in_layer_of_kind, is_entry};
+ghost use Rattle.mvt_document.specs.Runs.{IsRunOf};
 ghost use Rattle.mvt_document.specs.Stands.{layer_item_of};
-ghost use Rattle.mvt_view.specs.Pools.{PassesOver, first_equal};
+ghost use Rattle.mvt_view.specs.Pools.{first_equal};
 ghost use Rattle.mvt_view.specs.Seen.{found_entry_seen};
+ghost use Rattle.mvt_view.specs.Views.{contents, plain_fields};
 
-use crate::fields::first_entry;
+use crate::fields::{entry_in, first_entry};
 use crate::found::FoundEntry;
 use mvt_document::{Layer, LayerItem, Run};
 use std::marker::Model;
@@ -18,7 +21,7 @@ use std::marker::Model;
 pub struct Entries<'a> {
     items: &'a [LayerItem],
     number: u64,
-    // The features, where they are known to stand in one run.
+    // A run of features, none of which is an entry.
     passed: Run,
     // From where the next is looked for, and its ordinal.
     position: usize,
@@ -39,40 +42,49 @@ impl<'a> Model for Entries<'a> {
 }
 
 impl<'a> Entries<'a> {
-    ghost use Rattle.std.specs.Prelude.{◌<◌, ◌^◌, length};
+    ghost use Rattle.std.specs.Prelude.{◌+◌, ◌<◌, ◌^◌, length};
     ghost use Rattle.mvt_document.specs.Stands.{layer_of};
-    ghost use Rattle.mvt_view.specs.Pools.{found_entries};
+    ghost use Rattle.mvt_view.specs.Found.{found_from};
+    ghost use Rattle.mvt_view.specs.Pools.{entry_in, found_entries};
 
     pub(crate) fn of(layer: &'a Layer, number: u64) -> Entries<'a>
         ensures items { result ≡ found_entries number (layer_of layer.now).items }
         ensures bound { length result < 2 ^ 64 }
     {
-        Entries::beside(layer.items.as_slice(), layer.items.run(), number)
+        Entries::beside(layer.items.as_slice(), layer.items.runs().messages, number)
     }
 
-    fn beside(items: &'a [LayerItem], features: Option<Run>, number: u64) -> Entries<'a>
-        requires { IsKnownRun is_feature items.now features }
+    fn beside(items: &'a [LayerItem], features: Run, number: u64) -> Entries<'a>
+        requires { IsRunOf (in_layer_of_kind Message) features items.now }
         ensures items { result ≡ found_entries number (map layer_item_of items.now) }
         ensures bound { length result < 2 ^ 64 }
     {
         Entries {
             items,
             number,
-            passed: passed_over(items, features),
+            passed: features,
             position: 0,
             ordinal: 0,
         }
     }
-}
 
-/// The run of the features, where it is known, or one of no items.
-fn passed_over(items: &[LayerItem], features: Option<Run>) -> Run
-    requires { IsKnownRun is_feature items.now features }
-    ensures { (number : ℕ) → PassesOver number result (map layer_item_of items.now) }
-{
-    match features {
-        Some(run) => run,
-        None => Run { first: 0, count: 0 },
+    /// Those that are not in the run of the first of them.
+    pub(crate) fn behind(items: &'a [LayerItem], entries: Run, number: u64) -> Entries<'a>
+        requires { IsRunOf (is_entry number) entries items.now }
+        ensures items { result ≡ found_from (entry_in number) entries.count entries.until (map layer_item_of items.now) }
+        ensures bound { entries.count + length result < 2 ^ 64 }
+    {
+        Entries {
+            items,
+            number,
+            passed: Run {
+                first: 0,
+                count: 0,
+                until: 0,
+            },
+            position: entries.until,
+            ordinal: entries.count,
+        }
     }
 }
 
@@ -96,6 +108,26 @@ impl<'a> Iterator for Entries<'a> {
             bytes,
         })
     }
+}
+
+/// The entry of this ordinal, where this is the run of the first of them.
+pub(crate) fn entry(items: &[LayerItem], entries: Run, number: u64, ordinal: usize) -> Option<&[u8]>
+    requires { IsRunOf (is_entry number) entries items.now }
+    ensures { option_copied result ≡ slice_get (contents number (plain_fields (map layer_item_of items.now))) ordinal }
+{
+    if ordinal < entries.count {
+        return entry_in(&items[entries.first + ordinal], number);
+    }
+    let found = Entries::behind(items, entries, number).nth(ordinal - entries.count)?;
+    Some(found.bytes)
+}
+
+/// How many entries there are, where this is the run of the first of them.
+pub(crate) fn entry_count(items: &[LayerItem], entries: Run, number: u64) -> usize
+    requires { IsRunOf (is_entry number) entries items.now }
+    ensures { result ≡ length (contents number (plain_fields (map layer_item_of items.now))) }
+{
+    entries.count + Entries::behind(items, entries, number).count()
 }
 
 /// The first entry that is these bytes.

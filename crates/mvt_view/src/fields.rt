@@ -3,8 +3,9 @@
 ghost use Rattle.std.specs.Prelude.{◌≡◌, ◌+◌, ◌^◌, ◌<◌, ◌≤◌, ◌∷◌, [], ◌++◌, length, map, option_map, slice_get, IfSome, MatchOption};
 ghost use Rattle.std.specs.List.{filter_map, last_or};
 ghost use Rattle.std.specs.Option.{option_copied};
-ghost use Rattle.mvt_document.specs.Kinds.{is_feature};
-ghost use Rattle.mvt_document.specs.Runs.{IsKnownRun, IsRunOf};
+ghost use Rattle.mvt_document.specs.declared.run.Kind.TheVariants.{Message};
+ghost use Rattle.mvt_document.specs.Kinds.{in_layer_of_kind};
+ghost use Rattle.mvt_document.specs.Runs.{IsRunOf};
 ghost use Rattle.mvt_document.specs.Stands.{feature_of, field_of, layer_item_of, layer_of, tile_item_of};
 ghost use Rattle.mvt_view.specs.Found.{found_features, placed_from};
 ghost use Rattle.mvt_view.specs.Pools.{PassesOver, entry_in};
@@ -45,26 +46,25 @@ pub(crate) fn last_value(fields: &[Field], number: u64) -> Option<u64>
     last
 }
 
-/// The items of a layer before its features and those behind them, where they stand in one run; else
-/// all items, and none.
+/// The items of a layer before the run of its features and those behind it.
 pub(crate) fn beside_features(layer: &Layer) -> (&[LayerItem], &[LayerItem])
     ensures items { plain_fields (layer_of layer.now).items ≡ plain_fields (map layer_item_of result.0.now) ++ plain_fields (map layer_item_of result.1.now) }
     ensures fits { length result.0.now + length result.1.now < 2 ^ 64 }
 {
-    beside_run(layer.items.as_slice(), layer.items.run())
+    beside_run(layer.items.as_slice(), layer.items.runs().messages)
 }
 
-/// The items before this run of the features and those behind it, where it is known; else all, and none.
+/// The items before this run of features and those behind it.
 #[tactic(auto, using(crate::proofs::InRun::run_within))]
-fn beside_run(items: &[LayerItem], features: Option<Run>) -> (&[LayerItem], &[LayerItem])
-    requires { IsKnownRun is_feature items.now features }
+fn beside_run(items: &[LayerItem], features: Run) -> (&[LayerItem], &[LayerItem])
+    requires { IsRunOf (in_layer_of_kind Message) features items.now }
     ensures items { plain_fields (map layer_item_of items.now) ≡ plain_fields (map layer_item_of result.0.now) ++ plain_fields (map layer_item_of result.1.now) }
     ensures fits { length result.0.now + length result.1.now < 2 ^ 64 }
 {
-    match features {
-        Some(run) => (&items[..run.first], &items[run.first + run.count..]),
-        None => (items, &[]),
-    }
+    (
+        &items[..features.first],
+        &items[features.first + features.count..],
+    )
 }
 
 /// The same among the fields of a layer.
@@ -117,18 +117,16 @@ pub(crate) fn first_feature(items: &[LayerItem], start: usize) -> Option<(usize,
     None
 }
 
-/// The feature of this ordinal, where the features stand in this run.
+/// The feature of this ordinal, which is one of the run.
 pub(crate) fn feature_in_run(
     items: &[LayerItem],
     features: Run,
     ordinal: usize,
 ) -> Option<FoundFeature<'_>>
-    requires { IsRunOf is_feature features items.now }
+    requires run { IsRunOf (in_layer_of_kind Message) features items.now }
+    requires there { ordinal < features.count }
     ensures { option_map found_feature_seen result ≡ slice_get (found_features (map layer_item_of items.now)) ordinal }
 {
-    if ordinal >= features.count {
-        return None;
-    }
     let position = features.first + ordinal;
     match &items[position] {
         LayerItem::Feature(feature) => Some(FoundFeature {
@@ -141,7 +139,7 @@ pub(crate) fn feature_in_run(
 }
 
 /// The content of an item that is a LEN field of this number.
-fn entry_in(item: &LayerItem, number: u64) -> Option<&[u8]>
+pub(crate) fn entry_in(item: &LayerItem, number: u64) -> Option<&[u8]>
     ensures { option_copied result ≡ entry_in number (layer_item_of item.now) }
 {
     match item {

@@ -2,7 +2,7 @@
 
 use crate::fields::{beside_features, first_content, first_feature, first_layer};
 use crate::found::{FoundFeature, FoundLayer};
-use mvt_document::{Layer, LayerItem, TileItem};
+use mvt_document::{Layer, LayerItem, Run, TileItem};
 use std::marker::Model;
 
 /// The layers of a tile, in order, each with its ordinal and its position. Contracts see those that
@@ -96,7 +96,12 @@ impl<'a> Model for FeatureViews<'a> {
 impl<'a> FeatureViews<'a> {
     ghost use Rattle.std.specs.Prelude.{◌≡◌, ◌<◌, ◌^◌, length, map};
     ghost use Rattle.mvt_document.specs.Stands.{layer_item_of};
-    ghost use Rattle.mvt_view.specs.Found.{found_features};
+    ghost use Rattle.std.specs.Prelude.{◌+◌};
+    ghost use Rattle.mvt_document.specs.declared.run.Kind.TheVariants.{Message};
+    ghost use Rattle.mvt_document.specs.Kinds.{in_layer_of_kind};
+    ghost use Rattle.mvt_document.specs.Runs.{IsRunOf};
+    ghost use Rattle.mvt_view.specs.Found.{found_features, found_from};
+    ghost use Rattle.mvt_view.specs.Views.{feature_in};
 
     pub(crate) fn of(items: &'a [LayerItem]) -> FeatureViews<'a>
         ensures items { result ≡ found_features (map layer_item_of items.now) }
@@ -106,6 +111,19 @@ impl<'a> FeatureViews<'a> {
             items,
             position: 0,
             ordinal: 0,
+        }
+    }
+
+    /// Those that are not in the run of the first of them.
+    pub(crate) fn behind(items: &'a [LayerItem], features: Run) -> FeatureViews<'a>
+        requires { IsRunOf (in_layer_of_kind Message) features items.now }
+        ensures items { result ≡ found_from feature_in features.count features.until (map layer_item_of items.now) }
+        ensures bound { features.count + length result < 2 ^ 64 }
+    {
+        FeatureViews {
+            items,
+            position: features.until,
+            ordinal: features.count,
         }
     }
 }

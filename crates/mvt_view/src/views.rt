@@ -10,7 +10,7 @@ ghost use Rattle.mvt_view.specs.Pools.{first_equal, found_keys, found_values};
 ghost use Rattle.mvt_view.specs.Seen.{feature_seen, found_entry_seen, found_feature_seen, layer_seen};
 ghost use Rattle.mvt_view.specs.Tags.{tag_pairs};
 
-use crate::entries::{Entries, first_equal};
+use crate::entries::{Entries, entry, entry_count, first_equal};
 use crate::fields::{feature_in_run, last_value, last_value_in_layer};
 use crate::found::{FoundEntry, FoundFeature};
 use crate::lists::{Contents, FeatureViews};
@@ -117,25 +117,25 @@ impl<'a> LayerView<'a> {
     pub fn feature_count(self) -> usize
         ensures { result ≡ length (features (layer_seen self.entry)) }
     {
-        match self.layer.items.run() {
-            Some(run) => run.count,
-            None => self.features().count(),
-        }
+        let features = self.layer.items.runs().messages;
+        features.count + FeatureViews::behind(self.layer.items.as_slice(), features).count()
     }
 
     pub fn key_count(self) -> usize
         ensures { result ≡ length (keys (layer_seen self.entry)) }
     {
-        self.keys().count()
+        let keys = self.layer.items.runs().keys;
+        entry_count(self.layer.items.as_slice(), keys, KEYS)
     }
 
     pub fn value_count(self) -> usize
         ensures { result ≡ length (values (layer_seen self.entry)) }
     {
-        self.values().count()
+        let values = self.layer.items.runs().values;
+        entry_count(self.layer.items.as_slice(), values, VALUES)
     }
 
-    /// How many keys and how many values there are, each counted in a pass over the items.
+    /// How many keys and how many values there are.
     pub fn pool_sizes(self) -> PoolSizes
         ensures keys { result.keys ≡ length (keys (layer_seen self.entry)) }
         ensures values { result.values ≡ length (values (layer_seen self.entry)) }
@@ -150,24 +150,28 @@ impl<'a> LayerView<'a> {
     pub fn feature(self, ordinal: usize) -> Option<FoundFeature<'a>>
         ensures { option_map found_feature_seen result ≡ slice_get (found_features (layer_seen self.entry).items) ordinal }
     {
-        match self.layer.items.run() {
-            Some(run) => feature_in_run(self.layer.items.as_slice(), run, ordinal),
-            None => self.features().nth(ordinal),
+        let items = self.layer.items.as_slice();
+        let features = self.layer.items.runs().messages;
+        if ordinal < features.count {
+            return feature_in_run(items, features, ordinal);
         }
+        FeatureViews::behind(items, features).nth(ordinal - features.count)
     }
 
     /// The key of this ordinal.
     pub fn key(self, ordinal: usize) -> Option<&'a [u8]>
         ensures { option_copied result ≡ slice_get (keys (layer_seen self.entry)) ordinal }
     {
-        self.keys().nth(ordinal)
+        let keys = self.layer.items.runs().keys;
+        entry(self.layer.items.as_slice(), keys, KEYS, ordinal)
     }
 
     /// The value of this ordinal.
     pub fn value(self, ordinal: usize) -> Option<&'a [u8]>
         ensures { option_copied result ≡ slice_get (values (layer_seen self.entry)) ordinal }
     {
-        self.values().nth(ordinal)
+        let values = self.layer.items.runs().values;
+        entry(self.layer.items.as_slice(), values, VALUES, ordinal)
     }
 }
 

@@ -1,20 +1,19 @@
 -- The attributes of a feature, and the pairs that name them.
-use Rattle.std.proofs.Common.{◌≡◌, ℕ, Bool, true, List, [], ◌∷◌, ◌++◌, length, map, Option, Some, None, Bor, codes, refl, sym, ap, ◌∙◌, subst}
-use Rattle.std.specs.Prelude.{All, IsTrue}
+use Rattle.std.proofs.Common.{◌≡◌, ℕ, zero, suc, ◌<◌, ◌^◌, Bool, true, List, [], ◌∷◌, ◌++◌, length, map, Option, Some, None, codes, refl, ap, ◌∙◌, subst, arith}
+use Rattle.std.specs.Prelude.{All, IsTrue, nat_lt, slice_get, slice_index_or}
+use borrow.Author.Tests.{ltb-true}
 use Rattle.std.specs.List.{AllByRecursion, list_all}
 use Rattle.std.specs.Option.{option_and_then}
 use Rattle.std.proofs.lemmas.Bool.{and_parts}
 use Rattle.std.proofs.lemmas.Option.{cond_some}
-use Rattle.std.proofs.lemmas.List.{length-map}
 use Rattle.std.proofs.lemmas.List.Elements.{All-from_recursion}
 use Rattle.mvt_document.specs.Plain.{Feature, Layer}
 use Rattle.mvt_numbers.specs.Numbers.{numbers}
 use Rattle.mvt_view.specs.Views.{keys, values}
-use Rattle.mvt_view.specs.Attributes.{attribute_at, if_pairs, in_pairs, is_pair, pairs_of, values_in}
+use Rattle.mvt_view.specs.Attributes.{attribute_at, if_pairs, in_pairs, is_ordinal, is_pair, pairs_of, values_in}
 use Rattle.mvt_view.specs.Seen.{pair_seen}
 use Rattle.mvt_view.specs.declared.attributes.Pair.{Pair}
 use Rattle.tile_listing.specs.Listing.{attribute_line, attribute_lines, joined_lines}
-use Rattle.tile_listing.specs.ListingStands.{contents_of, named_by}
 
 -- ---- each pair names a key and a value
 
@@ -28,12 +27,18 @@ are_pairs key_count value_count (Some found) list e =
     let is = cond_some (list_all (is_pair key_count value_count) found) found list e in
     subst (λ (l : List (ℕ × ℕ)). list_all (is_pair key_count value_count) l ≡ true) is.1 is.0
 
-pub pairs_fit : (layer : Layer) (feature : Feature) (pairs : List Pair) (held_keys held_values : List (Bor (List ℕ))) → pairs_of layer feature ≡ Some (map pair_seen pairs) → contents_of held_keys ≡ keys layer → contents_of held_values ≡ values layer → All (λ pair. IsTrue (is_pair (length held_keys) (length held_values) (pair_seen pair))) pairs
-pairs_fit layer feature pairs held_keys held_values read of_keys of_values =
-    let count_keys : length (keys layer) ≡ length held_keys = ap (λ (xs : List (List ℕ)). length xs) (sym of_keys) ∙ length-map held_keys _ in
-    let count_values : length (values layer) ≡ length held_values = ap (λ (xs : List (List ℕ)). length xs) (sym of_values) ∙ length-map held_values _ in
-    let fit = are_pairs (length (keys layer)) (length (values layer)) (option_and_then in_pairs (values_in (numbers 2 feature.fields))) (map pair_seen pairs) read in
-    All-from_recursion _ pairs (all_pass (is_pair (length held_keys) (length held_values)) pair_seen pairs (rw (count_keys, count_values) at fit))
+pub pairs_fit : (layer : Layer) (feature : Feature) (pairs : List Pair) → pairs_of layer feature ≡ Some (map pair_seen pairs) → All (λ pair. IsTrue (is_pair (length (keys layer)) (length (values layer)) (pair_seen pair))) pairs
+pairs_fit layer feature pairs read =
+    All-from_recursion _ pairs (all_pass (is_pair (length (keys layer)) (length (values layer))) pair_seen pairs (are_pairs (length (keys layer)) (length (values layer)) (option_and_then in_pairs (values_in (numbers 2 feature.fields))) (map pair_seen pairs) read))
+
+-- what stands at an ordinal is there
+there : {A : Type 0} (xs : List A) (k : ℕ) (d : A) → k < length xs → slice_get xs k ≡ Some (slice_index_or xs k d)
+there [] k d inside = absurd (omega arith)
+there (x ∷ xs) zero d inside = refl
+there (x ∷ xs) (suc k) d inside = there xs k d (omega arith)
+
+pub ordinal_there : (xs : List (List ℕ)) (k : ℕ) → is_ordinal (length xs) k ≡ true → slice_get xs k ≡ Some (slice_index_or xs k [])
+ordinal_there xs k is = there xs k [] (ltb-true k (length xs) (and_parts (nat_lt k (length xs)) (nat_lt k (2 ^ 32)) is).0)
 
 -- ---- the lines of the attributes
 
@@ -41,12 +46,10 @@ map_twice : {A B C : Type 0} (f : B → C) (g : A → B) (xs : List A) → map (
 map_twice f g [] = refl
 map_twice f g (x ∷ xs) = ap (λ ys. f (g x) ∷ ys) (map_twice f g xs)
 
-pub attributes_put : (layer : Layer) (feature : Feature) (pairs : List Pair) (held_keys held_values : List (Bor (List ℕ))) (old new : List ℕ) → pairs_of layer feature ≡ Some (map pair_seen pairs) → contents_of held_keys ≡ keys layer → contents_of held_values ≡ values layer
-    → new ≡ old ++ joined_lines (map (λ (pair : ℕ × ℕ). attribute_line (named_by (contents_of held_keys) (contents_of held_values) pair)) (map pair_seen pairs)) → new ≡ old ++ joined_lines (attribute_lines layer feature)
-attributes_put layer feature pairs held_keys held_values old new read of_keys of_values put =
-    put ∙ ap (λ (ks : List (List ℕ)). old ++ joined_lines (map (λ (pair : ℕ × ℕ). attribute_line (named_by ks (contents_of held_values) pair)) (map pair_seen pairs))) of_keys
-    ∙ ap (λ (vs : List (List ℕ)). old ++ joined_lines (map (λ (pair : ℕ × ℕ). attribute_line (named_by (keys layer) vs pair)) (map pair_seen pairs))) of_values
-    ∙ ap (λ (lines : List (List ℕ)). old ++ joined_lines lines) (map_twice attribute_line (attribute_at layer) (map pair_seen pairs) ∙ rw read refl)
+pub attributes_put : (layer : Layer) (feature : Feature) (pairs : List Pair) (old new : List ℕ) → pairs_of layer feature ≡ Some (map pair_seen pairs)
+    → new ≡ old ++ joined_lines (map (λ (pair : ℕ × ℕ). attribute_line (attribute_at layer pair)) (map pair_seen pairs)) → new ≡ old ++ joined_lines (attribute_lines layer feature)
+attributes_put layer feature pairs old new read put =
+    put ∙ ap (λ (lines : List (List ℕ)). old ++ joined_lines lines) (map_twice attribute_line (attribute_at layer) (map pair_seen pairs) ∙ rw read refl)
 
 pub no_attributes_put : (layer : Layer) (feature : Feature) (old new : List ℕ) → pairs_of layer feature ≡ None → new ≡ old ++ codes "attributes unreadable\n" → new ≡ old ++ joined_lines (attribute_lines layer feature)
 no_attributes_put layer feature old new none put = rw none put

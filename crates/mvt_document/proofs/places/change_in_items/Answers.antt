@@ -1,6 +1,6 @@
 use Rattle.std.proofs.Common.{ap, ◌∙◌}
 use Rattle.mvt_document.specs.HeldPlaces.{held_fields_in, in_held_feature}
-use Rattle.mvt_document.specs.Kinds.{is_feature}
+use Rattle.mvt_document.specs.Kinds.{in_layer_of_kind}
 use Rattle.mvt_document.proofs.Running.{beside_set}
 use Rattle.mvt_document.proofs.Placing.{set_changed, found_there, makes_more}
 use Rattle.mvt_document.proofs.places.change_in_items.Goals as goal
@@ -13,5 +13,5 @@ returns g c =
     (λ made changed. c.remember.ensures ∙ ap (λ items. record list { items = items }) (set_changed (in_held_feature (λ x. made)) c.args.item list.items c.item_mut.result.now c.change_in_feature-result.new.item is changed))
     c.change_in_feature-result.ensures
 
-pub remember-requires-clause-run : goal.remember-requires-clause-run
-remember-requires-clause-run g c = beside_set is_feature c.args.item c.args.items.now.items c.change_in_feature-result.new.item c.run_beside-run.result c.run_beside-run.ensures
+pub remember-requires-clause-runs : goal.remember-requires-clause-runs
+remember-requires-clause-runs g c = beside_set in_layer_of_kind c.args.item c.args.items.now.items c.change_in_feature-result.new.item c.runs_beside-runs.result c.runs_beside-runs.ensures

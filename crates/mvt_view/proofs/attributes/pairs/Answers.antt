@@ -1,9 +1,9 @@
 use Rattle.std.proofs.Common.{◌≡◌, ℕ, List, [], ◌∷◌, ◌++◌, Ok, map, option_map, sym, ap, ◌∙◌}
 use Rattle.std.proofs.lemmas.List.{map_push}
-use Rattle.mvt_numbers.specs.Numbers.{and_more, numbers}
+use Rattle.mvt_numbers.specs.Numbers.{and_more}
 use Rattle.mvt_numbers.specs.Seen.{placed_of}
 use Rattle.mvt_view.specs.Seen.{feature_seen, layer_seen, pair_seen}
-use Rattle.mvt_view.specs.Tags.{plain_pairs, tag_pairs}
+use Rattle.mvt_view.specs.Tags.{plain_pairs}
 use Rattle.mvt_view.proofs.Pairing.{done_more, done_none, plain_more, tags_are_pairs}
 use Rattle.mvt_view.proofs.attributes.pairs.Goals as goal
 

@@ -1,4 +1,4 @@
-use Rattle.std.proofs.Common.{refl, sym, ◌∙◌, ◌≤◌, arith}
+use Rattle.std.proofs.Common.{refl, sym, ◌∙◌, arith}
 use Rattle.mvt_document.specs.Stands.{layer_item_of}
 use Rattle.mvt_view.specs.Pools.{entry_in}
 use Rattle.mvt_view.proofs.Placing.{placed_from-more}

@@ -1,4 +1,4 @@
-use Rattle.std.proofs.Common.{◌+◌, ◌∷◌, map, refl, ◌∙◌, arith}
+use Rattle.std.proofs.Common.{◌+◌, ◌∷◌, map, refl, ◌∙◌}
 use Rattle.mvt_document.specs.Stands.{layer_item_of}
 use Rattle.mvt_view.specs.Found.{placed_from}
 use Rattle.mvt_view.specs.Pools.{entry_in}

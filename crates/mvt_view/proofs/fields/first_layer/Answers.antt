@@ -1,4 +1,4 @@
-use Rattle.std.proofs.Common.{refl, ◌∙◌, ◌≤◌, arith}
+use Rattle.std.proofs.Common.{refl, ◌∙◌, arith}
 use Rattle.mvt_document.specs.Stands.{tile_item_of}
 use Rattle.mvt_view.specs.Views.{layer_in}
 use Rattle.mvt_view.proofs.Placing.{placed_from-more}

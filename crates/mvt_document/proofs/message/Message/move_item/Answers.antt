@@ -1,8 +1,9 @@
 use Rattle.std.proofs.Common.{◌≡◌, ◌++◌, length, take, drop, sym, ap, ◌∙◌, subst, arith}
 use Rattle.std.specs.List.{flat_map}
 use Rattle.std.proofs.lemmas.List.{take_at}
-use Rattle.mvt_document.specs.Runs.{IsKnownRun}
+use Rattle.mvt_document.specs.Runs.{AreRunsOf}
 use Rattle.mvt_document.specs.Splicing.{moved}
+use Rattle.mvt_document.proofs.Options.{if_kept}
 use Rattle.mvt_document.proofs.Beside.{kept_so, moved_size}
 use Rattle.mvt_document.proofs.message.Message.move_item.Goals as goal
 
@@ -13,8 +14,9 @@ invariant_of-self g c =
     let written : take c.self.inside.inner.len (new ++ drop (length new) items) ≡ new = take_at new (drop (length new) items) c.self.inside.inner.len (omega (arith, c.move_item.auto.items, c.as_mut_slice.ensures.len)) in
     let f = g.T.Measured.bytes in
     let moves = written ∙ c.move_item.ensures ∙ ap (moved c.args.from c.args.to) c.as_mut_slice.ensures.value in
-    let run = rw (← c.self.view_is) at c.run_moved-run.ensures in (
+    let runs = rw (← c.self.view_is) at c.runs_moved-runs.ensures in (
       kept_so f items (take c.self.inside.inner.len (new ++ drop (length new) items)) c.self.inside.sum
           (ap (λ xs. length (flat_map f xs)) moves ∙ moved_size f c.args.from c.args.to items) c.self.invariant.0,
-      subst (λ xs. IsKnownRun g.T.Measured.message xs c.run_moved-run.result) (sym moves) run,
+      if_kept c.set.new.self (λ kept. AreRunsOf g.T.Measured.of_kind kept (take c.self.inside.inner.len (new ++ drop (length new) items))) c.runs_moved-runs.result c.set.ensures
+          (subst (AreRunsOf g.T.Measured.of_kind c.runs_moved-runs.result) (sym moves) runs),
     )
