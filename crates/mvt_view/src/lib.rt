@@ -24,8 +24,8 @@
 //!   kind. Out of memory alone may come in place of either: `geometry`.
 //!
 //! Only `pairs` and `geometry` are given an allocator. The crate passes on the names of
-//! `mvt_value`, `mvt_numbers` and `mvt_geometry`, so it has all that is seen of a tile, with the
-//! encoders of values and geometries.
+//! `mvt_numbers` and `mvt_geometry`, so it has all that is seen of a tile, with the encoder of
+//! geometries. A value it gives as its bytes: `mvt_value` says which value they are.
 #![tactic(auto)]
 
 mod attributes;
@@ -48,7 +48,6 @@ pub use mvt_geometry::{
     EncodeError, Geometry, GeometryError, Kind, Part, Point, encode_geometry, geometry_of,
 };
 pub use mvt_numbers::{BadChunk, Number, Numbers};
-pub use mvt_value::{NewValue, Value, encode_value, value_of};
 pub use select::{
     FeatureError, LayerError, feature_by_id, layer, layer_count, layer_named, layers,
 };
