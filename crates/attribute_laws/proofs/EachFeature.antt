@@ -4,8 +4,8 @@ use Rattle.mvt_document.specs.Plain.{Field, LayerItem, OfFeature, PlainInLayer}
 use Rattle.mvt_document.specs.Places.{in_feature}
 use Rattle.mvt_view.specs.Views.{features_in, plain_fields}
 use Rattle.mvt_meaning.specs.Selection.{is_feature}
-use Rattle.mvt_meaning.proofs.Parts.{with_fields}
 use Rattle.mvt_meaning.proofs.Positions.{positions_from, positions_pass, positions_skip}
+use Rattle.command_laws.proofs.Parts.{with_fields}
 
 module _ (change : List Field → List Field) where
   pub features_changed : (items : List LayerItem) → features_in (map (in_feature change) items) ≡ map (with_fields change) (features_in items)

@@ -14,18 +14,18 @@ use Rattle.mvt_view.specs.Attributes.{attribute_at, attributes, is_pair, pairs_i
 use Rattle.mvt_view.specs.Laws.{Names}
 use Rattle.mvt_view.specs.Views.{contents, features, key_field, keys, layers, plain_fields, value_field, values}
 use Rattle.mvt_view.proofs.Pairing.{pairs_are_named}
-use Rattle.mvt_meaning.specs.Kept.{ChangesFeature}
 use Rattle.mvt_meaning.specs.Ordinals.{change_nth}
 use Rattle.mvt_meaning.specs.Selection.{is_feature, selected, selected_feature, selected_in, selected_layers}
 use Rattle.mvt_meaning.specs.Tagging.{excluded, is_key_at, pairs_among, removals, unreadable, without_attribute, without_pairs}
 use Rattle.mvt_meaning.specs.Meaning.{◌>>=◌, change_feature, change_layers, fields_of, has_key, has_pairs, items_of, refuse_first, refuse_if}
 use Rattle.mvt_meaning.specs.declared.refusal.Refusal.TheVariants.{BadTags, NoKey}
-use Rattle.mvt_meaning.proofs.Accepted.{accepted, feature_meant, not_refused}
-use Rattle.mvt_meaning.proofs.FeatureCommands.{number_given}
-use Rattle.mvt_meaning.proofs.OtherFields.{others_stay}
-use Rattle.mvt_meaning.proofs.Parts.{changes_feature, changes_layer, fields_found, items_there, with_fields, with_items}
-use Rattle.mvt_meaning.proofs.ReadValues.{value_list}
+use Rattle.mvt_meaning.proofs.Given.{number_given}
 use Rattle.mvt_meaning.proofs.Removals.{flat, head_same, pairs_short}
+use Rattle.command_laws.specs.Kept.{ChangesFeature}
+use Rattle.command_laws.proofs.Accepted.{accepted, feature_meant, not_refused}
+use Rattle.command_laws.proofs.OtherFields.{others_stay}
+use Rattle.command_laws.proofs.Parts.{changes_feature, changes_layer, fields_found, items_there, with_fields, with_items}
+use Rattle.command_laws.proofs.ReadValues.{value_list}
 use Rattle.attribute_laws.specs.Laws.{ExcludeExcludes, ExcludesKey, LosesAttribute, UnsetUnsets, of_other_keys}
 use Rattle.attribute_laws.proofs.EachFeature.{features_changed, fields_stay, positions_stay}
 use Rattle.attribute_laws.proofs.MeantLayers.{got_mapped, layers_change}

@@ -6,12 +6,12 @@ use Rattle.mvt_command.specs.Command.{LayerChoice, LayersChoice, TheLayer, EachL
 use Rattle.mvt_view.specs.Views.{layer_in, layers}
 use Rattle.mvt_meaning.specs.Selection.{is_layer, selected}
 use Rattle.mvt_meaning.specs.Meaning.{change_layer, change_layers}
-use Rattle.mvt_meaning.specs.Kept.{tile_fields}
-use Rattle.mvt_meaning.proofs.Accepted.{accepted}
-use Rattle.mvt_meaning.proofs.Around.{around}
-use Rattle.mvt_meaning.proofs.Parts.{layer_differs, with_items}
 use Rattle.mvt_meaning.proofs.Positions.{positions_from, positions_pass, positions_skip}
 use Rattle.mvt_meaning.proofs.Selecting.{selected_within}
+use Rattle.command_laws.specs.Kept.{tile_fields}
+use Rattle.command_laws.proofs.Accepted.{accepted}
+use Rattle.command_laws.proofs.Around.{around}
+use Rattle.command_laws.proofs.Parts.{layer_differs, with_items}
 use Rattle.attribute_laws.specs.MeantLayers.{Becomes, ChangesLayers, IsMeant}
 
 -- ---- one layer

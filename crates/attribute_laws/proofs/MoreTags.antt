@@ -17,8 +17,8 @@ use Rattle.mvt_view.specs.Views.{content_in}
 use Rattle.mvt_meaning.specs.Fields.{new_content}
 use Rattle.mvt_meaning.specs.Ordinals.{change_last}
 use Rattle.mvt_meaning.specs.Tagging.{is_packed_last, is_tags, with_more_content, with_more_tags, without_tags}
-use Rattle.mvt_meaning.proofs.OtherFields.{none_of}
 use Rattle.mvt_meaning.proofs.Positions.{change_here, change_later, later_any}
+use Rattle.command_laws.proofs.OtherFields.{none_of}
 
 -- ---- the last tags field
 

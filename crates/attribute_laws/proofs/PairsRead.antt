@@ -7,8 +7,8 @@ use Rattle.mvt_document.specs.Plain.{Number, Field}
 use Rattle.mvt_numbers.specs.Laws.{read_numbers}
 use Rattle.mvt_numbers.specs.Numbers.{Placed, and_more, numbers}
 use Rattle.mvt_view.specs.Attributes.{if_pairs, in_pairs, is_pair, pairs_in, values_in}
-use Rattle.mvt_meaning.proofs.ReadValues.{value_list, values_of_read}
 use Rattle.mvt_meaning.proofs.Removals.{flat, make_pairs}
+use Rattle.command_laws.proofs.ReadValues.{value_list, values_of_read}
 
 in_pairs-flat : (pairs : List (ℕ × ℕ)) → in_pairs (flat pairs) ≡ Some pairs
 in_pairs-flat [] = refl

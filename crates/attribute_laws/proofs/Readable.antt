@@ -10,7 +10,7 @@ use Rattle.mvt_view.specs.Views.{features, layer_in, layers, ordinals_of}
 use Rattle.mvt_meaning.specs.Selection.{selected_layers}
 use Rattle.mvt_meaning.specs.Tagging.{unreadable}
 use Rattle.mvt_meaning.specs.Meaning.{refuse_first}
-use Rattle.mvt_meaning.proofs.Elements.{got_holds}
+use Rattle.command_laws.proofs.Elements.{got_holds}
 use Rattle.attribute_laws.specs.MeantLayers.{IsMeant}
 
 -- ---- lists of which nothing is made

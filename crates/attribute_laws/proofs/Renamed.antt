@@ -16,8 +16,8 @@ use Rattle.mvt_meaning.specs.Fields.{with_text}
 use Rattle.mvt_meaning.specs.Tagging.{is_key, renamed_keys}
 use Rattle.mvt_meaning.specs.Meaning.{◌>>=◌, change_layer, has_key, refuse_if, within_limit}
 use Rattle.mvt_meaning.specs.declared.refusal.Refusal.TheVariants.{KeyTaken, NoKey}
-use Rattle.mvt_meaning.proofs.Accepted.{accepted, not_refused, within_is}
-use Rattle.mvt_meaning.proofs.Parts.{changes_layer, items_there, with_items}
+use Rattle.command_laws.proofs.Accepted.{accepted, not_refused, within_is}
+use Rattle.command_laws.proofs.Parts.{changes_layer, items_there, with_items}
 use Rattle.attribute_laws.specs.Laws.{RenameKeyRenames, RenamesKey, renamed}
 
 -- ---- one item

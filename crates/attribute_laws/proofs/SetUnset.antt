@@ -18,8 +18,8 @@ use Rattle.mvt_meaning.specs.Tagging.{is_key, without_attribute, without_tags}
 use Rattle.mvt_meaning.specs.Meaning.{applied, change_feature, has_key, has_pairs, items_of}
 use Rattle.mvt_meaning.specs.declared.refusal.Refusal.{Refusal}
 use Rattle.mvt_meaning.specs.declared.refusal.Refusal.TheVariants.{NoLayer}
-use Rattle.mvt_meaning.proofs.Parts.{items_there}
-use Rattle.mvt_meaning.proofs.SelectedAgain.{feature_again, layer_again}
+use Rattle.command_laws.proofs.Parts.{items_there}
+use Rattle.command_laws.proofs.SelectedAgain.{feature_again, layer_again}
 use Rattle.attribute_laws.specs.Laws.{FeatureBecomes, GetsAttribute, LosesAttribute, SetThenUnset, is_entry, is_of, of_other_keys, valued, with_entry, with_value}
 use Rattle.attribute_laws.proofs.Excluded.{pairs_found, unset_unsets}
 use Rattle.attribute_laws.proofs.Ids.{id_same}

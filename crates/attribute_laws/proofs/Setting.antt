@@ -33,16 +33,17 @@ use Rattle.mvt_meaning.specs.Tagging.{attributed, entry_ordinal, is_key_at, key_
 use Rattle.mvt_meaning.specs.Meaning.{◌>>=◌, change_layer, fields_of, has_pairs, refuse_if, repeats_key, within_limit}
 use Rattle.mvt_meaning.specs.Weights.{weigh}
 use Rattle.mvt_meaning.specs.declared.refusal.Refusal.TheVariants.{BadTags, RepeatedKey}
-use Rattle.mvt_meaning.proofs.Accepted.{accepted, feature_meant, not_refused, within_is}
-use Rattle.mvt_meaning.proofs.Around.{around}
-use Rattle.mvt_meaning.proofs.FeatureCommands.{number_given}
-use Rattle.mvt_meaning.proofs.OtherFields.{others_stay}
-use Rattle.mvt_meaning.proofs.Parts.{changes_feature, changes_layer, fields_found, items_there, layer_differs, with_fields, with_items}
+use Rattle.mvt_meaning.proofs.Given.{number_given}
 use Rattle.mvt_meaning.proofs.Positions.{later_any, no_positions, positions_from, positions_pass, positions_skip}
-use Rattle.mvt_meaning.proofs.ReadValues.{value_list}
 use Rattle.mvt_meaning.proofs.Removals.{flat, head_same}
-use Rattle.mvt_meaning.proofs.Replacements.{entry_low, plain_stay, replacements_short, value_short}
+use Rattle.mvt_meaning.proofs.Replacements.{replacements_short}
 use Rattle.mvt_meaning.proofs.Selecting.{selected_within}
+use Rattle.command_laws.proofs.Accepted.{accepted, feature_meant, not_refused, within_is}
+use Rattle.command_laws.proofs.Around.{around}
+use Rattle.command_laws.proofs.EntryOrdinals.{entry_low, plain_stay, value_short}
+use Rattle.command_laws.proofs.OtherFields.{others_stay}
+use Rattle.command_laws.proofs.Parts.{changes_feature, changes_layer, fields_found, items_there, layer_differs, with_fields, with_items}
+use Rattle.command_laws.proofs.ReadValues.{value_list}
 use Rattle.attribute_laws.specs.Laws.{GetsAttribute, SetSets, SetsAttribute, is_entry, is_of, valued, with_entry, with_value}
 use Rattle.attribute_laws.proofs.Excluded.{read_there, some_of}
 use Rattle.attribute_laws.proofs.Grown.{all_stay, attribute_stays, attributes_stay, key_stays, keys_grow, pairs_grow, values_grow}

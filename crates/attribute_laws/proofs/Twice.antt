@@ -20,11 +20,11 @@ use Rattle.mvt_view.specs.Views.{contents, features_in, key_field, layer_in, lay
 use Rattle.mvt_meaning.specs.Selection.{selected, selected_layers}
 use Rattle.mvt_meaning.specs.Tagging.{excluded, is_key_at, pairs_among, unreadable, without_attribute, without_pairs}
 use Rattle.mvt_meaning.specs.Meaning.{◌>>=◌, applied, change_layer, change_layers, refuse_first}
-use Rattle.mvt_meaning.proofs.Accepted.{accepted}
 use Rattle.mvt_meaning.proofs.Found.{change_layer_found, layer_found}
-use Rattle.mvt_meaning.proofs.Parts.{with_items}
-use Rattle.mvt_meaning.proofs.ReadValues.{value_list}
 use Rattle.mvt_meaning.proofs.Removals.{flat, make_pairs}
+use Rattle.command_laws.proofs.Accepted.{accepted}
+use Rattle.command_laws.proofs.Parts.{with_items}
+use Rattle.command_laws.proofs.ReadValues.{value_list}
 use Rattle.mvt_select.proofs.Chosen.{the_one_meant}
 use Rattle.attribute_laws.specs.Laws.{ExcludeAgainChangesNothing}
 use Rattle.attribute_laws.specs.MeantLayers.{IsMeant}

@@ -16,11 +16,11 @@ use Rattle.mvt_meaning.specs.Selection.{feature_positions, is_feature, selected,
 use Rattle.mvt_meaning.specs.Tagging.{is_key, pairs_among, removals, without_attribute}
 use Rattle.mvt_meaning.specs.Meaning.{◌>>=◌, change_feature, fields_of, has_key, has_pairs, items_of, refuse_if}
 use Rattle.mvt_meaning.specs.declared.refusal.Refusal.TheVariants.{BadTags, NoKey}
-use Rattle.mvt_meaning.proofs.Accepted.{accepted, not_refused}
 use Rattle.mvt_meaning.proofs.Found.{change_feature_found, change_layer_found, change_nth_found, fields_changed, fields_of_found, items_changed, items_of_found, selected_in_found}
-use Rattle.mvt_meaning.proofs.OtherFields.{others_stay}
-use Rattle.mvt_meaning.proofs.Parts.{changes_feature, with_fields}
 use Rattle.mvt_meaning.proofs.Selecting.{selected_feature_within}
+use Rattle.command_laws.proofs.Accepted.{accepted, not_refused}
+use Rattle.command_laws.proofs.OtherFields.{others_stay}
+use Rattle.command_laws.proofs.Parts.{changes_feature, with_fields}
 use Rattle.mvt_select.proofs.Chosen.{the_one_meant}
 use Rattle.mvt_select.proofs.Meant.{stands}
 use Rattle.attribute_laws.specs.Laws.{UnsetAgainChangesNothing}

@@ -7,8 +7,8 @@ use Rattle.mvt_numbers.specs.Numbers.{numbers, numbers_in, through_bad}
 use Rattle.mvt_view.specs.Attributes.{attributes}
 use Rattle.mvt_view.specs.Views.{features}
 use Rattle.mvt_meaning.specs.Tagging.{is_tags, untagged, without_tags}
-use Rattle.mvt_meaning.proofs.OtherFields.{none_of}
-use Rattle.mvt_meaning.proofs.Parts.{with_fields, with_items}
+use Rattle.command_laws.proofs.OtherFields.{none_of}
+use Rattle.command_laws.proofs.Parts.{with_fields, with_items}
 use Rattle.attribute_laws.specs.Laws.{ExcludeAllExcludes, LosesAttributes}
 use Rattle.attribute_laws.proofs.EachFeature.{features_changed, fields_stay, positions_stay}
 use Rattle.attribute_laws.proofs.MeantLayers.{layers_change}

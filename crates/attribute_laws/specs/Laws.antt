@@ -12,7 +12,7 @@ use Rattle.mvt_meaning.specs.Ordinals.{count}
 use Rattle.mvt_meaning.specs.Selection.{feature_positions, selected_feature}
 use Rattle.mvt_meaning.specs.Tagging.{is_key, without_tags}
 use Rattle.mvt_meaning.specs.Meaning.{applied}
-use Rattle.mvt_meaning.specs.Kept.{ChangesFeature, ChangesLayer}
+use Rattle.command_laws.specs.Kept.{ChangesFeature, ChangesLayer}
 use Rattle.attribute_laws.specs.MeantLayers.{ChangesLayers}
 
 -- ---- a key of another name

@@ -4,7 +4,7 @@ use Rattle.mvt_document.specs.Plain.{Layer, Document}
 use Rattle.mvt_command.specs.Command.{LayersChoice, TheLayer, EachLayer}
 use Rattle.mvt_view.specs.Views.{layers}
 use Rattle.mvt_meaning.specs.Selection.{layer_positions, selected}
-use Rattle.mvt_meaning.specs.Kept.{tile_fields}
+use Rattle.command_laws.specs.Kept.{tile_fields}
 
 -- the layer of this ordinal is meant (tiles 4.1)
 abbrev pub IsMeant : LayersChoice → ℕ → Document → Type 0

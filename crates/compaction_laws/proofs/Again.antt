@@ -17,11 +17,11 @@ use Rattle.mvt_meaning.specs.Compaction.{compacted, is_any, is_entry, is_key_use
 use Rattle.mvt_meaning.specs.Tagging.{pairs_among}
 use Rattle.attribute_laws.proofs.Excluded.{some_of}
 use Rattle.attribute_laws.proofs.PairsRead.{pairs_read}
-use Rattle.mvt_meaning.proofs.ReadValues.{value_list}
 use Rattle.attribute_laws.proofs.Twice.{AreRead}
 use Rattle.mvt_meaning.proofs.Removals.{flat}
+use Rattle.command_laws.proofs.ReadValues.{value_list}
+use Rattle.compaction_laws.proofs.Staying.{all_same, all_staying}
 use Rattle.compaction_laws.proofs.Compacted.{EachIsRead, any_covered, keys_covered, read_staying, values_covered}
-use Rattle.mvt_meaning.proofs.Staying.{all_same, all_staying}
 use Rattle.compaction_laws.proofs.Repointed.{new_items}
 use Rattle.compaction_laws.proofs.Used.{keys_all_used, read_new, values_all_used}
 use Rattle.compaction_laws.specs.Laws.{key_of, value_of}

@@ -11,17 +11,17 @@ use Rattle.mvt_meaning.specs.Compaction.{compacted, is_any, is_entry, is_key_use
 use Rattle.mvt_meaning.specs.Selection.{selected_layers}
 use Rattle.mvt_meaning.specs.Tagging.{pairs_among, unreadable}
 use Rattle.mvt_meaning.specs.Meaning.{◌>>=◌, change_layers, change_readable, refuse_first}
-use Rattle.mvt_meaning.proofs.Accepted.{accepted}
-use Rattle.mvt_meaning.proofs.Elements.{got_holds}
-use Rattle.mvt_meaning.proofs.OtherFields.{others_stay}
-use Rattle.mvt_meaning.proofs.Parts.{with_fields, with_items}
+use Rattle.command_laws.proofs.Accepted.{accepted}
+use Rattle.command_laws.proofs.Elements.{got_holds}
+use Rattle.command_laws.proofs.OtherFields.{others_stay}
+use Rattle.command_laws.proofs.Parts.{with_fields, with_items}
+use Rattle.compaction_laws.proofs.Staying.{all_staying, filter-apart, filter-staying, kept, kept_filtered, map-staying}
 use Rattle.attribute_laws.specs.MeantLayers.{ChangesLayers}
 use Rattle.attribute_laws.proofs.Excluded.{some_of}
 use Rattle.attribute_laws.proofs.MeantLayers.{got_mapped, layers_change}
 use Rattle.attribute_laws.proofs.Readable.{meant_read}
 use Rattle.attribute_laws.proofs.Twice.{all_of}
 use Rattle.compaction_laws.specs.Laws.{CompactCompacts, CompactKeysCompacts, CompactValuesCompacts, EachKeepsAttributes, IsLeftOf, LosesBoth, LosesKeys, LosesUnused, LosesValues, entries, is_entry_in, is_entry_of, key_of, outline, used_ones, value_of}
-use Rattle.mvt_meaning.proofs.Staying.{all_staying, filter-apart, filter-staying, kept, kept_filtered, map-staying}
 use Rattle.compaction_laws.proofs.Left.{left_staying, left_twice}
 use Rattle.compaction_laws.proofs.Repointed.{AllStay, attribute_among, attributes_kept, features_new, new_fields, new_items, none_of_other, plain_new, tags_new}
 use Rattle.compaction_laws.proofs.Used.{IsReadStaying, any_stay, keys_all_used, used_same, used_stay, values_all_used}

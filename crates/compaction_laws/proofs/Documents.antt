@@ -11,7 +11,7 @@ use Rattle.mvt_meaning.specs.Tagging.{unreadable}
 use Rattle.mvt_meaning.specs.Meaning.{◌>>=◌, change_layer, change_layers, change_readable, refuse_first}
 use Rattle.mvt_meaning.specs.declared.refusal.Refusal.{Refusal}
 use Rattle.mvt_meaning.proofs.Found.{layer_found}
-use Rattle.mvt_meaning.proofs.Parts.{with_items}
+use Rattle.command_laws.proofs.Parts.{with_items}
 use Rattle.mvt_select.proofs.Chosen.{the_one_meant}
 use Rattle.attribute_laws.specs.MeantLayers.{IsMeant}
 use Rattle.attribute_laws.proofs.MeantLayers.{layers_change, some_same}

@@ -11,13 +11,13 @@ use Rattle.mvt_view.specs.Views.{contents, features_in, key_field, plain_fields,
 use Rattle.mvt_meaning.specs.Compaction.{all_pairs, compacted, is_any, is_entry, is_key_used, is_value_used, new_ordinal, repointed, staying, with_entries, with_new_ordinals}
 use Rattle.mvt_meaning.specs.Tagging.{pairs_among}
 use Rattle.mvt_meaning.proofs.Compaction.{new_ordinals_short}
-use Rattle.mvt_meaning.proofs.FeatureCommands.{number_given}
+use Rattle.mvt_meaning.proofs.Given.{number_given}
 use Rattle.mvt_meaning.proofs.Removals.{flat, head_same}
+use Rattle.command_laws.proofs.ReadValues.{value_list}
+use Rattle.compaction_laws.proofs.Staying.{all_same, all_staying, map-staying}
 use Rattle.attribute_laws.proofs.PairsRead.{pairs_read}
-use Rattle.mvt_meaning.proofs.ReadValues.{value_list}
 use Rattle.compaction_laws.specs.Laws.{value_of}
 use Rattle.compaction_laws.proofs.Compacted.{EachIsRead, any_covered, keys_covered, read_staying}
-use Rattle.mvt_meaning.proofs.Staying.{all_same, all_staying, map-staying}
 use Rattle.mvt_numbers.proofs.DecidedTwice.{InTurn, and_more, nothing, renumbered_twice}
 use Rattle.compaction_laws.proofs.Repointed.{new_fields, new_items, pairs_new, repoint}
 use Rattle.compaction_laws.proofs.Used.{IsReadStaying, all_pairs_new, names, names_same}

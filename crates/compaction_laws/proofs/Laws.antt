@@ -6,13 +6,13 @@ use Rattle.mvt_view.specs.Views.{content_in, contents, features_in, key_field, p
 use Rattle.mvt_meaning.specs.Compaction.{compacted, is_any, is_key_used, is_value_used, staying}
 use Rattle.mvt_meaning.specs.Meaning.{◌>>=◌, change_readable}
 use Rattle.mvt_meaning.specs.declared.refusal.Refusal.{Refusal}
+use Rattle.compaction_laws.proofs.Staying.{filter_map-apart}
 use Rattle.attribute_laws.proofs.Twice.{AreRead}
 use Rattle.compaction_laws.specs.Laws.{AgainChangesNothing, CompactIsBoth, is_entry_of, key_of, value_of}
 use Rattle.compaction_laws.proofs.Again.{both_again, keys_again, values_again}
 use Rattle.compaction_laws.proofs.Compacted.{EachIsRead, any_covered, keys_covered, read_staying, values_covered}
 use Rattle.compaction_laws.proofs.Documents.{changes_in_turn}
 use Rattle.compaction_laws.proofs.InTurn.{keys_then_values}
-use Rattle.mvt_meaning.proofs.Staying.{filter_map-apart}
 use Rattle.compaction_laws.proofs.Repointed.{none_of_other, plain_new}
 use Rattle.compaction_laws.proofs.Used.{read_new}
 

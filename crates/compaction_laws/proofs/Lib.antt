@@ -1,3 +1,4 @@
+mod Staying
 mod Left
 mod Repointed
 mod Used

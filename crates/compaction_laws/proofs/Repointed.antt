@@ -16,15 +16,15 @@ use Rattle.mvt_view.specs.Views.{content_in, contents, feature_in, features_in, 
 use Rattle.mvt_meaning.specs.Compaction.{is_entry, new_ordinal, repointed, staying, with_entries, with_new_ordinals}
 use Rattle.mvt_meaning.specs.Tagging.{pairs_among}
 use Rattle.mvt_meaning.proofs.Compaction.{new_ordinal_low, new_ordinals_short}
-use Rattle.mvt_meaning.proofs.FeatureCommands.{number_given}
+use Rattle.mvt_meaning.proofs.Given.{number_given}
 use Rattle.mvt_meaning.proofs.Removals.{flat, head_same}
+use Rattle.command_laws.proofs.ReadValues.{value_list}
+use Rattle.command_laws.proofs.Parts.{with_fields}
+use Rattle.compaction_laws.proofs.Staying.{filter_map-apart, filter_map-staying, got_kept, kept, length-kept, ordinal_below}
 use Rattle.attribute_laws.proofs.EachFeature.{features_changed, fields_stay}
 use Rattle.attribute_laws.proofs.PairsRead.{pairs_again, pairs_read}
-use Rattle.mvt_meaning.proofs.ReadValues.{value_list}
-use Rattle.mvt_meaning.proofs.Parts.{with_fields}
 use Rattle.compaction_laws.specs.Laws.{is_entry_of, key_of, value_of}
 use Rattle.mvt_numbers.proofs.DecidedTwice.{InTurn, and_again, and_more, nothing, renumbered_tags}
-use Rattle.mvt_meaning.proofs.Staying.{filter_map-apart, filter_map-staying, got_kept, kept, length-kept, ordinal_below}
 
 -- ---- pairs
 

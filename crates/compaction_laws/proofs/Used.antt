@@ -9,10 +9,10 @@ use Rattle.mvt_document.specs.Plain.{Feature, LayerItem, Layer}
 use Rattle.mvt_view.specs.Views.{contents, features_in, key_field, plain_fields, value_field}
 use Rattle.mvt_meaning.specs.Compaction.{all_pairs, is_key_used, is_value_used, new_ordinal}
 use Rattle.mvt_meaning.specs.Tagging.{pairs_among}
-use Rattle.mvt_meaning.proofs.Parts.{with_fields}
+use Rattle.command_laws.proofs.Parts.{with_fields}
+use Rattle.compaction_laws.proofs.Staying.{kept, named}
 use Rattle.attribute_laws.proofs.Twice.{AreRead}
 use Rattle.compaction_laws.specs.Laws.{is_used, key_of, value_of}
-use Rattle.mvt_meaning.proofs.Staying.{kept, named}
 use Rattle.compaction_laws.proofs.Repointed.{AllStay, Stay, features_new, keys_new, new_fields, new_items, pairs_new, repoint, values_new}
 
 -- ---- lists

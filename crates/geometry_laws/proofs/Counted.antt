@@ -24,7 +24,7 @@ use Rattle.mvt_numbers.proofs.Redone.{packed-read}
 use Rattle.mvt_numbers.proofs.Reread.{read_of_fields}
 use Rattle.mvt_view.specs.Views.{features, features_in, layers}
 use Rattle.mvt_meaning.specs.Weights.{weigh}
-use Rattle.mvt_meaning.proofs.ReadValues.{numbers_of_values}
+use Rattle.command_laws.proofs.ReadValues.{numbers_of_values}
 use Rattle.geometry_laws.specs.Laws.{NoCoordinateIsFar}
 
 -- ---- numbers

@@ -22,17 +22,17 @@ use Rattle.mvt_view.specs.FeatureGeometry.{HasFeatureGeometry}
 use Rattle.mvt_view.specs.Views.{kind_of, value_in}
 use Rattle.mvt_meaning.specs.Fields.{new_content, new_number, with_field_value}
 use Rattle.mvt_meaning.specs.Geometries.{is_geometry_field, is_kind, with_geometry, with_kind}
-use Rattle.mvt_meaning.specs.Kept.{ChangesFeature}
 use Rattle.mvt_meaning.specs.Meaning.{◌>>=◌, change_feature, refuse_if, within_limit}
 use Rattle.mvt_meaning.specs.Ordinals.{change_nth, put_once}
 use Rattle.mvt_meaning.specs.Selection.{is_feature, selected, selected_in}
 use Rattle.mvt_meaning.specs.declared.refusal.Refusal.TheVariants.{OutOfRange}
-use Rattle.mvt_meaning.proofs.Accepted.{accepted, feature_meant, not_refused, within_is}
-use Rattle.mvt_meaning.proofs.FeatureCommands.{value_given}
-use Rattle.mvt_meaning.proofs.LastPut.{last_put, others_put, parts_put}
-use Rattle.mvt_meaning.proofs.OtherFields.{none_of, values_stay}
-use Rattle.mvt_meaning.proofs.Parts.{changes_feature, changes_layer, with_fields}
-use Rattle.mvt_meaning.proofs.ReadValues.{value_list, values_of_read}
+use Rattle.mvt_meaning.proofs.Given.{value_given}
+use Rattle.command_laws.specs.Kept.{ChangesFeature}
+use Rattle.command_laws.proofs.Accepted.{accepted, feature_meant, not_refused, within_is}
+use Rattle.command_laws.proofs.LastPut.{last_put, others_put, parts_put}
+use Rattle.command_laws.proofs.OtherFields.{none_of, values_stay}
+use Rattle.command_laws.proofs.Parts.{changes_feature, changes_layer, with_fields}
+use Rattle.command_laws.proofs.ReadValues.{value_list, values_of_read}
 use Rattle.geometry_laws.specs.Laws.{SetGeometrySets, SetsGeometry, without_geometry, without_kind}
 use Rattle.geometry_laws.proofs.Shifted.{one_of_feature}
 

@@ -25,18 +25,18 @@ use Rattle.mvt_view.specs.Attributes.{values_in}
 use Rattle.mvt_view.specs.FeatureGeometry.{HasFeatureGeometry}
 use Rattle.mvt_view.specs.Views.{kind_of}
 use Rattle.mvt_meaning.specs.Geometries.{can_move, can_move_integers, further, geometry_among, integers_among, moved_integers, moves, shifted}
-use Rattle.mvt_meaning.specs.Kept.{ChangesFeature}
 use Rattle.mvt_command.specs.Command.{FeatureChoice, LayerChoice, Shift}
 use Rattle.mvt_meaning.specs.Meaning.{◌>>=◌, applied, can_shift, change_feature, is_drawn, refuse_if, within_limit}
 use Rattle.mvt_meaning.specs.Ordinals.{change_nth}
 use Rattle.mvt_meaning.specs.Selection.{is_feature, is_layer, selected, selected_in}
 use Rattle.mvt_meaning.specs.declared.refusal.Refusal.TheVariants.{BadGeometry, OutOfRange}
-use Rattle.mvt_meaning.proofs.Accepted.{accepted, feature_meant, not_refused, within_is}
-use Rattle.mvt_meaning.proofs.FeatureCommands.{number_given}
+use Rattle.mvt_meaning.proofs.Given.{number_given}
 use Rattle.mvt_meaning.proofs.Moving.{moves_short}
-use Rattle.mvt_meaning.proofs.OtherFields.{others_stay, values_stay}
-use Rattle.mvt_meaning.proofs.Parts.{changes_feature, changes_layer, fields_found, with_fields}
-use Rattle.mvt_meaning.proofs.ReadValues.{numbers_of_values, value_list, values_of_read}
+use Rattle.command_laws.specs.Kept.{ChangesFeature}
+use Rattle.command_laws.proofs.Accepted.{accepted, feature_meant, not_refused, within_is}
+use Rattle.command_laws.proofs.OtherFields.{others_stay, values_stay}
+use Rattle.command_laws.proofs.Parts.{changes_feature, changes_layer, fields_found, with_fields}
+use Rattle.command_laws.proofs.ReadValues.{numbers_of_values, value_list, values_of_read}
 use Rattle.geometry_laws.specs.Laws.{ShiftByNothing, ShiftShifts, Shifts, led_further, moved, without_geometry}
 use Rattle.geometry_laws.proofs.Counted.{numbers_within}
 use Rattle.geometry_laws.proofs.Renumbered.{AllSome, all_stay, counts_stay, fronts_stay}

@@ -29,13 +29,13 @@ use Rattle.mvt_meaning.specs.Ordinals.{change_first, change_nth}
 use Rattle.mvt_meaning.specs.Selection.{is_feature, is_layer, selected, selected_feature, selected_in}
 use Rattle.mvt_meaning.specs.declared.refusal.Refusal.{Refusal}
 use Rattle.mvt_meaning.specs.declared.refusal.Refusal.TheVariants.{NoLayer}
-use Rattle.mvt_meaning.proofs.FeatureCommands.{number_given}
+use Rattle.mvt_meaning.proofs.Given.{number_given}
 use Rattle.mvt_meaning.proofs.Found.{fields_of_nth, from_behind, from_here, from_later, items_of_nth, still_feature, still_layer}
 use Rattle.mvt_meaning.proofs.Moving.{moves_short}
-use Rattle.mvt_meaning.proofs.OtherFields.{values_stay}
-use Rattle.mvt_meaning.proofs.Parts.{fields_found}
-use Rattle.mvt_meaning.proofs.ReadValues.{value_list, values_of_read}
-use Rattle.mvt_meaning.proofs.SelectedAgain.{feature_again, layer_again}
+use Rattle.command_laws.proofs.OtherFields.{values_stay}
+use Rattle.command_laws.proofs.Parts.{fields_found}
+use Rattle.command_laws.proofs.ReadValues.{value_list, values_of_read}
+use Rattle.command_laws.proofs.SelectedAgain.{feature_again, layer_again}
 use Rattle.geometry_laws.specs.Laws.{ShiftBack, Shifts, led_further, moved}
 use Rattle.geometry_laws.proofs.Renumbered.{both_back}
 use Rattle.geometry_laws.proofs.Shifted.{decided_so, is_shift, moves_found, moves_some, no_further, same_integers, shift_shifts, shifted_read}

@@ -19,9 +19,9 @@ use Rattle.mvt_view.specs.FeatureGeometry.{HasFeatureGeometry}
 use Rattle.mvt_view.specs.Views.{features, layers, value_in}
 use Rattle.mvt_meaning.specs.Fields.{new_content}
 use Rattle.mvt_meaning.specs.Geometries.{further, is_geometry_field, is_kind}
-use Rattle.mvt_meaning.specs.Kept.{ChangesFeature, ChangesLayer, all_but_last}
 use Rattle.mvt_meaning.specs.Meaning.{applied, fields_of}
 use Rattle.mvt_meaning.specs.Selection.{selected, selected_in}
+use Rattle.command_laws.specs.Kept.{ChangesFeature, ChangesLayer, all_but_last}
 
 -- ---- a feature and its fields
 

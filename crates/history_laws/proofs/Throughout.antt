@@ -10,8 +10,8 @@ use Rattle.mvt_document.specs.Wire.{bytes_of}
 use Rattle.mvt_command.specs.Command.{Command, IsCommand}
 use Rattle.mvt_meaning.specs.Meaning.{after, applied}
 use Rattle.mvt_meaning.specs.declared.refusal.Refusal.{Refusal}
-use Rattle.mvt_meaning.proofs.Documents.{command_makes_document}
-use Rattle.mvt_meaning.proofs.Lengths.{command_fits}
+use Rattle.command_laws.proofs.Documents.{command_makes_document}
+use Rattle.command_laws.proofs.Lengths.{command_fits}
 use Rattle.mvt_change.proofs.Splicing.{all_append, all_take}
 use Rattle.mvt_history.specs.Marks.{bound, point_of, unbound}
 use Rattle.mvt_history.specs.History.{History, after_all, after_steps, present_document, standing_document, commands_in, at_point, with_marks, with_group, with_step, with_command, edited_to, edited, unless_open, undone, redone, marked, unmarked, gone_to, gone_back, opened, ended, closed, cancelled}

@@ -23,7 +23,7 @@ use Rattle.mvt_meaning.specs.Meaning.{applied, feature_count, geometry_refusal, 
 use Rattle.mvt_meaning.specs.Ordinals.{insert_nth}
 use Rattle.mvt_meaning.specs.Selection.{is_feature, layer_positions, selected}
 use Rattle.mvt_meaning.specs.declared.refusal.Refusal.TheVariants.{BadPlace, NoMemory, OutOfRange, TooLarge}
-use Rattle.mvt_meaning.proofs.Documents.{new_feature_valid}
+use Rattle.mvt_meaning.proofs.NewFields.{new_feature_valid}
 use Rattle.mvt_meaning.proofs.Found.{change_layer_found, items_at_found}
 use Rattle.mvt_edit_lists.specs.Placing.{IsPlaceFor}
 use Rattle.mvt_edit_steps.specs.Prepared.{IsPrepared}

@@ -2,7 +2,7 @@
 use Rattle.std.proofs.Common.{◌≡◌, ℕ, zero, suc, ◌+◌, ◌<◌, Bool, List, [], ◌∷◌, ◌++◌, Some, slice_get, length, drop, get_or, cond, append_assoc, refl, sym, ap, ◌∙◌, arith}
 use Rattle.std.proofs.lemmas.List.{drop_more}
 use Rattle.mvt_meaning.specs.Compaction.{new_ordinal}
-use Rattle.mvt_meaning.proofs.Staying.{next_ordinal}
+use Rattle.mvt_meaning.proofs.Compaction.{next_ordinal}
 use Rattle.mvt_edit_pools.specs.Marks.{numbered_from, stays_from}
 
 -- the entry of an ordinal has the new one that it is to have

@@ -13,7 +13,7 @@ use Rattle.mvt_document.specs.Places.{change_fields, change_items, fields_at, fi
 use Rattle.mvt_change.specs.Changes.{Change, Fits, go, turn, weight}
 use Rattle.mvt_view.specs.Found.{found_features, with_position}
 use Rattle.mvt_view.specs.Views.{feature_in}
-use Rattle.mvt_meaning.proofs.Around.{get_between}
+use Rattle.mvt_meaning.proofs.Between.{get_between}
 use Rattle.mvt_edit_steps.specs.Fates.{splices_of}
 use Rattle.mvt_numbers.specs.declared.fate.Fate.{Fate}
 use Rattle.mvt_edit_steps.proofs.CarriedOut.{AreThere, put_all, spliced_all, taken_all}

@@ -11,7 +11,7 @@ use Rattle.mvt_command.specs.Command.{LayerChoice, LayersChoice, TheLayer, EachL
 use Rattle.mvt_meaning.specs.Meaning.{change_layers}
 use Rattle.mvt_meaning.specs.Selection.{selected, selected_layers}
 use Rattle.mvt_meaning.specs.declared.refusal.Refusal.{Refusal}
-use Rattle.mvt_meaning.proofs.Around.{get_between}
+use Rattle.mvt_meaning.proofs.Between.{get_between}
 use Rattle.mvt_meaning.proofs.Found.{change_layer_found}
 use Rattle.mvt_select.proofs.Chosen.{the_one_meant}
 use Rattle.mvt_edit_steps.proofs.Come.{Come, both_come, change_between, none_come, numbered, one_longer}

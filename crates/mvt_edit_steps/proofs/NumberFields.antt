@@ -7,7 +7,7 @@ use Rattle.mvt_document.specs.Plain as plain
 use Rattle.mvt_document.specs.Stands.{field_of}
 use Rattle.mvt_document.specs.declared.document.Field.{Field}
 use Rattle.mvt_meaning.specs.Fields.{new_number, with_field_value}
-use Rattle.mvt_meaning.proofs.FeatureCommands.{value_given}
+use Rattle.mvt_meaning.proofs.Given.{value_given}
 use Rattle.mvt_edit_steps.specs.NumberPut.{is_numbered}
 
 pub numbered_kept : (tag value : ℕ) (field : plain.Field) → is_numbered tag field ≡ true → is_numbered tag (with_field_value value field) ≡ true

@@ -1,15 +1,12 @@
--- A geometry that moves: its feature has three integers at least, and what is decided on them can be spelled, so that the
--- fields of the feature stay valid.
+-- A geometry that moves: its feature has three integers at least, and what is decided on them can be spelled.
 use Rattle.std.proofs.Common.{◌≡◌, ℕ, ◌^◌, ◌<◌, true, ℤ, pos, negsuc, is_some, Option, Some, None, List, [], ◌∷◌, refl, sym, ap, ◌∙◌, subst, arith}
 use Rattle.std.specs.Prelude.{unsigned_abs}
 use Rattle.std.proofs.lemmas.Bool.{and_parts, ltb-true}
 use Rattle.std.specs.List.{AllByRecursion}
 use Rattle.std.specs.Option.{option_and_then, option_map_or, unwrap_or}
-use Rattle.mvt_document.specs.Opens.{IsField}
 use Rattle.mvt_document.specs.Plain.{Field, Feature}
 use Rattle.mvt_document.specs.Signed.{zigzag}
 use Rattle.mvt_numbers.specs.Laws.{AreShort}
-use Rattle.mvt_numbers.proofs.Redone.{stays_valid}
 use Rattle.mvt_geometry.specs.Checks.{is_way}
 use Rattle.mvt_geometry.specs.Found.{geometry_in}
 use Rattle.mvt_geometry.specs.Integers.{integers}
@@ -22,7 +19,7 @@ use Rattle.mvt_geometry.proofs.Parts.{with}
 use Rattle.mvt_geometry.proofs.Small.{packs_integers}
 use Rattle.mvt_view.specs.FeatureGeometry.{HasFeatureGeometry}
 use Rattle.mvt_view.specs.Views.{kind_of, last_value}
-use Rattle.mvt_meaning.specs.Geometries.{can_move, can_move_integers, further, geometry_among, integers_among, moved_integers, moves, shifted}
+use Rattle.mvt_meaning.specs.Geometries.{can_move, can_move_integers, further, geometry_among, integers_among, moved_integers, moves}
 
 -- ---- a feature that has a geometry
 
@@ -109,6 +106,3 @@ moves_by dx dy kind (Some list) drawn can = moved_short dx dy list (drawn_short 
 
 pub moves_short : (dx dy : ℤ) (fields : List Field) → is_some (geometry_among fields) ≡ true → can_move dx dy fields ≡ true → AreShort (moves dx dy fields)
 moves_short dx dy fields drawn can = moves_by dx dy (unwrap_or (last_value 3 fields) 0) (integers_among fields) drawn can
-
-pub shifted_valid : (dx dy : ℤ) (fields : List Field) → is_some (geometry_among fields) ≡ true → can_move dx dy fields ≡ true → AllByRecursion IsField fields → AllByRecursion IsField (shifted dx dy fields)
-shifted_valid dx dy fields drawn can all = stays_valid 4 (moves dx dy fields) fields (moves_short dx dy fields drawn can) all

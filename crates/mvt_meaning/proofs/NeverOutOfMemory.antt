@@ -1,5 +1,5 @@
 -- No command is refused as out of memory by its definition.
-use Rattle.std.proofs.Common.{◌≡◌, ◌≢◌, ℕ, ◌&&◌, List, [], ◌∷◌, length, Option, Some, None, Result, Ok, Err}
+use Rattle.std.proofs.Common.{ℕ, ◌&&◌, List, [], ◌∷◌, length, Option, Some, None, Result, Ok, Err}
 use Rattle.std.specs.Prelude.{nat_lt, not, slice_get}
 use Rattle.std.specs.List.{list_any}
 use Rattle.std.specs.Option.{option_map_or}
@@ -11,7 +11,6 @@ use Rattle.mvt_document.specs.Wire.{bytes_of}
 use Rattle.mvt_command.specs.Command.{LayerChoice, AtOrdinal, Named, LayersChoice, TheLayer, EachLayer, FeatureChoice, FeatureAtOrdinal, WithId, Command, RenameLayer, MoveLayer, DropLayer, KeepLayers, InsertFeature, MoveFeature, DropFeature, SetId, ClearId, SetAttribute, UnsetAttribute, RenameKey, Exclude, ExcludeAll, Shift, SetGeometry, CompactKeys, CompactValues, Compact}
 use Rattle.mvt_command.proofs.Others.{Other, either}
 use Rattle.mvt_view.specs.Views.{features, has_id, is_named, layers, ordinals_of, the_one}
-use Rattle.mvt_meaning.specs.MemoryLaws.{NoCommandIsOutOfMemory}
 use Rattle.mvt_meaning.specs.Selection.{selected, selected_feature, selected_in, selected_layers}
 use Rattle.mvt_geometry.specs.Checks.{is_in_range}
 use Rattle.mvt_meaning.specs.Compaction.{compacted, is_any, is_key_used, is_value_used}
@@ -145,10 +144,3 @@ applied_other (SetGeometry choice feature geometry) document =
 applied_other (CompactKeys choice) document = readable_meant (compacted is_key_used is_any) choice document
 applied_other (CompactValues choice) document = readable_meant (compacted is_any is_value_used) choice document
 applied_other (Compact choice) document = readable_meant (compacted is_key_used is_value_used) choice document
-
-other_refusal : {A : Type 0} (result : Result A Refusal) → Other NoMemory result → result ≢ Err NoMemory
-other_refusal (Ok x) other e = absurd cc
-other_refusal (Err refusal) other e = let same : refusal ≡ NoMemory = cc in other same
-
-pub never_out_of_memory : NoCommandIsOutOfMemory
-never_out_of_memory command document = other_refusal (applied command document) (applied_other command document)

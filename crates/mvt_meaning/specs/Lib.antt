@@ -6,11 +6,4 @@ pub mod Tagging
 pub mod Geometries
 pub mod Compaction
 pub mod Meaning
-pub mod Kept
-pub mod LayerLaws
-pub mod FeatureLaws
 pub mod Weights
-pub mod Laws
-pub mod SizeLaws
-pub mod DocumentLaws
-pub mod MemoryLaws

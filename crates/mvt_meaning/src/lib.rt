@@ -1,8 +1,6 @@
-//! What the commands make of a tile, and which layers and features are selected, as definitions, and
-//! laws of both.
+//! What the commands make of a tile, and which layers and features are selected, as definitions.
 #![tactic(auto)]
 
-pub mod laws;
 mod refusal;
 
 pub use mvt_command::{Command, FeatureChoice, LayerChoice, LayersChoice};

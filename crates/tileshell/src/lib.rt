@@ -20,7 +20,7 @@ pub use in_memory::{Edited, edit};
 pub use mvt_command::{Command, FeatureChoice, LayerChoice, LayersChoice};
 pub use mvt_document::laws as wire_laws;
 pub use mvt_history::{HistoryError, MAX_DEPTH, MAX_MARKS};
-pub use mvt_meaning::{Refusal, laws as edit_laws};
+pub use mvt_meaning::Refusal;
 pub use program::shell;
 pub use tile_device::{FromRead, FromWrite, Retries, Sink, Source, Trouble};
 pub use tile_lines::laws as line_laws;

@@ -1,0 +1,126 @@
+-- Which layer a name means.
+use Rattle.std.proofs.Common.{◌≡◌, ℕ, zero, suc, ◌+◌, Bool, true, false, Option, Some, None, option_map, Ok, Err, List, [], ◌∷◌, slice_get, refl, sym, ap, ◌∙◌, inl, inr, subst, arith}
+use Rattle.std.proofs.lemmas.Bool.{cases_Bool}
+use Rattle.std.proofs.lemmas.Slice.Eq.{bytes_eq-Decides}
+use Rattle.std.specs.Option.{option_map_or}
+use Rattle.std.specs.Str.{bytes_eq}
+use Rattle.mvt_document.specs.Plain.{Layer}
+use Rattle.mvt_view.specs.Views.{is_named, layers, name_of}
+use Rattle.mvt_meaning.specs.declared.refusal.Refusal.TheVariants.{NoLayer}
+use Rattle.mvt_meaning.proofs.Positions.{positions_from, positions_pass, positions_skip}
+use Rattle.mvt_meaning.proofs.SelectionLemmas.{one_layer, two_apart}
+use Rattle.command_laws.specs.Laws.{NameMeansTheOne, NameMeansNone}
+
+-- an item passes at this position
+abbrev pub PassesAt : {A : Type 0} → (A → Bool) → List A → ℕ → Type 0
+PassesAt passes xs at = option_map passes (slice_get xs at) ≡ Some true
+
+one_later : {A : Type 0} (passes : A → Bool) (n k : ℕ) (x : A) (xs : List A) → (j : ℕ) × (k ≡ n + 1 + j) × PassesAt passes xs j → (j : ℕ) × (k ≡ n + j) × PassesAt passes (x ∷ xs) j
+one_later passes n k x xs found = let place = found.1 in (suc found.0, omega arith, found.2)
+
+first_passes : {A : Type 0} (passes : A → Bool) (n i k : ℕ) (x : A) (xs : List A) → passes x ≡ true → slice_get (n ∷ positions_from passes (n + 1) xs) i ≡ Some k → ((i : ℕ) → slice_get (positions_from passes (n + 1) xs) i ≡ Some k → (j : ℕ) × (k ≡ n + 1 + j) × PassesAt passes xs j) → (j : ℕ) × (k ≡ n + j) × PassesAt passes (x ∷ xs) j
+first_passes passes n zero k x xs pass e later = let same : n ≡ k = cc in (0, omega arith, ap (λ b. Some b) pass)
+first_passes passes n (suc i) k x xs pass e later = one_later passes n k x xs (later i e)
+
+position_passes : {A : Type 0} (passes : A → Bool) (n : ℕ) (xs : List A) (i k : ℕ) → slice_get (positions_from passes n xs) i ≡ Some k → (j : ℕ) × (k ≡ n + j) × PassesAt passes xs j
+position_passes passes n [] i k e = absurd cc
+position_passes passes n (x ∷ xs) i k e =
+    elim (cases_Bool (passes x)) [
+      | inl pass ↦ first_passes passes n i k x xs pass (rw (positions_pass passes n x xs pass) at e) (λ i e. position_passes passes (n + 1) xs i k e)
+      | inr skip ↦ one_later passes n k x xs (position_passes passes (n + 1) xs i k (rw (positions_skip passes n x xs skip) at e))
+    ]
+
+passes_position : {A : Type 0} (passes : A → Bool) (n : ℕ) (xs : List A) (j k : ℕ) → k ≡ n + j → PassesAt passes xs j → (i : ℕ) × (slice_get (positions_from passes n xs) i ≡ Some k)
+passes_position passes n [] j k place e = absurd cc
+passes_position passes n (x ∷ xs) zero k place e =
+    let pass : passes x ≡ true = cc in
+    let here : n ≡ k = omega arith in
+    (0, rw (positions_pass passes n x xs pass) (ap (λ y. Some y) here))
+passes_position passes n (x ∷ xs) (suc j) k place e =
+    let later = passes_position passes (n + 1) xs j k (omega arith) e in
+    elim (cases_Bool (passes x)) [
+      | inl pass ↦ (suc later.0, rw (positions_pass passes n x xs pass) later.1)
+      | inr skip ↦ (later.0, rw (positions_skip passes n x xs skip) later.1)
+    ]
+
+-- ---- one item alone passes
+
+only_one : (ordinals : List ℕ) (ordinal : ℕ) → one_layer ordinals ≡ Ok ordinal → ordinals ≡ ordinal ∷ []
+only_one [] ordinal e = absurd cc
+only_one (x ∷ []) ordinal e = let same : x ≡ ordinal = cc in ap (λ y. y ∷ []) same
+only_one (x ∷ y ∷ more) ordinal e = absurd cc
+
+in_one : (ordinal i k : ℕ) → slice_get (ordinal ∷ []) i ≡ Some k → k ≡ ordinal
+in_one ordinal zero k e = cc
+in_one ordinal (suc i) k e = absurd cc
+
+alone_passes : {A : Type 0} (passes : A → Bool) (xs : List A) (ordinal : ℕ) → one_layer (positions_from passes 0 xs) ≡ Ok ordinal → (other : ℕ) → (PassesAt passes xs other → other ≡ ordinal) × (other ≡ ordinal → PassesAt passes xs other)
+alone_passes passes xs ordinal e other =
+    let only = only_one (positions_from passes 0 xs) ordinal e in
+    let found = position_passes passes 0 xs 0 ordinal (ap (λ ys. slice_get ys 0) only) in
+    let there : found.0 ≡ ordinal = let place = found.1 in omega arith in (
+      λ pass. let at_position = passes_position passes 0 xs other other (omega arith) pass in in_one ordinal at_position.0 other (rw only at at_position.1),
+      λ same. subst (PassesAt passes xs) (there ∙ sym same) found.2,
+    )
+
+pub passes_there : {A : Type 0} (passes : A → Bool) (xs : List A) (i k : ℕ) → slice_get (positions_from passes 0 xs) i ≡ Some k → PassesAt passes xs k
+passes_there passes xs i k e =
+    let found = position_passes passes 0 xs i k e in
+    let there : found.0 ≡ k = let place = found.1 in omega arith in
+    subst (PassesAt passes xs) there found.2
+
+the_one_of : {A : Type 0} (passes : A → Bool) (xs : List A) (ordinal : ℕ) (ordinals : List ℕ) → positions_from passes 0 xs ≡ ordinals → ((other : ℕ) → PassesAt passes xs other → other ≡ ordinal) → PassesAt passes xs ordinal → one_layer ordinals ≡ Ok ordinal
+the_one_of passes xs ordinal [] e alone pass = absurd (let found = passes_position passes 0 xs ordinal ordinal (omega arith) pass in let nowhere = rw e at found.1 in cc)
+the_one_of passes xs ordinal (a ∷ []) e alone pass = ap (λ y. Ok y) (alone a (passes_there passes xs 0 a (ap (λ ys. slice_get ys 0) e)))
+the_one_of passes xs ordinal (a ∷ b ∷ more) e alone pass =
+    let first = alone a (passes_there passes xs 0 a (ap (λ ys. slice_get ys 0) e)) in
+    let second = alone b (passes_there passes xs 1 b (ap (λ ys. slice_get ys 1) e)) in
+    let apart = two_apart passes 0 a b xs more e in
+    absurd (omega arith)
+
+-- ---- names
+
+is_text : (name : List ℕ) (text : Option (List ℕ)) → option_map_or (bytes_eq name) text false ≡ true → text ≡ Some name
+is_text name None e = absurd cc
+is_text name (Some bytes) e = ap (λ t. Some t) (sym ((bytes_eq-Decides name bytes).0 e))
+
+named_at : (name : List ℕ) (layer : Option Layer) → option_map name_of layer ≡ Some (Some name) → option_map (is_named name) layer ≡ Some true
+named_at name None e = absurd cc
+named_at name (Some layer) e =
+    let text : name_of layer ≡ Some name = cc in
+    ap (λ b. Some b) (rw text ((bytes_eq-Decides name name).1 refl))
+
+at_named : (name : List ℕ) (layer : Option Layer) → option_map (is_named name) layer ≡ Some true → option_map name_of layer ≡ Some (Some name)
+at_named name None e = absurd cc
+at_named name (Some layer) e = let named : is_named name layer ≡ true = cc in ap (λ t. Some t) (is_text name (name_of layer) named)
+
+pub name_means_the_one : NameMeansTheOne
+name_means_the_one name document ordinal = (
+  λ e other. (
+    λ has. (alone_passes (is_named name) (layers document) ordinal e other).0 (named_at name (slice_get (layers document) other) has),
+    λ same. at_named name (slice_get (layers document) other) ((alone_passes (is_named name) (layers document) ordinal e other).1 same),
+  ),
+  λ alone. the_one_of (is_named name) (layers document) ordinal (positions_from (is_named name) 0 (layers document)) refl
+      (λ other pass. (alone other).0 (at_named name (slice_get (layers document) other) pass))
+      (named_at name (slice_get (layers document) ordinal) ((alone ordinal).1 refl)),
+)
+
+none_of : (ordinals : List ℕ) → one_layer ordinals ≡ Err NoLayer → ordinals ≡ []
+none_of [] e = refl
+none_of (x ∷ []) e = absurd cc
+none_of (x ∷ y ∷ more) e = absurd cc
+
+no_one_of : {A : Type 0} (passes : A → Bool) (xs : List A) (ordinals : List ℕ) → positions_from passes 0 xs ≡ ordinals → ((other : ℕ) → PassesAt passes xs other → ⊥) → one_layer ordinals ≡ Err NoLayer
+no_one_of passes xs [] e none = refl
+no_one_of passes xs (a ∷ more) e none = absurd (none a (passes_there passes xs 0 a (ap (λ ys. slice_get ys 0) e)))
+
+pub name_means_none : NameMeansNone
+name_means_none name document = (
+  λ e other has. (
+      let nowhere = none_of (positions_from (is_named name) 0 (layers document)) e in
+      let found = passes_position (is_named name) 0 (layers document) other other (omega arith) (named_at name (slice_get (layers document) other) has) in
+      let absent = rw nowhere at found.1 in
+      cc
+      ),
+  λ none. no_one_of (is_named name) (layers document) (positions_from (is_named name) 0 (layers document)) refl (λ other pass. none other (at_named name (slice_get (layers document) other) pass)),
+)

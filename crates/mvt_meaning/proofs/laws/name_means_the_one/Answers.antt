@@ -1,5 +1,0 @@
-use Rattle.mvt_meaning.proofs.SelectionLemmas.{name_means_the_one}
-use Rattle.mvt_meaning.proofs.laws.name_means_the_one.Goals as goal
-
-pub returns : goal.returns
-returns c = name_means_the_one

@@ -1,5 +1,0 @@
-use Rattle.mvt_meaning.proofs.NeverOutOfMemory.{never_out_of_memory}
-use Rattle.mvt_meaning.proofs.laws.no_command_is_out_of_memory.Goals as goal
-
-pub returns : goal.returns
-returns c = never_out_of_memory
