@@ -24,3 +24,4 @@ pub mod Deciding
 pub mod Marked
 pub mod Limits
 pub mod Apart
+pub mod NamedKeys

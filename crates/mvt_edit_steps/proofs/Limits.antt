@@ -1,5 +1,5 @@
 -- What a command makes where a file can hold it, and where none can.
-use Rattle.std.proofs.Common.{◌≡◌, ◌<◌, ◌≤◌, true, false, Ok, Err, length, nat_lt, refl}
+use Rattle.std.proofs.Common.{◌≡◌, ◌<◌, ◌≤◌, Bool, true, false, not, Ok, Err, length, nat_lt, refl}
 use Rattle.std.proofs.lemmas.Bool.{le-ltb, lt-ltb}
 use Rattle.mvt_document.specs.declared.TheConstants.{MAX_FILE}
 use Rattle.mvt_document.specs.Plain.{Document}
@@ -12,3 +12,13 @@ limit_kept made within = let fits : nat_lt MAX_FILE (length (bytes_of made)) ≡
 
 pub limit_passed : (made : Document) → MAX_FILE < length (bytes_of made) → within_limit made ≡ Err TooLarge
 limit_passed made past = let large : nat_lt MAX_FILE (length (bytes_of made)) ≡ true = lt-ltb MAX_FILE (length (bytes_of made)) past in rw large refl
+
+-- ---- what is told of a check by its opposite
+
+pub not_true : (b : Bool) → not b ≡ true → b ≡ false
+not_true true e = absurd cc
+not_true false e = refl
+
+pub not_false : (b : Bool) → not b ≡ false → b ≡ true
+not_false true e = refl
+not_false false e = absurd cc

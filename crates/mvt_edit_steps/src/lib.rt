@@ -6,8 +6,10 @@
 //!   passes, where the others that pass go: `put_once`; and so go the items that are picked, by a
 //!   mark for each: `take_out`.
 //! - What is decided on the numbers of a feature's tags, pair by pair, and how many pairs count; a
-//!   feature whose tags make no pairs is refused: `decide_pairs`. The steps of a feature whose
-//!   numbers are decided on, and how many bytes its fields take then (`size`): `renumber_feature`.
+//!   feature whose tags make no pairs is refused: `decide_pairs`. The same where the pairs of the
+//!   keys that are some bytes go, or get another value: `named_keys`, `decide_or_refuse`. Which
+//!   fields are tags: `is_tags`. The steps of a feature whose numbers are decided on, and how many
+//!   bytes its fields take then (`size`): `renumber_feature`.
 //! - A run of such items is a step of a feature or of a layer: `Run`.
 //! - The change of one step, also as one that is refused where a file cannot hold what the step
 //!   makes of the document, exactly there; and the change that takes one item out: `one_step`,
@@ -23,12 +25,14 @@
 //!   (`number_put`).
 #![tactic(auto)]
 
+mod decide;
 mod fates;
 mod numbered;
 mod pairs;
 mod put_last;
 mod steps;
 
+pub use decide::{decide_or_refuse, is_tags, named_keys};
 pub use fates::{Run, carry_out, goes_if, put_once, take_out};
 pub use mvt_numbers::Fate;
 pub use numbered::number_put;

@@ -1,48 +1,19 @@
--- The decisions on the numbers of pairs; and the keys of a layer that have some bytes.
-use Rattle.std.proofs.Common.{◌≡◌, ℕ, zero, suc, Bool, true, false, ◌||◌, cond, Option, Some, None, List, [], ◌∷◌, ◌++◌, is_some, length, map, option_map, slice_get, append_assoc, refl, sym, ap, ◌∙◌, inl, inr, ◌+◌, filter, arith}
+-- The decisions on the numbers of the pairs of a key; and whether a layer has the key.
+use Rattle.std.proofs.Common.{◌≡◌, ℕ, Bool, true, false, ◌||◌, Option, Some, None, List, [], ◌∷◌, is_some, length, map, option_map, slice_get, refl, sym, ap, ◌∙◌, inl, inr}
 use Rattle.std.proofs.lemmas.Bool.{cases_Bool}
 use Rattle.std.specs.List.{cons_option, list_any}
 use Rattle.std.specs.Option.{option_map_or, unwrap_or}
 use Rattle.std.specs.Str.{bytes_eq}
 use Rattle.mvt_document.specs.Plain.{Feature, Field, Layer, LayerItem, OfFeature, PlainInLayer}
-use Rattle.mvt_numbers.specs.Numbers.{and_more, numbers}
+use Rattle.mvt_numbers.specs.Numbers.{numbers}
 use Rattle.mvt_view.specs.Tags.{plain_pairs, tag_pairs}
 use Rattle.mvt_view.specs.Views.{content_in, contents, key_field, keys, plain_fields, values}
 use Rattle.mvt_view.proofs.Pairing.{tags_are_pairs}
-use Rattle.mvt_meaning.specs.Ordinals.{count}
 use Rattle.mvt_meaning.specs.Tagging.{is_key, is_key_at, pairs_among, removals, without_pairs}
-use Rattle.mvt_edit_steps.specs.Decided.{decided_by}
 use Rattle.mvt_edit_steps.proofs.Deciding.{then_pairs}
-use Rattle.mvt_edit_tags.specs.Decided.{pair_decided, pairs_decided, said_of}
+use Rattle.mvt_edit_steps.proofs.NamedKeys.{named_at}
 
--- ---- one pair more
-
-first_decided : (meant : ℕ → Bool) (to : Option ℕ) (pair : ℕ × ℕ) (more : List (ℕ × ℕ)) → pairs_decided meant to (pair ∷ more) ≡ (pair_decided (meant pair.0) to pair).0 ∷ (pair_decided (meant pair.0) to pair).1 ∷ pairs_decided meant to more
-first_decided meant None pair more = elim (cases_Bool (meant pair.0)) [ inl gone ↦ rw gone refl | inr stays ↦ rw stays refl ]
-first_decided meant (Some value) pair more = elim (cases_Bool (meant pair.0)) [ inl is ↦ rw is refl | inr stays ↦ rw stays refl ]
-
-none_decided : (meant : ℕ → Bool) (to : Option ℕ) → pairs_decided meant to [] ≡ []
-none_decided meant None = refl
-none_decided meant (Some value) = refl
-
--- what is said of each pair is what is decided on all
-said_list : (meant : ℕ → Bool) (to : Option ℕ) (pairs : List (ℕ × ℕ)) → decided_by (said_of meant to) pairs ≡ pairs_decided meant to pairs
-said_list meant to [] = sym (none_decided meant to)
-said_list meant to (pair ∷ pairs) =
-    let two = pair_decided (meant pair.0) to pair in
-    ap (λ more. two.0 ∷ two.1 ∷ more) (said_list meant to pairs) ∙ sym (first_decided meant to pair pairs)
-
-pub said_pairs : (meant : ℕ → Bool) (to : Option ℕ) (found : Option (List (ℕ × ℕ))) → option_map (pairs_decided meant to) found ≡ option_map (decided_by (said_of meant to)) found
-said_pairs meant to None = refl
-said_pairs meant to (Some pairs) = ap Some (sym (said_list meant to pairs))
-
--- ---- keys that have these bytes
-
-pub named_at : (key : List ℕ) (keys : List (List ℕ)) (ordinal : ℕ) → unwrap_or (slice_get (map (bytes_eq key) keys) ordinal) false ≡ option_map_or (bytes_eq key) (slice_get keys ordinal) false
-named_at key [] zero = refl
-named_at key [] (suc ordinal) = refl
-named_at key (first ∷ keys) zero = refl
-named_at key (first ∷ keys) (suc ordinal) = named_at key keys ordinal
+-- ---- the pairs of a key
 
 same_pairs : (goes goes_too : ℕ → Bool) → ((ordinal : ℕ) → goes ordinal ≡ goes_too ordinal) → (pairs : List (ℕ × ℕ)) → without_pairs goes pairs ≡ without_pairs goes_too pairs
 same_pairs goes goes_too same [] = refl

@@ -85,14 +85,6 @@ module _ (key : List ℕ) where
         | inr other ↦ rw other (ap (λ xs. x ∷ xs) (same_keys items))
       ]
 
-pub not_true : (b : Bool) → not b ≡ true → b ≡ false
-not_true true e = absurd cc
-not_true false e = refl
-
-pub not_false : (b : Bool) → not b ≡ false → b ≡ true
-not_false true e = refl
-not_false false e = absurd cc
-
 pub either_false : (b c : Bool) → c ≡ false → (b && c) ≡ false
 either_false true c e = e
 either_false false c e = refl

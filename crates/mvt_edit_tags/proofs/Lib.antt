@@ -6,8 +6,3 @@ pub mod KeysRenamed
 pub mod Deciding
 pub mod PairsLost
 pub mod Excluded
-mod EntryOrdinals
-mod OneDiffers
-mod PairPut
-mod AttributeGiven
-mod AttributeSet

@@ -1,4 +1,2 @@
-pub mod Attribute
-pub mod Decided
 pub mod EachFeature
 pub mod KeyFates

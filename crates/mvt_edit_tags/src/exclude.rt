@@ -14,11 +14,10 @@ ghost use Rattle.mvt_edit_steps.specs.EachFeature.{layer_steps};
 ghost use Rattle.mvt_edit_steps.specs.Decided.{is_any_gone};
 ghost use Rattle.mvt_edit_tags.specs.EachFeature.{pairs_go};
 
-use crate::decide::{decide_or_refuse, named_keys};
 use mvt_change::{Change, Step};
 use mvt_document::tags::TAGS;
 use mvt_document::{Document, Items};
-use mvt_edit_steps::renumber_feature;
+use mvt_edit_steps::{decide_or_refuse, named_keys, renumber_feature};
 use mvt_select::{FoundLayer, LayersChoice, Refusal, find_layers};
 use std::alloc::Global;
 

@@ -1,20 +1,18 @@
 //! All attributes go.
 
 ghost use Rattle.std.specs.Prelude.{◌≡◌, ◌++◌, IfOk, map};
-ghost use Rattle.mvt_document.specs.Stands.{document_of, field_of};
+ghost use Rattle.mvt_document.specs.Stands.{document_of};
 ghost use Rattle.mvt_change.specs.ChangeStands.{step_of};
 ghost use Rattle.mvt_command.specs.Command.{ExcludeAll};
 ghost use Rattle.mvt_command.specs.CommandStands.{layers_choice_of};
-ghost use Rattle.mvt_meaning.specs.Tagging.{is_tags};
 ghost use Rattle.mvt_view.specs.Seen.{found_feature_seen, found_layer_seen};
 ghost use Rattle.mvt_edit_steps.specs.Prepared.{Prepares};
 ghost use Rattle.mvt_edit_steps.specs.EachFeature.{feature_steps, layer_steps};
 ghost use Rattle.mvt_edit_tags.specs.EachFeature.{tags_go};
 
 use mvt_change::{Change, Step};
-use mvt_document::tags::TAGS;
-use mvt_document::{Body, Document, Feature, Field, Items};
-use mvt_edit_steps::{carry_out, goes_if};
+use mvt_document::{Document, Feature, Items};
+use mvt_edit_steps::{carry_out, goes_if, is_tags};
 use mvt_select::{FoundFeature, FoundLayer, LayersChoice, Refusal, SelectedLayers, find_layers};
 use std::alloc::{AllocError, Global};
 
@@ -51,13 +49,6 @@ fn tagged_count(layers: SelectedLayers<'_>) -> usize {
 
 fn has_tags(feature: &Feature) -> bool {
     feature.fields.as_slice().iter().any(|field| is_tags(field))
-}
-
-/// A field of tags, packed or not.
-pub(crate) fn is_tags(field: &Field) -> bool
-    ensures { result ≡ is_tags (field_of field.now) }
-{
-    field.tag.value / 8 == TAGS && matches!(field.body, Body::Number(_) | Body::Bytes { .. })
 }
 
 /// Puts the steps by which each feature of the layer loses its tags fields behind the others.

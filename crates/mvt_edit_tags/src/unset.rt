@@ -7,11 +7,10 @@ ghost use Rattle.mvt_command.specs.Command.{UnsetAttribute};
 ghost use Rattle.mvt_command.specs.CommandStands.{feature_choice_of, layer_choice_of};
 ghost use Rattle.mvt_edit_steps.specs.Prepared.{Prepares};
 
-use crate::decide::{decide_or_refuse, named_keys};
 use mvt_change::Change;
 use mvt_document::tags::TAGS;
 use mvt_document::{Document, Items};
-use mvt_edit_steps::renumber_feature;
+use mvt_edit_steps::{decide_or_refuse, named_keys, renumber_feature};
 use mvt_select::{FeatureChoice, LayerChoice, Refusal, find_feature, find_layer};
 use std::alloc::Global;
 

@@ -16,7 +16,8 @@ use Rattle.mvt_meaning.specs.Tagging.{is_key, renamed_keys}
 use Rattle.mvt_edit_steps.specs.Prepared.{IsPrepared}
 use Rattle.mvt_edit_steps.proofs.Heavy.{heavy}
 use Rattle.mvt_edit_tags.proofs.KeyFields.{key_has_bytes, keys_valid}
-use Rattle.mvt_edit_tags.proofs.KeysRenamed.{either_false, key_missing, key_taken, keys_renamed, keys_stay, keys_too_large, not_false, not_true}
+use Rattle.mvt_edit_tags.proofs.KeysRenamed.{either_false, key_missing, key_taken, keys_renamed, keys_stay, keys_too_large}
+use Rattle.mvt_edit_steps.proofs.Limits.{not_false, not_true}
 use Rattle.mvt_edit_tags.proofs.rename_key.rename_key.Goals as goal
 use Rattle.mvt_edit_tags.proofs.rename_key.rename_key.Goals.{else-keys-via-then-keys+else-ne, else-keys-via-else-keys}
 

@@ -1,0 +1,5 @@
+mod EntryOrdinals
+mod OneDiffers
+mod PairPut
+mod AttributeGiven
+mod AttributeSet
