@@ -296,6 +296,7 @@ values_before f items index between inside =
 
 pub runs_beside_of : {T : Type 0} (of_kind : Kind → T → Bool) (runs : Runs) (items : List T) (index : ℕ) → index < length items → AreRunsOf of_kind runs items → AreRunsBeside of_kind index runs items
 runs_beside_of of_kind runs items index inside h = record {
+  names = run_beside_of (of_kind kind.Name) runs.names items index inside h.names;
   messages = run_beside_of (of_kind kind.Message) runs.messages items index inside h.messages;
   keys = run_beside_of (of_kind kind.Key) runs.keys items index inside h.keys;
   values = run_beside_of (of_kind kind.Value) runs.values items index inside h.values;
@@ -311,6 +312,7 @@ run_set f index items x run h =
 
 pub beside_set : {T : Type 0} (of_kind : Kind → T → Bool) (index : ℕ) (items : List T) (x : T) (runs : Runs) → AreRunsBeside of_kind index runs items → AreRunsBeside of_kind index runs (slice_set items index x)
 beside_set of_kind index items x runs h = record {
+  names = run_set (of_kind kind.Name) index items x runs.names h.names;
   messages = run_set (of_kind kind.Message) index items x runs.messages h.messages;
   keys = run_set (of_kind kind.Key) index items x runs.keys h.keys;
   values = run_set (of_kind kind.Value) index items x runs.values h.values;

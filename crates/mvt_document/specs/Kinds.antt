@@ -31,6 +31,7 @@ is_entry number (in_layer.Plain field) = is_delimited_field number field
 
 -- the item of a layer is of this kind (tiles 4.1)
 abbrev pub in_layer_of_kind : Kind → LayerItem → Bool
+in_layer_of_kind kind.Name item = is_entry 1 item
 in_layer_of_kind kind.Message item = is_feature item
 in_layer_of_kind kind.Key item = is_entry 3 item
 in_layer_of_kind kind.Value item = is_entry 4 item
@@ -40,8 +41,9 @@ abbrev pub is_layer : TileItem → Bool
 is_layer (in_tile.Layer layer) = true
 is_layer (in_tile.Plain field) = false
 
--- the item of a tile is of this kind; no tile has keys or values (tiles 4.1)
+-- the item of a tile is of this kind; no tile has names, keys or values (tiles 4.1)
 abbrev pub in_tile_of_kind : Kind → TileItem → Bool
+in_tile_of_kind kind.Name item = false
 in_tile_of_kind kind.Message item = is_layer item
 in_tile_of_kind kind.Key item = false
 in_tile_of_kind kind.Value item = false

@@ -22,6 +22,7 @@ IsRunOf of_kind run items = IsRun run (map of_kind items)
 
 -- the same of each kind
 pub record AreRunsOf {T : Type 0} (of_kind : Kind → T → Bool) (runs : Runs) (items : List T) : Type 0 where
+  pub names : IsRunOf (of_kind kind.Name) runs.names items
   pub messages : IsRunOf (of_kind kind.Message) runs.messages items
   pub keys : IsRunOf (of_kind kind.Key) runs.keys items
   pub values : IsRunOf (of_kind kind.Value) runs.values items
@@ -37,6 +38,7 @@ IsRunBeside of_kind index run items = IsRunAround of_kind run (take index items)
 
 -- the same of each kind
 pub record AreRunsBeside {T : Type 0} (of_kind : Kind → T → Bool) (index : ℕ) (runs : Runs) (items : List T) : Type 0 where
+  pub names : IsRunBeside (of_kind kind.Name) index runs.names items
   pub messages : IsRunBeside (of_kind kind.Message) index runs.messages items
   pub keys : IsRunBeside (of_kind kind.Key) index runs.keys items
   pub values : IsRunBeside (of_kind kind.Value) index runs.values items

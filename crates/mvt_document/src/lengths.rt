@@ -10,7 +10,7 @@ use crate::body::Body;
 use crate::document::{Feature, Field, Layer, LayerItem, TileItem};
 use crate::measure::{Measured, delimited_size, message_size, size_of_all, sum_within};
 use crate::run::Kind;
-use crate::tags::{KEYS, VALUES};
+use crate::tags::{KEYS, NAME, VALUES};
 
 impl Measured for Body {
     ghost bytes = { λ b. body_bytes (body_of b) };
@@ -77,6 +77,7 @@ impl Measured for LayerItem {
     #[inline(always)]
     fn is_of(&self, kind: Kind) -> bool {
         match (self, kind) {
+            (LayerItem::Plain(field), Kind::Name) => is_delimited_field(field, NAME),
             (LayerItem::Feature(_), Kind::Message) => true,
             (LayerItem::Plain(field), Kind::Key) => is_delimited_field(field, KEYS),
             (LayerItem::Plain(field), Kind::Value) => is_delimited_field(field, VALUES),

@@ -11,7 +11,7 @@
 //!   beside a part of a list (`size_beside_part`), and those of a message with a content of a given
 //!   length (`message_size`). A message may keep that number; where it does, it is the right one
 //!   after every change, which its type keeps (`IsKept`).
-//! - The features, the keys and the values of a layer, and the layers of a tile, may be known to stand
+//! - The names, the features, the keys and the values of a layer, and the layers of a tile, may be known to stand
 //!   each in one run, with nothing between them, up to some position. Before that just the items of the
 //!   run are of the kind, after every change, which the type of the list keeps (`AreRunsOf`):
 //!   `Message::runs`.

@@ -93,6 +93,7 @@ impl<T: Measured> Message<T> {
     {
         let runs = self.runs();
         match kind {
+            Kind::Name => runs.names,
             Kind::Message => runs.messages,
             Kind::Key => runs.keys,
             Kind::Value => runs.values,
@@ -162,6 +163,7 @@ impl<T: Measured> Message<T> {
         ensures { AreRunsOf T.of_kind result self.now.items }
     {
         Runs {
+            names: self.run_with(Kind::Name, index, beside.names),
             messages: self.run_with(Kind::Message, index, beside.messages),
             keys: self.run_with(Kind::Key, index, beside.keys),
             values: self.run_with(Kind::Value, index, beside.values),
@@ -227,10 +229,9 @@ impl<T: Measured> Message<T> {
         requires { IsKept T.bytes self.old.items known }
         ensures { self.new ≡ self.old }
     {
+        let runs = runs_of(self.inner.as_slice());
         self.sum = known;
-        if self.runs.are_kept() {
-            self.runs.set(runs_of(self.inner.as_slice()));
-        }
+        keep_runs(&mut self.runs, &self.inner, runs);
     }
 
     /// Adds an item at the end. An `Err` changes nothing.
@@ -241,7 +242,7 @@ impl<T: Measured> Message<T> {
         let runs = self.runs_pushed(&item);
         self.inner.push(item)?;
         self.sum = sum;
-        self.runs.set(runs);
+        keep_runs(&mut self.runs, &self.inner, runs);
         Ok(())
     }
 
@@ -265,6 +266,7 @@ impl<T: Measured> Message<T> {
         ensures { AreRunsOf T.of_kind result (self.now.items ++ item.now ∷ []) }
     {
         Runs {
+            names: self.run_pushed(Kind::Name, item),
             messages: self.run_pushed(Kind::Message, item),
             keys: self.run_pushed(Kind::Key, item),
             values: self.run_pushed(Kind::Value, item),
@@ -307,6 +309,7 @@ impl<T: Measured> Message<T> {
     {
         let runs = runs_of(put.as_slice());
         Runs {
+            names: self.run_exchanged(Kind::Name, index, taken, put, runs.names),
             messages: self.run_exchanged(Kind::Message, index, taken, put, runs.messages),
             keys: self.run_exchanged(Kind::Key, index, taken, put, runs.keys),
             values: self.run_exchanged(Kind::Value, index, taken, put, runs.values),
@@ -332,7 +335,7 @@ impl<T: Measured> Message<T> {
         let runs = self.runs_exchanged(index, taken, put);
         put.exchange_in(&mut self.inner, index, taken)?;
         self.sum = size;
-        self.runs.set(runs);
+        keep_runs(&mut self.runs, &self.inner, runs);
         Ok(())
     }
 
@@ -354,6 +357,7 @@ impl<T: Measured> Message<T> {
         ensures { AreRunsOf T.of_kind result (moved from to self.now.items) }
     {
         Runs {
+            names: self.run_moved(Kind::Name, from, to),
             messages: self.run_moved(Kind::Message, from, to),
             keys: self.run_moved(Kind::Key, from, to),
             values: self.run_moved(Kind::Value, from, to),
@@ -380,5 +384,22 @@ fn runs_to_keep<T: Measured>(items: &Vec<T>) -> KeptRuns
     if items.len() < MANY_ITEMS {
         return KeptRuns::none();
     }
-    KeptRuns::new(*items.allocator(), runs_of(items.as_slice()))
+    let mut kept = KeptRuns::new(*items.allocator(), Runs::unknown());
+    if kept.are_kept() {
+        kept.set(runs_of(items.as_slice()));
+    }
+    kept
+}
+
+/// Keeps these runs in place of those kept, or finds them where none were kept and the items are many
+/// now.
+fn keep_runs<T: Measured>(kept: &mut KeptRuns, items: &Vec<T>, runs: Runs)
+    requires { AreRunsOf T.of_kind runs items.now.items }
+    ensures { IfSome kept.new (λ runs. AreRunsOf T.of_kind runs items.now.items) }
+{
+    if kept.are_kept() {
+        kept.set(runs);
+    } else {
+        *kept = runs_to_keep(items);
+    }
 }

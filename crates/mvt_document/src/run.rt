@@ -10,10 +10,11 @@ use crate::measure::Measured;
 /// How many items are looked at for each kind at a time.
 const PART: usize = 256;
 
-/// What an item of a list can be. A layer has features as its messages, and keys and values; a tile has
-/// layers as its messages, and neither of the others.
+/// What an item of a list can be. A layer has names, features as its messages, keys and values; a tile has
+/// layers as its messages, and none of the others.
 #[derive(Clone, Copy, Debug)]
 pub enum Kind {
+    Name,
     Message,
     Key,
     Value,
@@ -31,6 +32,7 @@ pub struct Run {
 /// The run of each kind.
 #[derive(Clone, Copy, Debug)]
 pub struct Runs {
+    pub names: Run,
     pub messages: Run,
     pub keys: Run,
     pub values: Run,
@@ -150,10 +152,11 @@ impl Run {
 impl Runs {
     /// Those of a list of which nothing is known.
     pub(crate) fn unknown() -> Runs
-        ensures { (items : List Bool) → IsRun result.messages items × IsRun result.keys items × IsRun result.values items }
+        ensures { (items : List Bool) → IsRun result.names items × IsRun result.messages items × IsRun result.keys items × IsRun result.values items }
     {
         let unknown = Run::unknown();
         Runs {
+            names: unknown,
             messages: unknown,
             keys: unknown,
             values: unknown,
@@ -189,6 +192,7 @@ fn runs_with_part<T: Measured>(runs: Runs, seen: usize, part: &[T]) -> Runs
     ensures { (items : List T) → AreRunsOf T.of_kind runs items → seen ≡ length items → AreRunsOf T.of_kind result (items ++ part.now) }
 {
     Runs {
+        names: run_with_part(runs.names, seen, part, Kind::Name),
         messages: run_with_part(runs.messages, seen, part, Kind::Message),
         keys: run_with_part(runs.keys, seen, part, Kind::Key),
         values: run_with_part(runs.values, seen, part, Kind::Value),

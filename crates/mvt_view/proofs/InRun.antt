@@ -1,7 +1,7 @@
 -- Items of which those of one kind stand in a run: which of them has an ordinal, how many there are, and what is beside them.
 use Rattle.std.proofs.Common.{◌≡◌, ℕ, zero, suc, ◌+◌, ◌-◌, ◌<◌, ◌≤◌, Bool, true, false, Option, Some, None, List, [], ◌∷◌, ◌++◌, length, length-append, length-drop, map, take, drop, take-append-drop, option_map, refl, sym, ap, ◌∙◌, append_assoc, arith}
 use Rattle.std.specs.Prelude.{if◌then◌else◌, is_some, replicate, slice_get, MatchOption}
-use Rattle.std.specs.List.{cons_option, filter_map, enumerate_from}
+use Rattle.std.specs.List.{cons_option, filter_map, enumerate_from, last_or}
 use Rattle.std.specs.Option.{option_and_then}
 use Rattle.std.proofs.lemmas.List.{drop-drop, drop-map, drop_all, drop_at, length-map, length-replicate, length-take-le, map-append, take-map, take_all, take_at}
 use Rattle.std.proofs.lemmas.List.Elements.{filter_map-append}
@@ -20,6 +20,7 @@ use Rattle.mvt_view.specs.Found.{with_position, placed_from, found_from, found_i
 use Rattle.mvt_view.specs.Pools.{PassesOver, entry_in}
 use Rattle.mvt_view.specs.Views.{content_in, content_of, contents, feature_in, plain_fields}
 use Rattle.mvt_view.proofs.Placing.{found_items, placed_items}
+use Rattle.mvt_view.proofs.Yielded.{last_joined, map_last}
 
 -- ---- what is picked, and what is not
 
@@ -56,6 +57,29 @@ pub got_mapped : {A B : Type 0} (g : A → B) (xs : List A) (k : ℕ) → slice_
 got_mapped g [] k = refl
 got_mapped g (x ∷ xs) zero = refl
 got_mapped g (x ∷ xs) (suc k) = got_mapped g xs k
+
+last_over : {A : Type 0} (o : Option A) (xs : List A) (x : A) → last_or None xs ≡ Some x → last_or o xs ≡ Some x
+last_over o [] x is = absurd (cc)
+last_over o (y ∷ xs) x is = is
+
+last_there : {A : Type 0} (y : A) (xs : List A) → last_or (Some y) xs ≡ None → ⊥
+last_there y [] is = cc
+last_there y (x ∷ xs) is = last_there x xs is
+
+last_none : {A : Type 0} (xs : List A) → last_or None xs ≡ None → xs ≡ []
+last_none [] is = refl
+last_none (x ∷ xs) is = absurd (last_there x xs is)
+
+last_got : {A : Type 0} (o : Option A) (xs : List A) (k : ℕ) → length xs ≡ suc k → last_or o xs ≡ slice_get xs k
+last_got o [] k long = absurd (omega (arith, long))
+last_got o (x ∷ []) zero long = refl
+last_got o (x ∷ []) (suc k) long = absurd (omega (arith, long))
+last_got o (x ∷ (y ∷ xs)) zero long = absurd (omega (arith, long))
+last_got o (x ∷ (y ∷ xs)) (suc k) long = last_got (Some x) (y ∷ xs) k (omega (arith, long))
+
+none_left : {A : Type 0} (xs : List A) → length xs ≡ 0 → xs ≡ []
+none_left [] none = refl
+none_left (x ∷ xs) none = absurd (omega (arith, none))
 
 -- ---- the bounds of a run
 
@@ -179,6 +203,25 @@ module _ {X A B : Type 0} (view : X → A) (pick : A → Option B) (f : X → Bo
       let parts = split run items h in
       ap length parts.1 ∙ length-append parts.0 (found_from pick run.count run.until (map view items)) ∙ ap (λ n. n + length (found_from pick run.count run.until (map view items))) parts.2
 
+  -- the last that is found is the last behind what is known
+  pub run_last_behind : (run : Run) (items : List X) (last : ℕ × (ℕ × B)) → IsRunOf f run items → last_or None (found_from pick run.count run.until (map view items)) ≡ Some last → last_or None (found_in pick (map view items)) ≡ Some last
+  run_last_behind run items last h is =
+      let parts = split run items h in
+      let behind = found_from pick run.count run.until (map view items) in
+      ap (last_or None) parts.1 ∙ last_joined None parts.0 behind ∙ last_over (last_or None parts.0) behind last is
+
+  -- or else the last of the run
+  pub run_last_in : (run : Run) (items : List X) (k : ℕ) → IsRunOf f run items → last_or None (found_from pick run.count run.until (map view items)) ≡ None → run.count ≡ suc k → last_or None (found_in pick (map view items)) ≡ slice_get (found_in pick (map view items)) k
+  run_last_in run items k h none count =
+      let behind = ap length (last_none (found_from pick run.count run.until (map view items)) none) in
+      last_got None (found_in pick (map view items)) k (omega (arith, run_total run items h, behind, count))
+
+  -- or there is none
+  pub run_no_last : (run : Run) (items : List X) → IsRunOf f run items → last_or None (found_from pick run.count run.until (map view items)) ≡ None → run.count ≡ 0 → last_or None (found_in pick (map view items)) ≡ None
+  run_no_last run items h none count =
+      let behind = ap length (last_none (found_from pick run.count run.until (map view items)) none) in
+      ap (last_or None) (none_left (found_in pick (map view items)) (omega (arith, run_total run items h, behind, count)))
+
 -- ---- features, and entries
 
 pub is_found_feature : (item : LayerItem) → is_some (feature_in (layer_item_of item)) ≡ in_layer_of_kind Message item
@@ -205,6 +248,10 @@ entry_contents number (plain.PlainInLayer field ∷ items) = ap (cons_option (co
 
 pub found_contents : (number : ℕ) (items : List plain.LayerItem) → map (λ (found : ℕ × (ℕ × List ℕ)). found.1.1) (found_in (entry_in number) items) ≡ contents number (plain_fields items)
 found_contents number items = found_items (entry_in number) items ∙ entry_contents number items
+
+-- the last entry of a number is the last content of that number
+pub last_content : (number : ℕ) (items : List plain.LayerItem) → option_map (λ (found : ℕ × (ℕ × List ℕ)). found.1.1) (last_or None (found_in (entry_in number) items)) ≡ last_or None (contents number (plain_fields items))
+last_content number items = map_last (λ found. found.1.1) None (found_in (entry_in number) items) ∙ ap (last_or None) (found_contents number items)
 
 content_of_found : {B : Type 0} (found : Option B) (ordinal position : ℕ) → option_map (λ (f : ℕ × (ℕ × B)). f.1.1) (option_map (λ x. (ordinal, (position, x))) found) ≡ found
 content_of_found None ordinal position = refl

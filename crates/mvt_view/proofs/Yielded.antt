@@ -5,7 +5,7 @@ use Rattle.std.proofs.lemmas.Iterator.{YieldsList, items_from_drains}
 use Rattle.std.specs.Iterator.{AlwaysYields, Drains}
 use Rattle.std.specs.List.{filter_map, cons_option, last_or}
 
-map_last : {A B : Type 0} (v : A → B) (o : Option A) (xs : List A) → option_map v (last_or o xs) ≡ last_or (option_map v o) (map v xs)
+pub map_last : {A B : Type 0} (v : A → B) (o : Option A) (xs : List A) → option_map v (last_or o xs) ≡ last_or (option_map v o) (map v xs)
 map_last v o [] = refl
 map_last v o (x ∷ xs) = map_last v (Some x) xs
 

@@ -1,18 +1,21 @@
-//! The keys and values of a layer with where they stand, as an iterator, and the first that is given.
+//! The keys and values of a layer with where they stand, as an iterator, the first that is given, and the
+//! last name.
 
-ghost use Rattle.std.specs.Prelude.{◌≡◌, length, map, option_map, slice_get};
+ghost use Rattle.std.specs.Prelude.{◌≡◌, ◌<◌, None, length, map, option_map, slice_get};
+ghost use Rattle.std.specs.List.{last_or};
 ghost use Rattle.std.specs.Option.{option_copied};
-ghost use Rattle.mvt_document.specs.declared.run.Kind.TheVariants.{Message};
+ghost use Rattle.mvt_document.specs.declared.run.Kind.TheVariants as kind;
 ghost use Rattle.mvt_document.specs.Kinds.{in_layer_of_kind, is_entry};
 ghost use Rattle.mvt_document.specs.Runs.{IsRunOf};
 ghost use Rattle.mvt_document.specs.Stands.{layer_item_of};
-ghost use Rattle.mvt_view.specs.Pools.{first_equal};
+ghost use Rattle.mvt_view.specs.Pools.{first_equal, found_entries};
 ghost use Rattle.mvt_view.specs.Seen.{found_entry_seen};
 ghost use Rattle.mvt_view.specs.Views.{contents, plain_fields};
 
 use crate::fields::{entry_in, first_entry};
 use crate::found::FoundEntry;
-use mvt_document::{Layer, LayerItem, Run};
+use mvt_document::tags::NAME;
+use mvt_document::{Layer, LayerItem, Message, Run};
 use std::marker::Model;
 
 /// The LEN fields of one number in a layer, in order, as its keys or its values, each with its ordinal and its
@@ -55,7 +58,7 @@ impl<'a> Entries<'a> {
     }
 
     fn beside(items: &'a [LayerItem], features: Run, number: u64) -> Entries<'a>
-        requires { IsRunOf (in_layer_of_kind Message) features items.now }
+        requires { IsRunOf (in_layer_of_kind kind.Message) features items.now }
         ensures items { result ≡ found_entries number (map layer_item_of items.now) }
         ensures bound { length result < 2 ^ 64 }
     {
@@ -120,6 +123,47 @@ pub(crate) fn entry(items: &[LayerItem], entries: Run, number: u64, ordinal: usi
     }
     let found = Entries::behind(items, entries, number).nth(ordinal - entries.count)?;
     Some(found.bytes)
+}
+
+/// The entry of this ordinal, which is one of the run, with where it stands.
+fn entry_in_run(
+    items: &[LayerItem],
+    entries: Run,
+    number: u64,
+    ordinal: usize,
+) -> Option<FoundEntry<'_>>
+    requires run { IsRunOf (is_entry number) entries items.now }
+    requires there { ordinal < entries.count }
+    ensures { option_map found_entry_seen result ≡ slice_get (found_entries number (map layer_item_of items.now)) ordinal }
+{
+    let position = entries.first + ordinal;
+    let bytes = entry_in(&items[position], number)?;
+    Some(FoundEntry {
+        ordinal,
+        position,
+        bytes,
+    })
+}
+
+/// The last entry, where this is the run of the first of them.
+fn last_entry(items: &[LayerItem], entries: Run, number: u64) -> Option<FoundEntry<'_>>
+    requires { IsRunOf (is_entry number) entries items.now }
+    ensures { option_map found_entry_seen result ≡ last_or None (found_entries number (map layer_item_of items.now)) }
+{
+    if let Some(found) = Entries::behind(items, entries, number).last() {
+        return Some(found);
+    }
+    if entries.count == 0 {
+        return None;
+    }
+    entry_in_run(items, entries, number, entries.count - 1)
+}
+
+/// The last name of a layer, which is the one that counts, with where it stands.
+pub fn last_name(items: &Message<LayerItem>) -> Option<FoundEntry<'_>>
+    ensures { option_map found_entry_seen result ≡ last_or None (found_entries 1 (map layer_item_of items.now.items)) }
+{
+    last_entry(items.as_slice(), items.runs().names, NAME)
 }
 
 /// How many entries there are, where this is the run of the first of them.

@@ -4,7 +4,8 @@
 //!   definitions, in order, by ordinal (none past the last), and counted: `layers`, `layer`,
 //!   `layer_count`, and the calls of `LayerView`.
 //! - The keys and the values of a layer with their ordinals and positions, and the first that is
-//!   these bytes: `LayerView::key_entries`, `value_entries`, `first_key`, `first_value`.
+//!   these bytes: `LayerView::key_entries`, `value_entries`, `first_key`, `first_value`. The last name
+//!   of a layer with its position: `last_name`.
 //! - The name, version and extent of a layer, and the id and kind of a feature, are those of the
 //!   last field of the number and wire type, or the default: the calls of `LayerView` and
 //!   `FeatureView`.
@@ -40,7 +41,7 @@ mod tag_pairs;
 mod views;
 
 pub use attributes::{Pair, PairsError, pairs};
-pub use entries::Entries;
+pub use entries::{Entries, last_name};
 pub use found::{FoundEntry, FoundFeature, FoundLayer};
 pub use geometries::geometry;
 pub use lists::{Contents, FeatureViews, LayerViews};

@@ -10,12 +10,12 @@ ghost use Rattle.mvt_view.specs.Pools.{first_equal, found_keys, found_values};
 ghost use Rattle.mvt_view.specs.Seen.{feature_seen, found_entry_seen, found_feature_seen, layer_seen};
 ghost use Rattle.mvt_view.specs.Tags.{tag_pairs};
 
-use crate::entries::{Entries, entry, entry_count, first_equal};
+use crate::entries::{Entries, entry, entry_count, first_equal, last_name};
 use crate::fields::{feature_in_run, last_value, last_value_in_layer};
 use crate::found::{FoundEntry, FoundFeature};
 use crate::lists::{Contents, FeatureViews};
 use crate::tag_pairs::{PoolSizes, TagPairs};
-use mvt_document::tags::{EXTENT, GEOMETRY, ID, KEYS, KIND, NAME, TAGS, VALUES, VERSION};
+use mvt_document::tags::{EXTENT, GEOMETRY, ID, KEYS, KIND, TAGS, VALUES, VERSION};
 use mvt_document::{Feature, Layer};
 use mvt_numbers::Numbers;
 
@@ -43,7 +43,8 @@ impl<'a> LayerView<'a> {
     pub fn name(self) -> Option<&'a [u8]>
         ensures { option_copied result ≡ name_of (layer_seen self.entry) }
     {
-        Contents::of(self.layer, NAME).last()
+        let found = last_name(&self.layer.items)?;
+        Some(found.bytes)
     }
 
     /// The last version is the one that counts.
