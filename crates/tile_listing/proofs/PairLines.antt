@@ -1,11 +1,12 @@
 -- The attributes of a feature, and the pairs that name them.
-use Rattle.std.proofs.Common.{◌≡◌, ℕ, zero, suc, ◌<◌, ◌^◌, Bool, true, List, [], ◌∷◌, ◌++◌, length, map, Option, Some, None, codes, refl, ap, ◌∙◌, subst, arith}
+use Rattle.std.proofs.Common.{◌≡◌, ℕ, zero, suc, ◌<◌, ◌^◌, Bool, true, List, [], ◌∷◌, ◌++◌, length, map, Option, Some, None, Bor, codes, refl, sym, ap, ◌∙◌, subst, arith}
 use Rattle.std.specs.Prelude.{All, IsTrue, nat_lt, slice_get, slice_index_or}
 use borrow.Author.Tests.{ltb-true}
 use Rattle.std.specs.List.{AllByRecursion, list_all}
 use Rattle.std.specs.Option.{option_and_then}
 use Rattle.std.proofs.lemmas.Bool.{and_parts}
 use Rattle.std.proofs.lemmas.Option.{cond_some}
+use Rattle.std.proofs.lemmas.List.{length-map}
 use Rattle.std.proofs.lemmas.List.Elements.{All-from_recursion}
 use Rattle.mvt_document.specs.Plain.{Feature, Layer}
 use Rattle.mvt_numbers.specs.Numbers.{numbers}
@@ -14,6 +15,7 @@ use Rattle.mvt_view.specs.Attributes.{attribute_at, if_pairs, in_pairs, is_ordin
 use Rattle.mvt_view.specs.Seen.{pair_seen}
 use Rattle.mvt_view.specs.declared.attributes.Pair.{Pair}
 use Rattle.tile_listing.specs.Listing.{attribute_line, attribute_lines, joined_lines}
+use Rattle.tile_listing.specs.ListingStands.{contents_of, named_by}
 
 -- ---- each pair names a key and a value
 
@@ -40,7 +42,23 @@ there (x ∷ xs) (suc k) d inside = there xs k d (omega arith)
 pub ordinal_there : (xs : List (List ℕ)) (k : ℕ) → is_ordinal (length xs) k ≡ true → slice_get xs k ≡ Some (slice_index_or xs k [])
 ordinal_there xs k is = there xs k [] (ltb-true k (length xs) (and_parts (nat_lt k (length xs)) (nat_lt k (2 ^ 32)) is).0)
 
+-- the same of the slices that hold the keys and the values
+pub held_fit : (layer : Layer) (pairs : List Pair) (held_keys held_values : List (Bor (List ℕ))) → contents_of held_keys ≡ keys layer → contents_of held_values ≡ values layer
+    → All (λ pair. IsTrue (is_pair (length (keys layer)) (length (values layer)) (pair_seen pair))) pairs → All (λ pair. IsTrue (is_pair (length held_keys) (length held_values) (pair_seen pair))) pairs
+held_fit layer pairs held_keys held_values of_keys of_values fit =
+    let count_keys : length (keys layer) ≡ length held_keys = ap (λ (xs : List (List ℕ)). length xs) (sym of_keys) ∙ length-map held_keys _ in
+    let count_values : length (values layer) ≡ length held_values = ap (λ (xs : List (List ℕ)). length xs) (sym of_values) ∙ length-map held_values _ in
+    subst (λ (n : ℕ). All (λ pair. IsTrue (is_pair n (length held_values) (pair_seen pair))) pairs) count_keys
+    (subst (λ (n : ℕ). All (λ pair. IsTrue (is_pair (length (keys layer)) n (pair_seen pair))) pairs) count_values fit)
+
 -- ---- the lines of the attributes
+
+-- what the slices name is what the pairs of the layer do
+pub held_put : (layer : Layer) (pairs : List (ℕ × ℕ)) (held_keys held_values : List (Bor (List ℕ))) (old new : List ℕ) → contents_of held_keys ≡ keys layer → contents_of held_values ≡ values layer
+    → new ≡ old ++ joined_lines (map (λ (pair : ℕ × ℕ). attribute_line (named_by (contents_of held_keys) (contents_of held_values) pair)) pairs) → new ≡ old ++ joined_lines (map (λ (pair : ℕ × ℕ). attribute_line (attribute_at layer pair)) pairs)
+held_put layer pairs held_keys held_values old new of_keys of_values put =
+    put ∙ ap (λ (ks : List (List ℕ)). old ++ joined_lines (map (λ (pair : ℕ × ℕ). attribute_line (named_by ks (contents_of held_values) pair)) pairs)) of_keys
+    ∙ ap (λ (vs : List (List ℕ)). old ++ joined_lines (map (λ (pair : ℕ × ℕ). attribute_line (named_by (keys layer) vs pair)) pairs)) of_values
 
 map_twice : {A B C : Type 0} (f : B → C) (g : A → B) (xs : List A) → map (λ x. f (g x)) xs ≡ map f (map g xs)
 map_twice f g [] = refl
