@@ -8,9 +8,10 @@ use Rattle.std.specs.Option.{option_map_or}
 use Rattle.mvt_document.specs.Groups.{IsNumber}
 use Rattle.mvt_document.specs.Plain.{Number, Body, Spelled, Eight, Four, Delimited, Group, Field}
 use Rattle.mvt_document.specs.Wire.{spelling}
+use Rattle.mvt_document.proofs.EachItem.{all_joined}
 use Rattle.mvt_numbers.specs.Deciding.{packed_numbers}
 use Rattle.mvt_numbers.specs.Laws.{read_numbers}
-use Rattle.mvt_numbers.proofs.Decisions.{all_joined, packed-spellings}
+use Rattle.mvt_numbers.proofs.Decisions.{packed-spellings}
 use Rattle.mvt_numbers.proofs.Redone.{packed-read}
 use Rattle.mvt_numbers.proofs.Reread.{appended_is_read, both_found, both_some, field_read, fields_read, found_in, read_is}
 use Rattle.mvt_view.specs.Views.{content_in}

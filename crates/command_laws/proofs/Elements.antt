@@ -3,7 +3,7 @@ use Rattle.std.proofs.Common.{◌≡◌, ℕ, zero, suc, ◌+◌, ◌-◌, ◌�
 use Rattle.std.specs.List.{AllByRecursion, flat_map, list_any}
 use Rattle.std.specs.Option.{option_map_or}
 use Rattle.std.proofs.lemmas.Bool.{cases_Bool, cond_both, ne_eqb}
-use Rattle.mvt_numbers.proofs.Decisions.{all_joined}
+use Rattle.mvt_document.proofs.EachItem.{all_joined}
 use Rattle.mvt_meaning.specs.Compaction.{staying}
 use Rattle.mvt_meaning.specs.Ordinals.{from_nth, change_first, change_nth, change_last, put_last, put_once, count, without, before, behind, move_nth, insert_nth}
 use Rattle.mvt_meaning.proofs.Elements.{all_filtered}

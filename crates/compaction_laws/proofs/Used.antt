@@ -6,6 +6,7 @@ use Rattle.std.proofs.lemmas.List.Folds.{list_any-append}
 use Rattle.std.specs.List.{AllByRecursion, flat_map, list_any}
 use Rattle.std.specs.Option.{unwrap_or}
 use Rattle.mvt_document.specs.Plain.{Feature, LayerItem, Layer}
+use Rattle.mvt_document.proofs.EachItem.{all_by}
 use Rattle.mvt_view.specs.Views.{contents, features_in, key_field, plain_fields, value_field}
 use Rattle.mvt_meaning.specs.Compaction.{all_pairs, is_key_used, is_value_used, new_ordinal}
 use Rattle.mvt_meaning.specs.Tagging.{pairs_among}
@@ -16,10 +17,6 @@ use Rattle.compaction_laws.specs.Laws.{is_used, key_of, value_of}
 use Rattle.compaction_laws.proofs.Repointed.{AllStay, Stay, features_new, keys_new, new_fields, new_items, pairs_new, repoint, values_new}
 
 -- ---- lists
-
-pub all_so : {A : Type 0} (P Q : A → Type 0) → ((x : A) → P x → Q x) → (xs : List A) → AllByRecursion P xs → AllByRecursion Q xs
-all_so P Q so [] all = tt
-all_so P Q so (x ∷ xs) all = (so x all.0, all_so P Q so xs all.1)
 
 -- ---- pairs that name an ordinal
 
@@ -32,7 +29,7 @@ module _ (part : ℕ × ℕ → ℕ) where
   names_own [] = tt
   names_own (first ∷ pairs) = (
     or_left (part first == part first) (names part pairs (part first)) (eq-eqb (part first) (part first) refl),
-    all_so (λ (pair : ℕ × ℕ). names part pairs (part pair) ≡ true) (λ (pair : ℕ × ℕ). names part (first ∷ pairs) (part pair) ≡ true)
+    all_by (λ (pair : ℕ × ℕ). names part pairs (part pair) ≡ true) (λ (pair : ℕ × ℕ). names part (first ∷ pairs) (part pair) ≡ true)
         (λ pair is. or_right (part first == part pair) (names part pairs (part pair)) is) pairs (names_own pairs),
   )
 
@@ -69,7 +66,7 @@ pairs_by items feature = unwrap_or (pairs_among items feature.fields) []
 -- what a layer uses stays, of the pairs of each of its features
 pub used_stay : (part : ℕ × ℕ → ℕ) (items : List LayerItem) (index : ℕ) (feature : Feature) (pairs : List (ℕ × ℕ)) → slice_get (features_in items) index ≡ Some feature → pairs_among items feature.fields ≡ Some pairs → AllStay part (names part (all_pairs items)) pairs
 used_stay part items index feature pairs there is =
-    all_so (λ (pair : ℕ × ℕ). names part pairs (part pair) ≡ true) (λ (pair : ℕ × ℕ). names part (all_pairs items) (part pair) ≡ true)
+    all_by (λ (pair : ℕ × ℕ). names part pairs (part pair) ≡ true) (λ (pair : ℕ × ℕ). names part (all_pairs items) (part pair) ≡ true)
     (λ pair own. names_joined part (pairs_by items) (features_in items) index feature (part pair) there (ap (λ found. names part (unwrap_or found []) (part pair)) is ∙ own))
     pairs (names_own part pairs)
 

@@ -10,9 +10,9 @@ use Rattle.mvt_document.specs.Groups.{IsNumber}
 use Rattle.mvt_document.specs.Opens.{IsDocument, IsFeature, IsField, IsLayer, IsLayerItem}
 use Rattle.mvt_document.specs.Plain.{Number, Body, Spelled, Eight, Four, Delimited, Group, Field, Feature, LayerItem, OfFeature, PlainInLayer, Layer, OfLayer, PlainInTile, Document}
 use Rattle.mvt_document.specs.Wire.{bytes_of, field_bytes, layer_item_bytes, spelling, tile_item_bytes}
+use Rattle.mvt_document.proofs.EachItem.{all_by}
 use Rattle.mvt_document.proofs.Sizes.{length-message}
 use Rattle.mvt_document.proofs.Spelling.{length-spell, spelling_some}
-use Rattle.mvt_document.proofs.Wholes.{all_by}
 use Rattle.mvt_geometry.specs.Integers.{integers}
 use Rattle.mvt_geometry.specs.Laws.{IsWithin}
 use Rattle.mvt_geometry.specs.declared.shapes.Point.{Point}

@@ -1,12 +1,13 @@
 -- Fields of whose numbers none goes: what stands before their contents, how many numbers each has, and what is left where
 -- all numbers stay, or get their own values again.
-use Rattle.std.proofs.Common.{◌≡◌, ℕ, zero, suc, ◌^◌, ◌<◌, ◌≤◌, true, is_some, Option, Some, None, List, [], ◌∷◌, ◌++◌, length, map, take, drop, refl, sym, ap, ◌∙◌, arith}
+use Rattle.std.proofs.Common.{◌≡◌, ℕ, suc, ◌^◌, ◌<◌, ◌≤◌, true, is_some, Option, Some, None, List, [], ◌∷◌, ◌++◌, length, map, take, drop, refl, sym, ap, ◌∙◌, arith}
 use Rattle.std.specs.Prelude.{IfSome}
 use Rattle.std.proofs.Math.Seq.{drop-append_seam, take-append_seam}
 use Rattle.std.proofs.lemmas.List.{append-nil, map-append}
 use Rattle.std.specs.List.{AllByRecursion, flat_map}
 use Rattle.std.specs.Option.{unwrap_or}
 use Rattle.mvt_document.specs.Plain.{Number, Body, Spelled, Eight, Four, Delimited, Group, Field}
+use Rattle.mvt_document.proofs.EachItem.{all_dropped}
 use Rattle.mvt_numbers.specs.Laws.{AreShort, keeping, read_numbers}
 use Rattle.mvt_numbers.specs.Renumbering.{field_numbers, renumber, renumbered, renumbered_field, with_left, with_numbers}
 use Rattle.mvt_numbers.proofs.Decisions.{renumbered-none, renumbered_more, with_number-same}
@@ -18,11 +19,6 @@ use Rattle.geometry_laws.specs.Laws.{front, stored_width}
 
 abbrev pub AllSome : List (Option ℕ) → Type 0
 AllSome decisions = AllByRecursion (λ decision. is_some decision ≡ true) decisions
-
-all_dropped : {A : Type 0} (P : A → Type 0) (n : ℕ) (xs : List A) → AllByRecursion P xs → AllByRecursion P (drop n xs)
-all_dropped P zero xs all = all
-all_dropped P (suc n) [] all = tt
-all_dropped P (suc n) (x ∷ xs) all = all_dropped P n xs all.1
 
 some_dropped : (n : ℕ) (decisions : List (Option ℕ)) → AllSome decisions → AllSome (drop n decisions)
 some_dropped n decisions all = all_dropped (λ decision. is_some decision ≡ true) n decisions all

@@ -12,7 +12,7 @@ use Rattle.mvt_meaning.specs.Meaning.{after, applied}
 use Rattle.mvt_meaning.specs.declared.refusal.Refusal.{Refusal}
 use Rattle.command_laws.proofs.Documents.{command_makes_document}
 use Rattle.command_laws.proofs.Lengths.{command_fits}
-use Rattle.mvt_change.proofs.Splicing.{all_append, all_take}
+use Rattle.mvt_document.proofs.EachItem.{all_joined, all_taken}
 use Rattle.mvt_history.specs.Marks.{bound, point_of, unbound}
 use Rattle.mvt_history.specs.History.{History, after_all, after_steps, present_document, standing_document, commands_in, at_point, with_marks, with_group, with_step, with_command, edited_to, edited, unless_open, undone, redone, marked, unmarked, gone_to, gone_back, opened, ended, closed, cancelled}
 use Rattle.mvt_command.specs.Requests.{HistoryRequest, Edit, Undo, Redo, SetMark, TakeMark, GoBack, Begin, End, Cancel}
@@ -36,11 +36,11 @@ module _ (P : Document → Type 0) (keeps : (command : Command) (document : Docu
 
   throughout : (history : History) → HasCommands history → P history.start → HoldsThroughout P history
   throughout history valid holds =
-      let at : (point : ℕ) → P (after_steps (take point history.steps) history.start) = λ point. through_steps (take point history.steps) history.start (all_take (AllByRecursion IsCommand) point history.steps valid.steps) holds in
+      let at : (point : ℕ) → P (after_steps (take point history.steps) history.start) = λ point. through_steps (take point history.steps) history.start (all_taken (AllByRecursion IsCommand) point history.steps valid.steps) holds in
       let commands = commands_in history.group in
       record {
         points = at;
-        within = λ count. after_commands (take count commands) (present_document history) (all_take IsCommand count commands valid.group) (at history.present);
+        within = λ count. after_commands (take count commands) (present_document history) (all_taken IsCommand count commands valid.group) (at history.present);
         standing = after_commands commands (present_document history) valid.group (at history.present);
       }
 
@@ -76,7 +76,7 @@ history_fits history valid commands within =
 
 with_step_valid : (step : List Command) (history : History) → AllByRecursion IsCommand step → HasCommands history → HasCommands (with_step step history)
 with_step_valid step history new valid =
-    record { steps = all_append (AllByRecursion IsCommand) (take history.present history.steps) (step ∷ []) (all_take (AllByRecursion IsCommand) history.present history.steps valid.steps) (new, tt); group = tt }
+    record { steps = all_joined (AllByRecursion IsCommand) (take history.present history.steps) (step ∷ []) (all_taken (AllByRecursion IsCommand) history.present history.steps valid.steps) (new, tt); group = tt }
 
 with_group_valid : (group : Option (List Command)) (history : History) → AllByRecursion IsCommand (commands_in group) → HasCommands history → HasCommands (with_group group history)
 with_group_valid group history new valid = record { steps = valid.steps; group = new }
@@ -86,7 +86,7 @@ at_point_valid point history valid = record { steps = valid.steps; group = valid
 
 with_command_valid : (command : Command) (group : Option (List Command)) (history : History) → IsCommand command → AllByRecursion IsCommand (commands_in group) → HasCommands history → HasCommands (with_command command group history)
 with_command_valid command None history new pending valid = with_step_valid (command ∷ []) history (new, tt) valid
-with_command_valid command (Some commands) history new pending valid = with_group_valid (Some (commands ++ command ∷ [])) history (all_append IsCommand commands (command ∷ []) pending (new, tt)) valid
+with_command_valid command (Some commands) history new pending valid = with_group_valid (Some (commands ++ command ∷ [])) history (all_joined IsCommand commands (command ∷ []) pending (new, tt)) valid
 
 edited_valid : (command : Command) (history : History) (made : Result Document Refusal) → IsCommand command → HasCommands history → IfOk (edited_to command history made) HasCommands
 edited_valid command history (Ok document) new valid = with_command_valid command history.group history new valid.group valid

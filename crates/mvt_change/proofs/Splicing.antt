@@ -1,9 +1,10 @@
 -- A list with a part replaced or an item moved: what leads back, its length, and its items.
-use Rattle.std.proofs.Common.{◌≡◌, ℕ, zero, suc, ◌+◌, ◌<◌, ◌≤◌, List, [], ◌∷◌, ◌++◌, length, length-append, length-drop, take, drop, take-append-drop, append_assoc, refl, sym, ap, ◌∙◌, arith}
+use Rattle.std.proofs.Common.{◌≡◌, ℕ, ◌+◌, ◌<◌, ◌≤◌, List, [], ◌++◌, length, length-append, length-drop, take, drop, take-append-drop, append_assoc, refl, sym, ap, ◌∙◌, arith}
 use Rattle.std.proofs.lemmas.List.{length-take-le, take_at, drop_at, drop-drop}
 use Rattle.std.specs.List.{AllByRecursion}
 use Rattle.mvt_document.specs.Splicing.{part, splice, moved}
 use Rattle.mvt_document.specs.Lists.{CanSplice, CanMove}
+use Rattle.mvt_document.proofs.EachItem.{all_dropped, all_joined, all_taken}
 
 pub length-part : {A : Type 0} (index count : ℕ) (items : List A) → index + count ≤ length items → length (part index count items) ≡ count
 length-part index count items within = length-take-le count (drop index items) (omega (arith, length-drop index items))
@@ -79,26 +80,12 @@ moved-back from to items can =
 
 -- ---- what holds of each item
 
-pub all_take : {A : Type 0} (P : A → Type 0) (n : ℕ) (items : List A) → AllByRecursion P items → AllByRecursion P (take n items)
-all_take P zero items all = tt
-all_take P (suc n) [] all = tt
-all_take P (suc n) (x ∷ items) all = (all.0, all_take P n items all.1)
-
-pub all_drop : {A : Type 0} (P : A → Type 0) (n : ℕ) (items : List A) → AllByRecursion P items → AllByRecursion P (drop n items)
-all_drop P zero items all = all
-all_drop P (suc n) [] all = tt
-all_drop P (suc n) (x ∷ items) all = all_drop P n items all.1
-
-pub all_append : {A : Type 0} (P : A → Type 0) (xs ys : List A) → AllByRecursion P xs → AllByRecursion P ys → AllByRecursion P (xs ++ ys)
-all_append P [] ys first second = second
-all_append P (x ∷ xs) ys first second = (first.0, all_append P xs ys first.1 second)
-
 pub all_part : {A : Type 0} (P : A → Type 0) (index count : ℕ) (items : List A) → AllByRecursion P items → AllByRecursion P (part index count items)
-all_part P index count items all = all_take P count (drop index items) (all_drop P index items all)
+all_part P index count items all = all_taken P count (drop index items) (all_dropped P index items all)
 
 pub all_splice : {A : Type 0} (P : A → Type 0) (index taken : ℕ) (put items : List A) → AllByRecursion P put → AllByRecursion P items → AllByRecursion P (splice index taken put items)
 all_splice P index taken put items new all =
-    all_append P (take index items ++ put) (drop (index + taken) items) (all_append P (take index items) put (all_take P index items all) new) (all_drop P (index + taken) items all)
+    all_joined P (take index items ++ put) (drop (index + taken) items) (all_joined P (take index items) put (all_taken P index items all) new) (all_dropped P (index + taken) items all)
 
 pub all_moved : {A : Type 0} (P : A → Type 0) (from to : ℕ) (items : List A) → AllByRecursion P items → AllByRecursion P (moved from to items)
 all_moved P from to items all =

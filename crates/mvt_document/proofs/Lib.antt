@@ -1,4 +1,5 @@
 pub mod Options
+pub mod EachItem
 pub mod Beside
 pub mod Running
 pub mod Prefixes

@@ -7,7 +7,8 @@ use Rattle.mvt_document.specs.Groups.{StoresField}
 use Rattle.mvt_document.specs.Opens.{IsField, IsSettled}
 use Rattle.mvt_document.specs.Parts.{feature_field, layer_item_field, layer_field, tile_item_field, IsWholeField, IsWholeLayerItem, IsWholeTileItem}
 use Rattle.mvt_document.proofs.Prefixes.{one_list}
-use Rattle.mvt_document.proofs.Wholes.{all_with, layer_items_whole, tile_items_whole, layer_items_are_fields, tile_items_are_fields, layer_items-bytes_as_fields, tile_items-bytes_as_fields}
+use Rattle.mvt_document.proofs.EachItem.{all_with}
+use Rattle.mvt_document.proofs.Wholes.{layer_items_whole, tile_items_whole, layer_items_are_fields, tile_items_are_fields, layer_items-bytes_as_fields, tile_items-bytes_as_fields}
 
 -- lists are equal where their images are, each item being known by its image
 pub same_by : {S T : Type 0} (f : S → T) (P : S → Type 0) → ((x y : S) → P x → P y → f x ≡ f y → x ≡ y) → (xs ys : List S) → AllByRecursion P xs → AllByRecursion P ys → map f xs ≡ map f ys → xs ≡ ys

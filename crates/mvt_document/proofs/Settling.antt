@@ -11,7 +11,8 @@ use Rattle.mvt_document.specs.Groups.{wire_type, IsBodyWith, IsGroup, StoresBody
 use Rattle.mvt_document.specs.Opens.{IsField, IsLayerItem, IsTileItem, IsDocument, StoresLayerItem, StoresTileItem, IsSettled, OpensAs}
 use Rattle.mvt_document.specs.Settle.{written_width, settle_body, settle_field, settle_layer_item, settle_tile_item, settle, IsShort, IsShortBody, IsShortField, IsShortLayerItem, IsShortTileItem, HasShortLengths}
 use Rattle.mvt_document.proofs.Spelling.{minimal_width_short}
-use Rattle.mvt_document.proofs.Wholes.{all_by, all_of_map, all_with, same_bytes}
+use Rattle.mvt_document.proofs.EachItem.{all_by, all_of_map, all_with}
+use Rattle.mvt_document.proofs.Wholes.{same_bytes}
 use Rattle.mvt_document.proofs.SameBytes.{one_document_by_bytes}
 
 -- ---- the written width

@@ -7,6 +7,7 @@ use Rattle.mvt_document.specs.Wire.{field_bytes, layer_item_bytes, tile_item_byt
 use Rattle.mvt_document.specs.Groups.{StoresField}
 use Rattle.mvt_document.specs.Opens.{IsField, IsLayerItem, IsTileItem, StoresLayerItem, StoresTileItem}
 use Rattle.mvt_document.specs.Parts.{feature_field, layer_item_field, layer_field, tile_item_field, IsWholeField, IsWholeLayerItem, IsWholeTileItem, MakesLayerItem, MakesTileItem}
+use Rattle.mvt_document.proofs.EachItem.{all_by, all_of_map, all_with}
 use Rattle.mvt_document.proofs.Prefixes.{field_with}
 
 pub same_bytes : {T : Type 0} (f g : T → List ℕ) → ((x : T) → f x ≡ g x) → (xs : List T) → flat_map f xs ≡ flat_map g xs
@@ -64,18 +65,6 @@ tile_item_is_field (OfLayer l) p =
 tile_item_is_field (PlainInTile f) p = record { valid = p.valid.0; stored = p.stored }
 
 -- ---- each of a list
-
-pub all_by : {T : Type 0} (P Q : T → Type 0) → ((x : T) → P x → Q x) → (xs : List T) → AllByRecursion P xs → AllByRecursion Q xs
-all_by P Q h [] p = p
-all_by P Q h (x ∷ xs) p = (h x p.0, all_by P Q h xs p.1)
-
-pub all_of_map : {S T : Type 0} (f : S → T) (P : T → Type 0) (xs : List S) → AllByRecursion (λ x. P (f x)) xs → AllByRecursion P (map f xs)
-all_of_map f P [] p = p
-all_of_map f P (x ∷ xs) p = (p.0, all_of_map f P xs p.1)
-
-pub all_with : {T : Type 0} (P Q R : T → Type 0) → ((x : T) → P x → Q x → R x) → (xs : List T) → AllByRecursion P xs → AllByRecursion Q xs → AllByRecursion R xs
-all_with P Q R h [] p q = p
-all_with P Q R h (x ∷ xs) p q = (h x p.0 q.0, all_with P Q R h xs p.1 q.1)
 
 pub layer_items_whole : (items : List LayerItem) → AllByRecursion IsLayerItem items → AllByRecursion StoresLayerItem items → AllByRecursion IsWholeLayerItem items
 layer_items_whole items p q = all_with IsLayerItem StoresLayerItem IsWholeLayerItem (λ i v s. record { valid = v; stored = s }) items p q

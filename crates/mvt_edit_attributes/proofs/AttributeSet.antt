@@ -14,7 +14,7 @@ use Rattle.mvt_document.specs.Plain.{Feature, Field, Layer, LayerItem, OfFeature
 use Rattle.mvt_document.specs.Splicing.{part}
 use Rattle.mvt_document.specs.Wire.{bytes_of, field_bytes, layer_item_bytes, minimal_width}
 use Rattle.mvt_document.proofs.Spelling.{minimal_spelling}
-use Rattle.mvt_numbers.proofs.Decisions.{all_joined}
+use Rattle.mvt_document.proofs.EachItem.{all_joined}
 use Rattle.mvt_value.specs.Messages.{encoded_value}
 use Rattle.mvt_value.specs.Values.{Value}
 use Rattle.mvt_change.specs.Changes.{Change}

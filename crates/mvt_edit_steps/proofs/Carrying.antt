@@ -10,6 +10,7 @@ use Rattle.mvt_document.specs.Opens.{IsField, IsLayerItem, IsTileItem}
 use Rattle.mvt_document.specs.Splicing.{part, splice}
 use Rattle.mvt_document.specs.Lists.{CanSplice}
 use Rattle.mvt_document.specs.Places.{items_at, fields_at, change_items, change_fields}
+use Rattle.mvt_document.proofs.EachItem.{all_apart}
 use Rattle.mvt_change.specs.Changes.{OfTheLayer, OfTheFeature, Step, TileStep, LayerStep, FeatureStep, Change, go_step, go, FitsStep, Fits, turn_step, turn, taken_out, step_weight, weight}
 use Rattle.mvt_change.proofs.Lenses.{list_part}
 use Rattle.mvt_edit_steps.specs.Fates.{Splice}
@@ -71,14 +72,6 @@ pub record Carried {Y : Type 0} (change : (List Y → List Y) → Document → D
   pub puts : weight steps ≡ length (flat_map bytes (put_all splices))
   pub takes : weight (turn steps document) ≡ length (flat_map bytes (taken_all splices items))
 
-left_valid : {A : Type 0} (P : A → Type 0) (xs ys : List A) → AllByRecursion P (xs ++ ys) → AllByRecursion P xs
-left_valid P [] ys all = tt
-left_valid P (x ∷ xs) ys all = (all.0, left_valid P xs ys all.1)
-
-right_valid : {A : Type 0} (P : A → Type 0) (xs ys : List A) → AllByRecursion P (xs ++ ys) → AllByRecursion P ys
-right_valid P [] ys all = all
-right_valid P (x ∷ xs) ys all = right_valid P xs ys all.1
-
 weighs_both : {A : Type 0} (bytes : A → List ℕ) (xs ys : List A) → length (flat_map bytes (xs ++ ys)) ≡ length (flat_map bytes xs) + length (flat_map bytes ys)
 weighs_both bytes xs ys = ap length (flat_map-append bytes xs ys) ∙ length-append (flat_map bytes xs) (flat_map bytes ys)
 
@@ -96,9 +89,9 @@ module _ {Y : Type 0} {step_with : Splice Y → Step} {valid : Y → Type 0} {fi
   fit_all : (splices : List (Splice Y)) (document : Document) (items : List Y) → find document ≡ Some items → AreThere splices items → AllByRecursion valid (put_all splices) → Fits (map step_with splices) document
   fit_all [] document items there has all = tt
   fit_all (s ∷ splices) document items there has all =
-      let can : CanSplice valid s.index s.taken s.put items = record { within = has.0; valid_put = left_valid valid s.put (put_all splices) all } in (
+      let can : CanSplice valid s.index s.taken s.put items = record { within = has.0; valid_put = (all_apart valid s.put (put_all splices) all).0 } in (
         sits.fits s document (subst (λ o. IsSomeAnd o (CanSplice valid s.index s.taken s.put)) (sym there) can),
-        fit_all splices (go_step (step_with s) document) (splice s.index s.taken s.put items) (then_there s document items there) has.1 (right_valid valid s.put (put_all splices) all),
+        fit_all splices (go_step (step_with s) document) (splice s.index s.taken s.put items) (then_there s document items there) has.1 (all_apart valid s.put (put_all splices) all).1,
       )
 
   put_weigh : (splices : List (Splice Y)) → weight (map step_with splices) ≡ length (flat_map bytes (put_all splices))

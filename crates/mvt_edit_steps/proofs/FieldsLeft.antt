@@ -1,5 +1,5 @@
 -- The fields of a message whose numbers are decided on, those in the fields of one number: what their splices come to.
-use Rattle.std.proofs.Common.{◌≡◌, ℕ, zero, suc, ◌*◌, ◌<◌, ◌≤◌, ◌^◌, ◌/◌, ◌==◌, true, false, ◌||◌, not, cond, List, [], ◌∷◌, ◌++◌, Option, Some, None, length, length-append, take, drop, map, filter, append-nil, refl, sym, ap, ◌∙◌, subst, inl, inr, arith}
+use Rattle.std.proofs.Common.{◌≡◌, ℕ, ◌*◌, ◌<◌, ◌≤◌, ◌^◌, ◌/◌, ◌==◌, true, false, ◌||◌, not, cond, List, [], ◌∷◌, ◌++◌, Option, Some, None, length, length-append, take, drop, map, filter, append-nil, refl, sym, ap, ◌∙◌, subst, inl, inr, arith}
 use Rattle.std.proofs.lemmas.Bool.{cases_Bool, eqb-true, not-false, or_parts}
 use Rattle.std.specs.Prelude.{IfSome}
 use Rattle.std.specs.List.{AllByRecursion, cons_option, flat_map, list_any, zip}
@@ -14,6 +14,7 @@ use Rattle.mvt_document.specs.declared.Body.{Body}
 use Rattle.mvt_document.specs.declared.Body.TheVariants as body
 use Rattle.mvt_document.specs.declared.Varint.{Varint}
 use Rattle.mvt_document.specs.declared.document.Field.{Field}
+use Rattle.mvt_document.proofs.EachItem.{all_dropped, all_taken}
 use Rattle.mvt_numbers.specs.Fates.{changes, fate_left, field_fate, left_of_fate}
 use Rattle.mvt_numbers.specs.declared.fate.Fate.{Fate}
 use Rattle.mvt_numbers.specs.declared.fate.Fate.TheVariants.{Stays}
@@ -115,16 +116,6 @@ good tag (body.Bytes width bytes) typed wide packs = record {
   valid = record { number = tag.spelled; tag = typed; body = wide };
   long = tag_and_content tag.value tag.width width bytes.items tag.spelled;
 }
-
-all_taken : {A : Type 0} (P : A → Type 0) (n : ℕ) (xs : List A) → AllByRecursion P xs → AllByRecursion P (take n xs)
-all_taken P zero xs all = tt
-all_taken P (suc n) [] all = tt
-all_taken P (suc n) (x ∷ xs) all = (all.0, all_taken P n xs all.1)
-
-all_behind : {A : Type 0} (P : A → Type 0) (n : ℕ) (xs : List A) → AllByRecursion P xs → AllByRecursion P (drop n xs)
-all_behind P zero xs all = all
-all_behind P (suc n) [] all = tt
-all_behind P (suc n) (x ∷ xs) all = all_behind P n xs all.1
 
 both_valid : (first rest : List plain.Field) → AllByRecursion IsField first → AllByRecursion IsField rest → AllByRecursion IsField (first ++ rest)
 both_valid [] rest all others = others
@@ -238,7 +229,7 @@ module _ (number : ℕ) where
       let n = length (field_numbers number here) in
       let first = take n decisions in
       let left = renumbered_field number first here in
-      let rest = put_valid (drop n decisions) fields (all_behind (λ decision. IfSome decision (λ value. value < 2 ^ 64)) n decisions small) in
+      let rest = put_valid (drop n decisions) fields (all_dropped (λ decision. IfSome decision (λ value. value < 2 ^ 64)) n decisions small) in
       let firsts = all_taken (λ decision. IfSome decision (λ value. value < 2 ^ 64)) n decisions small in
       elim (cases_Bool (some_changed first (field_numbers number here))) [
         | inl some ↦ (let valid = left_valid here first firsts (changed_good field first some).valid in rw some (both_valid (new_in (fate_left left)) _ (subst (AllByRecursion IsField) (sym (new_fate left (short first here))) valid) rest))

@@ -6,6 +6,5 @@ pub mod Packs
 pub mod Only
 pub mod Small
 pub mod Reach
-pub mod Mapped
 pub mod Checks
 pub mod Found

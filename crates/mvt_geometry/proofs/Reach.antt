@@ -1,8 +1,9 @@
 -- How far from the origin ways in range lead: with each point at most 2^31 further.
-use Rattle.std.proofs.Common.{ℕ, ◌+◌, ◌*◌, ◌^◌, ◌≤◌, ℤ, pos, negsuc, ◌-ℤ◌, List, [], ◌∷◌, ◌++◌, length, length-append, arith}
+use Rattle.std.proofs.Common.{ℕ, ◌+◌, ◌*◌, ◌^◌, ◌≤◌, ℤ, pos, negsuc, ◌-ℤ◌, List, [], ◌∷◌, length, length-append, arith}
 use Rattle.std.specs.Prelude.{unsigned_abs}
 use Rattle.std.proofs.lemmas.Int.{ints}
 use Rattle.std.specs.List.{AllByRecursion}
+use Rattle.mvt_document.proofs.EachItem.{all_apart}
 use Rattle.mvt_geometry.specs.Shapes.{Point, Kind, Dots, Lines, Areas}
 use Rattle.mvt_geometry.specs.Integers.{ways, parameters, last_from, path, paths, closing_of, all_points, origin, integers_of, IsWay}
 use Rattle.mvt_geometry.specs.Laws.{IntegersReach, IsWithin}
@@ -26,10 +27,6 @@ reaches most far from (to ∷ points) within short bound =
       y = omega (arith, abs_step from.y to.y, within.y, short.1.0);
     } in
     (record { x = omega (arith, next.x); y = omega (arith, next.y) }, reaches most (far + 2 ^ 31) to points next short.1.1 (omega (arith, bound)))
-
-all_apart : (P : Point → Type 0) (xs ys : List Point) → AllByRecursion P (xs ++ ys) → AllByRecursion P xs × AllByRecursion P ys
-all_apart P [] ys all = (tt, all)
-all_apart P (x ∷ xs) ys all = let parts = all_apart P xs ys all.1 in ((all.0, parts.0), parts.1)
 
 in_parts : (P : Point → Type 0) (parts : List (List Point)) → AllByRecursion P (all_points parts) → AllByRecursion (AllByRecursion P) parts
 in_parts P [] all = tt

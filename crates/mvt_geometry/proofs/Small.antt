@@ -1,9 +1,10 @@
 -- The integers of a geometry in range are numbers of 32 bits, and its bytes are their spellings.
-use Rattle.std.proofs.Common.{ℕ, ◌+◌, ◌*◌, ◌^◌, ◌<◌, ℤ, pos, negsuc, List, [], ◌∷◌, ◌++◌, length, map, sym, subst, arith}
+use Rattle.std.proofs.Common.{ℕ, ◌+◌, ◌*◌, ◌^◌, ◌<◌, ℤ, pos, negsuc, List, [], ◌∷◌, length, map, sym, subst, arith}
 use Rattle.std.specs.List.{AllByRecursion}
 use Rattle.std.proofs.lemmas.List.Folds.{flat_map-map}
 use Rattle.mvt_document.specs.Wire.{spelling, minimal}
 use Rattle.mvt_document.specs.Groups.{IsNumber}
+use Rattle.mvt_document.proofs.EachItem.{all_joined}
 use Rattle.mvt_document.proofs.Spelling.{minimal_spelling}
 use Rattle.mvt_document.specs.Signed.{zigzag}
 use Rattle.mvt_geometry.specs.Shapes.{Point, Kind, Dots, Lines, Areas, Geometry, IsGeometry}
@@ -14,10 +15,6 @@ use Rattle.mvt_geometry.proofs.Packs.{integers-from, parts_in_range}
 
 abbrev pub IsSmall : ℕ → Type 0
 IsSmall integer = integer < 2 ^ 32
-
-all_append : (P : ℕ → Type 0) (xs ys : List ℕ) → AllByRecursion P xs → AllByRecursion P ys → AllByRecursion P (xs ++ ys)
-all_append P [] ys p q = q
-all_append P (x ∷ xs) ys p q = (p.0, all_append P xs ys p.1 q)
 
 pub small_way : (way : ℤ) → IsWay way → IsSmall (zigzag way)
 small_way (pos n) h = omega arith
@@ -32,7 +29,7 @@ small_path closing from [] small r = tt
 small_path closing from (first ∷ points) small r =
     let few = r.repeated in
     let count : IsSmall (2 + 8 * length points) = omega arith in
-    (omega arith, (small_way _ r.short.0, (small_way _ r.short.1.0, (count, all_append IsSmall (parameters first points) closing (small_parameters first points r.short.1.1) small))))
+    (omega arith, (small_way _ r.short.0, (small_way _ r.short.1.0, (count, all_joined IsSmall (parameters first points) closing (small_parameters first points r.short.1.1) small))))
 
 small_part : (kind : Kind) (from : Point) (points : List Point) → IsPartInRange kind from points → AllByRecursion IsSmall (integers_of_part kind from points)
 small_part Dots from points r = let few = r.repeated in (omega arith, small_parameters from points r.short)
@@ -42,7 +39,7 @@ small_part Areas from points r = small_path (15 ∷ []) from points (omega arith
 small_integers : (kind : Kind) (from : Point) (parts : List (List Point)) → AreInRange kind from parts → AllByRecursion IsSmall (integers_from kind from parts)
 small_integers kind from [] h = tt
 small_integers kind from (part ∷ parts) h =
-    all_append IsSmall (integers_of_part kind from part) (integers_from kind (last_from from part) parts) (small_part kind from part h.0) (small_integers kind (last_from from part) parts h.1)
+    all_joined IsSmall (integers_of_part kind from part) (integers_from kind (last_from from part) parts) (small_part kind from part h.0) (small_integers kind (last_from from part) parts h.1)
 
 all_numbers : (values : List ℕ) → AllByRecursion IsSmall values → AllByRecursion IsNumber (map minimal values)
 all_numbers [] h = tt

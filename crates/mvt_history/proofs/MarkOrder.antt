@@ -8,7 +8,7 @@ use Rattle.std.specs.declared.cmp.Ordering.TheVariants.{Less, Equal, Greater}
 use Rattle.std.proofs.lemmas.Bool.{cases_Bool}
 use Rattle.std.proofs.lemmas.Bool.Decides.{nat_tests}
 use Rattle.std.proofs.lemmas.Cmp.{nat_list_cmp_total}
-use Rattle.mvt_change.proofs.Splicing.{all_append}
+use Rattle.mvt_document.proofs.EachItem.{all_joined}
 use Rattle.mvt_meaning.proofs.Elements.{all_filtered}
 use Rattle.mvt_history.specs.Marks.{Mark, compared, has_name, is_before, is_behind, InOrder, point_of, bound, unbound}
 use Rattle.mvt_history.specs.declared.TheConstants.{MAX_MARKS}
@@ -23,7 +23,7 @@ all_passed P test says (x ∷ xs) =
 
 pub all_bound : (P : Mark → Type 0) (name : List ℕ) (point : ℕ) (marks : List Mark) → P (record { name = name; point = point }) → AllByRecursion P marks → AllByRecursion P (bound name point marks)
 all_bound P name point marks new all =
-    all_append P (filter (is_before name) marks) (record { name = name; point = point } ∷ filter (is_behind name) marks) (all_filtered P (is_before name) marks all) (new, all_filtered P (is_behind name) marks all)
+    all_joined P (filter (is_before name) marks) (record { name = name; point = point } ∷ filter (is_behind name) marks) (all_filtered P (is_before name) marks all) (new, all_filtered P (is_behind name) marks all)
 
 -- ---- in order
 

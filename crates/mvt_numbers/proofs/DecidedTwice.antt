@@ -6,10 +6,11 @@ use Rattle.std.specs.Prelude.{IfSome}
 use Rattle.std.specs.Option.{unwrap_or}
 use Rattle.mvt_document.specs.Plain.{Number, Body, Spelled, Eight, Four, Delimited, Group, Field}
 use Rattle.mvt_document.specs.Wire.{minimal}
+use Rattle.mvt_document.proofs.EachItem.{all_dropped}
 use Rattle.mvt_numbers.specs.Laws.{AreShort, read_numbers}
 use Rattle.mvt_numbers.specs.Renumbering.{field_numbers, renumber, renumbered, renumbered_field, with_left, with_number, with_numbers}
 use Rattle.mvt_numbers.proofs.Decisions.{renumbered-none, with_number-same}
-use Rattle.mvt_numbers.proofs.Redone.{all_dropped, left_is_read}
+use Rattle.mvt_numbers.proofs.Redone.{left_is_read}
 use Rattle.mvt_numbers.proofs.Reread.{both_found, both_some, field_read, fields_read, read_is, read_of_fields}
 
 -- what is decided on each number first and then makes of it what is decided at once

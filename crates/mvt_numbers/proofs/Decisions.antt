@@ -109,7 +109,3 @@ packed-spellings (number ∷ more) p =
     ∙ ap (option_map (λ (rest : List Number). number ∷ rest)) (packed-spellings more p.1)
 
 -- ---- what is left where some numbers are decided on
-
-pub all_joined : {A : Type 0} (P : A → Type 0) (xs ys : List A) → AllByRecursion P xs → AllByRecursion P ys → AllByRecursion P (xs ++ ys)
-all_joined P [] ys p q = q
-all_joined P (x ∷ xs) ys p q = (p.0, all_joined P xs ys p.1 q)

@@ -11,10 +11,11 @@ use Rattle.mvt_numbers.specs.Renumbering.{renumbered, some_changed}
 use Rattle.mvt_numbers.specs.Deciding.{packed_numbers, StaysBefore, IsLeft}
 use Rattle.mvt_document.specs.Stands.{number_of}
 use Rattle.mvt_document.specs.declared.varint.Varint.{Varint}
+use Rattle.mvt_document.proofs.EachItem.{all_joined}
 use Rattle.mvt_numbers.specs.Fates.{left_of_fate}
 use Rattle.mvt_numbers.specs.declared.fate.Fate.{Fate}
 use Rattle.mvt_numbers.specs.declared.fate.Fate.TheVariants.{Stays, Goes, Becomes}
-use Rattle.mvt_numbers.proofs.Decisions.{packed-first, all_joined}
+use Rattle.mvt_numbers.proofs.Decisions.{packed-first}
 
 -- ---- a part of bytes and the part behind it
 

@@ -1,5 +1,5 @@
 -- What is left of a packed field: how its scan and the body made of it answer for the whole field.
-use Rattle.std.proofs.Common.{◌≡◌, Bool, true, false, ◌||◌, ◌≢◌, ℕ, ◌≤◌, List, [], ◌∷◌, ◌++◌, length, take, drop, Option, Some, None, refl, sym, ap, ◌∙◌, subst, arith}
+use Rattle.std.proofs.Common.{◌≡◌, Bool, true, ◌||◌, ◌≢◌, ℕ, ◌≤◌, List, [], ◌∷◌, ◌++◌, length, take, drop, Option, Some, None, refl, sym, ap, ◌∙◌, subst, arith}
 use Rattle.std.specs.Option.{unwrap_or}
 use Rattle.std.specs.List.{flat_map, AllByRecursion}
 use Rattle.std.proofs.lemmas.List.{append-nil, append_cancel_left, drop_all, take_all, length-append}
@@ -10,13 +10,14 @@ use Rattle.mvt_document.specs.Stands.{number_of, field_of}
 use Rattle.mvt_document.specs.Groups.{IsNumber}
 use Rattle.mvt_document.specs.declared.varint.Varint.{Varint}
 use Rattle.mvt_document.specs.declared.document.Field as program
+use Rattle.mvt_document.proofs.EachItem.{all_joined}
 use Rattle.mvt_document.proofs.Spelling.{spelling_some, length-spell}
 use Rattle.mvt_numbers.specs.Renumbering.{renumbered, some_changed, with_left}
 use Rattle.mvt_numbers.specs.Fates.{IsChange, changes, left_of_fate}
 use Rattle.mvt_numbers.specs.Deciding.{packed_numbers, packed_field, with_bytes, StaysBefore, FirstDiffers, AllStayOf, IsLeft}
 use Rattle.mvt_numbers.specs.declared.fate.Fate.{Fate}
 use Rattle.mvt_numbers.specs.declared.fate.Fate.TheVariants.{Stays, Goes, Becomes}
-use Rattle.mvt_numbers.proofs.Decisions.{renumbered-none, renumbered-no_more, packed-spellings, all_joined}
+use Rattle.mvt_numbers.proofs.Decisions.{renumbered-none, renumbered-no_more, packed-spellings}
 
 -- ---- numbers that stay
 

@@ -1,5 +1,5 @@
 -- Fields whose numbers were decided on: what is read of them, how long they are, and that they stay valid.
-use Rattle.std.proofs.Common.{◌≡◌, ℕ, zero, suc, ◌+◌, ◌/◌, ◌^◌, ◌<◌, ◌≤◌, true, max, List, [], ◌∷◌, ◌++◌, length, map, drop, Option, Some, None, Result, eqb, refl, sym, ap, ◌∙◌, subst, arith}
+use Rattle.std.proofs.Common.{◌≡◌, ℕ, ◌+◌, ◌/◌, ◌^◌, ◌<◌, ◌≤◌, true, max, List, [], ◌∷◌, ◌++◌, length, map, drop, Option, Some, None, Result, eqb, refl, sym, ap, ◌∙◌, subst, arith}
 use Rattle.std.specs.Prelude.{IfSome}
 use Rattle.std.specs.Option.{unwrap_or}
 use Rattle.std.specs.List.{flat_map, cons_option, zip, AllByRecursion}
@@ -11,13 +11,14 @@ use Rattle.mvt_document.specs.Shape.{IsTag}
 use Rattle.mvt_document.specs.Wire.{spell, spelling, minimal, minimal_width, body_bytes, field_bytes, delimited}
 use Rattle.mvt_document.specs.Groups.{IsNumber, IsGroup, IsBodyWith, wire_type}
 use Rattle.mvt_document.specs.Opens.{IsField}
+use Rattle.mvt_document.proofs.EachItem.{all_dropped, all_joined}
 use Rattle.mvt_document.proofs.Spelling.{minimal_spelling, length-spell, width_within_grows}
 use Rattle.mvt_numbers.specs.Numbers.{Placed, pieces, unpacked, numbers_of, all_good}
 use Rattle.mvt_numbers.specs.Renumbering.{with_number, decided, renumbered, with_numbers, field_numbers, with_left, renumbered_field, renumber}
 use Rattle.mvt_numbers.specs.Deciding.{packed_numbers, packed_field}
 use Rattle.mvt_numbers.specs.Laws.{spellings, AreNumbers, AreShort, keeping, NoneIsGreater, NoneIsNew, LeftIsRead, KeptStays, FieldNoLonger, LowerNoLonger, NoLonger, OthersStay, StaysValid}
 use Rattle.mvt_numbers.proofs.Pieces.{found_spelled}
-use Rattle.mvt_numbers.proofs.Decisions.{plain_numbers, packed-spellings, renumbered-none, renumbered_more, renumbered-no_more, with_number-same, all_joined}
+use Rattle.mvt_numbers.proofs.Decisions.{plain_numbers, packed-spellings, renumbered-none, renumbered_more, renumbered-no_more, with_number-same}
 use Rattle.mvt_numbers.proofs.Reread.{found_in, both_found, both_some, field_read, fields_read, fields_read-append, read_is}
 
 -- ---- decisions on two lists
@@ -36,11 +37,6 @@ renumbered-append (decision ∷ decisions) (x ∷ xs) ys =
     ∙ ap (λ (list : List Number). list ++ renumbered (drop (length xs) decisions) ys) (sym (renumbered_more decision decisions x xs))
 
 -- ---- decided numbers are numbers
-
-pub all_dropped : {A : Type 0} (P : A → Type 0) (n : ℕ) (xs : List A) → AllByRecursion P xs → AllByRecursion P (drop n xs)
-all_dropped P zero xs p = p
-all_dropped P (suc n) [] p = p
-all_dropped P (suc n) (x ∷ xs) p = all_dropped P n xs p.1
 
 with_number-valid : (value : ℕ) (old : Number) → value < 2 ^ 64 → IsNumber old → IsNumber (with_number value old)
 with_number-valid value old short valid =

@@ -10,7 +10,8 @@ use Rattle.mvt_document.specs.Parts.{tile_item_field, IsWholeField, IsWholeTileI
 use Rattle.mvt_read.specs.Stops.{EndsAt, IsReadError}
 use Rattle.mvt_read.specs.declared.faults.ReadError.{ReadError}
 use Rattle.mvt_read.specs.declared.faults.ReadError.TheVariants.{BadWire, FileTooLarge, NoMemory}
-use Rattle.mvt_document.proofs.Wholes.{all_by, all_of_map, tile_items-bytes, tile_items_whole, tile_items_are_fields, tile_items_made, tile_items-bytes_as_fields}
+use Rattle.mvt_document.proofs.EachItem.{all_by, all_of_map}
+use Rattle.mvt_document.proofs.Wholes.{tile_items-bytes, tile_items_whole, tile_items_are_fields, tile_items_made, tile_items-bytes_as_fields}
 
 pub opens_from : {T : Type 0} (f : T → TileItem) (items : List T) (file : List ℕ) → length file ≤ MAX_FILE → file ≡ flat_map (λ i. field_bytes (tile_item_field (f i))) items → AllByRecursion (λ i. IsWholeTileItem (f i)) items → OpensAs file (map f items)
 opens_from f items file within e p =

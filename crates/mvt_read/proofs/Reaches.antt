@@ -8,6 +8,7 @@ use Rattle.std.proofs.Math.Seq.{take-add}
 use Rattle.mvt_document.specs.Plain.{Field}
 use Rattle.mvt_document.specs.Wire.{field_bytes}
 use Rattle.mvt_document.specs.Parts.{IsWholeField}
+use Rattle.mvt_document.proofs.EachItem.{all_joined, all_of_map}
 use Rattle.mvt_read.specs.Stops.{EndsAt}
 use Rattle.mvt_document.proofs.Prefixes.{one_field, length-field, fields_begin}
 use Rattle.mvt_read.proofs.Begins.{from}
@@ -28,14 +29,6 @@ pub record IsFieldAt (field : Field) (size : ℕ) (bytes : List ℕ) : Type 0 wh
   pub spelled : take size bytes ≡ field_bytes field
   pub whole : IsWholeField field
 
-pub all_push : {T : Type 0} (P : T → Type 0) (xs : List T) (x : T) → AllByRecursion P xs → P x → AllByRecursion P (xs ++ x ∷ [])
-all_push P [] x p q = (q, p)
-all_push P (y ∷ xs) x p q = (p.0, all_push P xs x p.1 q)
-
-pub all_map : {S T : Type 0} (f : S → T) (P : T → Type 0) (xs : List S) → AllByRecursion (λ x. P (f x)) xs → AllByRecursion P (map f xs)
-all_map f P [] p = p
-all_map f P (x ∷ xs) p = (p.0, all_map f P xs p.1)
-
 pub bytes_push : {T : Type 0} (f : T → Field) (items : List T) (x : T) → bytes_by f (items ++ x ∷ []) ≡ bytes_by f items ++ field_bytes (f x)
 bytes_push f items x =
     flat_map-append (λ i. field_bytes (f i)) items (x ∷ []) ∙ ap (λ (b : List ℕ). bytes_by f items ++ b) (append-nil (field_bytes (f x)))
@@ -50,8 +43,8 @@ reaches_more f w content place items x field size r h e p =
           ∙ ap (λ (b : List ℕ). b ++ take size (drop place content)) r.spelled
           ∙ ap (λ (b : List ℕ). bytes_by f items ++ b) (ap (take size) (sym (take_rest content place)) ∙ h.spelled ∙ ap field_bytes (sym e))
           ∙ sym (bytes_push f items x);
-      fields = all_push (λ i. IsWholeField (f i)) items x r.fields (subst IsWholeField (sym e) h.whole);
-      whole = all_push w items x r.whole p;
+      fields = all_joined (λ i. IsWholeField (f i)) items (x ∷ []) r.fields (subst IsWholeField (sym e) h.whole, tt);
+      whole = all_joined w items (x ∷ []) r.whole (p, tt);
     }
 
 -- a place further on is closer to the end
@@ -94,7 +87,7 @@ stops_at f w makes content place items r before none =
           ∙ sym (take-add place (n - place) content) ∙ ap (λ (j : ℕ). take j content) k ∙ e in
           let regrouped : flat_map field_bytes (map f items) ++ take (n - place) (drop place content) ≡ flat_map field_bytes fields =
           ap (λ (b : List ℕ). b ++ take (n - place) (drop place content)) (flat_map-map field_bytes f items) ∙ parts in
-          let more = fields_begin makes (map f items) fields (take (n - place) (drop place content)) (all_map f IsWholeField items r.fields) p m regrouped in
+          let more = fields_begin makes (map f items) fields (take (n - place) (drop place content)) (all_of_map f IsWholeField items r.fields) p m regrouped in
           let some : 0 < n - place = omega arith in
           let enough : n - place ≤ length (from place content) = omega (arith, length-take (length content - place) (drop place content), length-drop place content) in
           nothing_more makes (from place content) (n - place) more.0 none some enough more.3 more.4

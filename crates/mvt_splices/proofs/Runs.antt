@@ -1,7 +1,7 @@
 -- Splices of one list, one after the other.
 use Rattle.std.proofs.Common.{◌≡◌, ℕ, zero, suc, ◌+◌, ◌-◌, ◌<◌, ◌≤◌, max, List, [], ◌∷◌, ◌++◌, length, length-append, length-drop, take, drop, get_or, set, refl, sym, ap, ◌∙◌, subst, arith}
 use Rattle.std.specs.Prelude.{Result, Ok, Err, IsOk, IsErr, is_ok, if◌then◌else◌, Option, Some, None, IfSome}
-use Rattle.std.specs.List.{AllByRecursion, AllZip, flat_map}
+use Rattle.std.specs.List.{AllZip, flat_map}
 use Rattle.std.proofs.lemmas.List.{length-take-le, get_or-drop}
 use Rattle.mvt_document.specs.Splicing.{part, splice}
 use Rattle.mvt_document.proofs.Beside.{spliced_size}
@@ -69,10 +69,6 @@ pub same_at : {A : Type 0} (xs ys : List A) (i : ℕ) (d : A) → drop i xs ≡ 
 same_at xs ys i d same =
     let none : i + 0 ≡ i = omega arith in
     ap (λ n. get_or xs n d) (sym none) ∙ sym (get_or-drop i xs 0 d) ∙ ap (λ zs. get_or zs 0 d) same ∙ get_or-drop i ys 0 d ∙ ap (λ n. get_or ys n d) none
-
-pub all_push : {A : Type 0} (P : A → Type 0) (xs : List A) (x : A) → AllByRecursion P xs → P x → AllByRecursion P (xs ++ x ∷ [])
-all_push P [] y all new = (new, tt)
-all_push P (x ∷ xs) y all new = (all.0, all_push P xs y all.1 new)
 
 module _ {S T : Type 0} (splice_of : S → Splice T) where
   pub length_within : (steps : List S) (n : ℕ) → n ≤ longest splice_of steps n

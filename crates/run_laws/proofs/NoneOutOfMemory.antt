@@ -4,6 +4,7 @@ use Rattle.std.specs.Prelude.{if◌then◌else◌}
 use Rattle.std.specs.List.{AllByRecursion, flat_map}
 use Rattle.std.proofs.lemmas.Bool.{cases_Bool}
 use Rattle.std.proofs.lemmas.List.Elements.{recursion_from_All}
+use Rattle.mvt_document.proofs.EachItem.{all_apart}
 use Rattle.tile_request.specs.Request.{Request}
 use Rattle.tile_script.specs.Line.{answer_to}
 use Rattle.tile_lines.specs.Lines.{is_line_feed, lines_of, HasNoLineFeed, with_feed, EndsWithALine}
@@ -143,10 +144,6 @@ all_both : (front more : List (List ℕ)) → AllByRecursion IsNotOutOfMemory fr
 all_both [] more first second = second
 all_both (text ∷ front) more (is, first) second = (is, all_both front more first second)
 
-all_behind : (front more : List (List ℕ)) → AllByRecursion IsNotOutOfMemory (front ++ more) → AllByRecursion IsNotOutOfMemory more
-all_behind [] more all = all
-all_behind (text ∷ front) more (is, all) = all_behind front more all
-
 clean_both : (front more : List ℕ) → IsClean front → IsClean more → IsClean (front ++ more)
 clean_both front more first second = record {
   ends = ends-append front more first.ends second.ends;
@@ -235,7 +232,7 @@ clean_none_out_of_memory replies clean line reason front rest ends out_of_memory
     first_lines reply rest (refused_ends line reason) ∙ ap (λ (ls : List (List ℕ)). ls ++ lines_of rest) (one_line text (refused_uncut line reason)) in
     let whole : lines_of replies ≡ lines_of front ++ lines_of (reply ++ rest) = ap lines_of (e ∙ append_assoc front reply rest) ∙ first_lines front (reply ++ rest) ends in
     let all : AllByRecursion IsNotOutOfMemory (lines_of front ++ lines_of (reply ++ rest)) = subst (AllByRecursion IsNotOutOfMemory) whole clean.each in
-    let there : AllByRecursion IsNotOutOfMemory (text ∷ lines_of rest) = subst (AllByRecursion IsNotOutOfMemory) behind (all_behind (lines_of front) (lines_of (reply ++ rest)) all) in
+    let there : AllByRecursion IsNotOutOfMemory (text ∷ lines_of rest) = subst (AllByRecursion IsNotOutOfMemory) behind (all_apart IsNotOutOfMemory (lines_of front) (lines_of (reply ++ rest)) all).1 in
     head_is text (lines_of rest) there line reason out_of_memory refl
 
 pub no_run_is_out_of_memory : NoRunIsOutOfMemory

@@ -7,8 +7,9 @@ use Rattle.std.specs.List.{AllByRecursion}
 use Rattle.std.proofs.lemmas.Bool.{and_parts, cases_lt}
 use Rattle.std.proofs.lemmas.Fmt.{decimal_by_steps}
 use Rattle.std.proofs.lemmas.List.{get_or_past}
+use Rattle.mvt_document.proofs.EachItem.{all_joined}
 use Rattle.hex.specs.Hex.{encode_with, encode_lower, lower_digits}
-use Rattle.tile_text.proofs.Lists.{all_append, not_true}
+use Rattle.tile_text.proofs.Lists.{not_true}
 
 -- ---- tests of the numbers below a number, which compute
 
@@ -46,7 +47,7 @@ hex_all P digit (b ∷ bytes) = (digit (b / 16), (digit (b % 16), hex_all P digi
 
 pub decimal_all : (P : ℕ → Type 0) → ((d : ℕ) → d < 10 → P (48 + d)) → (n : ℕ) → n < 2 ^ 64 → AllByRecursion P (decimal n)
 decimal_all P digit n fits =
-    decimal_by_steps (λ _ ds. AllByRecursion P ds) (λ d lt. (digit d lt, tt)) (λ m ds ge so_far. all_append P ds ((48 + m % 10) ∷ []) so_far (digit (m % 10) (omega arith), tt)) n fits
+    decimal_by_steps (λ _ ds. AllByRecursion P ds) (λ d lt. (digit d lt, tt)) (λ m ds ge so_far. all_joined P ds ((48 + m % 10) ∷ []) so_far (digit (m % 10) (omega arith), tt)) n fits
 
 pub signed_all : (P : ℕ → Type 0) → P 45 → ((d : ℕ) → d < 10 → P (48 + d)) → (z : ℤ) → FitsSigned w64 z → AllByRecursion P (signed_decimal z)
 signed_all P dash digit (pos n) fits = decimal_all P digit n (omega (arith, fits))

@@ -9,6 +9,7 @@ use Rattle.std.specs.Str.{is_utf8}
 use Rattle.std.proofs.lemmas.Bool.Decides.{nat_tests}
 use Rattle.std.proofs.lemmas.List.Elements.{All-from_recursion, All-contains}
 use Rattle.hex.specs.Hex.{encode_lower}
+use Rattle.mvt_document.proofs.EachItem.{all_by, all_joined}
 use Rattle.mvt_value.specs.Values.{Value, OfText, OfFloat, OfDouble, OfInt, OfUint, OfSint, OfBool}
 use Rattle.mvt_value.specs.Messages.{IsWritable}
 use Rattle.mvt_geometry.specs.Shapes.{Geometry, IsGeometry, IsPart, IsPlaced}
@@ -19,7 +20,7 @@ use Rattle.tile_arguments.specs.Arguments.{kind_word}
 use Rattle.tile_text.specs.Texts.{is_mark, quoted_byte, quoted, text_form, truth_form, value_form, raw_form, point_form, part_words, geometry_form}
 use Rattle.tile_text.specs.TextStands.{with_leading_spaces}
 use Rattle.tile_text.proofs.Digits.{hex_digit_fails, hex_all, decimal_all, signed_all}
-use Rattle.tile_text.proofs.Lists.{all_append, all_weaker, none_passes, words_all}
+use Rattle.tile_text.proofs.Lists.{none_passes, words_all}
 use Rattle.tile_text.proofs.Spelled.{mark_is}
 
 -- no byte is a line feed
@@ -37,7 +38,7 @@ tested : (bytes : List ℕ) → list_all (λ b. not (is_feed b)) bytes ≡ true 
 tested bytes e = none_passes is_feed bytes e
 
 joined : (xs ys : List ℕ) → IsFeedless xs → IsFeedless ys → IsFeedless (xs ++ ys)
-joined xs ys h k = all_append (λ b. eqb b 10 ≡ false) xs ys h k
+joined xs ys h k = all_joined (λ b. eqb b 10 ≡ false) xs ys h k
 
 of_either : (b : Bool) (xs ys : List ℕ) → IsFeedless xs → IsFeedless ys → IsFeedless (cond b xs ys)
 of_either true xs ys h k = h
@@ -121,5 +122,5 @@ spaced_feedless (word ∷ words) h = joined (codes " " ++ word) (with_leading_sp
 pub geometry_form_feedless : (g : Geometry) → IsGeometry g → IsFeedless (geometry_form g)
 geometry_form_feedless g valid =
     let points : AllByRecursion (AllByRecursion (λ p. IsFeedless (point_form p))) g.parts =
-    all_weaker (IsPart g.kind) (AllByRecursion (λ p. IsFeedless (point_form p))) (λ part h. all_weaker IsPlaced (λ p. IsFeedless (point_form p)) point_feedless part h.placed) g.parts valid.parts in
+    all_by (IsPart g.kind) (AllByRecursion (λ p. IsFeedless (point_form p))) (λ part h. all_by IsPlaced (λ p. IsFeedless (point_form p)) point_feedless part h.placed) g.parts valid.parts in
     joined (kind_word g.kind) (with_leading_spaces (part_words g.parts)) (kind_feedless g.kind) (spaced_feedless (part_words g.parts) (words_all IsFeedless (tested (codes "/") refl) g.parts points))

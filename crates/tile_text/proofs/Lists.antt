@@ -3,20 +3,9 @@ use Rattle.std.proofs.Common.{◌≡◌, ℕ, Bool, true, false, not, refl, List
 use Rattle.std.specs.Prelude.{codes}
 use Rattle.std.specs.List.{AllByRecursion, flat_map, list_all}
 use Rattle.std.proofs.lemmas.Bool.{and_parts}
+use Rattle.mvt_document.proofs.EachItem.{all_joined, all_of_map}
 use Rattle.mvt_geometry.specs.declared.shapes.Point.{Point}
 use Rattle.tile_text.specs.Texts.{point_form, part_words}
-
-pub all_append : {X : Type 0} (P : X → Type 0) (xs ys : List X) → AllByRecursion P xs → AllByRecursion P ys → AllByRecursion P (xs ++ ys)
-all_append P [] ys h k = k
-all_append P (x ∷ xs) ys h k = (h.0, all_append P xs ys h.1 k)
-
-pub all_map : {X Y : Type 0} (P : Y → Type 0) (f : X → Y) (xs : List X) → AllByRecursion (λ x. P (f x)) xs → AllByRecursion P (map f xs)
-all_map P f [] h = tt
-all_map P f (x ∷ xs) h = (h.0, all_map P f xs h.1)
-
-pub all_weaker : {X : Type 0} (P Q : X → Type 0) → ((x : X) → P x → Q x) → (xs : List X) → AllByRecursion P xs → AllByRecursion Q xs
-all_weaker P Q f [] h = tt
-all_weaker P Q f (x ∷ xs) h = (f x h.0, all_weaker P Q f xs h.1)
 
 pub not_true : (b : Bool) → not b ≡ true → b ≡ false
 not_true true e = absurd cc
@@ -33,8 +22,8 @@ none_passes p (x ∷ xs) e =
 
 behind_all : (P : List ℕ → Type 0) → P (codes "/") → (parts : List (List Point)) → AllByRecursion (AllByRecursion (λ p. P (point_form p))) parts → AllByRecursion P (flat_map (λ points. codes "/" ∷ [] ++ map point_form points) parts)
 behind_all P bar [] h = tt
-behind_all P bar (part ∷ parts) h = all_append P (codes "/" ∷ [] ++ map point_form part) (flat_map (λ points. codes "/" ∷ [] ++ map point_form points) parts) (bar, all_map P point_form part h.0) (behind_all P bar parts h.1)
+behind_all P bar (part ∷ parts) h = all_joined P (codes "/" ∷ [] ++ map point_form part) (flat_map (λ points. codes "/" ∷ [] ++ map point_form points) parts) (bar, all_of_map point_form P part h.0) (behind_all P bar parts h.1)
 
 pub words_all : (P : List ℕ → Type 0) → P (codes "/") → (parts : List (List Point)) → AllByRecursion (AllByRecursion (λ p. P (point_form p))) parts → AllByRecursion P (part_words parts)
 words_all P bar [] h = tt
-words_all P bar (part ∷ parts) h = all_append P (map point_form part) (flat_map (λ points. codes "/" ∷ [] ++ map point_form points) parts) (all_map P point_form part h.0) (behind_all P bar parts h.1)
+words_all P bar (part ∷ parts) h = all_joined P (map point_form part) (flat_map (λ points. codes "/" ∷ [] ++ map point_form points) parts) (all_of_map point_form P part h.0) (behind_all P bar parts h.1)

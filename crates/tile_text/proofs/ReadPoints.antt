@@ -10,6 +10,7 @@ use Rattle.std.proofs.lemmas.Bool.Decides.{nat_tests}
 use Rattle.std.proofs.lemmas.List.{take_at, drop_at, length_push, append-nil, map-append, length-append}
 use Rattle.std.proofs.lemmas.List.Elements.{All-from_recursion}
 use Rattle.std.proofs.lemmas.List.Splits.{slice_split_none, slice_split_at}
+use Rattle.mvt_document.proofs.EachItem.{all_by, all_joined, all_of_map}
 use Rattle.mvt_geometry.specs.Shapes.{Geometry, IsGeometry, IsPart, IsPartCount, least_points}
 use Rattle.mvt_geometry.specs.declared.shapes.Point.{Point}
 use Rattle.mvt_geometry.specs.declared.shapes.Kind.{Kind}
@@ -25,7 +26,7 @@ use Rattle.tile_text.specs.Texts.{point_form, part_words, geometry_words}
 use Rattle.tile_text.specs.TextStands.{with_leading_spaces}
 use Rattle.tile_text.specs.ReadBack.{IsNear, IsReadAsGeometry}
 use Rattle.tile_text.proofs.Digits.{signed_all}
-use Rattle.tile_text.proofs.Lists.{all_append, all_map, all_weaker, words_all}
+use Rattle.tile_text.proofs.Lists.{words_all}
 use Rattle.tile_text.proofs.Numerals.{Lies, signed_reads}
 use Rattle.tile_text.proofs.ReadAgain.{bare_spelled, digit_is_bare, signed_long}
 
@@ -86,7 +87,7 @@ part_in_words points = map (λ p. Bare (point_form p)) points
 
 part_reads : (points : List Point) → AllByRecursion IsNear points → part_of (part_in_words points) ≡ Ok points
 unfolding part_of
-part_reads points near = each_reads point_of (λ p. Bare (point_form p)) points (all_weaker IsNear (λ p. point_of (Bare (point_form p)) ≡ Ok p) point_reads points near)
+part_reads points near = each_reads point_of (λ p. Bare (point_form p)) points (all_by IsNear (λ p. point_of (Bare (point_form p)) ≡ Ok p) point_reads points near)
 
 no_bar_byte : (d : ℕ) → d < 10 → eqb (48 + d) 47 ≡ false
 no_bar_byte d lt = grind (arith, nat_tests)
@@ -103,7 +104,7 @@ point_is_no_bar p near =
 no_bars : (points : List Point) → AllByRecursion IsNear points → All (λ w. is_bar w ≡ false) (part_in_words points)
 no_bars points near =
     All-from_recursion (λ w. is_bar w ≡ false) (part_in_words points)
-    (all_map (λ w. is_bar w ≡ false) (λ p. Bare (point_form p)) points (all_weaker IsNear (λ p. is_bar (Bare (point_form p)) ≡ false) point_is_no_bar points near))
+    (all_of_map (λ p. Bare (point_form p)) (λ w. is_bar w ≡ false) points (all_by IsNear (λ p. is_bar (Bare (point_form p)) ≡ false) point_is_no_bar points near))
 
 bare_points : (points : List Point) → map Bare (map point_form points) ≡ part_in_words points
 bare_points [] = refl
@@ -125,7 +126,7 @@ unfolding parts_of
 parts_read [] some near = absurd (omega arith)
 parts_read (part ∷ parts) some near =
     ap (each part_of) (parts_cut part parts near.0 near.1)
-    ∙ each_reads part_of part_in_words (part ∷ parts) (all_weaker (AllByRecursion IsNear) (λ points. part_of (part_in_words points) ≡ Ok points) part_reads (part ∷ parts) near)
+    ∙ each_reads part_of part_in_words (part ∷ parts) (all_by (AllByRecursion IsNear) (λ points. part_of (part_in_words points) ≡ Ok points) part_reads (part ∷ parts) near)
 
 -- ---- geometries
 
@@ -182,12 +183,12 @@ signed_bare z lt = signed_all (λ b. ends_bare b ≡ false) refl digit_is_bare z
 
 point_spelled : (p : Point) → IsNear p → SpellsWord (point_form p) (Bare (point_form p))
 point_spelled p near =
-    (refl, omega (arith, length-append (signed_decimal p.x) (44 ∷ signed_decimal p.y)), all_append (λ b. ends_bare b ≡ false) (signed_decimal p.x) (44 ∷ signed_decimal p.y) (signed_bare p.x near.x) (refl, signed_bare p.y near.y))
+    (refl, omega (arith, length-append (signed_decimal p.x) (44 ∷ signed_decimal p.y)), all_joined (λ b. ends_bare b ≡ false) (signed_decimal p.x) (44 ∷ signed_decimal p.y) (signed_bare p.x near.x) (refl, signed_bare p.y near.y))
 
 parts_spelled : (parts : List (List Point)) → AllByRecursion (AllByRecursion IsNear) parts → AllByRecursion (λ form. SpellsWord form (Bare form)) (part_words parts)
 parts_spelled parts near =
     words_all (λ form. SpellsWord form (Bare form)) (bare_spelled (codes "/") (omega arith) refl) parts
-    (all_weaker (AllByRecursion IsNear) (AllByRecursion (λ p. SpellsWord (point_form p) (Bare (point_form p)))) (all_weaker IsNear (λ p. SpellsWord (point_form p) (Bare (point_form p))) point_spelled) parts near)
+    (all_by (AllByRecursion IsNear) (AllByRecursion (λ p. SpellsWord (point_form p) (Bare (point_form p)))) (all_by IsNear (λ p. SpellsWord (point_form p) (Bare (point_form p))) point_spelled) parts near)
 
 pub geometry_read_back : (g : Geometry) → IsGeometry g → AllByRecursion (AllByRecursion IsNear) g.parts → IsReadAsGeometry g
 geometry_read_back g valid near =

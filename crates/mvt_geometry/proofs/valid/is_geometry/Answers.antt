@@ -2,7 +2,7 @@ use Rattle.std.proofs.Common.{ℕ, length, sym, subst}
 use Rattle.std.proofs.lemmas.List.{length-map}
 use Rattle.mvt_geometry.specs.Shapes.{IsPart, IsPartCount}
 use Rattle.mvt_geometry.specs.Stands.{points_of}
-use Rattle.mvt_geometry.proofs.Mapped.{all_mapped, mapped_all}
+use Rattle.mvt_document.proofs.EachItem.{all_of_map, all_from_map}
 use Rattle.mvt_geometry.proofs.valid.is_geometry.Goals as goal
 
 pub returns-then-is_part_count : goal.returns-then-is_part_count
@@ -12,7 +12,7 @@ returns-then-is_part_count c =
     let counted : IsPartCount kind (length parts) = c.is_part_count.ensures.0 c.if-is_part_count.true in (
       λ valid. record {
         counted = subst (λ (n : ℕ). IsPartCount kind n) (sym (length-map parts points_of)) counted;
-        parts = all_mapped (IsPart kind) points_of parts (c.are_parts.ensures.0 valid);
+        parts = all_of_map points_of (IsPart kind) parts (c.are_parts.ensures.0 valid);
       },
-      λ g. c.are_parts.ensures.1 (mapped_all (IsPart kind) points_of parts g.parts),
+      λ g. c.are_parts.ensures.1 (all_from_map points_of (IsPart kind) parts g.parts),
     )

@@ -1,8 +1,9 @@
-use Rattle.std.proofs.Common.{◌+◌, take, drop, refl, sym, ◌∙◌, ap, subst, arith}
+use Rattle.std.proofs.Common.{◌+◌, [], ◌∷◌, take, drop, refl, sym, ◌∙◌, ap, subst, arith}
 use Rattle.std.specs.List.{AllByRecursion}
 use Rattle.std.proofs.lemmas.List.{drop-set-lt, drop-drop, take_more_set}
+use Rattle.mvt_document.proofs.EachItem.{all_joined}
 use Rattle.mvt_splices.specs.Splices.{FindsRoom}
-use Rattle.mvt_splices.proofs.Runs.{zip_same, zip_set, same_at, all_push}
+use Rattle.mvt_splices.proofs.Runs.{zip_same, zip_set, same_at}
 use Rattle.mvt_splices.proofs.run.reserve_all.Goals as goal
 
 pub loop-step-init : goal.loop-step-init
@@ -36,5 +37,5 @@ loop-step-preserved g c =
           ∙ drop-drop 1 i c.args.steps.now;
       ready =
           subst (AllByRecursion (λ s. FindsRoom (g.S.Splices.splice_of s))) (sym (take_more_set steps i new (omega arith)))
-          (all_push (λ s. FindsRoom (g.S.Splices.splice_of s)) (take i steps) new c.loop-step.invariant.ready c.in_ok-reserve.ensures.ok);
+          (all_joined (λ s. FindsRoom (g.S.Splices.splice_of s)) (take i steps) (new ∷ []) c.loop-step.invariant.ready (c.in_ok-reserve.ensures.ok, tt));
     }

@@ -2,7 +2,8 @@ use Rattle.std.proofs.Common.{ap, sym, ◌∙◌, subst}
 use Rattle.mvt_document.specs.Parts.{IsWholeField}
 use Rattle.mvt_read.specs.Fronts.{body_front_of}
 use Rattle.mvt_document.specs.Stands.{number_of, field_of}
-use Rattle.mvt_document.proofs.Wholes.{fields-bytes, same_content, all_of_map, feature_whole}
+use Rattle.mvt_document.proofs.EachItem.{all_of_map}
+use Rattle.mvt_document.proofs.Wholes.{fields-bytes, same_content, feature_whole}
 use Rattle.mvt_read.proofs.decode.LayerItemDecode.decode.Goals as goal
 
 pub returns-in_ok-decode_inside-in-Bytes-clause-made : goal.returns-in_ok-decode_inside-in-Bytes-clause-made

@@ -3,7 +3,8 @@ use Rattle.mvt_document.specs.Parts.{IsWholeField, IsWholeLayerItem}
 use Rattle.mvt_read.specs.Fronts.{front_of, body_front_of}
 use Rattle.mvt_document.specs.Stands.{number_of, layer_item_of}
 use Rattle.std.proofs.lemmas.Result.{err_from_is_err_and}
-use Rattle.mvt_document.proofs.Wholes.{layer_items-bytes, same_content, all_of_map, layer_whole, no_layer}
+use Rattle.mvt_document.proofs.EachItem.{all_of_map}
+use Rattle.mvt_document.proofs.Wholes.{layer_items-bytes, same_content, layer_whole, no_layer}
 use Rattle.mvt_read.proofs.decode.TileItemDecode.decode.Goals as goal
 
 pub returns-in_ok-decode_inside-in-Bytes-clause-made : goal.returns-in_ok-decode_inside-in-Bytes-clause-made
