@@ -1,6 +1,7 @@
 pub mod HistoryLaws
 pub mod Throughout
 pub mod Reaching
+pub mod Weighing
 pub mod UndosRedos
 pub mod OpenStep
 pub mod NoTrace

@@ -2,10 +2,10 @@
 use Rattle.std.specs.Prelude.{◌≡◌, ℕ, zero, suc, ◌+◌, ◌-◌, ◌≤◌, List, [], ◌∷◌, length, take, get_or, Some, None, Ok, ◌*◌}
 use Rattle.std.specs.List.{AllByRecursion, sum_by}
 use Rattle.mvt_document.specs.declared.TheConstants.{MAX_FILE}
-use Rattle.mvt_document.specs.Plain.{Document}
-use Rattle.mvt_document.specs.Opens.{IsDocument}
-use Rattle.mvt_document.specs.Wire.{bytes_of}
-use Rattle.mvt_change.specs.Changes.{weight}
+use Rattle.mvt_document.specs.Plain.{Field, LayerItem, TileItem, Document}
+use Rattle.mvt_document.specs.Opens.{IsField, IsLayerItem, IsTileItem, IsDocument}
+use Rattle.mvt_document.specs.Wire.{bytes_of, field_bytes, layer_item_bytes, tile_item_bytes}
+use Rattle.mvt_change.specs.Changes.{Change, Step, SpliceStep, MoveStep, Fits, weight}
 use Rattle.mvt_change.specs.Joining.{go_along}
 use Rattle.mvt_command.specs.Command.{Command, IsCommand}
 use Rattle.mvt_history.specs.History.{History, IsSound, begun, after_all, document_at, present_document, standing_document, commands_in, edited, undone, redone, marked, gone_back, opened, closed, cancelled}
@@ -189,3 +189,26 @@ abbrev pub FewSteps : Type 0
 FewSteps = (session : Standing) (history : History) → StandsFor session history →
     2 * (sum_by length session.undo + sum_by length session.redo + sum_by length (changes_in session.pending))
     ≤ sum_from (step_allowance_at history) history.floor (length session.undo + length session.redo) + step_allowance (commands_in history.group) (present_document history)
+
+-- ---- what changes weigh
+
+-- a valid field has at least two bytes
+abbrev pub FieldWeighs : Type 0
+FieldWeighs = (field : Field) → IsField field → 2 ≤ length (field_bytes field)
+
+-- a valid item of a layer has at least two bytes
+abbrev pub LayerItemWeighs : Type 0
+LayerItemWeighs = (item : LayerItem) → IsLayerItem item → 2 ≤ length (layer_item_bytes item)
+
+-- a valid item of a tile has at least two bytes
+abbrev pub TileItemWeighs : Type 0
+TileItemWeighs = (item : TileItem) → IsTileItem item → 2 ≤ length (tile_item_bytes item)
+
+-- how many items a step puts
+abbrev pub put_count : Step → ℕ
+put_count (SpliceStep place index taken put) = length put
+put_count (MoveStep place from to) = 0
+
+-- a change that fits and weighs nothing puts no item
+abbrev pub NothingPut : Type 0
+NothingPut = (change : Change) (document : Document) → Fits change document → weight change ≡ 0 → AllByRecursion (λ step. put_count step ≡ 0) change

@@ -1,7 +1,7 @@
 //! Laws of histories and sessions. Each function does nothing: its contract is the law.
 #![tactic(auto)]
 
-ghost use Rattle.history_laws.specs.Laws.{BackToTheMark, CancelLeavesNoTrace, ChangesLead, EmptyStepLeavesNoTrace, FewSteps, HistoryFits, HistoryOfDocuments, KeptWithin, RedosUndoUndos, StaysSound, StaysValid, StepUndoesWhole, StoppedGoesOn, UndoAfterEnd, UndoAtOnce, UndosUndoRedos};
+ghost use Rattle.history_laws.specs.Laws.{BackToTheMark, CancelLeavesNoTrace, ChangesLead, EmptyStepLeavesNoTrace, FewSteps, FieldWeighs, HistoryFits, HistoryOfDocuments, KeptWithin, LayerItemWeighs, NothingPut, RedosUndoUndos, StaysSound, StaysValid, StepUndoesWhole, StoppedGoesOn, TileItemWeighs, UndoAfterEnd, UndoAtOnce, UndosUndoRedos};
 
 /// The numbers and marks of a history (how many steps stand, how far undo goes back, which points
 /// are marked) begin in order at a depth of at least 1, and stay so under each request.
@@ -102,4 +102,14 @@ pub fn kept_within()
 /// that these commands took out and put in.
 pub fn few_steps()
     ensures { FewSteps }
+{}
+
+/// Valid fields, items of a layer and items of a tile have at least two bytes (`fields`,
+/// `layer_items`, `tile_items`), so a change that fits and weighs nothing puts no item (`nothing`).
+#[tactic(auto, using(crate::proofs::Weighing::field_weighs, crate::proofs::Weighing::layer_item_weighs, crate::proofs::Weighing::tile_item_weighs, crate::proofs::Weighing::nothing_put))]
+pub fn items_weigh()
+    ensures fields { FieldWeighs }
+    ensures layer_items { LayerItemWeighs }
+    ensures tile_items { TileItemWeighs }
+    ensures nothing { NothingPut }
 {}

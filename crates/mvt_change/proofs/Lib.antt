@@ -3,7 +3,6 @@ pub mod Changed
 pub mod Lenses
 pub mod Turning
 pub mod JoinedChanges
-pub mod Weighing
 pub mod Keeping
 pub mod HeldLenses
 pub mod Actions

@@ -120,8 +120,3 @@ step_weight (MoveStep place from to) = 0
 -- the bytes of all items that a change puts
 abbrev pub weight : Change → ℕ
 weight change = sum_by step_weight change
-
--- how many items a step puts
-abbrev pub put_count : Step → ℕ
-put_count (SpliceStep place index taken put) = length put
-put_count (MoveStep place from to) = 0

@@ -1,10 +1,8 @@
 -- Laws of changes.
-use Rattle.std.specs.Prelude.{◌≡◌, ◌↔◌, ◌≤◌, List, ◌++◌, length}
-use Rattle.std.specs.List.{AllByRecursion}
-use Rattle.mvt_document.specs.Plain.{Field, LayerItem, TileItem, Document}
-use Rattle.mvt_document.specs.Wire.{field_bytes, layer_item_bytes, tile_item_bytes}
-use Rattle.mvt_document.specs.Opens.{IsField, IsLayerItem, IsTileItem, IsDocument}
-use Rattle.mvt_change.specs.Changes.{Change, go, Fits, turn, weight, put_count}
+use Rattle.std.specs.Prelude.{◌≡◌, ◌↔◌, List, ◌++◌}
+use Rattle.mvt_document.specs.Plain.{Document}
+use Rattle.mvt_document.specs.Opens.{IsDocument}
+use Rattle.mvt_change.specs.Changes.{Change, go, Fits, turn}
 use Rattle.mvt_change.specs.Joining.{joined, go_along, FitAlong}
 
 -- what a change that fits makes of a valid document is a valid document
@@ -38,19 +36,3 @@ JoinedListGoes = (changes : List Change) (document : Document) → go (joined ch
 -- a joined list of changes fits exactly where each fits what those before it made
 abbrev pub JoinedListFits : Type 0
 JoinedListFits = (changes : List Change) (document : Document) → Fits (joined changes) document ↔ FitAlong changes document
-
--- a valid field has at least two bytes
-abbrev pub FieldWeighs : Type 0
-FieldWeighs = (field : Field) → IsField field → 2 ≤ length (field_bytes field)
-
--- a valid item of a layer has at least two bytes
-abbrev pub LayerItemWeighs : Type 0
-LayerItemWeighs = (item : LayerItem) → IsLayerItem item → 2 ≤ length (layer_item_bytes item)
-
--- a valid item of a tile has at least two bytes
-abbrev pub TileItemWeighs : Type 0
-TileItemWeighs = (item : TileItem) → IsTileItem item → 2 ≤ length (tile_item_bytes item)
-
--- a change that fits and weighs nothing puts no item
-abbrev pub NothingPut : Type 0
-NothingPut = (change : Change) (document : Document) → Fits change document → weight change ≡ 0 → AllByRecursion (λ step. put_count step ≡ 0) change

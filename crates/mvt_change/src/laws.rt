@@ -1,6 +1,6 @@
 //! Laws of changes. Each function does nothing: its contract is the law.
 
-ghost use Rattle.mvt_change.specs.Laws.{ChangeMakesDocument, TurnedFits, TurnedLeadsBack, TurnedTwice, JoinedGo, JoinedFit, JoinedListGoes, JoinedListFits, FieldWeighs, LayerItemWeighs, TileItemWeighs, NothingPut};
+ghost use Rattle.mvt_change.specs.Laws.{ChangeMakesDocument, TurnedFits, TurnedLeadsBack, TurnedTwice, JoinedGo, JoinedFit, JoinedListGoes, JoinedListFits};
 
 /// What a change that fits makes of a valid document is a valid document (`makes`), and the turned
 /// change fits that one (`fits`).
@@ -32,14 +32,4 @@ pub fn joined()
 pub fn joined_list()
     ensures made { JoinedListGoes }
     ensures fit { JoinedListFits }
-{}
-
-/// Valid fields, items of a layer and items of a tile have at least two bytes (`fields`,
-/// `layer_items`, `tile_items`), so a change that fits and weighs nothing puts no item (`nothing`).
-#[tactic(auto, using(crate::proofs::Weighing::field_weighs, crate::proofs::Weighing::layer_item_weighs, crate::proofs::Weighing::tile_item_weighs, crate::proofs::Weighing::nothing_put))]
-pub fn items_weigh()
-    ensures fields { FieldWeighs }
-    ensures layer_items { LayerItemWeighs }
-    ensures tile_items { TileItemWeighs }
-    ensures nothing { NothingPut }
 {}

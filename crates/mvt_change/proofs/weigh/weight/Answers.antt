@@ -1,8 +1,17 @@
-use Rattle.std.proofs.Common.{arith}
+use Rattle.std.proofs.Common.{◌≡◌, ℕ, ◌+◌, ◌<◌, ◌≤◌, List, length, get_or, take, map, sym, ap, ◌∙◌, arith}
+use Rattle.std.specs.List.{sum_by}
+use Rattle.std.proofs.lemmas.List.{length-map, take-map, get_or-map}
+use Rattle.std.proofs.lemmas.List.Sums.{sum_by_more_le}
 use Rattle.mvt_change.specs.ChangeStands.{step_of}
 use Rattle.mvt_change.specs.Changes.{step_weight}
-use Rattle.mvt_change.proofs.Weighing.{sum_with_next}
 use Rattle.mvt_change.proofs.weigh.weight.Goals as goal
+
+-- the steps before one and that step weigh no more than all
+sum_with_next : {X Y : Type 0} (weigh : Y → ℕ) (stands : X → Y) (xs : List X) (i : ℕ) (x : X) → i < length xs → x ≡ get_or xs i x → sum_by weigh (map stands (take i xs)) + weigh (stands x) ≤ sum_by weigh (map stands xs)
+sum_with_next weigh stands xs i x inside is =
+    let front = ap (sum_by weigh) (take-map stands i xs) in
+    let item = ap weigh (get_or-map stands xs i x (stands x) inside ∙ ap stands (sym is)) in
+    omega (arith, front, item, sum_by_more_le weigh (map stands xs) i (stands x) (omega (arith, inside, length-map xs stands)))
 
 pub step_weight-weight-requires : goal.step_weight-weight-requires
 step_weight-weight-requires c =

@@ -1,17 +1,16 @@
 -- Valid items have at least two bytes: a tag has one, and so has a body.
-use Rattle.std.proofs.Common.{◌≡◌, ℕ, zero, suc, ◌+◌, ◌/◌, ◌<◌, ◌≤◌, max, Option, Some, None, List, [], ◌∷◌, ◌++◌, length, length-append, get_or, take, map, refl, sym, ap, ◌∙◌, arith}
-use Rattle.std.specs.List.{AllByRecursion, flat_map, sum_by}
+use Rattle.std.proofs.Common.{◌≡◌, ℕ, zero, suc, ◌+◌, ◌/◌, ◌≤◌, max, Option, Some, None, List, [], ◌∷◌, ◌++◌, length, length-append, refl, ap, arith}
+use Rattle.std.specs.List.{AllByRecursion, flat_map}
 use Rattle.std.specs.Option.{IsSomeAnd}
-use Rattle.std.proofs.lemmas.List.{length-map, take-map, get_or-map}
-use Rattle.std.proofs.lemmas.List.Sums.{sum_by-cons, sum_by_more, sum_by-take-le}
+use Rattle.std.proofs.lemmas.List.Sums.{sum_by-cons}
 use Rattle.mvt_document.specs.declared.TheConstants.{MAX_GROUPS}
 use Rattle.mvt_document.specs.Plain.{Number, Body, Spelled, Eight, Four, Delimited, Group, OfFeature, PlainInLayer, OfLayer, PlainInTile, Document}
 use Rattle.mvt_document.specs.Wire.{spell, minimal_width, spelling, delimited, body_bytes, field_bytes, layer_item_bytes}
 use Rattle.mvt_document.specs.Groups.{IsNumber, IsBodyWith, IsGroupWithin, IsGroup}
 use Rattle.mvt_document.proofs.Spelling.{length-spell, spelling_some, minimal_width_some}
 use Rattle.mvt_document.specs.Lists.{CanSplice}
-use Rattle.mvt_change.specs.Changes.{Place, OfTheTile, OfTheLayer, OfTheFeature, ItemAt, Step, SpliceStep, MoveStep, list_at, IsItemAt, item_bytes, go_step, FitsStep, step_weight, put_count}
-use Rattle.mvt_change.specs.Laws.{FieldWeighs, LayerItemWeighs, TileItemWeighs, NothingPut}
+use Rattle.mvt_change.specs.Changes.{Place, OfTheTile, OfTheLayer, OfTheFeature, ItemAt, Step, SpliceStep, MoveStep, list_at, IsItemAt, item_bytes, go_step, FitsStep, step_weight}
+use Rattle.history_laws.specs.Laws.{FieldWeighs, LayerItemWeighs, TileItemWeighs, NothingPut, put_count}
 
 number_weighs : (n : Number) → IsNumber n → 1 ≤ length (spelling n)
 number_weighs n valid = omega (arith, length-spell n.value n.width, spelling_some n.value n.width valid)
@@ -79,13 +78,3 @@ nothing_put [] document fits nothing = tt
 nothing_put (step ∷ change) document fits nothing =
     let sum = sum_by-cons step_weight step change in
     (step_puts_nothing step document fits.0 (omega (arith, sum, nothing)), nothing_put change (go_step step document) fits.1 (omega (arith, sum, nothing)))
-
--- ---- a sum over steps
-
--- the steps before one and that step weigh no more than all
-pub sum_with_next : {X Y : Type 0} (weigh : Y → ℕ) (stands : X → Y) (xs : List X) (i : ℕ) (x : X) → i < length xs → x ≡ get_or xs i x → sum_by weigh (map stands (take i xs)) + weigh (stands x) ≤ sum_by weigh (map stands xs)
-sum_with_next weigh stands xs i x inside is =
-    let more = sum_by_more weigh (map stands xs) i (stands x) (omega (arith, inside, length-map xs stands)) in
-    let front = ap (sum_by weigh) (take-map stands i xs) in
-    let item = ap weigh (get_or-map stands xs i x (stands x) inside ∙ ap stands (sym is)) in
-    omega (arith, more, front, item, sum_by-take-le weigh (map stands xs) (i + 1))
