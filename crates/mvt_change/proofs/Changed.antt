@@ -1,6 +1,6 @@
--- The plain values of a list of the program of which a part or an item was changed.
-use Rattle.std.proofs.Common.{◌≡◌, ℕ, ◌+◌, List, [], ◌++◌, take, drop, map, sym, ap, ◌∙◌}
-use Rattle.std.proofs.lemmas.List.{map-append, take-map, drop-map}
+-- The plain values of a list of the program of which a part or an item was changed, and of one that was reversed.
+use Rattle.std.proofs.Common.{◌≡◌, ℕ, ◌+◌, List, [], ◌∷◌, ◌++◌, take, drop, map, reverse, refl, sym, ap, ◌∙◌}
+use Rattle.std.proofs.lemmas.List.{map-append, reverse-append, take-map, drop-map}
 use Rattle.mvt_document.specs.Splicing.{part, splice, moved}
 
 pub map-part : {A B : Type 0} (g : A → B) (index count : ℕ) (items : List A) → map g (part index count items) ≡ part index count (map g items)
@@ -18,3 +18,11 @@ map-moved g from to items =
     map-splice g to 0 (part from 1 items) (splice from 1 [] items)
     ∙ ap (λ y. splice to 0 y (map g (splice from 1 [] items))) (map-part g from 1 items)
     ∙ ap (λ y. splice to 0 (part from 1 (map g items)) y) (map-splice g from 1 [] items)
+
+pub map-reverse : {A B : Type 0} (g : A → B) (items : List A) → map g (reverse items) ≡ reverse (map g items)
+map-reverse g [] = refl
+map-reverse g (x ∷ items) =
+    ap (map g) (reverse-append (x ∷ []) items)
+    ∙ map-append g (reverse items) (x ∷ [])
+    ∙ ap (λ front. front ++ g x ∷ []) (map-reverse g items)
+    ∙ sym (reverse-append (g x ∷ []) (map g items))

@@ -8,6 +8,5 @@ pub mod HeldLenses
 pub mod Actions
 pub mod TurnedRuns
 pub mod ListRuns
-pub mod Ranges
 pub mod Underway
 pub mod Resized

@@ -1,6 +1,7 @@
 -- A change that is under way, and one that is taken back.
-use Rattle.std.proofs.Common.{◌≡◌, ℕ, ◌+◌, ◌-◌, ◌<◌, ◌≤◌, get_or, set, length, true, false, List, [], ◌∷◌, ◌++◌, map, reverse, take, drop, append_assoc, sym, ap, ◌∙◌, subst}
-use Rattle.std.proofs.lemmas.List.{append-nil, map-append, reverse-append, take_more, take-set, drop-set}
+use Rattle.std.proofs.Common.{◌≡◌, ℕ, ◌+◌, ◌-◌, ◌<◌, ◌≤◌, get_or, set, length, true, false, List, [], ◌∷◌, ◌++◌, map, reverse, take, drop, append_assoc, sym, ap, ◌∙◌, subst, arith}
+use Rattle.std.proofs.lemmas.List.{append-nil, length-take-le, map-append, reverse-append, take-append-drop, take_more, take-set, drop-drop, drop-set, drop_at}
+use Rattle.std.proofs.lemmas.Slice.{take-put_mid_below, take-put_mid, drop-put_mid}
 use borrow.Rule.Slice.PartMut.{put_mid}
 use Rattle.mvt_document.specs.Plain as plain
 use Rattle.mvt_document.specs.Stands.{document_of}
@@ -13,7 +14,6 @@ use Rattle.mvt_change.specs.HeldChanges.{go_held_step, go_held, ActionHasRoom, H
 use Rattle.mvt_change.proofs.Turning.{go_joined, joined_fits, turn_joined, turned_back as leads_to_start, turned_twice}
 use Rattle.mvt_change.proofs.Actions.{turned_stands}
 use Rattle.mvt_change.proofs.TurnedRuns.{keeps_stands, kept_goes, steps_stand, have_room_keeps, have_room_joined, all_stand, all_lead_back}
-use Rattle.mvt_change.proofs.Ranges.{front_stays, part_comes, front_grows, tail_stays, rest_apart}
 
 -- The first steps of a change were made, and lead back from the document, with the room for it; the others are left.
 pub record IsUnderway (change : Change) (start : plain.Document) (made rest : List Step) (document : Document) : Type 0 where
@@ -82,23 +82,28 @@ module _ (change : Change) (start : plain.Document) (steps part : List Step) (fr
   rest = drop (to - from) (drop from steps)
 
   apart : IsUnderway change start (reverse (take from steps)) (run ++ rest) document
-  apart = subst (λ left. IsUnderway change start (reverse (take from steps)) left document) (rest_apart steps from (to - from)) under
+  apart = subst (λ left. IsUnderway change start (reverse (take from steps)) left document) (sym (take-append-drop (to - from) (drop from steps))) under
+
+  front_stays : take from (put_mid from (to - from) steps part) ≡ take from steps
+  front_stays = take-put_mid_below from (to - from) steps part from (omega arith) (omega arith)
 
   pub run_on : AreFlipped true run part document after → IsUnderway change start (reverse (take to (put_mid from (to - from) steps part))) (drop to (put_mid from (to - from) steps part)) after
   run_on flipped =
       let front = take from steps in
-      let made : reverse (take to (put_mid from (to - from) steps part)) ≡ reverse part ++ reverse front = ap reverse (front_grows steps part from to low high long) ∙ reverse-append front part in
-      subst (λ left. IsUnderway change start (reverse (take to (put_mid from (to - from) steps part))) left after) (sym (tail_stays steps part from to low high long))
+      let made : reverse (take to (put_mid from (to - from) steps part)) ≡ reverse part ++ reverse front = ap reverse (take-put_mid from (to - from) steps part to (omega arith) (omega arith)) ∙ reverse-append front part in
+      let whole : to ≡ from + (to - from) = omega arith in
+      let behind : drop to (put_mid from (to - from) steps part) ≡ rest = drop-put_mid from (to - from) steps part to (omega arith) (omega arith) long ∙ ap (λ n. drop n steps) whole ∙ sym (drop-drop (to - from) from steps) in
+      subst (λ left. IsUnderway change start (reverse (take to (put_mid from (to - from) steps part))) left after) (sym behind)
       (subst (λ done. IsUnderway change start done rest after) (sym made) (goes_on change start (reverse front) run rest part document after apart flipped.0 flipped.1))
 
   -- a run that was refused is what it was, and those before it have room
   pub made_have_room : AreFlipped false run part document after → HaveRoom (reverse (take from (put_mid from (to - from) steps part))) after
   made_have_room kept =
-      subst (λ front. HaveRoom (reverse front) after) (sym (front_stays steps part from to low high long)) (have_room_keeps (reverse (take from steps)) document after kept.0 under.room)
+      subst (λ front. HaveRoom (reverse front) after) (sym front_stays) (have_room_keeps (reverse (take from steps)) document after kept.0 under.room)
 
   pub goes_back : AreFlipped false run part document after → go (map step_of (reverse (take from (put_mid from (to - from) steps part)))) (document_of after) ≡ start
   goes_back kept =
-      ap (λ front. go (map step_of (reverse front)) (document_of after)) (front_stays steps part from to low high long)
+      ap (λ front. go (map step_of (reverse front)) (document_of after)) front_stays
       ∙ ap (go (map step_of (reverse (take from steps)))) (sym (keeps_stands document after kept.0))
       ∙ leads_back change start (reverse (take from steps)) (drop from steps) document under
 
@@ -109,9 +114,9 @@ module _ (change : Change) (start : plain.Document) (steps part : List Step) (fr
       let mades = map step_of (reverse (take from steps)) in
       map-append step_of back (drop from (put_mid from (to - from) steps part))
       ∙ ap (λ front. front ++ map step_of (drop from (put_mid from (to - from) steps part))) is
-      ∙ ap (λ front. turn (map step_of (reverse front)) (document_of after) ++ map step_of (drop from (put_mid from (to - from) steps part))) (front_stays steps part from to low high long)
+      ∙ ap (λ front. turn (map step_of (reverse front)) (document_of after) ++ map step_of (drop from (put_mid from (to - from) steps part))) front_stays
       ∙ ap (λ d. turn mades d ++ map step_of (drop from (put_mid from (to - from) steps part))) (sym (keeps_stands document after kept.0))
-      ∙ ap (λ left. turn mades (document_of document) ++ map step_of left) (part_comes steps part from to low high long)
+      ∙ ap (λ left. turn mades (document_of document) ++ map step_of left) (drop_at (take from steps) (part ++ rest) from (length-take-le from steps (omega arith)))
       ∙ ap (λ left. turn mades (document_of document) ++ left) (map-append step_of part rest ∙ ap (λ front. front ++ map step_of rest) kept.1 ∙ sym (map-append step_of run rest))
       ∙ turns_back change start (reverse (take from steps)) (run ++ rest) document apart
 
@@ -119,7 +124,7 @@ pub run_fits : (change : Change) (start : plain.Document) (made steps : List Ste
 run_fits change start made steps from count document under =
     let run = take count (drop from steps) in
     let rest = drop count (drop from steps) in
-    let fits = subst (λ left. Fits left (document_of document)) (ap (map step_of) (rest_apart steps from count) ∙ map-append step_of run rest) (rest_fits change start made (drop from steps) document under) in
+    let fits = subst (λ left. Fits left (document_of document)) (ap (map step_of) (sym (take-append-drop count (drop from steps))) ∙ map-append step_of run rest) (rest_fits change start made (drop from steps) document under) in
     (joined_fits (map step_of run) (map step_of rest) (document_of document) fits).0
 
 -- ---- steps that are taken back, the last first

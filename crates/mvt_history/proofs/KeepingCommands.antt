@@ -14,7 +14,7 @@ use Rattle.mvt_change.specs.Changes.{Change, Fits, go, turn}
 use Rattle.mvt_change.specs.Joining.{joined, go_along, FitAlong}
 use Rattle.mvt_change.proofs.Turning.{change_makes, turned_back, turned_fits}
 use Rattle.mvt_change.proofs.JoinedChanges.{go_joined_list, fit_joined_list}
-use Rattle.mvt_change.proofs.Ranges.{map-reverse}
+use Rattle.mvt_change.proofs.Changed.{map-reverse}
 use Rattle.mvt_edit_steps.specs.Prepared.{IsPrepared}
 use Rattle.mvt_history.specs.Marks.{between, counted_from}
 use Rattle.mvt_history.specs.declared.marks.Mark.{Mark as HeldMark}

@@ -5,7 +5,7 @@ use Rattle.mvt_document.specs.Stands.{document_of}
 use Rattle.mvt_change.specs.declared.change.Step.{Step}
 use Rattle.mvt_change.specs.ChangeStands.{step_of}
 use Rattle.mvt_change.specs.Changes.{turn}
-use Rattle.mvt_change.proofs.Ranges.{map-reverse}
+use Rattle.mvt_change.proofs.Changed.{map-reverse}
 use Rattle.mvt_change.proofs.flip_change.flip.Goals as goal
 
 pub returns-clause-change : goal.returns-clause-change

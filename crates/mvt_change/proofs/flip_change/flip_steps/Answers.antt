@@ -1,7 +1,7 @@
 use Rattle.std.proofs.Common.{◌-◌, ◌≤◌, map, reverse, length, take, sym, ap, ◌∙◌, arith}
-use Rattle.std.proofs.lemmas.List.{take_all, drop_all, reverse-reverse}
+use Rattle.std.proofs.lemmas.List.{length-append, length-take, length-drop, take_all, drop_all, reverse-reverse}
 use Rattle.mvt_change.specs.ChangeStands.{step_of}
-use Rattle.mvt_change.proofs.Ranges.{map-reverse, within_stays}
+use Rattle.mvt_change.proofs.Changed.{map-reverse}
 use Rattle.mvt_change.proofs.Underway.{ends, run_fits, run_on, made_have_room, goes_back, turned_back}
 use Rattle.mvt_change.proofs.flip_change.flip_steps.Goals as goal
 
@@ -27,12 +27,9 @@ returns-in-Err-clause-steps c =
 
 pub loop-made-preserved : goal.loop-made-preserved
 loop-made-preserved c =
-    let long = c.flip_run.auto.steps in
-    let some = c.run_end-end.ensures.some in
-    let within = c.run_end-end.ensures.within in
     record {
-      within = within_stays c.loop-made.steps c.flip_run.new.steps c.loop-made.made c.run_end-end.result some within (omega (arith, long));
-      under = run_on _ _ c.loop-made.steps c.flip_run.new.steps c.loop-made.made c.run_end-end.result c.loop-made.document c.flip_run.new.document some within (omega (arith, long)) c.loop-made.invariant.under c.in_default.ensures;
+      within = simp (length-append, length-take, length-drop) (omega (arith, c.flip_run.auto.steps, c.run_end-end.ensures.some, c.run_end-end.ensures.within));
+      under = run_on _ _ c.loop-made.steps c.flip_run.new.steps c.loop-made.made c.run_end-end.result c.loop-made.document c.flip_run.new.document c.run_end-end.ensures.some c.run_end-end.ensures.within (omega (arith, c.flip_run.auto.steps)) c.loop-made.invariant.under c.in_default.ensures;
     }
 
 pub returns-clause-document : goal.returns-clause-document
