@@ -8,6 +8,7 @@ use Rattle.mvt_document.specs.declared.document.LayerItem.{LayerItem}
 use Rattle.mvt_document.specs.declared.document.LayerItem.TheVariants as in_layer
 use Rattle.mvt_document.specs.declared.document.TileItem.{TileItem}
 use Rattle.mvt_document.specs.declared.document.TileItem.TheVariants as in_tile
+use Rattle.mvt_splices.proofs.Runs.{zip_same}
 use Rattle.mvt_change.specs.Room.{capacity, KeepsList, KeepsField, KeepsMessage, KeepsLayerItem, KeepsTileItem, KeepsDocument}
 use Rattle.mvt_change.specs.HeldChanges.{ExchangesFirst, exchanged, held_moved, HasRoom, CanMoveHeld}
 use Rattle.mvt_change.proofs.Splicing.{length-part, length-splice, length-moved, splice-back, moved-back}
@@ -19,12 +20,8 @@ pub record Order {T : Type 0} (Keeps : T → T → Type 0) : Type 0 where
   pub joined : (x y z : T) → Keeps x y → Keeps y z → Keeps x z
 
 module _ {T : Type 0} {Keeps : T → T → Type 0} (order : Order Keeps) where
-  pub zip_same : (xs : List T) → AllZip Keeps xs xs
-  zip_same [] = tt
-  zip_same (x ∷ xs) = (order.same x, zip_same xs)
-
   pub kept_items : (old new : Held T) → new.items ≡ old.items → capacity old ≤ capacity new → KeepsList Keeps old new
-  kept_items old new same room = record { items = subst (AllZip Keeps old.items) (sym same) (zip_same old.items); room = room }
+  kept_items old new same room = record { items = subst (AllZip Keeps old.items) (sym same) (zip_same Keeps order.same old.items); room = room }
 
   zip_joined : (xs ys zs : List T) → AllZip Keeps xs ys → AllZip Keeps ys zs → AllZip Keeps xs zs
   zip_joined [] [] zs first second = second
@@ -37,7 +34,7 @@ module _ {T : Type 0} {Keeps : T → T → Type 0} (order : Order Keeps) where
       record { items = zip_joined a.items b.items c.items first.items second.items; room = omega (arith, first.room, second.room) }
 
   list_same : (a : Held T) → KeepsList Keeps a a
-  list_same a = record { items = zip_same a.items; room = omega arith }
+  list_same a = record { items = zip_same Keeps order.same a.items; room = omega arith }
 
 pub field_order : Order KeepsField
 field_order = record { same = λ x. refl; joined = λ x y z first second. first ∙ second }
@@ -129,7 +126,7 @@ module _ {T : Type 0} (Keeps : T → T → Type 0) where
 module _ {T : Type 0} {Keeps : T → T → Type 0} (order : Order Keeps) where
   pub exchanged_keeps : (index taken : ℕ) (put a b : Held T) → KeepsList Keeps a b → KeepsList Keeps (exchanged index taken put a) (exchanged index taken put b)
   exchanged_keeps index taken put a b keeps =
-      let items = zip_splice Keeps index taken put.items put.items a.items b.items (zip_same order put.items) keeps.items in
+      let items = zip_splice Keeps index taken put.items put.items a.items b.items (zip_same Keeps order.same put.items) keeps.items in
       record { items = items; room = omega (arith, keeps.room, length_all_zip Keeps (splice index taken put.items a.items) (splice index taken put.items b.items) items) }
 
   -- ---- what was taken out goes back for what was put
