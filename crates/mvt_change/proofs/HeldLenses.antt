@@ -16,7 +16,7 @@ use Rattle.mvt_change.specs.Changes.{Place, OfTheTile, OfTheLayer, OfTheFeature}
 use Rattle.mvt_change.specs.HeldLists.{HeldItemAt, KeepsItemAt, held_list_at, change_held_list}
 use Rattle.mvt_change.specs.Room.{capacity, KeepsList, KeepsField, KeepsLayerItem, KeepsTileItem, KeepsDocument}
 use Rattle.mvt_change.specs.HeldChanges.{ExchangesFirst, TakesOut, exchanged}
-use Rattle.mvt_document.proofs.Options.{some_each}
+use Rattle.mvt_document.proofs.Options.{where_some, some_each}
 use Rattle.mvt_change.proofs.Keeping.{Order, field_order, layer_item_order, tile_item_order, document_order}
 use Rattle.mvt_change.proofs.Lenses.{IsPart, find_at, part_at, part_through}
 
@@ -181,15 +181,11 @@ module _ (place : Place) where
       subst (KeepsDocument a) (sym (part.twice f g)) (subst (λ b. KeepsDocument b (change_held_list place h a)) part.same made)
 
   -- what the list was made is what was made of the document
-  made_keeps_found : (f : Items → Items) (a b : Document) (o : Option Items) → held_list_at place a ≡ o → IsSomeAnd o (λ x. (made : Items) × Keeps (f x) made × (b ≡ change_held_list place (λ y. made) a)) → KeepsDocument (change_held_list place f a) b
-  made_keeps_found f a b None is there = absurd there
-  made_keeps_found f a b (Some x) is there =
-      let made = there.0 in
-      let both : Alike (λ y z. Keeps (f y) made) (held_list_at place a) (held_list_at place a) = subst (λ o. Alike (λ y z. Keeps (f y) made) o o) (sym is) there.1 in
-      subst (KeepsDocument (change_held_list place f a)) (sym there.2) ((list_matched place a a).changes f (λ y. made) (document_order.same a) both)
-
   pub made_keeps : (f : Items → Items) (a b : Document) → IsSomeAnd (held_list_at place a) (λ x. (made : Items) × Keeps (f x) made × (b ≡ change_held_list place (λ y. made) a)) → KeepsDocument (change_held_list place f a) b
-  made_keeps f a b there = made_keeps_found f a b (held_list_at place a) refl there
+  made_keeps f a b there =
+      where_some (held_list_at place a) _ (λ o. held_list_at place a ≡ o → KeepsDocument (change_held_list place f a) b) (λ x p is.
+      let both = subst (λ o. Alike (λ y z. Keeps (f y) p.0) o o) (sym is) p.1 in
+      subst (KeepsDocument (change_held_list place f a)) (sym p.2) ((list_matched place a a).changes f (λ y. p.0) (document_order.same a) both)) there refl
 
   pub made_or_kept : (done : Bool) (f : Items → Items) (a b : Document) → IsSomeAnd (held_list_at place a) (λ x. (made : Items) × Keeps (cond done (f x) x) made × (b ≡ change_held_list place (λ y. made) a)) → KeepsDocument (cond done (change_held_list place f a) a) b
   made_or_kept true f a b there = made_keeps f a b there
@@ -206,9 +202,6 @@ module _ (place : Place) (done : Bool) (index taken : ℕ) (put : Held (HeldItem
       made_or_kept place done (exchanged index taken put) document after
       (some_each (held_list_at place document) Exchanges _ (λ list p. (p.0, subst (λ ps. KeepsList (KeepsItemAt place) (cond done (exchanged index taken (slice_index_or ps 0 put) list) list) p.0) is (p.1.kept put), p.2)) there)
 
-  given_found : (o : Option (Held (HeldItemAt place))) → IsSomeAnd o Exchanges → TakesOut index taken done o put (slice_index_or left 0 put)
-  given_found None there = absurd there
-  given_found (Some list) there = subst (λ ps. TakesOut index taken done (Some list) (slice_index_or ps 0 put) (slice_index_or left 0 put)) is (there.1.given put)
-
   pub first_given : IsSomeAnd (held_list_at place document) Exchanges → TakesOut index taken done (held_list_at place document) put (slice_index_or left 0 put)
-  first_given there = given_found (held_list_at place document) there
+  first_given there =
+      where_some (held_list_at place document) Exchanges (λ o. TakesOut index taken done o put (slice_index_or left 0 put)) (λ list p. subst (λ ps. TakesOut index taken done (Some list) (slice_index_or ps 0 put) (slice_index_or left 0 put)) is (p.1.given put)) there

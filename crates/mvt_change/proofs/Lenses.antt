@@ -54,11 +54,11 @@ module _ {A X : Type 0} {find : A → Option X} {change : (X → X) → A → A}
 
 -- ---- through another part
 
-module _ {X Y : Type 0} {deeper : X → Option Y} {deep : (Y → Y) → X → X} (second : (x : X) → IsPart deeper deep x) where
-  through_found : (f : Y → Y) (o : Option X) → option_and_then deeper (option_map (deep f) o) ≡ option_map f (option_and_then deeper o)
-  through_found f None = refl
-  through_found f (Some x) = (second x).found f
+pub through_found : {X Y V W : Type 0} (deeper : X → Option V) (other : Y → Option W) (h : X → Y) (k : V → W) → ((x : X) → other (h x) ≡ option_map k (deeper x)) → (o : Option X) → option_and_then other (option_map h o) ≡ option_map k (option_and_then deeper o)
+through_found deeper other h k each None = refl
+through_found deeper other h k each (Some x) = each x
 
+module _ {X Y : Type 0} {deeper : X → Option Y} {deep : (Y → Y) → X → X} (second : (x : X) → IsPart deeper deep x) where
   through_alike : (f g : Y → Y) (o : Option X) → IfSome (option_and_then deeper o) (λ y. f y ≡ g y) → IfSome o (λ x. deep f x ≡ deep g x)
   through_alike f g None same = tt
   through_alike f g (Some x) same = (second x).alike f g same
@@ -75,7 +75,7 @@ module _ {X Y : Type 0} {deeper : X → Option Y} {deep : (Y → Y) → X → X}
 module _ {A X Y : Type 0} {find : A → Option X} {change : (X → X) → A → A} {deeper : X → Option Y} {deep : (Y → Y) → X → X} {a : A} where
   pub part_through : IsPart find change a → ((x : X) → IsPart deeper deep x) → IsPart (λ (b : A). option_and_then deeper (find b)) (λ (f : Y → Y) b. change (deep f) b) a
   part_through first second = record {
-    found = λ f. ap (option_and_then deeper) (first.found (deep f)) ∙ through_found second f (find a);
+    found = λ f. ap (option_and_then deeper) (first.found (deep f)) ∙ through_found deeper deeper (deep f) f (λ x. (second x).found f) (find a);
     same = (λ i. change (λ x. (second x).same i) a) ∙ first.same;
     twice = λ f g. first.twice (deep f) (deep g) ∙ (λ i. change (λ x. (second x).twice f g i) a);
     alike = λ f g same. first.alike (deep f) (deep g) (through_alike second f g (find a) same);

@@ -1,9 +1,11 @@
 -- Steps on one list, one after the other: what a pass over them makes, and where they end.
-use Rattle.std.proofs.Common.{◌≡◌, ◌≢◌, ℕ, zero, suc, ◌+◌, ◌-◌, ◌<◌, ◌≤◌, Bool, true, false, cond, List, [], ◌∷◌, length, length-drop, map, take, drop, get_or, slice_index_or, slice_set, Option, Some, None, option_map, refl, sym, ap, ◌∙◌, subst, arith}
+use Rattle.std.proofs.Common.{◌≡◌, ◌≢◌, ℕ, zero, suc, ◌+◌, ◌-◌, ◌<◌, ◌≤◌, Bool, true, false, cond, List, [], ◌∷◌, length, length-drop, map, take, drop, get_or, slice_index_or, slice_set, Option, Some, None, option_map, refl, sym, ap, ◌∙◌, subst, add-zero, arith}
 use Rattle.std.specs.Prelude.{Result, Ok, Err, is_ok, OnOk, OnErr}
 use Rattle.std.specs.List.{AllByRecursion, AllZip}
 use Rattle.std.specs.Option.{IsSomeAnd}
+use Rattle.std.proofs.Math.Seq.{take-suc}
 use Rattle.std.proofs.lemmas.List.{get_or-drop}
+use Rattle.mvt_document.proofs.EachItem.{all_joined}
 use Rattle.mvt_document.specs.Held.{Held}
 use Rattle.mvt_document.specs.Splicing.{part}
 use Rattle.mvt_document.specs.Stands.{document_of}
@@ -20,7 +22,7 @@ use Rattle.mvt_change.specs.Room.{capacity, KeepsList, KeepsDocument}
 use Rattle.mvt_change.specs.HeldChanges.{HasHeldPart, exchanged, go_action, go_held_step, go_held, FindsAction, IsBack, IsTurnedAction, IsTurned, AreTurned, AreFlipped}
 use Rattle.mvt_change.specs.Runs.{tile_splice, layer_splice, feature_splice, turned_in_tile, turned_in_layer, turned_in_feature, held_part, IsRoomierStep, IsOn, SharesList, IsRun, exchanged_all, AreMade, PassesOver}
 use Rattle.mvt_change.specs.RunLaws.{roomy_tile, roomy_layer, roomy_feature}
-use Rattle.mvt_document.proofs.Options.{some_each}
+use Rattle.mvt_document.proofs.Options.{where_some, some_each}
 use Rattle.mvt_change.proofs.Splicing.{length-part}
 use Rattle.mvt_change.proofs.Keeping.{Order, kept_items}
 use Rattle.mvt_change.proofs.HeldLenses.{list_part, made_or_kept}
@@ -138,14 +140,11 @@ module _ (place : Place) where
       let rest = fit steps (go_held_step step document) (made_of step list) all.1 (next_found step document list all.0 found) (subst (Fits (map step_of steps)) (sym (action_stands (action_of step) document)) fits.1) in
       (within, subst (FitAll splice_of steps) (length-spliced (splice_of step) list.items within) rest)
 
-  some_fit : (steps : List Step) (document : Document) (o : Option Items) (P : Items → Type 0) → held_list_at place document ≡ o → IsSomeAnd o P → AllByRecursion (IsOn place) steps → Fits (map step_of steps) (document_of document) → IsSomeAnd o (λ list. FitAll splice_of steps (length list.items))
-  some_fit steps document None P found there all fits = absurd there
-  some_fit steps document (Some list) P found there all fits = fit steps document list all found fits
-
   -- the list is there, and the steps fit it
   pub all_fit : (steps : List Step) (document : Document) → 0 < length steps → AllByRecursion (IsOn place) steps → Fits (map step_of steps) (document_of document) → IsSomeAnd (held_list_at place document) (λ list. FitAll splice_of steps (length list.items))
   all_fit [] document some all fits = absurd (omega arith)
-  all_fit (step ∷ steps) document some all fits = some_fit (step ∷ steps) document (held_list_at place document) _ refl (finds step steps document all.0 fits) all fits
+  all_fit (step ∷ steps) document some all fits =
+      where_some (held_list_at place document) _ (λ o. held_list_at place document ≡ o → IsSomeAnd o (λ list. FitAll splice_of (step ∷ steps) (length list.items))) (λ list there found. fit (step ∷ steps) document list all found fits) (finds step steps document all.0 fits) refl
 
   are_turned : (steps roomy : List Step) (document : Document) (list : Items) → AllByRecursion (IsOn place) steps → AllZip IsRoomierStep steps roomy → held_list_at place document ≡ Some list → FitAll splice_of steps (length list.items)
       → AreTurned steps document (turned_all splice_of (turned_on place) roomy list.items)
@@ -185,15 +184,10 @@ module _ (place : Place) where
 
 -- ---- one step more on the same list
 
-all_more : {A : Type 0} (P : A → Type 0) (items : List A) (n : ℕ) (d : A) → n < length items → AllByRecursion P (take n items) → P (get_or items n d) → AllByRecursion P (take (suc n) items)
-all_more P [] n d within all last = absurd (omega arith)
-all_more P (x ∷ items) zero d within all last = (last, tt)
-all_more P (x ∷ items) (suc n) d within all last = (all.0, all_more P items n d (omega arith) all.1 last)
-
 run_grows : (steps : List Step) (n : ℕ) (d e : Step) → 0 < n → n < length steps → IsRun (take n steps) → SharesList (get_or steps 0 d) (get_or steps n e) → IsRun (take (suc n) steps)
 run_grows [] n d e some within run shares = absurd (omega arith)
 run_grows (first ∷ steps) zero d e some within run shares = absurd (omega arith)
-run_grows (first ∷ steps) (suc n) d e some within run shares = all_more (SharesList first) steps n e (omega arith) run shares
+run_grows (first ∷ steps) (suc n) d e some within run shares = subst (AllByRecursion (SharesList first)) (sym (take-suc steps n e (omega arith))) (all_joined (SharesList first) (take n steps) (get_or steps n e ∷ []) run (shares, tt))
 
 pub run_more : (steps : List Step) (start end : ℕ) (d e : Step) → start < end → end < length steps → IsRun (take (end - start) (drop start steps)) → d ≡ get_or steps start d → e ≡ get_or steps end e → SharesList d e → IsRun (take (end + 1 - start) (drop start steps))
 run_more steps start end d e some within run d_is e_is shares =
@@ -202,10 +196,7 @@ run_more steps start end d e some within run d_is e_is shares =
     let long : length rest ≡ length steps - start = length-drop start steps in
     let more : end + 1 - start ≡ suc n = omega arith in
     let last : start + n ≡ end = omega arith in
-    let first : start + 0 ≡ start = omega arith in
-    let first_is : get_or rest 0 d ≡ d = get_or-drop start steps 0 d ∙ ap (λ k. get_or steps k d) first ∙ sym d_is in
-    let last_is : get_or rest n e ≡ e = get_or-drop start steps n e ∙ ap (λ k. get_or steps k e) last ∙ sym e_is in
-    let shares_there : SharesList (get_or rest 0 d) (get_or rest n e) = subst (λ s. SharesList s (get_or rest n e)) (sym first_is) (subst (SharesList d) (sym last_is) shares) in
+    let shares_there : SharesList (get_or rest 0 d) (get_or rest n e) = rw (get_or-drop start steps 0 d, get_or-drop start steps n e, last, add-zero, ← d_is, ← e_is) shares in
     subst (λ k. IsRun (take k rest)) (sym more) (run_grows rest n d e (omega arith) (omega arith) run shares_there)
 
 -- ---- the list of a run

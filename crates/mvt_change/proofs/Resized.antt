@@ -9,6 +9,7 @@ use Rattle.mvt_document.specs.Plain.{Field, Feature, LayerItem, OfFeature, Plain
 use Rattle.mvt_document.specs.Wire.{spell, minimal_width, delimited, field_bytes, layer_item_bytes, tile_item_bytes, bytes_of}
 use Rattle.mvt_document.specs.Kept.{bytes_beside}
 use Rattle.mvt_document.specs.Splicing.{splice, moved}
+use Rattle.mvt_document.proofs.Options.{where_some}
 use Rattle.mvt_document.proofs.Beside.{spliced_size, moved_size}
 use Rattle.mvt_document.proofs.Sizes.{length-message}
 use Rattle.mvt_document.specs.Lists.{change_at}
@@ -104,8 +105,7 @@ module _ (at : ℕ) (items : List LayerItem) (feature : Feature) (Q : List Field
   of_fields_there so = subst (λ found. IfSome (option_and_then fields_in found) Q) there so
 
 pub some_found : {A : Type 0} (found : Option A) (Q : A → Type 0) → IsSomeAnd found Q → IsSome found
-some_found None Q some = absurd some
-some_found (Some x) Q some = refl
+some_found found Q some = where_some found Q IsSome (λ x holds. refl) some
 
 pub some_around : {A B : Type 0} (deeper : A → Option B) (found : Option A) → IsSome (option_and_then deeper found) → IsSome found
 some_around deeper None some = some

@@ -1,5 +1,5 @@
 -- What leads back from a change fits, leads back, and turned again is the change.
-use Rattle.std.proofs.Common.{◌≡◌, ℕ, List, [], ◌∷◌, ◌++◌, length, Option, Some, None, option_map, append_assoc, refl, sym, ap, ◌∙◌, subst, arith}
+use Rattle.std.proofs.Common.{◌≡◌, [], ◌∷◌, ◌++◌, length, option_map, append_assoc, refl, sym, ap, ◌∙◌, subst, arith}
 use Rattle.std.specs.List.{AllByRecursion}
 use Rattle.std.specs.Option.{IfSome, IsSomeAnd}
 use Rattle.std.proofs.lemmas.List.{append-nil}
@@ -10,28 +10,9 @@ use Rattle.mvt_document.specs.Splicing.{splice, moved}
 use Rattle.mvt_document.specs.Lists.{CanSplice, CanMove}
 use Rattle.mvt_change.specs.Changes.{Step, SpliceStep, MoveStep, Change, list_at, change_list, IsItemAt, go_step, go, FitsStep, Fits, turn_step, turn, taken_out}
 use Rattle.mvt_change.specs.Laws.{ChangeMakesDocument, TurnedFits, TurnedLeadsBack, TurnedTwice, JoinedGo, JoinedFit}
-use Rattle.mvt_document.proofs.Options.{if_each, if_both, some_mapped}
+use Rattle.mvt_document.proofs.Options.{where_some, if_each, if_both, some_mapped}
 use Rattle.mvt_change.proofs.Splicing.{length-part, part-splice, splice-back, moved-back, all_splice, all_moved, can_splice_back, can_move_back}
 use Rattle.mvt_change.proofs.Lenses.{goes_back, found_there, list_part, list_sound}
-
--- ---- a splice of the list that there is
-
-module _ {Y : Type 0} (P : Y → Type 0) (index taken : ℕ) (put : List Y) where
-  spliced_back : (o : Option (List Y)) → IsSomeAnd o (CanSplice P index taken put) → IfSome o (λ x. splice index (length put) (taken_out index taken o) (splice index taken put x) ≡ x)
-  spliced_back None can = tt
-  spliced_back (Some x) can = let within = can.within in splice-back index taken put x (omega (arith, within))
-
-  spliced_fits : (o : Option (List Y)) → IfSome o (AllByRecursion P) → IsSomeAnd o (CanSplice P index taken put) → IsSomeAnd (option_map (splice index taken put) o) (CanSplice P index (length put) (taken_out index taken o))
-  spliced_fits None all can = can
-  spliced_fits (Some x) all can = can_splice_back P index taken put x all can
-
-  spliced_put : (o : Option (List Y)) → IsSomeAnd o (CanSplice P index taken put) → taken_out index (length put) (option_map (splice index taken put) o) ≡ put
-  spliced_put None can = absurd can
-  spliced_put (Some x) can = let within = can.within in part-splice index taken put x (omega (arith, within))
-
-  spliced_count : (o : Option (List Y)) → IsSomeAnd o (CanSplice P index taken put) → length (taken_out index taken o) ≡ taken
-  spliced_count None can = absurd can
-  spliced_count (Some x) can = length-part index taken x can.within
 
 -- ---- one step
 
@@ -46,25 +27,30 @@ step_makes (MoveStep place from to) document valid fits =
 
 pub turned_step_fits : (step : Step) (document : Document) → IsDocument document → FitsStep step document → FitsStep (turn_step step document) (go_step step document)
 turned_step_fits (SpliceStep place index taken put) document valid fits =
-    found_there (list_part place document) (splice index taken put) (CanSplice (IsItemAt place) index (length put) (taken_out index taken (list_at place document)))
-    (spliced_fits (IsItemAt place) index taken put (list_at place document) ((list_sound place document).part_good valid) fits)
+    let P = IsItemAt place in
+    let list = list_at place document in
+    found_there (list_part place document) (splice index taken put) (CanSplice P index (length put) (taken_out index taken list))
+    (where_some list (CanSplice P index taken put) (λ o. IfSome o (AllByRecursion P) → IsSomeAnd (option_map (splice index taken put) o) (CanSplice P index (length put) (taken_out index taken o))) (λ x can all. can_splice_back P index taken put x all can) fits
+    ((list_sound place document).part_good valid))
 turned_step_fits (MoveStep place from to) document valid fits =
     found_there (list_part place document) (moved from to) (CanMove to from)
     (some_mapped (moved from to) (list_at place document) (CanMove from to) (CanMove to from) (can_move_back from to) fits)
 
 pub turned_step_back : (step : Step) (document : Document) → FitsStep step document → go_step (turn_step step document) (go_step step document) ≡ document
 turned_step_back (SpliceStep place index taken put) document fits =
-    goes_back (list_part place document) (splice index taken put) (splice index (length put) (taken_out index taken (list_at place document)))
-    (spliced_back (IsItemAt place) index taken put (list_at place document) fits)
+    let list = list_at place document in
+    goes_back (list_part place document) (splice index taken put) (splice index (length put) (taken_out index taken list))
+    (where_some list (CanSplice (IsItemAt place) index taken put) (λ o. IfSome o (λ x. splice index (length put) (taken_out index taken o) (splice index taken put x) ≡ x)) (λ x can. splice-back index taken put x (omega (arith, can.within))) fits)
 turned_step_back (MoveStep place from to) document fits =
     goes_back (list_part place document) (moved from to) (moved to from) (if_each (list_at place document) _ _ (moved-back from to) fits)
 
 pub turned_step_twice : (step : Step) (document : Document) → FitsStep step document → turn_step (turn_step step document) (go_step step document) ≡ step
 turned_step_twice (SpliceStep place index taken put) document fits =
-    let found = list_at place document in
-    ap (λ n. SpliceStep place index n (taken_out index (length put) (list_at place (change_list place (splice index taken put) document)))) (spliced_count (IsItemAt place) index taken put found fits)
+    let list = list_at place document in
+    let Can = CanSplice (IsItemAt place) index taken put in
+    ap (λ n. SpliceStep place index n (taken_out index (length put) (list_at place (change_list place (splice index taken put) document)))) (where_some list Can (λ o. length (taken_out index taken o) ≡ taken) (λ x can. length-part index taken x can.within) fits)
     ∙ ap (λ o. SpliceStep place index taken (taken_out index (length put) o)) ((list_part place document).found (splice index taken put))
-    ∙ ap (SpliceStep place index taken) (spliced_put (IsItemAt place) index taken put found fits)
+    ∙ ap (SpliceStep place index taken) (where_some list Can (λ o. taken_out index (length put) (option_map (splice index taken put) o) ≡ put) (λ x can. part-splice index taken put x (omega (arith, can.within))) fits)
 turned_step_twice (MoveStep place from to) document fits = refl
 
 -- ---- joined changes

@@ -3,6 +3,11 @@ use Rattle.std.proofs.Common.{◌≡◌, Option, Some, None, option_map, sym, su
 use Rattle.std.specs.Option.{IfSome, IsSomeAnd}
 
 module _ {X : Type 0} where
+  -- what holds of an option where it has something of which this holds
+  pub where_some : (o : Option X) (P : X → Type 0) (Q : Option X → Type 0) → ((x : X) → P x → Q (Some x)) → IsSomeAnd o P → Q o
+  where_some None P Q each there = absurd there
+  where_some (Some x) P Q each there = each x there
+
   pub some_each : (o : Option X) (P Q : X → Type 0) → ((x : X) → P x → Q x) → IsSomeAnd o P → IsSomeAnd o Q
   some_each None P Q each there = absurd there
   some_each (Some x) P Q each there = each x there
