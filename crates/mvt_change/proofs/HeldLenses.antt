@@ -197,11 +197,9 @@ module _ (place : Place) (done : Bool) (index taken : ℕ) (put : Held (HeldItem
   abbrev Exchanges : Held (HeldItemAt place) → Type 0
   Exchanges list = (made : Held (HeldItemAt place)) × ExchangesFirst (KeepsItemAt place) index taken done list made puts left × (after ≡ change_held_list place (λ x. made) document)
 
-  pub first_kept : IsSomeAnd (held_list_at place document) Exchanges → KeepsDocument (cond done (change_held_list place (exchanged index taken put) document) document) after
-  first_kept there =
-      made_or_kept place done (exchanged index taken put) document after
-      (some_each (held_list_at place document) Exchanges _ (λ list p. (p.0, subst (λ ps. KeepsList (KeepsItemAt place) (cond done (exchanged index taken (slice_index_or ps 0 put) list) list) p.0) is (p.1.kept put), p.2)) there)
-
-  pub first_given : IsSomeAnd (held_list_at place document) Exchanges → TakesOut index taken done (held_list_at place document) put (slice_index_or left 0 put)
-  first_given there =
-      where_some (held_list_at place document) Exchanges (λ o. TakesOut index taken done o put (slice_index_or left 0 put)) (λ list p. subst (λ ps. TakesOut index taken done (Some list) (slice_index_or ps 0 put) (slice_index_or left 0 put)) is (p.1.given put)) there
+  pub first_exchanged : IsSomeAnd (held_list_at place document) Exchanges → KeepsDocument (cond done (change_held_list place (exchanged index taken put) document) document) after × TakesOut index taken done (held_list_at place document) put (slice_index_or left 0 put)
+  first_exchanged there = (
+    made_or_kept place done (exchanged index taken put) document after
+        (some_each (held_list_at place document) Exchanges _ (λ list p. (p.0, subst (λ ps. KeepsList (KeepsItemAt place) (cond done (exchanged index taken (slice_index_or ps 0 put) list) list) p.0) is (p.1.kept put), p.2)) there),
+    where_some (held_list_at place document) Exchanges (λ o. TakesOut index taken done o put (slice_index_or left 0 put)) (λ list p. subst (λ ps. TakesOut index taken done (Some list) (slice_index_or ps 0 put) (slice_index_or left 0 put)) is (p.1.given put)) there,
+  )
