@@ -1,8 +1,8 @@
 -- How many bytes a list takes of which a part is exchanged, an item is changed, or an item moves; and a message around it.
-use Rattle.std.proofs.Common.{◌≡◌, ℕ, zero, suc, ◌+◌, ◌≤◌, max, not, ltb, Option, Some, None, is_some, List, [], ◌∷◌, ◌++◌, length, length-append, slice_get, take, map, refl, sym, ap, ◌∙◌, subst, inl, inr, arith}
+use Rattle.std.proofs.Common.{◌≡◌, ℕ, zero, suc, ◌+◌, ◌≤◌, max, not, ltb, Option, Some, None, is_some, List, [], ◌∷◌, ◌++◌, length, length-append, slice_get, take, map, refl, sym, ap, ◌∙◌, subst, arith}
 use Rattle.std.specs.List.{flat_map}
 use Rattle.std.specs.Option.{IfSome, IsSome, IsSomeAnd, SomeIff, option_and_then}
-use Rattle.std.proofs.lemmas.Bool.{cases_lt, lt-ltb, le-ltb}
+use Rattle.std.proofs.lemmas.Bool.Decides.{nat_tests}
 use Rattle.std.proofs.lemmas.List.Folds.{flat_map-map}
 use Rattle.std.proofs.lemmas.Option.{same_Some}
 use Rattle.mvt_document.specs.Plain.{Field, Feature, LayerItem, OfFeature, PlainInLayer, Layer, TileItem, OfLayer, PlainInTile, Document}
@@ -18,12 +18,8 @@ use Rattle.mvt_change.specs.Changes.{Place, OfTheTile, OfTheLayer, OfTheFeature,
 use Rattle.mvt_change.proofs.Changed.{map-splice}
 
 pub fits_so : (limit : ℕ) (told : Option ℕ) (n : ℕ) → SomeIff told (n ≤ limit) n → is_some told ≡ not (ltb limit n)
-fits_so limit None n none =
-    elim (cases_lt limit n) [
-      | inl over ↦ sym (ap not (lt-ltb limit n over))
-      | inr within ↦ absurd (none within)
-    ]
-fits_so limit (Some m) n some = sym (ap not (le-ltb limit n some.0))
+fits_so limit None n none = grind (arith, nat_tests)
+fits_so limit (Some m) n some = grind (arith, nat_tests)
 
 -- ---- a part of a list
 

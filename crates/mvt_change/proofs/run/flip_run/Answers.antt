@@ -1,4 +1,4 @@
-use Rattle.std.proofs.Common.{◌≡◌, length, ap, arith}
+use Rattle.std.proofs.Common.{ap, arith}
 use Rattle.mvt_change.specs.Changes.{OfTheTile, OfTheLayer, OfTheFeature}
 use Rattle.mvt_change.specs.ChangeStands.{action_of, spliced_place}
 use Rattle.mvt_change.proofs.ListRuns.{only_fits, run_is_on, move_is_alone, one_flipped}
@@ -6,8 +6,7 @@ use Rattle.mvt_change.proofs.run.flip_run.Goals as goal
 
 pub flip_step-requires : goal.flip_step-requires
 flip_step-requires c =
-    let one : length c.args.steps.now ≡ 1 = omega arith in
-    only_fits c.args.steps.now c.index-steps-0.result c.args.document.now one c.requires.fits
+    only_fits c.args.steps.now c.index-steps-0.result c.args.document.now (omega arith) c.requires.fits
 
 pub run_in_tile-requires-clause-tile : goal.run_in_tile-requires-clause-tile
 run_in_tile-requires-clause-tile c =
@@ -23,9 +22,8 @@ run_in_feature-requires-clause-feature c =
 
 pub returns-then-steps-eq1 : goal.returns-then-steps-eq1
 returns-then-steps-eq1 c =
-    let one : length c.args.steps.now ≡ 1 = omega arith in
     let met = c.flip_step.ensures in
-    one_flipped c.flip_step.result c.args.steps.now c.index-steps-0.result c.flip_step.new.step c.args.document.now c.flip_step.new.document one met.kept met.turned met.same
+    one_flipped c.flip_step.result c.args.steps.now c.index-steps-0.result c.flip_step.new.step c.args.document.now c.flip_step.new.document (omega arith) met.kept met.turned met.same
 
 pub unreachable-requires : goal.unreachable-requires
 unreachable-requires c = move_is_alone c.args.steps.now _ c.in-Move.place c.in-Move.from c.in-Move.to c.in-Move.is c.if-steps-eq1.false c.requires.run

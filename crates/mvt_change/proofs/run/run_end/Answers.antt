@@ -1,4 +1,4 @@
-use Rattle.std.proofs.Common.{◌<◌, length, arith}
+use Rattle.std.proofs.Common.{arith}
 use Rattle.mvt_change.proofs.ListRuns.{run_more}
 use Rattle.mvt_change.proofs.run.run_end.Goals as goal
 
@@ -6,10 +6,8 @@ pub loop-end-preserved : goal.loop-end-preserved
 loop-end-preserved c =
     let end = c.loop-end.end in
     let steps = c.args.steps.now in
-    let some : c.args.start < end = c.loop-end.invariant.some in
-    let within : end < length steps = omega arith in
     record {
       some = omega arith;
       within = omega arith;
-      run = run_more steps c.args.start end c.index-steps-start.result c.index-steps-end.result some within c.loop-end.invariant.run c.index-steps-start.is c.index-steps-end.is (c.shares_list.ensures c.if-shares_list.true);
+      run = run_more steps c.args.start end c.index-steps-start.result c.index-steps-end.result c.loop-end.invariant.some (omega arith) c.loop-end.invariant.run c.index-steps-start.is c.index-steps-end.is (c.shares_list.ensures c.if-shares_list.true);
     }

@@ -1,7 +1,8 @@
-use Rattle.std.proofs.Common.{length, length-append, ap, ◌∙◌, arith}
+use Rattle.std.proofs.Common.{◌≡◌, ◌+◌, List, ◌++◌, length, length-append, ap, ◌∙◌, arith}
 use Rattle.std.proofs.lemmas.List.Concat.{flat_map-append}
 use Rattle.std.specs.List.{flat_map}
 use Rattle.mvt_document.specs.declared.TheConstants.{MAX_FILE}
+use Rattle.mvt_document.specs.Plain.{LayerItem}
 use Rattle.mvt_document.specs.Stands.{layer_of}
 use Rattle.mvt_document.specs.Wire.{layer_item_bytes}
 use Rattle.mvt_document.specs.Lists.{change_at}
@@ -9,10 +10,12 @@ use Rattle.mvt_document.specs.Places.{in_feature}
 use Rattle.mvt_document.proofs.Sizes.{told_so}
 use Rattle.mvt_change.proofs.sizes.size_with_fields.Goals as goal
 
+joined_size : (items more : List LayerItem) → length (flat_map layer_item_bytes (items ++ more)) ≡ length (flat_map layer_item_bytes items) + length (flat_map layer_item_bytes more)
+joined_size items more = ap length (flat_map-append layer_item_bytes items more) ∙ length-append (flat_map layer_item_bytes items) (flat_map layer_item_bytes more)
+
 pub returns : goal.returns
 returns c = λ change more takes comes.
-    let items = change_at (in_feature change) c.args.item (layer_of c.args.layer.now).items in
-    let both = ap length (flat_map-append layer_item_bytes items more) ∙ length-append (flat_map layer_item_bytes items) (flat_map layer_item_bytes more) in
+    let both = joined_size (change_at (in_feature change) c.args.item (layer_of c.args.layer.now).items) more in
     let old = c.items_size.ensures change takes in
     let first = (rw c.in_ok-items_size.was at old).1 in
     let second = (rw c.in_ok-behind.was at comes).1 in
@@ -20,14 +23,12 @@ returns c = λ change more takes comes.
 
 pub returns-in_err-items_size : goal.returns-in_err-items_size
 returns-in_err-items_size c = λ change more takes comes.
-    let items = change_at (in_feature change) c.args.item (layer_of c.args.layer.now).items in
-    let both = ap length (flat_map-append layer_item_bytes items more) ∙ length-append (flat_map layer_item_bytes items) (flat_map layer_item_bytes more) in
+    let both = joined_size (change_at (in_feature change) c.args.item (layer_of c.args.layer.now).items) more in
     let none = rw c.in_err-items_size.was at c.items_size.ensures change takes in
     rw c.from_residual.ensures (λ within. none (omega (arith, both, within)))
 
 pub returns-in_err-behind : goal.returns-in_err-behind
 returns-in_err-behind c = λ change more takes comes.
-    let items = change_at (in_feature change) c.args.item (layer_of c.args.layer.now).items in
-    let both = ap length (flat_map-append layer_item_bytes items more) ∙ length-append (flat_map layer_item_bytes items) (flat_map layer_item_bytes more) in
+    let both = joined_size (change_at (in_feature change) c.args.item (layer_of c.args.layer.now).items) more in
     let none = rw c.in_err-behind.was at comes in
     rw c.from_residual-in_err-behind.ensures (λ within. none (omega (arith, both, within)))
