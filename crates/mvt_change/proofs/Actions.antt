@@ -1,5 +1,5 @@
 -- Actions on documents of the program: that they keep room, what the plain steps are, and what leads back.
-use Rattle.std.proofs.Common.{◌≡◌, ℕ, zero, suc, List, [], ◌∷◌, length, map, Option, Some, None, option_map, refl, sym, ap, ◌∙◌, subst, arith}
+use Rattle.std.proofs.Common.{◌≡◌, ℕ, zero, suc, List, [], ◌∷◌, length, map, Option, Some, None, option_map, refl, ap, ◌∙◌, subst, arith}
 use Rattle.std.specs.Option.{IfSome, IsSomeAnd, option_and_then}
 use Rattle.std.proofs.lemmas.List.{length-map}
 use Rattle.mvt_document.specs.Held.{Held}
@@ -14,7 +14,7 @@ use Rattle.mvt_document.specs.declared.document.LayerItem.TheVariants as in_laye
 use Rattle.mvt_document.specs.declared.document.TileItem.{TileItem}
 use Rattle.mvt_document.specs.declared.document.TileItem.TheVariants as in_tile_item
 use Rattle.mvt_document.specs.declared.document.Document.{Document}
-use Rattle.mvt_change.specs.Changes.{Place, OfTheTile, OfTheLayer, OfTheFeature, SpliceStep, list_at, change_list, IsItemAt, go_step, FitsStep, turn_step, taken_out}
+use Rattle.mvt_change.specs.Changes.{Place, OfTheTile, OfTheLayer, OfTheFeature, list_at, change_list, IsItemAt, go_step, FitsStep, turn_step, taken_out}
 use Rattle.mvt_change.specs.HeldLists.{plain_item, held_list_at, change_held_list, KeepsItemAt}
 use Rattle.mvt_change.specs.ChangeStands.{Action, SpliceAt, MoveAt, plain_step}
 use Rattle.mvt_change.specs.Room.{KeepsList, KeepsDocument}
@@ -97,10 +97,7 @@ taken_stands g index taken (Some list) = map-part g index taken list.items
 
 pub turned_stands : (action : Action) (document : Document) (next : Action) → IsTurnedAction action document next → plain_step next ≡ turn_step (plain_step action) (document_of document)
 turned_stands (SpliceAt place index taken put) document next (back, is, leads) =
-    let g = plain_item place in
-    ap plain_step is
-    ∙ ap (λ n. SpliceStep place index n (map g back.items)) (sym (length-map put.items g))
-    ∙ ap (SpliceStep place index (length (map g put.items))) (ap (map g) leads.items ∙ taken_stands g index taken (held_list_at place document) ∙ ap (taken_out index taken) (sym (list_stands place document).finds))
+    rw (is, length-map put.items (plain_item place), leads.items, taken_stands (plain_item place) index taken (held_list_at place document), (list_stands place document).finds)
 turned_stands (MoveAt place from to) document next is = ap plain_step is
 
 -- one that fits finds its list
@@ -118,21 +115,19 @@ fits_finds (MoveAt place from to) document fits =
 -- the action that leads back has room where the first was carried out, and leads back
 back_has : (action : Action) (document : Document) (next : Action) → FindsAction action document → IsTurnedAction action document next → ActionHasRoom next (go_action action document)
 back_has (SpliceAt place index taken put) document next finds (back, is, leads) =
-    subst (λ n. ActionHasRoom n (go_action (SpliceAt place index taken put) document)) (sym is)
+    rw is
     (found_there (list_part place document) (exchanged index taken put) (HasRoom index (length put.items) back)
     (where_some (held_list_at place document) (HasHeldPart index taken) (λ o. back.items ≡ held_taken_out index taken o → IsSomeAnd (option_map (exchanged index taken put) o) (HasRoom index (length put.items) back)) (λ x there is. back_has_room index taken put back x there is leads.room) finds leads.items))
 back_has (MoveAt place from to) document next finds is =
-    subst (λ n. ActionHasRoom n (go_action (MoveAt place from to) document)) (sym is)
-    (found_there (list_part place document) (held_moved from to) (CanMoveHeld to from) (some_mapped (held_moved from to) (held_list_at place document) (CanMoveHeld from to) (CanMoveHeld to from) (move_back_fits from to) finds))
+    rw is (found_there (list_part place document) (held_moved from to) (CanMoveHeld to from) (some_mapped (held_moved from to) (held_list_at place document) (CanMoveHeld from to) (CanMoveHeld to from) (move_back_fits from to) finds))
 
 back_leads : (action : Action) (document : Document) (next : Action) → FindsAction action document → IsTurnedAction action document next → KeepsDocument document (go_action next (go_action action document))
 back_leads (SpliceAt place index taken put) document next finds (back, is, leads) =
-    subst (λ n. KeepsDocument document (go_action n (go_action (SpliceAt place index taken put) document))) (sym is)
+    rw is
     (leads_there place (exchanged index taken put) (exchanged index (length put.items) back) document
     (where_some (held_list_at place document) (HasHeldPart index taken) (λ o. back.items ≡ held_taken_out index taken o → IfSome o (λ x. KeepsList (KeepsItemAt place) x (exchanged index (length put.items) back (exchanged index taken put x)))) (leads_back (order_at place) index taken put back) finds leads.items))
 back_leads (MoveAt place from to) document next finds is =
-    subst (λ n. KeepsDocument document (go_action n (go_action (MoveAt place from to) document))) (sym is)
-    (leads_there place (held_moved from to) (held_moved to from) document (if_each (held_list_at place document) (CanMoveHeld from to) _ (move_leads_back (order_at place) from to) finds))
+    rw is (leads_there place (held_moved from to) (held_moved to from) document (if_each (held_list_at place document) (CanMoveHeld from to) _ (move_leads_back (order_at place) from to) finds))
 
 module _ (action : Action) (document : Document) (next : Action) (after : Document) (finds : FindsAction action document) (is : IsTurnedAction action document next) (keeps : KeepsDocument (go_action action document) after) where
   pub turned_room : ActionHasRoom next after

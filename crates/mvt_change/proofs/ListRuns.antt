@@ -102,7 +102,7 @@ roomier_stands (Move place from to) t roomy = ap step_of roomy
 roomier_stand : (steps roomy : List Step) → AllZip IsRoomierStep steps roomy → map step_of roomy ≡ map step_of steps
 roomier_stand [] [] all = refl
 roomier_stand (s ∷ steps) (t ∷ roomy) all =
-    ap (λ step. step ∷ map step_of roomy) (roomier_stands s t all.0) ∙ ap (λ rest. step_of s ∷ rest) (roomier_stand steps roomy all.1)
+    rw (roomier_stands s t all.0, roomier_stand steps roomy all.1)
 roomier_stand steps roomy all = absurd all
 
 module _ (place : Place) where
@@ -126,9 +126,7 @@ module _ (place : Place) where
   goes : (steps : List Step) (document : Document) → AllByRecursion (IsOn place) steps → go_held steps document ≡ change_held_list place (exchanged_all splice_of steps) document
   goes [] document all = sym (list_part place document).same
   goes (step ∷ steps) document all =
-      ap (go_held steps) (goes_one step document all.0)
-      ∙ goes steps (change_held_list place (made_of step) document) all.1
-      ∙ (list_part place document).twice (made_of step) (exchanged_all splice_of steps)
+      rw (goes_one step document all.0, goes steps (change_held_list place (made_of step) document) all.1) ((list_part place document).twice (made_of step) (exchanged_all splice_of steps))
 
   finds : (step : Step) (steps : List Step) (document : Document) → IsOn place step → Fits (map step_of (step ∷ steps)) (document_of document) → IsSomeAnd (held_list_at place document) (HasHeldPart (splice_of step).index (splice_of step).taken)
   finds step steps document on fits = subst (λ action. FindsAction action document) (is_splice place step on).is (fits_finds (action_of step) document fits.0)

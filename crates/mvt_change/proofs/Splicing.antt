@@ -19,7 +19,7 @@ length_front index put items within = length-append (take index items) put ∙ a
 -- the front stays, and so does what is behind
 take-splice : {A : Type 0} (index taken : ℕ) (put items : List A) → index ≤ length items → take index (splice index taken put items) ≡ take index items
 take-splice index taken put items within =
-    ap (take index) (append_assoc (take index items) put (drop (index + taken) items)) ∙ take_at (take index items) (put ++ drop (index + taken) items) index (length-take-le index items within)
+    rw append_assoc (take_at (take index items) (put ++ drop (index + taken) items) index (length-take-le index items within))
 
 drop-splice : {A : Type 0} (index taken : ℕ) (put items : List A) → index ≤ length items → drop (index + length put) (splice index taken put items) ≡ drop (index + taken) items
 drop-splice index taken put items within =
@@ -27,24 +27,17 @@ drop-splice index taken put items within =
 
 pub part-splice : {A : Type 0} (index taken : ℕ) (put items : List A) → index ≤ length items → part index (length put) (splice index taken put items) ≡ put
 part-splice index taken put items within =
-    ap (λ xs. take (length put) (drop index xs)) (append_assoc (take index items) put (drop (index + taken) items))
-    ∙ ap (take (length put)) (drop_at (take index items) (put ++ drop (index + taken) items) index (length-take-le index items within))
-    ∙ take_at put (drop (index + taken) items) (length put) refl
+    rw (append_assoc, drop_at (take index items) (put ++ drop (index + taken) items) index (length-take-le index items within)) (take_at put (drop (index + taken) items) (length put) refl)
 
 -- the front, a part and the rest are the list
 pieces_join : {A : Type 0} (index taken : ℕ) (items : List A) → take index items ++ part index taken items ++ drop (index + taken) items ≡ items
 pieces_join index taken items =
-    append_assoc (take index items) (part index taken items) (drop (index + taken) items)
-    ∙ ap (λ rest. take index items ++ (part index taken items ++ rest)) (sym (drop-drop taken index items))
-    ∙ ap (λ rest. take index items ++ rest) (take-append-drop taken (drop index items))
-    ∙ take-append-drop index items
+    rw (append_assoc, ← drop-drop taken index items, take-append-drop, take-append-drop)
 
 -- what was taken out put back for what was put
 pub splice-back : {A : Type 0} (index taken : ℕ) (put items : List A) → index ≤ length items → splice index (length put) (part index taken items) (splice index taken put items) ≡ items
 splice-back index taken put items within =
-    ap (λ front. front ++ part index taken items ++ drop (index + length put) (splice index taken put items)) (take-splice index taken put items within)
-    ∙ ap (λ rest. take index items ++ part index taken items ++ rest) (drop-splice index taken put items within)
-    ∙ pieces_join index taken items
+    rw (take-splice index taken put items within, drop-splice index taken put items within) (pieces_join index taken items)
 
 -- ---- an item that moves
 
@@ -62,7 +55,7 @@ length-moved from to items can =
 
 part-moved : {A : Type 0} (from to : ℕ) (items : List A) → CanMove from to items → part to 1 (moved from to items) ≡ part from 1 items
 part-moved from to items can =
-    let one : length (part from 1 items) ≡ 1 = length-part from 1 items (omega (arith, can.there)) in
+    let one = length-part from 1 items (omega (arith, can.there)) in
     ap (λ n. part to n (moved from to items)) (sym one) ∙ part-splice to 0 (part from 1 items) (without from items) (omega (arith, length-without from items can.there, can.within))
 
 without-moved : {A : Type 0} (from to : ℕ) (items : List A) → CanMove from to items → without to (moved from to items) ≡ without from items

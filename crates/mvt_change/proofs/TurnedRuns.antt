@@ -79,18 +79,10 @@ have_room_joined (step ∷ first) second document room more = (room.0, have_room
 more_fit : (step : Step) (steps : List Step) (document : Document) → Fits (map step_of (step ∷ steps)) (document_of document) → Fits (map step_of steps) (document_of (go_held_step step document))
 more_fit step steps document fits = subst (Fits (map step_of steps)) (sym (action_stands (action_of step) document)) fits.1
 
-last_first : (next : Step) (turned : List Step) → reverse (next ∷ turned) ≡ reverse turned ++ next ∷ []
-last_first next turned = reverse-append (next ∷ []) turned
-
 pub all_stand : (steps : List Step) (document : Document) (turned : List Step) → AreTurned steps document turned → map step_of (reverse turned) ≡ turn (map step_of steps) (document_of document)
 all_stand [] document [] are = refl
 all_stand (step ∷ steps) document (next ∷ turned) are =
-    let plain_steps = map step_of steps in
-    ap (map step_of) (last_first next turned)
-    ∙ map-append step_of (reverse turned) (next ∷ [])
-    ∙ ap (λ front. front ++ step_of next ∷ []) (all_stand steps (go_held_step step document) turned are.1)
-    ∙ ap (λ d. turn plain_steps d ++ step_of next ∷ []) (action_stands (action_of step) document)
-    ∙ ap (λ s. turn plain_steps (go_step (step_of step) (document_of document)) ++ s ∷ []) (turned_stands (action_of step) document (action_of next) are.0)
+    rw (reverse-append (next ∷ []) turned, map-append, all_stand steps (go_held_step step document) turned are.1, action_stands (action_of step) document, turned_stands (action_of step) document (action_of next) are.0)
 all_stand steps document turned are = absurd are
 
 -- what came after has room for all, the last first, and they lead back
@@ -104,7 +96,7 @@ all_lead (step ∷ steps) document (next ∷ turned) fits are =
     let between = go_held (reverse turned) after in
     let room = turned_room (action_of step) document (action_of next) between finds are.0 rest.back in
     let back = turned_leads (action_of step) document (action_of next) between finds are.0 rest.back in
-    subst (λ ts. LeadsBack ts document after) (sym (last_first next turned)) (record {
+    subst (λ ts. LeadsBack ts document after) (sym (reverse-append (next ∷ []) turned)) (record {
       room = have_room_joined (reverse turned) (next ∷ []) after rest.room (room, tt);
       back = subst (KeepsDocument document) (sym (go_held_joined (reverse turned) (next ∷ []) after)) back;
     })

@@ -59,24 +59,19 @@ pub go_joined : JoinedGo
 go_joined [] second document = refl
 go_joined (step ∷ first) second document = go_joined first second (go_step step document)
 
-pub joined_fits : (first second : Change) (document : Document) → Fits (first ++ second) document → Fits first document × Fits second (go first document)
-joined_fits [] second document fits = (tt, fits)
-joined_fits (step ∷ first) second document fits =
-    let rest = joined_fits first second (go_step step document) fits.1 in
-    ((fits.0, rest.0), rest.1)
+pub fit_joined : JoinedFit
+fit_joined [] second document = (λ fits. (tt, fits), λ both. both.1)
+fit_joined (step ∷ first) second document =
+    let rest = fit_joined first second (go_step step document) in
+    (λ fits. let both = rest.0 fits.1 in ((fits.0, both.0), both.1), λ both. (both.0.0, rest.1 (both.0.1, both.1)))
 
 pub fits_joined : (first second : Change) (document : Document) → Fits first document → Fits second (go first document) → Fits (first ++ second) document
-fits_joined [] second document fits more = more
-fits_joined (step ∷ first) second document fits more = (fits.0, fits_joined first second (go_step step document) fits.1 more)
-
-pub fit_joined : JoinedFit
-fit_joined first second document = (joined_fits first second document, λ both. fits_joined first second document both.0 both.1)
+fits_joined first second document fits more = (fit_joined first second document).1 (fits, more)
 
 pub turn_joined : (first second : Change) (document : Document) → turn (first ++ second) document ≡ turn second (go first document) ++ turn first document
 turn_joined [] second document = sym (append-nil (turn second document))
 turn_joined (step ∷ first) second document =
-    ap (λ turned. turned ++ turn_step step document ∷ []) (turn_joined first second (go_step step document))
-    ∙ append_assoc (turn second (go first (go_step step document))) (turn first (go_step step document)) (turn_step step document ∷ [])
+    rw (turn_joined first second (go_step step document), append_assoc)
 
 -- ---- a change
 
@@ -88,9 +83,7 @@ pub turned_back : TurnedLeadsBack
 turned_back [] document fits = refl
 turned_back (step ∷ change) document fits =
     let next = go_step step document in
-    go_joined (turn change next) (turn_step step document ∷ []) (go change next)
-    ∙ ap (go_step (turn_step step document)) (turned_back change next fits.1)
-    ∙ turned_step_back step document fits.0
+    rw (go_joined (turn change next) (turn_step step document ∷ []) (go change next), turned_back change next fits.1) (turned_step_back step document fits.0)
 
 pub turned_fits : TurnedFits
 turned_fits [] document valid fits = tt
@@ -104,7 +97,4 @@ pub turned_twice : TurnedTwice
 turned_twice [] document fits = refl
 turned_twice (step ∷ change) document fits =
     let next = go_step step document in
-    turn_joined (turn change next) (turn_step step document ∷ []) (go change next)
-    ∙ ap (λ d. turn (turn_step step document ∷ []) d ++ turn (turn change next) (go change next)) (turned_back change next fits.1)
-    ∙ ap (λ s. s ∷ turn (turn change next) (go change next)) (turned_step_twice step document fits.0)
-    ∙ ap (λ rest. step ∷ rest) (turned_twice change next fits.1)
+    rw (turn_joined (turn change next) (turn_step step document ∷ []) (go change next), turned_back change next fits.1, turned_step_twice step document fits.0, turned_twice change next fits.1)

@@ -11,7 +11,7 @@ use Rattle.mvt_change.specs.ChangeStands.{action_of, step_of}
 use Rattle.mvt_change.specs.Changes.{Change, go_step, go, Fits, turn_step, turn}
 use Rattle.mvt_change.specs.Room.{KeepsDocument}
 use Rattle.mvt_change.specs.HeldChanges.{go_held_step, go_held, ActionHasRoom, HaveRoom, IsTurned, AreTurned, AreFlipped}
-use Rattle.mvt_change.proofs.Turning.{go_joined, joined_fits, turn_joined, turned_back as leads_to_start, turned_twice}
+use Rattle.mvt_change.proofs.Turning.{go_joined, fit_joined, turn_joined, turned_back as leads_to_start, turned_twice}
 use Rattle.mvt_change.proofs.Actions.{turned_stands}
 use Rattle.mvt_change.proofs.TurnedRuns.{keeps_stands, kept_goes, steps_stand, have_room_keeps, have_room_joined, all_stand, all_lead_back}
 
@@ -26,7 +26,7 @@ pub record IsUnderway (change : Change) (start : plain.Document) (made rest : Li
 
 module _ (change : Change) (start : plain.Document) (made rest : List Step) (document : Document) (under : IsUnderway change start made rest document) where
   fit : Fits under.first start × Fits (map step_of rest) (go under.first start)
-  fit = joined_fits under.first (map step_of rest) start (subst (λ c. Fits c start) (sym under.all) under.fits)
+  fit = (fit_joined under.first (map step_of rest) start).0 (subst (λ c. Fits c start) (sym under.all) under.fits)
 
   rest_fits : Fits (map step_of rest) (document_of document)
   rest_fits = subst (Fits (map step_of rest)) (sym under.stands) fit.1
@@ -36,10 +36,7 @@ module _ (change : Change) (start : plain.Document) (made rest : List Step) (doc
 
   turns_back : turn (map step_of made) (document_of document) ++ map step_of rest ≡ change
   turns_back =
-      ap (λ t. turn t (document_of document) ++ map step_of rest) under.turns
-      ∙ ap (λ d. turn (turn under.first start) d ++ map step_of rest) under.stands
-      ∙ ap (λ c. c ++ map step_of rest) (turned_twice under.first start fit.0)
-      ∙ under.all
+      rw (under.turns, under.stands, turned_twice under.first start fit.0) under.all
 
 -- where none are left, the change is made
 pub ends : (change : Change) (start : plain.Document) (made rest : List Step) (document : Document) → rest ≡ [] → IsUnderway change start made rest document → (document_of document ≡ go change start) × (map step_of made ≡ turn change start)
@@ -58,17 +55,13 @@ goes_on change start made run rest turned document after under keeps are =
     let first = under.first in
     let apart : map step_of (run ++ rest) ≡ runs ++ map step_of rest = map-append step_of run rest in
     let fits : Fits (runs ++ map step_of rest) (document_of document) = subst (λ c. Fits c (document_of document)) apart (rest_fits change start made (run ++ rest) document under) in
-    let lead = all_lead_back run document turned after (joined_fits runs (map step_of rest) (document_of document) fits).0 are keeps in
+    let lead = all_lead_back run document turned after ((fit_joined runs (map step_of rest) (document_of document)).0 fits).0 are keeps in
     record {
       first = first ++ runs;
       all = append_assoc first runs (map step_of rest) ∙ ap (λ c. first ++ c) (sym apart) ∙ under.all;
       fits = under.fits;
       stands = sym (keeps_stands (go_held run document) after keeps) ∙ steps_stand run document ∙ ap (go runs) under.stands ∙ sym (go_joined first runs start);
-      turns =
-          map-append step_of (reverse turned) made
-          ∙ ap (λ t. t ++ map step_of made) (all_stand run document turned are ∙ ap (turn runs) under.stands)
-          ∙ ap (λ t. turn runs (go first start) ++ t) under.turns
-          ∙ sym (turn_joined first runs start);
+      turns = rw (map-append, all_stand run document turned are, under.stands, under.turns) (sym (turn_joined first runs start));
       room = have_room_joined (reverse turned) made after lead.room (have_room_keeps made document (go_held (reverse turned) after) lead.back under.room);
     }
 
@@ -93,8 +86,7 @@ module _ (change : Change) (start : plain.Document) (steps part : List Step) (fr
       let made : reverse (take to (put_mid from (to - from) steps part)) ≡ reverse part ++ reverse front = ap reverse (take-put_mid from (to - from) steps part to (omega arith) (omega arith)) ∙ reverse-append front part in
       let whole : to ≡ from + (to - from) = omega arith in
       let behind : drop to (put_mid from (to - from) steps part) ≡ rest = drop-put_mid from (to - from) steps part to (omega arith) (omega arith) long ∙ ap (λ n. drop n steps) whole ∙ sym (drop-drop (to - from) from steps) in
-      subst (λ left. IsUnderway change start (reverse (take to (put_mid from (to - from) steps part))) left after) (sym behind)
-      (subst (λ done. IsUnderway change start done rest after) (sym made) (goes_on change start (reverse front) run rest part document after apart flipped.0 flipped.1))
+      rw (made, behind) (goes_on change start (reverse front) run rest part document after apart flipped.0 flipped.1)
 
   -- a run that was refused is what it was, and those before it have room
   pub made_have_room : AreFlipped false run part document after → HaveRoom (reverse (take from (put_mid from (to - from) steps part))) after
@@ -103,29 +95,21 @@ module _ (change : Change) (start : plain.Document) (steps part : List Step) (fr
 
   pub goes_back : AreFlipped false run part document after → go (map step_of (reverse (take from (put_mid from (to - from) steps part)))) (document_of after) ≡ start
   goes_back kept =
-      ap (λ front. go (map step_of (reverse front)) (document_of after)) front_stays
-      ∙ ap (go (map step_of (reverse (take from steps)))) (sym (keeps_stands document after kept.0))
-      ∙ leads_back change start (reverse (take from steps)) (drop from steps) document under
+      rw (front_stays, ← keeps_stands document after kept.0) (leads_back change start (reverse (take from steps)) (drop from steps) document under)
 
   pub turned_back : (back : List Step) → AreFlipped false run part document after
       → map step_of back ≡ turn (map step_of (reverse (take from (put_mid from (to - from) steps part)))) (document_of after)
       → map step_of (back ++ drop from (put_mid from (to - from) steps part)) ≡ change
   turned_back back kept is =
-      let mades = map step_of (reverse (take from steps)) in
-      map-append step_of back (drop from (put_mid from (to - from) steps part))
-      ∙ ap (λ front. front ++ map step_of (drop from (put_mid from (to - from) steps part))) is
-      ∙ ap (λ front. turn (map step_of (reverse front)) (document_of after) ++ map step_of (drop from (put_mid from (to - from) steps part))) front_stays
-      ∙ ap (λ d. turn mades d ++ map step_of (drop from (put_mid from (to - from) steps part))) (sym (keeps_stands document after kept.0))
-      ∙ ap (λ left. turn mades (document_of document) ++ map step_of left) (drop_at (take from steps) (part ++ rest) from (length-take-le from steps (omega arith)))
-      ∙ ap (λ left. turn mades (document_of document) ++ left) (map-append step_of part rest ∙ ap (λ front. front ++ map step_of rest) kept.1 ∙ sym (map-append step_of run rest))
-      ∙ turns_back change start (reverse (take from steps)) (run ++ rest) document apart
+      rw (map-append, is, front_stays, ← keeps_stands document after kept.0, drop_at (take from steps) (part ++ rest) from (length-take-le from steps (omega arith)), map-append step_of part rest, kept.1, ← map-append step_of run rest)
+      (turns_back change start (reverse (take from steps)) (run ++ rest) document apart)
 
 pub run_fits : (change : Change) (start : plain.Document) (made steps : List Step) (from count : ℕ) (document : Document) → IsUnderway change start made (drop from steps) document → Fits (map step_of (take count (drop from steps))) (document_of document)
 run_fits change start made steps from count document under =
     let run = take count (drop from steps) in
     let rest = drop count (drop from steps) in
     let fits = subst (λ left. Fits left (document_of document)) (ap (map step_of) (sym (take-append-drop count (drop from steps))) ∙ map-append step_of run rest) (rest_fits change start made (drop from steps) document under) in
-    (joined_fits (map step_of run) (map step_of rest) (document_of document) fits).0
+    ((fit_joined (map step_of run) (map step_of rest) (document_of document)).0 fits).0
 
 -- ---- steps that are taken back, the last first
 
@@ -145,15 +129,10 @@ takes_on steps start left rest step next document after takes makes turns keeps 
     let s = step_of step in
     let d = document_of document in
     let lefts = map step_of left in
-    let rests = map step_of rest in
     record {
       room = have_room_keeps left (go_held_step step document) after keeps takes.room.1;
       goes = ap (go lefts) makes ∙ takes.goes;
-      turned =
-          ap (λ e. turn lefts e ++ step_of next ∷ rests) makes
-          ∙ ap (λ t. turn lefts (go_step s d) ++ t ∷ rests) turns
-          ∙ sym (append_assoc (turn lefts (go_step s d)) (turn_step s d ∷ []) rests)
-          ∙ takes.turned;
+      turned = rw (makes, turns, ← append_assoc (turn lefts (go_step s d)) (turn_step s d ∷ []) (map step_of rest)) takes.turned;
     }
 
 -- the same where the steps stand in a list, up to a position
@@ -172,5 +151,4 @@ module _ (steps : Change) (start : plain.Document) (items : List Step) (n i : �
       let before = subst (λ left. TakesBack steps start left (drop n items) document) last_before takes in
       let behind = takes_on steps start (reverse (take i items)) (drop n items) step turned document after before (kept_goes step document after keeps) (turned_stands (action_of step) document (action_of turned) is) keeps in
       let first : drop i (set items i turned) ≡ turned ∷ drop n items = drop-set items i turned within ∙ ap (λ k. turned ∷ drop k items) (sym next) in
-      subst (λ left. TakesBack steps start (reverse left) (drop i (set items i turned)) after) (sym (take-set items i turned))
-      (subst (λ rest. TakesBack steps start (reverse (take i items)) rest after) (sym first) behind)
+      rw (take-set items i turned, first) behind

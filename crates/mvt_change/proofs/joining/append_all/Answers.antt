@@ -1,4 +1,4 @@
-use Rattle.std.proofs.Common.{◌≡◌, List, ◌++◌, append_assoc, length, map, reverse, sym, ap, ◌∙◌, arith}
+use Rattle.std.proofs.Common.{◌≡◌, List, ◌++◌, append_assoc, length, map, ap, ◌∙◌, arith}
 use Rattle.std.proofs.lemmas.List.{map-append}
 use Rattle.mvt_document.specs.Held.{Held}
 use Rattle.mvt_change.specs.declared.change.Step.{Step}
@@ -22,8 +22,6 @@ loop-other-preserved c =
     let change = c.loop-other.change in
     let rest = c.pop.new.self.items in
     let other = c.in-Some.other in
-    let turned = reverse (map change_of rest) in
-    let stays = c.append.ensures in
     let more = ap (λ all. length (joined (map change_of all))) c.in-Some.ensures.items ∙ length_joined_last rest other in
     let mine = ap items c.as_vec_mut-steps.ensures.value in
     let given = ap items c.as_vec_mut.ensures.value in
@@ -33,10 +31,5 @@ loop-other-preserved c =
     let steps : map step_of c.append.new.self.items ≡ change_of change ++ change_of other = ap (map step_of) (appended ∙ ap (λ xs. xs ++ c.as_vec_mut.result.now.items) mine ∙ ap (λ ys. change.steps.items ++ ys) given) ∙ map-append step_of change.steps.items other.steps.items in
     record {
       room = omega (arith, c.loop-other.invariant.room, more, ap length given, room, long, c.append.ensures.capacity);
-      rest =
-          ap (λ all. all ++ joined turned) steps
-          ∙ append_assoc (change_of change) (change_of other) (joined turned)
-          ∙ ap (λ all. change_of change ++ all) (sym (joined_from_last rest other))
-          ∙ ap (λ all. change_of change ++ joined (reverse (map change_of all))) (sym c.in-Some.ensures.items)
-          ∙ c.loop-other.invariant.rest;
+      rest = rw (steps, append_assoc, ← joined_from_last rest other, ← c.in-Some.ensures.items) c.loop-other.invariant.rest;
     }
