@@ -1,4 +1,4 @@
--- Laws of histories and sessions, in the words of a tile and of what is asked.
+-- Laws of histories and sessions, in the words of a tile and of what is asked; and of what changes weigh.
 use Rattle.std.specs.Prelude.{◌≡◌, ℕ, zero, suc, ◌+◌, ◌-◌, ◌≤◌, List, [], ◌∷◌, length, take, get_or, Some, None, Ok, ◌*◌}
 use Rattle.std.specs.List.{AllByRecursion, sum_by}
 use Rattle.mvt_document.specs.declared.TheConstants.{MAX_FILE}

@@ -1,4 +1,4 @@
-//! Laws of histories and sessions. Each function does nothing: its contract is the law.
+//! Laws of histories and sessions, and of what changes weigh. Each function does nothing: its contract is the law.
 #![tactic(auto)]
 
 ghost use Rattle.history_laws.specs.Laws.{BackToTheMark, CancelLeavesNoTrace, ChangesLead, EmptyStepLeavesNoTrace, FewSteps, FieldWeighs, HistoryFits, HistoryOfDocuments, KeptWithin, LayerItemWeighs, NothingPut, RedosUndoUndos, StaysSound, StaysValid, StepUndoesWhole, StoppedGoesOn, TileItemWeighs, UndoAfterEnd, UndoAtOnce, UndosUndoRedos};
