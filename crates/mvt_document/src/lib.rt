@@ -6,6 +6,8 @@
 //!   has as many bytes, or behind the bytes of a vector: `put_number`, `Varint::put`. The shortest spelling of a number is the least width in which
 //!   it fits: `Varint::minimal`. A signed number has one ZigZag, and each ZigZag is that of one:
 //!   `to_zigzag`, `from_zigzag`.
+//! - The tag of a field is a number below 2^32, in half the memory of a number, and gives that number
+//!   back: `Tag`.
 //! - How many bytes a value takes, where a file may have as many, or where they are within any
 //!   limit: `Measured::size` and `size_within`, those of `Message`, and `size_of_all`. So are those
 //!   beside a part of a list (`size_beside_part`), and those of a message with a content of a given
@@ -33,7 +35,8 @@
 //! - Conditions: there is a list at the place, and the change takes it (`change_items`,
 //!   `change_fields`); a part and both positions are within the list (`exchange`, `move_item`,
 //!   `size_beside_part`); a size that is given is that of the items (`Message::of_size`,
-//!   `know_size`); a width is at least 1, and the room has as many bytes (`put_number`).
+//!   `know_size`); a width is at least 1, and the room has as many bytes (`put_number`); a number that
+//!   becomes a tag is below 2^32 (`Tag::new`, `Tag::minimal`).
 #![tactic(auto)]
 
 mod body;
@@ -47,6 +50,7 @@ mod measure;
 mod message;
 mod places;
 mod run;
+mod tag;
 pub mod tags;
 mod varint;
 mod zigzag;
@@ -57,6 +61,7 @@ pub use items::Items;
 pub use measure::{Measured, message_size, size_beside_part, size_of_all, sum_within};
 pub use message::Message;
 pub use run::{Kind, Run, Runs};
+pub use tag::Tag;
 pub use varint::{Varint, least_width, put_number, read_varint};
 pub use zigzag::{from_zigzag, to_zigzag};
 
