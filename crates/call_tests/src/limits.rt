@@ -7,9 +7,7 @@ ghost use Rattle.mvt_wire.specs.Opens.{IsDocument};
 use crate::broken::{Answer, Broken};
 use crate::given::Given;
 use mvt_history::{Session, StartError};
-use mvt_wire::{
-    Body, Document, Field, Items, TileItem, Varint, read_document, size, write_document,
-};
+use mvt_wire::{Body, Document, Field, Items, Tag, TileItem, read_document, size, write_document};
 use std::alloc::Global;
 
 pub fn answer(alloc: Global, call: &str, given: Given<'_>) -> Answer {
@@ -25,7 +23,7 @@ fn tile_and_zeros(alloc: Global, tile: &[u8], count: usize) -> Result<Document, 
 {
     let mut document = read_document(alloc, tile)?;
     let bytes = Items::from_vec(vec![in alloc; 0u8; count]?);
-    let tag = Varint::minimal(130);
+    let tag = Tag::minimal(130);
     let body = Body::Bytes { width: 4, bytes };
     document.items.push(TileItem::Plain(Field { tag, body }))?;
     Ok(document)

@@ -8,12 +8,12 @@ ghost use Rattle.mvt_document.specs.BodyShape.{wire_type_of, stored_width_of, En
 use crate::body::Body;
 use crate::items::Items;
 use crate::message::Message;
-use crate::varint::Varint;
+use crate::tag::Tag;
 
 /// A tag and its body.
 #[derive(Debug, Drop)]
 pub struct Field {
-    pub tag: Varint,
+    pub tag: Tag,
     pub body: Body,
     pub ghost is_tag: { IsTag tag.value (wire_type_of body) },
     pub ghost is_width: { IsWidth (stored_width_of body) },
@@ -23,7 +23,7 @@ pub struct Field {
 /// A feature of a layer. The width is the least in which its length is spelled.
 #[derive(Debug, Drop)]
 pub struct Feature {
-    pub tag: Varint,
+    pub tag: Tag,
     pub width: u8,
     pub fields: Items<Field>,
     pub ghost is_feature: { tag.value ≡ 18 },
@@ -39,7 +39,7 @@ pub enum LayerItem {
 /// A layer of the tile. The width is the least in which its length is spelled.
 #[derive(Debug, Drop)]
 pub struct Layer {
-    pub tag: Varint,
+    pub tag: Tag,
     pub width: u8,
     pub items: Message<LayerItem>,
     pub ghost is_layer: { tag.value ≡ 26 },

@@ -43,7 +43,7 @@ impl Measured for Field {
 
     fn size_within(&self, limit: usize) -> Option<usize> {
         sum_within(
-            self.tag.size_within(limit)?,
+            self.tag.to_varint().size_within(limit)?,
             self.body.size_within(limit)?,
             limit,
         )
@@ -130,7 +130,7 @@ fn is_delimited_field(field: &Field, number: u64) -> bool
     ensures { result ≡ is_delimited_field number field.now }
 {
     match &field.body {
-        Body::Bytes { .. } => field.tag.value / 8 == number,
+        Body::Bytes { .. } => field.tag.number() == number,
         _ => false,
     }
 }

@@ -11,6 +11,7 @@ ghost use Rattle.mvt_document.specs.declared.run.Kind.{Kind};
 
 use crate::MAX_FILE;
 use crate::run::Kind;
+use crate::tag::Tag;
 use crate::varint::{Varint, least_width};
 
 /// A value that is written as bytes, of which it is known how many they are, and of which kind it is in
@@ -82,11 +83,11 @@ pub(crate) fn delimited_size(width: u8, length: usize, limit: usize) -> Option<u
 }
 
 /// The size of a tag and so many bytes behind it under one length, where it is within the limit.
-pub fn message_size(tag: Varint, width: u8, length: usize, limit: usize) -> Option<usize>
+pub fn message_size(tag: Tag, width: u8, length: usize, limit: usize) -> Option<usize>
     ensures { let size = tag.width + (max width (minimal_width length) + length) in SomeIff result (size ≤ limit) size }
 {
     sum_within(
-        usize::from(tag.width),
+        usize::from(tag.width()),
         delimited_size(width, length, limit)?,
         limit,
     )

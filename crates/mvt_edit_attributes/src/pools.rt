@@ -12,7 +12,7 @@ ghost use Rattle.mvt_view.specs.Views.{keys, values};
 ghost use Rattle.mvt_edit_attributes.specs.Attribute.{AreFound, entries_for};
 
 use mvt_document::tags::{KEYS, LEN, VALUES};
-use mvt_document::{Body, Field, Items, LayerItem, Varint};
+use mvt_document::{Body, Field, Items, LayerItem, Tag};
 use mvt_view::{FoundEntry, LayerView, PoolSizes};
 use std::alloc::{AllocError, Global};
 
@@ -82,7 +82,7 @@ fn entry(tag: u64, bytes: Items<u8>) -> LayerItem
     ensures { layer_item_of result ≡ PlainInLayer (new_content tag bytes.items) }
 {
     LayerItem::Plain(Field {
-        tag: Varint::minimal(tag),
+        tag: Tag::minimal(tag),
         body: Body::Bytes { width: 1, bytes },
     })
 }

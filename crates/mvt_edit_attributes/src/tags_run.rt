@@ -19,7 +19,7 @@ ghost use Rattle.mvt_edit_attributes.specs.Attribute.{PutsPair, fields_with, run
 
 use mvt_document::tags::{LEN, TAGS};
 use mvt_document::{
-    Body, Field, Items, MAX_FILE, Varint, size_beside_part, size_of_all, sum_within,
+    Body, Field, Items, MAX_FILE, Tag, Varint, size_beside_part, size_of_all, sum_within,
 };
 use mvt_edit_steps::{Fate, Run, Spot, is_tags};
 use mvt_numbers::renumber_field;
@@ -63,7 +63,7 @@ fn last_packed(fields: &[Field]) -> Option<usize>
 fn is_packed(field: &Field) -> bool
     ensures { result ≡ is_some (content_in 2 (field_of field.now)) }
 {
-    field.tag.value / 8 == TAGS && matches!(field.body, Body::Bytes { .. })
+    field.tag.number() == TAGS && matches!(field.body, Body::Bytes { .. })
 }
 
 /// The position of the last tags field.
@@ -105,7 +105,7 @@ fn longer_tags(
             },
         },
         _ => Field {
-            tag: Varint::minimal(TAGS_TAG),
+            tag: Tag::minimal(TAGS_TAG),
             body: Body::Bytes {
                 width: 1,
                 bytes: and_numbers(alloc, &[], key, value)?,

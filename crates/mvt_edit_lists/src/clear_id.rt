@@ -42,5 +42,5 @@ pub fn clear_id(
 fn is_id(field: &Field) -> bool
     ensures { result ≡ is_id (field_of field.now) }
 {
-    field.tag.value / 8 == ID && matches!(field.body, Body::Number(_))
+    field.tag.number() == ID && matches!(field.body, Body::Number(_))
 }

@@ -14,7 +14,7 @@ ghost use Rattle.mvt_edit_steps.specs.Prepared.{Prepares};
 
 use mvt_change::{Change, Step};
 use mvt_document::tags::{FEATURE_TAG, GEOMETRY_TAG, KIND_TAG};
-use mvt_document::{Body, Document, Feature, Field, Items, LayerItem, Varint};
+use mvt_document::{Body, Document, Feature, Field, Items, LayerItem, Tag, Varint};
 use mvt_edit_steps::{one_item, one_step_within_limit};
 use mvt_geometry::{EncodeError, Geometry, Kind, encode_geometry};
 use mvt_select::{LayerChoice, Refusal, find_layer};
@@ -80,7 +80,7 @@ fn new_feature(alloc: Global, geometry: &Geometry) -> Result<LayerItem, EncodeEr
 {
     let bytes = encode_geometry(alloc, geometry)?;
     Ok(LayerItem::Feature(Feature {
-        tag: Varint::minimal(FEATURE_TAG),
+        tag: Tag::minimal(FEATURE_TAG),
         width: 1,
         fields: fields_of(alloc, geometry.kind(), bytes)?,
     }))
@@ -92,11 +92,11 @@ fn fields_of(alloc: Global, kind: Kind, bytes: Items<u8>) -> Result<Items<Field>
         ≡ new_number 24 (kind_number kind) ∷ new_content 34 bytes.items ∷ []) }
 {
     let kind = Field {
-        tag: Varint::minimal(KIND_TAG),
+        tag: Tag::minimal(KIND_TAG),
         body: Body::Number(Varint::minimal(kind.number())),
     };
     let geometry = Field {
-        tag: Varint::minimal(GEOMETRY_TAG),
+        tag: Tag::minimal(GEOMETRY_TAG),
         body: Body::Bytes { width: 1, bytes },
     };
     Ok(Items::from_vec(vec![in alloc; kind, geometry]?))

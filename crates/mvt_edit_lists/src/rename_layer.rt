@@ -17,7 +17,7 @@ ghost use Rattle.mvt_edit_steps.specs.PutsLast.{PutsLast};
 
 use mvt_change::{Change, Step};
 use mvt_document::tags::NAME_TAG;
-use mvt_document::{Body, Document, Field, Items, Layer, LayerItem, Varint};
+use mvt_document::{Body, Document, Field, Items, Layer, LayerItem, Tag};
 use mvt_edit_steps::{Spot, one_item, one_step_within_limit};
 use mvt_select::{FoundLayer, LayerChoice, Refusal, find_and_taken, last_name};
 use std::alloc::{AllocError, Global};
@@ -94,7 +94,7 @@ fn name_item(alloc: Global, old: Option<&LayerItem>, name: &[u8]) -> Result<Laye
             },
         },
         _ => Field {
-            tag: Varint::minimal(NAME_TAG),
+            tag: Tag::minimal(NAME_TAG),
             body: Body::Bytes { width: 1, bytes },
         },
     }))

@@ -86,7 +86,7 @@ fn is_entry(item: &LayerItem, number: u64) -> bool
                 tag,
                 body: Body::Bytes { .. },
             },
-        ) => tag.value / 8 == number,
+        ) => tag.number() == number,
         _ => false,
     }
 }

@@ -82,5 +82,5 @@ fn decided(pair: Pair, named: &[bool], to: Option<u64>) -> (Option<u64>, Option<
 pub fn is_tags(field: &Field) -> bool
     ensures { result ≡ is_tags (field_of field.now) }
 {
-    field.tag.value / 8 == TAGS && matches!(field.body, Body::Number(_) | Body::Bytes { .. })
+    field.tag.number() == TAGS && matches!(field.body, Body::Number(_) | Body::Bytes { .. })
 }

@@ -14,7 +14,7 @@ ghost use Rattle.mvt_edit_steps.specs.PutsLast.{ReplacesLast};
 
 use crate::fates::Run;
 use crate::put_last::Spot;
-use mvt_document::{Body, Field, Varint};
+use mvt_document::{Body, Field, Tag, Varint};
 use std::alloc::{AllocError, Global};
 
 /// The run that gives the value to the last VARINT field of the number of this tag, or puts one
@@ -55,7 +55,7 @@ fn last_number(fields: &[Field], tag: u64) -> Option<usize>
 fn is_numbered(field: &Field, tag: u64) -> bool
     ensures { result ≡ is_numbered tag (field_of field.now) }
 {
-    field.tag.value / 8 == tag / 8 && matches!(field.body, Body::Number(_))
+    field.tag.number() == tag / 8 && matches!(field.body, Body::Number(_))
 }
 
 /// A field of the number of this tag: the old one, if it has the value, or one with its tag, or one
@@ -77,7 +77,7 @@ fn number_field(old: Option<&Field>, tag: u64, value: u64) -> Field
             body: Body::Number(with_value(*number, value)),
         },
         _ => Field {
-            tag: Varint::minimal(tag),
+            tag: Tag::minimal(tag),
             body: Body::Number(Varint::minimal(value)),
         },
     }

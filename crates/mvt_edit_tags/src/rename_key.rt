@@ -19,7 +19,7 @@ ghost use Rattle.mvt_edit_tags.specs.KeyFates.{TellsOfKeys, key_fate};
 use mvt_change::{Change, fits_with_items};
 use mvt_document::tags::KEYS;
 use mvt_document::{
-    Body, Document, Field, Items, LayerItem, MAX_FILE, Measured, Varint, message_size, sum_within,
+    Body, Document, Field, Items, LayerItem, MAX_FILE, Measured, Tag, message_size, sum_within,
 };
 use mvt_edit_steps::{Fate, carry_out};
 use mvt_select::{LayerChoice, Refusal, find_layer};
@@ -110,7 +110,7 @@ fn size_renamed(item: &LayerItem, old: &[u8], new: &[u8]) -> Option<usize>
 }
 
 /// The tag and the stored width of the item, where it is a key of these bytes.
-fn key_field(item: &LayerItem, key: &[u8]) -> Option<(Varint, u8)>
+fn key_field(item: &LayerItem, key: &[u8]) -> Option<(Tag, u8)>
     ensures there { is_some result ≡ is_key key.now (layer_item_of item.now) }
     ensures parts { IfSome result (λ parts. layer_item_of item.now ≡ plain.PlainInLayer (record { tag = number_of parts.0; body = plain.Delimited parts.1 key.now })) }
 {
@@ -121,7 +121,7 @@ fn key_field(item: &LayerItem, key: &[u8]) -> Option<(Varint, u8)>
                 body: Body::Bytes { width, bytes },
             },
         ) => {
-            if tag.value / 8 == KEYS && bytes.as_slice() == key {
+            if tag.number() == KEYS && bytes.as_slice() == key {
                 Some((*tag, *width))
             } else {
                 None

@@ -21,7 +21,7 @@ fn elements_in(field: &Field, number: u64) -> Option<Elements<'_>>
     ensures numbers { (position : ℕ) → MatchOption result (numbers_in number (position, field_of field.now) ≡ []) (λ found. numbers_in number (position, field_of field.now) ≡ elements_seen position found) }
     ensures some { IfSome result HasNumbers }
 {
-    if field.tag.value / 8 != number {
+    if field.tag.number() != number {
         return None;
     }
     match &field.body {

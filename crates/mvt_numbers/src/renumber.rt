@@ -12,7 +12,7 @@ ghost use Rattle.mvt_numbers.specs.Fates.{IsChange, changes, left_of_fate};
 ghost use Rattle.mvt_numbers.specs.Renumbering.{field_numbers, renumbered, renumbered_field, some_changed, with_left};
 
 use crate::fate::Fate;
-use mvt_document::{Body, Field, Items, Varint, read_varint};
+use mvt_document::{Body, Field, Items, Tag, Varint, read_varint};
 use std::alloc::{AllocError, Global};
 
 /// What becomes of a field, by a decision for each number in the fields of its number, in order:
@@ -31,7 +31,7 @@ pub fn renumber_field<'a>(
     ensures changes { IfOk result (λ made. changes made.0 ≡ some_changed decisions.now (field_numbers number (field_of field.now))) }
     ensures left { IfOk result (λ made. made.1.now ≡ drop (length (field_numbers number (field_of field.now))) decisions.now) }
 {
-    if field.tag.value / 8 != number {
+    if field.tag.number() != number {
         return Ok((Fate::Stays, decisions));
     }
     match &field.body {
@@ -45,7 +45,7 @@ pub fn renumber_field<'a>(
 
 /// What becomes of a field that is not packed.
 fn renumber_unpacked<'a>(
-    tag: Varint,
+    tag: Tag,
     old: Varint,
     decisions: &'a [Option<u64>],
 ) -> (Fate<Field>, &'a [Option<u64>])
@@ -72,7 +72,7 @@ fn renumber_unpacked<'a>(
 #[inline(never)]
 fn renumber_packed<'a>(
     alloc: Global,
-    tag: Varint,
+    tag: Tag,
     width: u8,
     bytes: &[u8],
     decisions: &'a [Option<u64>],
@@ -99,7 +99,7 @@ fn renumber_packed<'a>(
 }
 
 /// A packed field goes where nothing is left of it, and else becomes one with what is left.
-fn packed_fate(tag: Varint, width: u8, left: Vec<u8>) -> Fate<Field>
+fn packed_fate(tag: Tag, width: u8, left: Vec<u8>) -> Fate<Field>
     requires tag { IsTag tag.value 2 }
     requires width { IsWidth width }
     ensures fate { (old : plain.Field) → left_of_fate field_of old result ≡ with_bytes (number_of tag) width left.items }

@@ -15,7 +15,7 @@ ghost use Rattle.mvt_document.specs.Stands.{field_of, layer_item_of, tile_item_o
 use crate::faults::ReadError;
 use crate::front::{BodyRef, FieldRef, field_at_front};
 use mvt_document::tags::{FEATURE_TAG, LAYER_TAG};
-use mvt_document::{Feature, Field, Items, Layer, LayerItem, Measured, Message, TileItem};
+use mvt_document::{Feature, Field, Items, Layer, LayerItem, Measured, Message, Tag, TileItem};
 use std::alloc::{AllocError, Global};
 
 /// How many bytes the shortest field takes: one for its tag, and one for its body.
@@ -125,7 +125,7 @@ impl Decode for LayerItem {
         match front.body {
             BodyRef::Bytes { width, bytes } if front.tag.value == FEATURE_TAG => {
                 Ok(LayerItem::Feature(Feature {
-                    tag: front.tag,
+                    tag: Tag::new(front.tag),
                     width,
                     fields: Items::from_vec(decode_inside(alloc, bytes)?),
                 }))
@@ -148,7 +148,7 @@ impl Decode for TileItem {
         match front.body {
             BodyRef::Bytes { width, bytes } if front.tag.value == LAYER_TAG => {
                 Ok(TileItem::Layer(Layer {
-                    tag: front.tag,
+                    tag: Tag::new(front.tag),
                     width,
                     items: Message::of_size(decode_inside(alloc, bytes)?, bytes.len()),
                 }))

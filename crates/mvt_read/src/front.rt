@@ -11,7 +11,7 @@ ghost use Rattle.mvt_read.specs.Fronts.{front_of, body_front_of};
 
 use crate::groups::group_at_front;
 use mvt_document::tags::{I32, I64, LEN, SGROUP, VARINT};
-use mvt_document::{Body, Field, Items, Varint, read_varint};
+use mvt_document::{Body, Field, Items, Tag, Varint, read_varint};
 use std::alloc::{AllocError, Global};
 
 /// A field whose bytes lie in the message that it was read from.
@@ -150,7 +150,7 @@ impl FieldRef<'_> {
             BodyRef::Group(bytes) => Body::Group(Items::from_vec(Vec::from_slice(alloc, bytes)?)),
         };
         Ok(Field {
-            tag: self.tag,
+            tag: Tag::new(self.tag),
             body,
         })
     }

@@ -20,7 +20,7 @@ fn value_in(field: &Field, number: u64) -> Option<u64>
     ensures { result ≡ value_in number (field_of field.now) }
 {
     match &field.body {
-        Body::Number(value) if field.tag.value / 8 == number => Some(value.value),
+        Body::Number(value) if field.tag.number() == number => Some(value.value),
         _ => None,
     }
 }
@@ -30,7 +30,7 @@ fn content_in(field: &Field, number: u64) -> Option<&[u8]>
     ensures { option_copied result ≡ content_in number (field_of field.now) }
 {
     match &field.body {
-        Body::Bytes { bytes, .. } if field.tag.value / 8 == number => Some(bytes.as_slice()),
+        Body::Bytes { bytes, .. } if field.tag.number() == number => Some(bytes.as_slice()),
         _ => None,
     }
 }

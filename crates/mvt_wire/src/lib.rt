@@ -9,7 +9,7 @@
 
 pub use mvt_document::{
     Body, Document, Feature, Field, Items, Layer, LayerItem, MAX_FILE, MAX_GROUPS, Measured,
-    Message, TileItem, Varint, laws, least_width, message_size, put_number, read_varint,
+    Message, Tag, TileItem, Varint, laws, least_width, message_size, put_number, read_varint,
     size_beside_part, size_of_all, sum_within, tags,
 };
 pub use mvt_read::{BodyRef, FieldRef, ReadError, field_at_front, read_document};

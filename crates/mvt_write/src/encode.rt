@@ -6,7 +6,7 @@ ghost use Rattle.std.specs.List.{flat_map};
 ghost use Rattle.mvt_document.specs.Wire.{spell, minimal_width, delimited};
 ghost use Rattle.mvt_document.specs.Fills.{Fills};
 
-use mvt_document::{Measured, Varint, least_width, put_number};
+use mvt_document::{Measured, Tag, Varint, least_width, put_number};
 
 /// A value that is written as bytes.
 pub(crate) trait Encode: Measured {
@@ -48,14 +48,14 @@ pub(crate) fn put_length(width: u8, count: usize, room: &mut [u8]) -> usize
 }
 
 /// Writes the items at the end of the room, their length before them, and the tag before that.
-pub(crate) fn put_message<T: Encode>(tag: Varint, width: u8, items: &[T], room: &mut [u8]) -> usize
+pub(crate) fn put_message<T: Encode>(tag: Tag, width: u8, items: &[T], room: &mut [u8]) -> usize
     requires { length (spell tag.value tag.width ++ delimited width (flat_map T.bytes items.now)) ≤ length room.old }
     ensures { Fills room.old room.new (spell tag.value tag.width ++ delimited width (flat_map T.bytes items.now)) result }
 {
     let left = put_all(items, room);
     let length = room.len() - left;
     let left = put_length(width, length, &mut room[..left]);
-    tag.fill(&mut room[..left])
+    tag.to_varint().fill(&mut room[..left])
 }
 
 impl Encode for Varint {

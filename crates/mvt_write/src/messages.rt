@@ -21,7 +21,7 @@ impl Encode for Body {
 impl Encode for Field {
     fn fill(&self, room: &mut [u8]) -> usize {
         let left = self.body.fill(room);
-        self.tag.fill(&mut room[..left])
+        self.tag.to_varint().fill(&mut room[..left])
     }
 }
 

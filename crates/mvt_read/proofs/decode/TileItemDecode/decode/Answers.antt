@@ -10,13 +10,13 @@ use Rattle.mvt_read.proofs.decode.TileItemDecode.decode.Goals as goal
 pub returns-in_ok-decode_inside-in-Bytes-clause-made : goal.returns-in_ok-decode_inside-in-Bytes-clause-made
 returns-in_ok-decode_inside-in-Bytes-clause-made c =
     let items = c.of_size.result.items in
-    same_content (number_of c.args.front.tag) c.in-Bytes.width _ (body_front_of c.args.front.body) c.in-Bytes.bytes.now
-    (ap body_front_of c.in-Bytes.is) ((rw (← c.of_size.ensures) at c.in_ok-decode_inside-in-Bytes.ensures.spelled) ∙ sym (layer_items-bytes layer_item_of items))
+    rw c.new.ensures (same_content (number_of c.args.front.tag) c.in-Bytes.width _ (body_front_of c.args.front.body) c.in-Bytes.bytes.now
+    (ap body_front_of c.in-Bytes.is) ((rw (← c.of_size.ensures) at c.in_ok-decode_inside-in-Bytes.ensures.spelled) ∙ sym (layer_items-bytes layer_item_of items)))
 
 pub returns-in_ok-decode_inside-in-Bytes-clause-whole : goal.returns-in_ok-decode_inside-in-Bytes-clause-whole
 returns-in_ok-decode_inside-in-Bytes-clause-whole c =
     let items = c.of_size.result.items in
-    layer_whole _ (subst IsWholeField (sym (returns-in_ok-decode_inside-in-Bytes-clause-made c)) c.requires) c.if-front-eq-LAYER_TAG.true
+    layer_whole _ (subst IsWholeField (sym (returns-in_ok-decode_inside-in-Bytes-clause-made c)) c.requires) (rw c.new.ensures c.if-front-eq-LAYER_TAG.true)
     (all_of_map layer_item_of IsWholeLayerItem items (rw (← c.of_size.ensures) at c.in_ok-decode_inside-in-Bytes.ensures.whole))
 
 pub returns-in_err-decode_inside-in-Bytes-clause-broken : goal.returns-in_err-decode_inside-in-Bytes-clause-broken
