@@ -1,6 +1,12 @@
--- What a message keeps of its size.
+-- What a message keeps of its size and of its runs.
 use Rattle.std.specs.Prelude.{◌≡◌, ℕ, suc, ◌+◌, List, length, take, drop, Option, IfSome}
 use Rattle.std.specs.List.{flat_map}
+use Rattle.mvt_document.specs.declared.run.Runs.{Runs}
+
+-- what a message keeps beside its items: how many bytes they take, and their runs, as far as that is known
+pub record Kept : Type 0 where
+  pub size : Option ℕ
+  pub runs : Option Runs
 
 -- where the sum is known, it is how many bytes the items take
 abbrev pub IsKept : {T : Type 0} → (T → List ℕ) → List T → Option ℕ → Type 0

@@ -10,6 +10,7 @@ pub mod BodyShape
 pub mod Lending
 pub mod Kept
 pub mod Runs
+pub mod KeptForms
 pub mod LendingKept
 pub mod Stands
 pub mod Kinds

@@ -43,7 +43,7 @@ mod body;
 mod document;
 mod exchange;
 mod items;
-mod kept_runs;
+mod kept;
 pub mod laws;
 mod lengths;
 mod measure;

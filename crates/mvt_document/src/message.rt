@@ -2,16 +2,17 @@
 //! kind stand: known from where they were read, and kept over changes. A feature is small, and is measured where
 //! it has to be.
 
-ghost use Rattle.std.specs.Prelude.{◌≡◌, ◌≤◌, ◌+◌, ◌++◌, ℕ, length, Some, IfSome};
+ghost use Rattle.std.specs.Prelude.{◌≡◌, ◌≤◌, ◌+◌, ◌++◌, ℕ, length, Some, None, IfSome};
 ghost use Rattle.std.specs.List.{flat_map};
 ghost use Rattle.std.specs.Option.{SomeIff};
 ghost use Rattle.mvt_document.specs.declared.TheConstants.{MAX_FILE};
+ghost use Rattle.mvt_document.specs.Kept.{IsKept};
 ghost use Rattle.mvt_document.specs.Runs.{AreRunsOf};
 
 use crate::MAX_FILE;
 use crate::exchange::move_item;
 use crate::items::Items;
-use crate::kept_runs::KeptRuns;
+use crate::kept::Kept;
 use crate::measure::{Measured, size_beside_part, size_of_all, sum_within};
 use crate::run::{Kind, Run, Runs, runs_of};
 use std::alloc::{AllocError, AllocFailed};
@@ -25,8 +26,7 @@ const MANY_ITEMS: usize = 32;
 #[derive(Debug, Drop)]
 pub struct Message<T: Measured> {
     inner: Vec<T>,
-    sum: Option<usize>,
-    runs: KeptRuns,
+    kept: Kept,
 }
 
 impl<T: Measured> Model for Message<T> {
@@ -39,7 +39,7 @@ impl<T: Measured> Model for Message<T> {
 
     ghost view = { λ l. record { items = l.inner.items; room = vec_capacity l.inner - vec_len l.inner } };
 
-    ghost invariant = { λ l. IsKept T.bytes l.inner.items l.sum × IfSome l.runs (λ runs. AreRunsOf T.of_kind runs l.inner.items) };
+    ghost invariant = { λ l. IsKept T.bytes l.inner.items l.kept.size × IfSome l.kept.runs (λ runs. AreRunsOf T.of_kind runs l.inner.items) };
 }
 
 impl<T: Measured> Message<T> {
@@ -57,12 +57,9 @@ impl<T: Measured> Message<T> {
         requires { sum ≡ length (flat_map T.bytes inner.items) }
         ensures { result.items ≡ inner.items }
     {
-        let runs = runs_to_keep(&inner);
-        Message {
-            inner,
-            sum: Some(sum),
-            runs,
-        }
+        let mut kept = Kept::of_size(sum);
+        find_runs(&mut kept, &inner);
+        Message { inner, kept }
     }
 
     pub fn as_slice(&self) -> &[T]
@@ -81,7 +78,7 @@ impl<T: Measured> Message<T> {
     pub fn runs(&self) -> Runs
         ensures { AreRunsOf T.of_kind result self.now.items }
     {
-        match self.runs.get() {
+        match self.kept.runs() {
             Some(runs) => runs,
             None => Runs::unknown(),
         }
@@ -104,7 +101,7 @@ impl<T: Measured> Message<T> {
     pub fn size_within(&self, limit: usize) -> Option<usize>
         ensures { SomeIff result (length (flat_map T.bytes self.now.items) ≤ limit) (length (flat_map T.bytes self.now.items)) }
     {
-        match self.sum {
+        match self.kept.size() {
             Some(sum) => sum_within(sum, 0, limit),
             None => size_of_all(self.inner.as_slice(), limit),
         }
@@ -122,7 +119,8 @@ impl<T: Measured> Message<T> {
         ensures { IfSome result (λ n. n ≡ bytes_beside T.bytes index self.now.items) }
     {
         let item = self.inner.get(index)?;
-        Some(self.sum? - item.size()?)
+        let sum = self.kept.size()?;
+        Some(sum - item.size()?)
     }
 
     /// How many bytes the items beside so many from an index on take, where they are within the
@@ -131,7 +129,7 @@ impl<T: Measured> Message<T> {
         requires { index + count ≤ length self.now.items }
         ensures { let size = length (flat_map T.bytes (splice index count [] self.now.items)) in SomeIff result (size ≤ limit) size }
     {
-        let Some(sum) = self.sum else {
+        let Some(sum) = self.kept.size() else {
             return size_beside_part(self.inner.as_slice(), index, count, limit);
         };
         let part = size_of_all(&self.inner[index..index + count], sum)?;
@@ -192,8 +190,9 @@ impl<T: Measured> Message<T> {
         ensures { self.new ≡ self.old }
     {
         let runs = self.runs_with(index, runs);
-        self.sum = self.size_with(index, beside);
-        self.runs.set(runs);
+        let size = self.size_with(index, beside);
+        self.kept.set_size(size);
+        self.kept.set_runs(runs);
     }
 
     /// The item at this index. The size and the runs are no longer known: see `remember`.
@@ -202,8 +201,8 @@ impl<T: Measured> Message<T> {
         ensures* writes_back { sem 𝓛 (LendsKept T.row T.Measured self.entry index result) }
         ensures value { slice_get self.old.items index ≡ Some result.now }
     {
-        self.sum = None;
-        self.runs.set(Runs::unknown());
+        self.kept.set_size(None);
+        self.kept.set_runs(Runs::unknown());
         &mut self.inner[index]
     }
 
@@ -211,7 +210,7 @@ impl<T: Measured> Message<T> {
     pub fn known_size(&self) -> Option<usize>
         ensures { IsKept T.bytes self.now.items result }
     {
-        self.sum
+        self.kept.size()
     }
 
     /// The vector that the items are in. The size and the runs are no longer known: see `know_size`.
@@ -219,8 +218,8 @@ impl<T: Measured> Message<T> {
         ensures* writes_back { sem 𝓛 (LendsVecKept T.row T.Measured self.entry result) }
         ensures value { held_in result.now ≡ self.old }
     {
-        self.sum = None;
-        self.runs.set(Runs::unknown());
+        self.kept.set_size(None);
+        self.kept.set_runs(Runs::unknown());
         &mut self.inner
     }
 
@@ -230,19 +229,17 @@ impl<T: Measured> Message<T> {
         ensures { self.new ≡ self.old }
     {
         let runs = runs_of(self.inner.as_slice());
-        self.sum = known;
-        keep_runs(&mut self.runs, &self.inner, runs);
+        keep(&mut self.kept, &self.inner, known, runs);
     }
 
     /// Adds an item at the end. An `Err` changes nothing.
     pub fn push(&mut self, item: T) -> Result<(), AllocFailed<T>>
         ensures items { self.new.items ≡ (if is_ok result then self.old.items ++ item ∷ [] else self.old.items) }
     {
-        let sum = self.size_pushed(&item);
+        let size = self.size_pushed(&item);
         let runs = self.runs_pushed(&item);
         self.inner.push(item)?;
-        self.sum = sum;
-        keep_runs(&mut self.runs, &self.inner, runs);
+        keep(&mut self.kept, &self.inner, size, runs);
         Ok(())
     }
 
@@ -250,7 +247,8 @@ impl<T: Measured> Message<T> {
     fn size_pushed(&self, item: &T) -> Option<usize>
         ensures { IsKept T.bytes (self.now.items ++ item.now ∷ []) result }
     {
-        sum_within(self.sum?, item.size()?, MAX_FILE)
+        let sum = self.kept.size()?;
+        sum_within(sum, item.size()?, MAX_FILE)
     }
 
     /// The run of the items of a kind once this item is behind the others.
@@ -279,7 +277,7 @@ impl<T: Measured> Message<T> {
         requires { index + taken ≤ length self.now.items }
         ensures { IsKept T.bytes (splice index taken put.now.items self.now.items) result }
     {
-        let sum = self.sum?;
+        let sum = self.kept.size()?;
         let gone = size_of_all(&self.inner[index..index + taken], usize::MAX)?;
         let come = size_of_all(put.as_slice(), usize::MAX)?;
         sum_within(sum - gone, come, usize::MAX)
@@ -334,8 +332,7 @@ impl<T: Measured> Message<T> {
         let size = self.size_exchanged(index, taken, put);
         let runs = self.runs_exchanged(index, taken, put);
         put.exchange_in(&mut self.inner, index, taken)?;
-        self.sum = size;
-        keep_runs(&mut self.runs, &self.inner, runs);
+        keep(&mut self.kept, &self.inner, size, runs);
         Ok(())
     }
 
@@ -373,33 +370,37 @@ impl<T: Measured> Message<T> {
     {
         let runs = self.runs_moved(from, to);
         move_item(self.inner.as_mut_slice(), from, to);
-        self.runs.set(runs);
+        self.kept.set_runs(runs);
     }
 }
 
-/// What is kept of the runs of these items.
-fn runs_to_keep<T: Measured>(items: &Vec<T>) -> KeptRuns
-    ensures { IfSome result (λ runs. AreRunsOf T.of_kind runs items.now.items) }
+/// Finds the runs of these items, where none were kept and the items are many.
+fn find_runs<T: Measured>(kept: &mut Kept, items: &Vec<T>)
+    requires { kept.old.runs ≡ None }
+    ensures size { kept.new.size ≡ kept.old.size }
+    ensures runs { IfSome kept.new.runs (λ runs. AreRunsOf T.of_kind runs items.now.items) }
 {
     if items.len() < MANY_ITEMS {
-        return KeptRuns::none();
+        return;
     }
-    let mut kept = KeptRuns::new(*items.allocator(), Runs::unknown());
-    if kept.are_kept() {
-        kept.set(runs_of(items.as_slice()));
+    kept.add_runs(*items.allocator(), Runs::unknown());
+    if kept.has_runs() {
+        kept.set_runs(runs_of(items.as_slice()));
     }
-    kept
 }
 
-/// Keeps these runs in place of those kept, or finds them where none were kept and the items are many
-/// now.
-fn keep_runs<T: Measured>(kept: &mut KeptRuns, items: &Vec<T>, runs: Runs)
-    requires { AreRunsOf T.of_kind runs items.now.items }
-    ensures { IfSome kept.new (λ runs. AreRunsOf T.of_kind runs items.now.items) }
+/// Keeps this size, and these runs in place of those kept, or finds them where none were kept and the items
+/// are many now.
+fn keep<T: Measured>(kept: &mut Kept, items: &Vec<T>, size: Option<usize>, runs: Runs)
+    requires size { IsKept T.bytes items.now.items size }
+    requires runs { AreRunsOf T.of_kind runs items.now.items }
+    ensures size { IsKept T.bytes items.now.items kept.new.size }
+    ensures runs { IfSome kept.new.runs (λ runs. AreRunsOf T.of_kind runs items.now.items) }
 {
-    if kept.are_kept() {
-        kept.set(runs);
+    kept.set_size(size);
+    if kept.has_runs() {
+        kept.set_runs(runs);
     } else {
-        *kept = runs_to_keep(items);
+        find_runs(kept, items);
     }
 }

@@ -15,8 +15,8 @@ invariant_of-self g c =
     let f = g.T.Measured.bytes in
     let moves = written ∙ c.move_item.ensures ∙ ap (moved c.args.from c.args.to) c.as_mut_slice.ensures.value in
     let runs = rw (← c.self.view_is) at c.runs_moved-runs.ensures in (
-      kept_so f items (take c.self.inside.inner.len (new ++ drop (length new) items)) c.self.inside.sum
-          (ap (λ xs. length (flat_map f xs)) moves ∙ moved_size f c.args.from c.args.to items) c.self.invariant.0,
-      if_kept c.set.new.self (λ kept. AreRunsOf g.T.Measured.of_kind kept (take c.self.inside.inner.len (new ++ drop (length new) items))) c.runs_moved-runs.result c.set.ensures
+      rw c.set_runs.ensures.size (kept_so f items (take c.self.inside.inner.len (new ++ drop (length new) items)) c.self.inside.kept.size
+          (ap (λ xs. length (flat_map f xs)) moves ∙ moved_size f c.args.from c.args.to items) c.self.invariant.0),
+      if_kept c.set_runs.new.self.runs (λ kept. AreRunsOf g.T.Measured.of_kind kept (take c.self.inside.inner.len (new ++ drop (length new) items))) c.runs_moved-runs.result c.set_runs.ensures.runs
           (subst (AreRunsOf g.T.Measured.of_kind c.runs_moved-runs.result) (sym moves) runs),
     )

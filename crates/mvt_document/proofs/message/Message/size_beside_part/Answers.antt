@@ -5,7 +5,7 @@ use Rattle.mvt_document.proofs.message.Message.size_beside_part.Goals as goal
 
 pub returns-in_err-part : goal.returns-in_err-part
 returns-in_err-part g c =
-    let sum = rw c.in-Some.is at c.self.invariant.0 in
+    let sum = rw (← c.size.ensures, c.in-Some.is) at c.self.invariant.0 in
     let within = part_size g.T.Measured.bytes c.args.index c.args.count c.self.inside.inner.items in
     let exact : c.args.index + c.args.count - c.args.index ≡ c.args.count = omega arith in
     let none = rw (c.deref.ensures.value, exact) at c.in_err-part.ensures in
@@ -13,7 +13,7 @@ returns-in_err-part g c =
 
 pub returns : goal.returns
 returns g c =
-    let sum = rw c.in-Some.is at c.self.invariant.0 in
+    let sum = rw (← c.size.ensures, c.in-Some.is) at c.self.invariant.0 in
     let exact : c.args.index + c.args.count - c.args.index ≡ c.args.count = omega arith in
     let gone = rw (c.deref.ensures.value, exact) at c.in_ok-part.ensures.1 in
     let whole = spliced_size g.T.Measured.bytes c.args.index c.args.count [] c.self.inside.inner.items in
