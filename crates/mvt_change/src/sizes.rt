@@ -137,7 +137,7 @@ fn tile_size(document: &Document, layer: usize, items: Option<usize>) -> Option<
         IsFileSize result (length (bytes_of (change_items change layer (document_of document.now)))) }
 {
     let holder = layer_at(document, layer);
-    let size = message_size(holder.tag, holder.width, items?, MAX_FILE)?;
+    let size = message_size(holder.tag.to_tag(), holder.width, items?, MAX_FILE)?;
     size_with(&document.items, layer, size)
 }
 

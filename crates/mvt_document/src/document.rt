@@ -7,8 +7,10 @@ ghost use Rattle.mvt_document.specs.BodyShape.{wire_type_of, stored_width_of, En
 
 use crate::body::Body;
 use crate::items::Items;
+use crate::layer_tag::LayerTag;
 use crate::message::Message;
 use crate::tag::Tag;
+use std::mem::size_of;
 
 /// A tag and its body.
 #[derive(Debug, Drop)]
@@ -39,7 +41,7 @@ pub enum LayerItem {
 /// A layer of the tile. The width is the least in which its length is spelled.
 #[derive(Debug, Drop)]
 pub struct Layer {
-    pub tag: Tag,
+    pub tag: LayerTag,
     pub width: u8,
     pub items: Message<LayerItem>,
     pub ghost is_layer: { tag.value ≡ 26 },
@@ -57,3 +59,12 @@ pub enum TileItem {
 pub struct Document {
     pub items: Message<TileItem>,
 }
+
+// A tile may have millions of items, so what one takes in memory is held fast here.
+const _: () = prove!(size_of::<Field>() == 40);
+
+const _: () = prove!(size_of::<LayerItem>() == 48);
+
+const _: () = prove!(size_of::<Layer>() == 48);
+
+const _: () = prove!(size_of::<TileItem>() == 56);

@@ -103,7 +103,12 @@ impl Measured for Layer {
     }
 
     fn size_within(&self, limit: usize) -> Option<usize> {
-        message_size(self.tag, self.width, self.items.size_within(limit)?, limit)
+        message_size(
+            self.tag.to_tag(),
+            self.width,
+            self.items.size_within(limit)?,
+            limit,
+        )
     }
 }
 

@@ -36,7 +36,7 @@
 //!   `change_fields`); a part and both positions are within the list (`exchange`, `move_item`,
 //!   `size_beside_part`); a size that is given is that of the items (`Message::of_size`,
 //!   `know_size`); a width is at least 1, and the room has as many bytes (`put_number`); a number that
-//!   becomes a tag is below 2^32 (`Tag::new`, `Tag::minimal`).
+//!   becomes a tag is below 2^32 (`Tag::new`, `Tag::minimal`), or that of layers (`LayerTag::new`).
 #![tactic(auto)]
 
 mod body;
@@ -45,6 +45,7 @@ mod exchange;
 mod items;
 mod kept;
 pub mod laws;
+mod layer_tag;
 mod lengths;
 mod measure;
 mod message;
@@ -58,6 +59,7 @@ mod zigzag;
 pub use body::Body;
 pub use document::{Document, Feature, Field, Layer, LayerItem, TileItem};
 pub use items::Items;
+pub use layer_tag::LayerTag;
 pub use measure::{Measured, message_size, size_beside_part, size_of_all, sum_within};
 pub use message::Message;
 pub use run::{Kind, Run, Runs};

@@ -15,7 +15,9 @@ ghost use Rattle.mvt_document.specs.Stands.{field_of, layer_item_of, tile_item_o
 use crate::faults::ReadError;
 use crate::front::{BodyRef, FieldRef, field_at_front};
 use mvt_document::tags::{FEATURE_TAG, LAYER_TAG};
-use mvt_document::{Feature, Field, Items, Layer, LayerItem, Measured, Message, Tag, TileItem};
+use mvt_document::{
+    Feature, Field, Items, Layer, LayerItem, LayerTag, Measured, Message, Tag, TileItem,
+};
 use std::alloc::{AllocError, Global};
 
 /// How many bytes the shortest field takes: one for its tag, and one for its body.
@@ -148,7 +150,7 @@ impl Decode for TileItem {
         match front.body {
             BodyRef::Bytes { width, bytes } if front.tag.value == LAYER_TAG => {
                 Ok(TileItem::Layer(Layer {
-                    tag: Tag::new(front.tag),
+                    tag: LayerTag::new(front.tag),
                     width,
                     items: Message::of_size(decode_inside(alloc, bytes)?, bytes.len()),
                 }))

@@ -42,7 +42,7 @@ impl Encode for LayerItem {
 
 impl Encode for Layer {
     fn fill(&self, room: &mut [u8]) -> usize {
-        put_message(self.tag, self.width, self.items.as_slice(), room)
+        put_message(self.tag.to_tag(), self.width, self.items.as_slice(), room)
     }
 }
 

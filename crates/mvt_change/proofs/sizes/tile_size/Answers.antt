@@ -28,7 +28,8 @@ returns-in_err-size c = λ change takes.
     let layer = layer_of c.layer_at-holder.result.now in
     let told = of_items_there c.args.layer (document_of c.args.document.now) layer (λ old. IsFileSize c.args.items (length (flat_map layer_item_bytes (change old)))) c.layer_at-holder.ensures takes in
     let some = rw c.in_ok-items.was at told in
-    rw c.from_residual-in_err-size.ensures (λ within. c.in_err-size.ensures (omega (arith, within, tile_resized tile_item_of change c.args.layer c.args.document.now.items.items layer c.in_ok-items.field-0 c.layer_at-holder.ensures some.1)))
+    let none = rw c.to_tag.ensures at c.in_err-size.ensures in
+    rw c.from_residual-in_err-size.ensures (λ within. none (omega (arith, within, tile_resized tile_item_of change c.args.layer c.args.document.now.items.items layer c.in_ok-items.field-0 c.layer_at-holder.ensures some.1)))
 
 pub returns : goal.returns
 returns c = λ change takes.
@@ -36,4 +37,5 @@ returns c = λ change takes.
     let told = of_items_there c.args.layer (document_of c.args.document.now) layer (λ old. IsFileSize c.args.items (length (flat_map layer_item_bytes (change old)))) c.layer_at-holder.ensures takes in
     let some = rw c.in_ok-items.was at told in
     let whole = tile_resized tile_item_of change c.args.layer c.args.document.now.items.items layer c.in_ok-items.field-0 c.layer_at-holder.ensures some.1 in
-    told_so MAX_FILE c.size_with.result _ _ (omega (arith, whole, c.in_ok-size.ensures.1)) c.size_with.ensures
+    let size = rw c.to_tag.ensures at c.in_ok-size.ensures.1 in
+    told_so MAX_FILE c.size_with.result _ _ (omega (arith, whole, size)) c.size_with.ensures

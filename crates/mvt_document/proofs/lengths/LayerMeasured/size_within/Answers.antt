@@ -7,4 +7,4 @@ pub returns-in_err-size_within : goal.returns-in_err-size_within
 returns-in_err-size_within c = rw (c.from_residual.ensures, flat_map-map, length-message) (λ h. c.in_err-size_within.ensures (omega arith))
 
 pub returns : goal.returns
-returns c = rw (flat_map-map, length-message, ← c.in_ok-size_within.ensures.1) c.message_size.ensures
+returns c = rw (flat_map-map, length-message, ← c.to_tag.ensures, ← c.in_ok-size_within.ensures.1) c.message_size.ensures
