@@ -24,7 +24,7 @@ use Rattle.mvt_meaning.specs.Compaction.{compacted, is_any, is_entry, is_key_use
 use Rattle.mvt_meaning.specs.Geometries.{can_move, geometry_among, is_geometry_field, is_kind, moves, shifted, with_geometry, with_kind}
 use Rattle.mvt_meaning.specs.Tagging.{attributed, excluded, is_key, is_packed_last, is_tags, missing_entries, missing_entry, new_pair, pairs_with, removals, renamed_keys, replacements, unreadable, untagged, value_ordinal, with_attribute, with_more, with_more_content, with_more_tags, without_attribute, without_tags}
 use Rattle.mvt_geometry.specs.Checks.{is_in_range}
-use Rattle.mvt_meaning.specs.Meaning.{applied, refuse_if, can_shift, fields_of, layer_count, feature_count, has_key, has_pairs, is_drawn, is_id, items_of, refuse_first, repeats_key, is_kept, is_name, is_taken, within_limit, change_layer, change_layers, change_readable, change_feature, identified, named_items, new_content, new_feature, new_number, with_content, with_field_value, with_id, with_number, with_text, with_value, without_id}
+use Rattle.mvt_meaning.specs.Meaning.{applied, refuse_if, can_shift, fields_of, layer_count, feature_count, has_key, has_pairs, is_drawn, is_id, items_of, refuse_first, repeats_key, is_kept, is_name, is_taken, within_limit, change_layer, change_layers, change_readable, change_feature, identified, named_items, new_content, new_feature, new_number, with_content, with_field_value, with_field_value, with_number, with_text, with_value, without_id}
 use Rattle.mvt_meaning.specs.declared.refusal.Refusal.TheVariants.{BadGeometry, BadPlace, BadTags, KeyTaken, NameTaken, NoKey, NoLayer, OutOfRange, RepeatedKey, TooLarge}
 use Rattle.mvt_numbers.specs.Renumbering.{renumber}
 use Rattle.mvt_document.proofs.EachItem.{all_joined}
@@ -269,7 +269,7 @@ made_valid (SetId choice feature id) document fits valid =
     then_so IsDocument (selected choice document) _ (λ ordinal.
     then_so IsDocument (selected_in feature ordinal document) _ (λ meant.
     limited_valid (change_feature (identified id) ordinal meant document)
-    (feature_valid (identified id) (all_put IsField is_id (with_id id) (new_number 8 id) (field_value_valid id fits) (new_id id fits)) ordinal meant document valid)))
+    (feature_valid (identified id) (all_put IsField is_id (with_field_value id) (new_number 8 id) (field_value_valid id fits) (new_id id fits)) ordinal meant document valid)))
 made_valid (ClearId choice feature) document fits valid =
     then_so IsDocument (selected choice document) _ (λ ordinal.
     then_so IsDocument (selected_in feature ordinal document) _ (λ meant. feature_valid without_id (all_filtered IsField (λ field. not (is_id field))) ordinal meant document valid))

@@ -10,7 +10,7 @@ use Rattle.mvt_view.specs.Views.{feature_in, features, features_in, layers, plai
 use Rattle.mvt_meaning.specs.Ordinals.{change_nth, insert_nth, move_nth, without}
 use Rattle.mvt_meaning.specs.Selection.{is_feature, selected, selected_feature, selected_in}
 use Rattle.mvt_geometry.specs.Checks.{is_in_range}
-use Rattle.mvt_meaning.specs.Meaning.{◌>>=◌, change_feature, change_layer, feature_count, identified, new_feature, new_number, refuse_if, with_id, within_limit, without_id}
+use Rattle.mvt_meaning.specs.Meaning.{◌>>=◌, change_feature, change_layer, feature_count, identified, new_feature, new_number, refuse_if, with_field_value, within_limit, without_id}
 use Rattle.mvt_meaning.specs.declared.refusal.Refusal.TheVariants.{BadPlace, OutOfRange}
 use Rattle.mvt_meaning.proofs.Given.{value_given}
 use Rattle.command_laws.specs.Kept.{ChangesFeature}
@@ -78,9 +78,9 @@ drop_feature_drops choice feature old new e =
 
 sets_id : (id : ℕ) (feature : Feature) → SetsId id feature (with_fields (identified id) feature)
 sets_id id feature = record {
-  has = last_put (value_in 1) (with_id id) id (value_given 1 id) (new_number 8 id) feature.fields refl;
-  last = parts_put (value_in 1) (with_id id) id (value_given 1 id) (new_number 8 id) feature.fields refl;
-  others = others_put (value_in 1) (with_id id) id (value_given 1 id) (new_number 8 id) feature.fields refl;
+  has = last_put (value_in 1) (with_field_value id) id (value_given 1 id) (new_number 8 id) feature.fields refl;
+  last = parts_put (value_in 1) (with_field_value id) id (value_given 1 id) (new_number 8 id) feature.fields refl;
+  others = others_put (value_in 1) (with_field_value id) id (value_given 1 id) (new_number 8 id) feature.fields refl;
 }
 
 pub set_id_sets : SetIdSets

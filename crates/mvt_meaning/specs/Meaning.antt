@@ -64,13 +64,9 @@ is_kept names (PlainInTile field) = true
 abbrev pub is_id : Field → Bool
 is_id field = is_some (value_in 1 field)
 
--- the field with this number, where it is a VARINT field
-abbrev pub with_id : ℕ → Field → Field
-with_id id field = with_field_value id field
-
 -- the fields of a feature with this id in the last id field, or in a new one at the end where there is none (tiles 4.2)
 abbrev pub identified : ℕ → List Field → List Field
-identified id fields = put_last is_id (with_id id) (new_number 8 id) fields
+identified id fields = put_last is_id (with_field_value id) (new_number 8 id) fields
 
 -- the fields of a feature without its id fields (tiles 4.2)
 abbrev pub without_id : List Field → List Field

@@ -20,7 +20,8 @@ use Rattle.tile_arguments.specs.Arguments.{kinds, kind_word}
 use Rattle.tile_text.specs.Texts.{text_form, value_form, raw_form, geometry_form}
 use Rattle.tile_text.proofs.Feeds.{kind_feedless, text_form_feedless, value_form_feedless, raw_form_feedless, geometry_form_feedless}
 use Rattle.tile_lines.specs.Lines.{is_line_feed, HasNoLineFeed}
-use Rattle.tile_listing.specs.Listing.{absent, attribute_line, attribute_lines, feature_line, geometry_line, geometry_of, id_word, key_line, kind_form, layer_line, layer_numbers, layers_line, lines_of_feature, lines_of_layer, lines_of_tile, name_word, numbered, spaced, value_line, value_shown}
+use Rattle.mvt_meaning.specs.Geometries.{geometry_among}
+use Rattle.tile_listing.specs.Listing.{absent, attribute_line, attribute_lines, feature_line, geometry_line, id_word, key_line, kind_form, layer_line, layer_numbers, layers_line, lines_of_feature, lines_of_layer, lines_of_tile, name_word, numbered, spaced, value_line, value_shown}
 use Rattle.tile_listing.specs.Told.{MayBeTold}
 use Rattle.tile_listing.proofs.Telling.{uncut-append, decimal_uncut}
 
@@ -76,7 +77,7 @@ found_is_geometry : (kind : ℕ) (read : Option (List ℕ)) (geometry : Geometry
 found_is_geometry kind None geometry e = absurd cc
 found_is_geometry kind (Some integers) geometry e = let has = (geometry_in_numbers kind integers geometry).0 e in has.valid
 
-found_geometry_uncut : (feature : Feature) (found : Option Geometry) → geometry_of feature ≡ found → HasNoLineFeed (option_map_or geometry_form found (codes "unreadable"))
+found_geometry_uncut : (feature : Feature) (found : Option Geometry) → geometry_among feature.fields ≡ found → HasNoLineFeed (option_map_or geometry_form found (codes "unreadable"))
 found_geometry_uncut feature None e = tested (codes "unreadable") refl
 found_geometry_uncut feature (Some geometry) e = geometry_form_feedless geometry (found_is_geometry (kind_of feature) (values_in (numbers 4 feature.fields)) geometry e)
 
@@ -135,8 +136,8 @@ unreadable_may = record { uncut = tested (codes "attributes unreadable") refl; o
 
 geometry_line_may : (feature : Feature) → MayBeTold (geometry_line feature)
 geometry_line_may feature = record {
-  uncut = spaced_uncut (codes "geometry" ∷ option_map_or geometry_form (geometry_of feature) (codes "unreadable") ∷ [])
-      (tested (codes "geometry") refl, (found_geometry_uncut feature (geometry_of feature) refl, tt));
+  uncut = spaced_uncut (codes "geometry" ∷ option_map_or geometry_form (geometry_among feature.fields) (codes "unreadable") ∷ [])
+      (tested (codes "geometry") refl, (found_geometry_uncut feature (geometry_among feature.fields) refl, tt));
   other = other_than (geometry_line feature) refl;
 }
 

@@ -19,7 +19,8 @@ use Rattle.mvt_value.proofs.Found.{shown_value_in}
 use Rattle.mvt_geometry.proofs.Found.{found_geometry, no_geometry_in}
 use Rattle.tile_text.specs.Texts.{value_form, raw_form}
 use Rattle.tile_text.specs.TextStands.{shown_form}
-use Rattle.tile_listing.specs.Listing.{value_shown, geometry_of}
+use Rattle.mvt_meaning.specs.Geometries.{geometry_among}
+use Rattle.tile_listing.specs.Listing.{value_shown}
 
 -- ---- values
 
@@ -39,12 +40,12 @@ shown_is bytes value has only raw = by_found value (value_in bytes) (shown_value
 
 -- ---- geometries
 
-pub with_geometry : (feature : Feature) (geometry : Geometry) → HasFeatureGeometry feature geometry → geometry_of feature ≡ Some geometry
+pub with_geometry : (feature : Feature) (geometry : Geometry) → HasFeatureGeometry feature geometry → geometry_among feature.fields ≡ Some geometry
 with_geometry feature geometry h = rw h.read (found_geometry (kind_of feature) h.integers geometry h.has)
 
 none_in : (feature : Feature) (read : Option (List ℕ)) → values_in (numbers 4 feature.fields) ≡ read → ((geometry : Geometry) → HasFeatureGeometry feature geometry → ⊥) → option_and_then (geometry_in (kind_of feature)) read ≡ None
 none_in feature None r none = refl
 none_in feature (Some integers) r none = no_geometry_in (kind_of feature) integers (λ geometry has. none geometry (record { integers = integers; read = r; has = has }))
 
-pub without_geometry : (feature : Feature) → ((geometry : Geometry) → HasFeatureGeometry feature geometry → ⊥) → geometry_of feature ≡ None
+pub without_geometry : (feature : Feature) → ((geometry : Geometry) → HasFeatureGeometry feature geometry → ⊥) → geometry_among feature.fields ≡ None
 without_geometry feature none = none_in feature (values_in (numbers 4 feature.fields)) refl none

@@ -1,20 +1,19 @@
 -- What a listing shows of a tile, of a layer and of a feature. The forms of its lines are a choice of this project.
 use Rattle.std.specs.Prelude.{◌≡◌, ◌⊎◌, ℕ, ◌==◌, List, [], ◌∷◌, ◌++◌, Option, Result, Ok, Err, codes, decimal, length, map, slice_get, if◌then◌else◌}
 use Rattle.std.specs.List.{enumerate_from, find, flat_map, join_with_byte}
-use Rattle.std.specs.Option.{ok_or, option_and_then, option_map_or}
+use Rattle.std.specs.Option.{ok_or, option_map_or}
 use Rattle.mvt_document.specs.Held.{Held}
 use Rattle.mvt_document.specs.Plain.{Document, Feature, Layer}
-use Rattle.mvt_numbers.specs.Numbers.{numbers}
 use Rattle.mvt_geometry.specs.Shapes.{Geometry, kind_number}
 use Rattle.mvt_command.specs.Command.{FeatureChoice, LayerChoice}
 use Rattle.mvt_view.specs.Views.{extent_of, features, id_of, keys, kind_of, layers, name_of, values, version_of}
-use Rattle.mvt_view.specs.Attributes.{attributes, values_in}
+use Rattle.mvt_view.specs.Attributes.{attributes}
 use Rattle.mvt_meaning.specs.Meaning.{◌>>=◌}
 use Rattle.mvt_meaning.specs.Selection.{selected, selected_feature}
+use Rattle.mvt_meaning.specs.Geometries.{geometry_among}
 use Rattle.mvt_meaning.specs.declared.refusal.Refusal.{Refusal}
 use Rattle.mvt_meaning.specs.declared.refusal.Refusal.TheVariants.{NoFeature, NoLayer, NoMemory}
 use Rattle.mvt_value.specs.Found.{value_in}
-use Rattle.mvt_geometry.specs.Found.{geometry_in}
 use Rattle.tile_arguments.specs.Arguments.{kinds, kind_word}
 use Rattle.tile_text.specs.Texts.{geometry_form, raw_form, text_form, value_form}
 use Rattle.tile_lines.specs.Lines.{with_feed}
@@ -89,13 +88,9 @@ attribute_line attribute = spaced (codes "attribute" ∷ text_form attribute.0 �
 abbrev pub attribute_lines : Layer → Feature → List (List ℕ)
 attribute_lines layer feature = option_map_or (map attribute_line) (attributes layer feature) (codes "attributes unreadable" ∷ [])
 
--- the geometry that the numbers of field 4 of a feature have, for its kind, or none (tiles 4.3)
-abbrev pub geometry_of : Feature → Option Geometry
-geometry_of feature = option_and_then (geometry_in (kind_of feature)) (values_in (numbers 4 feature.fields))
-
 -- the line of the geometry of a feature, which says so where there is none
 abbrev pub geometry_line : Feature → List ℕ
-geometry_line feature = spaced (codes "geometry" ∷ option_map_or geometry_form (geometry_of feature) (codes "unreadable") ∷ [])
+geometry_line feature = spaced (codes "geometry" ∷ option_map_or geometry_form (geometry_among feature.fields) (codes "unreadable") ∷ [])
 
 -- ---- listings
 
