@@ -35,13 +35,21 @@ impl LayerTag {
         }
     }
 
+    /// The number that the tag is.
+    pub fn to_varint(&self) -> Varint
+        ensures number { result ≡ self.now }
+        ensures value { result.value ≡ 26 }
+    {
+        Varint {
+            value: LAYER_TAG,
+            width: self.width,
+        }
+    }
+
     /// The same as a tag of any field.
     pub fn to_tag(&self) -> Tag
         ensures { result ≡ self.now }
     {
-        Tag::new(Varint {
-            value: LAYER_TAG,
-            width: self.width,
-        })
+        Tag::new(self.to_varint())
     }
 }
