@@ -14,17 +14,17 @@ use Rattle.mvt_command.specs.Command.{Command}
 use Rattle.mvt_meaning.specs.Meaning.{applied}
 use Rattle.mvt_meaning.specs.declared.refusal.Refusal.{Refusal}
 use Rattle.mvt_document.proofs.EachItem.{all_joined}
-use Rattle.mvt_history.specs.Marks.{Mark, compared, has_name, is_before, is_behind, point_of, bound, unbound}
-use Rattle.mvt_history.specs.History.{History, IsSound, after_all, after_steps, document_at, standing_document, commands_in, at_point, with_marks, with_group, with_step, with_command, edited_to, edited, unless_open, undone, redone, marked, unmarked, gone_to, gone_back, opened, ended, closed, cancelled}
+use Rattle.mvt_history_steps.specs.Marks.{Mark, compared, has_name, is_before, is_behind, point_of, bound, unbound}
+use Rattle.mvt_history_steps.specs.History.{History, IsSound, after_all, after_steps, document_at, standing_document, commands_in, at_point, with_marks, with_group, with_step, with_command, edited_to, edited, unless_open, undone, redone, marked, unmarked, gone_to, gone_back, opened, ended, closed, cancelled}
 use Rattle.mvt_command.specs.Requests.{HistoryRequest, Edit, Undo, Redo, SetMark, TakeMark, GoBack, Begin, End, Cancel}
-use Rattle.mvt_history.specs.Requests.{SetsOther, or_before, asked, asked_all}
-use Rattle.mvt_history.proofs.Sound.{or_before_has}
+use Rattle.mvt_history_steps.specs.Requests.{SetsOther, or_before, asked, asked_all}
+use Rattle.mvt_history_steps.proofs.Sound.{or_before_has}
 use Rattle.history_laws.specs.Laws.{StaysSound, BackToTheMark}
-use Rattle.mvt_history.specs.declared.TheConstants.{MAX_MARKS}
+use Rattle.mvt_history_steps.specs.declared.TheConstants.{MAX_MARKS}
 use Rattle.mvt_history_error.specs.declared.HistoryError.{HistoryError}
 use Rattle.mvt_history_error.specs.declared.HistoryError.TheVariants.{NothingToUndo, NothingToRedo, NoMark, TooManyMarks, NoGroup}
 use Rattle.mvt_meaning.proofs.Elements.{all_filtered}
-use Rattle.mvt_history.proofs.MarkOrder.{all_passed, all_bound}
+use Rattle.mvt_history_steps.proofs.MarkOrder.{all_passed, all_bound}
 use Rattle.history_laws.proofs.UndosRedos.{none_open}
 
 -- ---- what marks of a name say of a document

@@ -1,8 +1,8 @@
 -- A `back` or a `cancel` that was stopped, asked again, leads where it would have led.
 use Rattle.std.proofs.Common.{◌≡◌, ℕ, ◌-◌, Some, None, Ok, Err, List, length, take, is_some, if◌then◌else◌, refl, ap, ◌∙◌}
 use Rattle.mvt_command.specs.Command.{Command}
-use Rattle.mvt_history.specs.Marks.{point_of}
-use Rattle.mvt_history.specs.History.{History, at_point, with_group, unless_open, gone_to, gone_back, cancelled}
+use Rattle.mvt_history_steps.specs.Marks.{point_of}
+use Rattle.mvt_history_steps.specs.History.{History, at_point, with_group, unless_open, gone_to, gone_back, cancelled}
 use Rattle.history_laws.specs.Laws.{StoppedGoesOn}
 use Rattle.mvt_history_error.specs.declared.HistoryError.TheVariants.{NoGroup}
 

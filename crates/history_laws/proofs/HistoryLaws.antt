@@ -6,10 +6,10 @@ use Rattle.mvt_document.specs.Plain.{Document}
 use Rattle.mvt_command.specs.Command.{Command}
 use Rattle.mvt_meaning.specs.Meaning.{after, applied}
 use Rattle.mvt_meaning.specs.declared.refusal.Refusal.{Refusal}
-use Rattle.mvt_history.specs.History.{History, IsSound, after_steps, document_at, present_document, standing_document, at_point, with_group, with_step, with_command, edited_to, undone, ended, closed}
+use Rattle.mvt_history_steps.specs.History.{History, IsSound, after_steps, document_at, present_document, standing_document, at_point, with_group, with_step, with_command, edited_to, undone, ended, closed}
 use Rattle.history_laws.specs.Laws.{StaysSound, UndoAtOnce, UndoAfterEnd, StepUndoesWhole}
 use Rattle.mvt_history.proofs.Closed.{standing_alone}
-use Rattle.mvt_history.proofs.Sound.{begins_sound, sound_asked}
+use Rattle.mvt_history_steps.proofs.Sound.{begins_sound, sound_asked}
 use Rattle.history_laws.proofs.OpenStep.{within_step}
 
 -- ---- undo

@@ -1,6 +1,6 @@
 -- A step that is opened and cancelled leaves the very history before it, and so does one that ends without a command.
 use Rattle.std.proofs.Common.{◌≡◌, None, Some, Ok, [], sym, ap, ◌∙◌}
-use Rattle.mvt_history.specs.History.{History, with_group, closed, cancelled}
+use Rattle.mvt_history_steps.specs.History.{History, with_group, closed, cancelled}
 use Rattle.history_laws.specs.Laws.{EmptyStepLeavesNoTrace, CancelLeavesNoTrace}
 use Rattle.history_laws.proofs.OpenStep.{within_step}
 

@@ -7,12 +7,12 @@ use Rattle.mvt_change.specs.Changes.{Change, weight}
 use Rattle.mvt_change.specs.Joining.{go_along}
 use Rattle.mvt_command.specs.Command.{Command}
 use Rattle.mvt_meaning.specs.Meaning.{after}
-use Rattle.mvt_history.specs.History.{after_all, after_steps, present_document, commands_in}
-use Rattle.mvt_history.specs.Reached.{LeadsBack, LeadsOn, LeadBack, LeadOn, LeadOut, all_taken_by, all_put_by, step_allowance, singles}
-use Rattle.mvt_history.specs.Standing.{changes_in}
+use Rattle.mvt_history_steps.specs.History.{after_all, after_steps, present_document, commands_in}
+use Rattle.mvt_history_steps.specs.Reached.{LeadsBack, LeadsOn, LeadBack, LeadOn, LeadOut, all_taken_by, all_put_by, step_allowance, singles}
+use Rattle.mvt_history_steps.specs.Standing.{changes_in}
 use Rattle.history_laws.specs.Laws.{ChangesLead, KeptWithin, sum_from, FewSteps}
-use Rattle.mvt_history.proofs.Following.{back_along, on_along}
-use Rattle.mvt_history.proofs.Joined.{between_commands, lead_out_along}
+use Rattle.mvt_history_steps.proofs.Following.{back_along, on_along}
+use Rattle.mvt_history_steps.proofs.Joined.{between_commands, lead_out_along}
 
 -- ---- where they lead
 

@@ -3,8 +3,8 @@ use Rattle.std.proofs.Common.{◌≡◌, ℕ, zero, suc, ◌+◌, ◌-◌, ◌<�
 use Rattle.std.proofs.lemmas.Bool.{cases_Bool}
 use Rattle.std.proofs.lemmas.Bool.Decides.{nat_tests}
 use Rattle.mvt_command.specs.Command.{Command}
-use Rattle.mvt_history.specs.History.{History, at_point, unless_open, undone, redone}
-use Rattle.mvt_history.specs.Requests.{and_then, then_times}
+use Rattle.mvt_history_steps.specs.History.{History, at_point, unless_open, undone, redone}
+use Rattle.mvt_history_steps.specs.Requests.{and_then, then_times}
 use Rattle.history_laws.specs.Laws.{RedosUndoUndos, UndosUndoRedos}
 use Rattle.mvt_history_error.specs.declared.HistoryError.{HistoryError}
 use Rattle.mvt_history_error.specs.declared.HistoryError.TheVariants.{NothingToUndo, NothingToRedo}

@@ -3,9 +3,9 @@ use Rattle.std.proofs.Common.{◌≡◌, Option, Some, None, List, refl, ap, ◌
 use Rattle.mvt_document.specs.Plain.{Document}
 use Rattle.mvt_command.specs.Command.{Command}
 use Rattle.mvt_change.specs.Changes.{Change}
-use Rattle.mvt_history.specs.History.{History, after_all, present_document, standing_document, commands_in}
-use Rattle.mvt_history.specs.Reached.{LeadOut}
-use Rattle.mvt_history.specs.Standing.{Standing}
+use Rattle.mvt_history_steps.specs.History.{History, after_all, present_document, standing_document, commands_in}
+use Rattle.mvt_history_steps.specs.Reached.{LeadOut}
+use Rattle.mvt_history_steps.specs.Standing.{Standing}
 use Rattle.mvt_history.specs.Session.{StandsFor}
 
 none_open : (group : Option (List Command)) (document : Document) (pending : Option (List Change)) → pending ≡ None → LeadOut group document pending → group ≡ None

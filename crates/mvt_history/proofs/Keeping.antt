@@ -10,16 +10,16 @@ use Rattle.mvt_command.specs.Command.{Command}
 use Rattle.mvt_change.specs.Changes.{Change, Fits, go}
 use Rattle.mvt_change.specs.Joining.{go_along, FitAlong}
 use Rattle.mvt_change.proofs.Turning.{change_makes}
-use Rattle.mvt_history.specs.Marks.{Mark, InOrder, between, counted_from}
-use Rattle.mvt_history.specs.History.{History, IsWithin, after_all, after_steps, present_document, standing_document, commands_in, with_group, with_step}
-use Rattle.mvt_history.specs.Reached.{LeadsBack, LeadBack, LeadOn, LeadOut}
-use Rattle.mvt_history.specs.Standing.{Standing, IsReady, changes_in, closed_document}
-use Rattle.mvt_history.specs.Held.{IsReached, IsHeld}
+use Rattle.mvt_history_steps.specs.Marks.{Mark, InOrder, between, counted_from}
+use Rattle.mvt_history_steps.specs.History.{History, IsWithin, after_all, after_steps, present_document, standing_document, commands_in, with_group, with_step}
+use Rattle.mvt_history_steps.specs.Reached.{LeadsBack, LeadBack, LeadOn, LeadOut}
+use Rattle.mvt_history_steps.specs.Standing.{Standing, IsReady, changes_in, closed_document}
+use Rattle.mvt_history_steps.specs.Held.{IsReached, IsHeld}
 use Rattle.mvt_history.specs.Session.{StandsFor}
-use Rattle.mvt_history.proofs.MarkOrder.{all_passed, order_filtered, length_filtered}
-use Rattle.mvt_history.proofs.Counting.{counted_twice, counted_length, counted_between, all_from_counted, in_order_from_counted}
-use Rattle.mvt_history.proofs.Sound.{length-with_step, sound_with_step, sound_with_group}
-use Rattle.mvt_history.proofs.Following.{steps_joined, lead_back_same, lead_back_taken}
+use Rattle.mvt_history_steps.proofs.MarkOrder.{all_passed, order_filtered, length_filtered}
+use Rattle.mvt_history_steps.proofs.Counting.{counted_twice, counted_length, counted_between, all_from_counted, in_order_from_counted}
+use Rattle.mvt_history_steps.proofs.Sound.{length-with_step, sound_with_step, sound_with_group}
+use Rattle.mvt_history_steps.proofs.Following.{steps_joined, lead_back_same, lead_back_taken}
 
 -- ---- changes one after the other
 

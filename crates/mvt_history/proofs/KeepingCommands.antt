@@ -10,25 +10,26 @@ use Rattle.mvt_command.specs.Command.{Command}
 use Rattle.mvt_meaning.specs.Meaning.{after, applied}
 use Rattle.mvt_change.specs.declared.change.Change.{Change as HeldChange}
 use Rattle.mvt_change.specs.ChangeStands.{change_of}
-use Rattle.mvt_change.specs.Changes.{Change, Fits, go, turn}
+use Rattle.mvt_change.specs.Changes.{Change, Fits, go, turn, weight}
 use Rattle.mvt_change.specs.Joining.{joined, go_along, FitAlong}
-use Rattle.mvt_change.proofs.Turning.{change_makes, turned_back, turned_fits}
+use Rattle.mvt_change.proofs.Turning.{change_makes, turned_back, turned_fits, turned_twice}
 use Rattle.mvt_change.proofs.JoinedChanges.{go_joined_list, fit_joined_list}
 use Rattle.mvt_change.proofs.Changed.{map-reverse}
 use Rattle.mvt_edit_steps.specs.Prepared.{IsPrepared}
-use Rattle.mvt_history.specs.Marks.{between, counted_from}
-use Rattle.mvt_history.specs.declared.marks.Mark.{Mark as HeldMark}
-use Rattle.mvt_history.specs.History.{History, after_all, present_document, commands_in, with_group, with_step, with_command, edited_to, edited, ended, closed, cancelled}
+use Rattle.mvt_history_steps.specs.Marks.{between, counted_from}
+use Rattle.mvt_history_steps.specs.declared.marks.Mark.{Mark as HeldMark}
+use Rattle.mvt_history_steps.specs.History.{History, after_all, present_document, commands_in, with_group, with_step, with_command, edited_to, edited, ended, closed, cancelled}
 use Rattle.mvt_history_error.specs.declared.HistoryError.{HistoryError}
 use Rattle.mvt_history_error.specs.declared.HistoryError.TheVariants.{NoMemory}
-use Rattle.mvt_history.specs.Reached.{LeadsBack, LeadOut}
-use Rattle.mvt_history.specs.Standing.{Standing, changes_in, closed_document}
-use Rattle.mvt_history.specs.Held.{mark_of, from_last, standing_of, IsHeld}
+use Rattle.mvt_history_steps.specs.Reached.{LeadsBack, LeadOut}
+use Rattle.mvt_history_steps.specs.Standing.{Standing, changes_in, closed_document}
+use Rattle.mvt_history_steps.specs.Held.{mark_of, from_last, standing_of, IsHeld}
 use Rattle.mvt_history.specs.Session.{StandsFor, AnswersWithMemory, StopsWithin}
-use Rattle.mvt_history.proofs.Stepping.{length_from_last}
+use Rattle.mvt_history_steps.proofs.Stepping.{length_from_last}
 use Rattle.mvt_history.proofs.Closed.{is_closed, stands_present}
-use Rattle.mvt_history.proofs.Joined.{after_accepted, prepared_leads_back, lead_out_more, lead_out_stopped, between_commands, lead_out_along, lead_out_joined}
-use Rattle.mvt_history.proofs.Following.{all_joined}
+use Rattle.mvt_history_steps.proofs.Joined.{after_accepted, lead_out_more, lead_out_stopped, between_commands, lead_out_along, lead_out_joined}
+use Rattle.mvt_history_steps.proofs.Following.{all_joined}
+use Rattle.mvt_history_steps.proofs.Turned.{length_turned}
 use Rattle.mvt_history.proofs.Keeping.{fit_taken, fit_dropped, along_dropped, along_makes, IsKept, kept_held, kept_stands, with_open, open_held, open_stands}
 
 -- ---- as the code keeps it
@@ -100,6 +101,24 @@ pending_fits : (undo_room redo_room : ℕ) (session : Standing) (pending : Optio
 pending_fits undo_room redo_room session pending is held = subst (λ p. FitAlong (changes_in p) session.document) is held.ready.pending_fit
 
 -- ---- a command that is a step
+
+-- what carries a command out leads back over it, once it is turned
+prepared_leads_back : (command : Command) (document : Document) (change : Change) → IsDocument document → IsPrepared command document change → LeadsBack (command ∷ []) document (turn change document)
+prepared_leads_back command document change valid prepared =
+    let made : after command document ≡ go change document = after_accepted command document (go change document) prepared.means in
+    let turned = turn change document in
+    let twice : turn turned (after command document) ≡ change = ap (turn turned) made ∙ turned_twice change document prepared.fits in
+    let takes = prepared.takes in
+    let puts = prepared.puts in
+    let few = prepared.steps in
+    let again : weight (turn turned (after command document)) ≡ weight change = ap weight twice in
+    record {
+      fits = subst (Fits turned) (sym made) (turned_fits change document valid prepared.fits);
+      leads = ap (go turned) made ∙ turned_back change document prepared.fits;
+      holds = omega arith;
+      becomes = omega arith;
+      few_steps = omega (arith, length_turned change document);
+    }
 
 pub command_alone_held : (undo_room redo_room : ℕ) (before after : Standing) (change : Change) → IsKept before after (turn change before.document) → before.pending ≡ None → IsHeld undo_room redo_room before → Fits change before.document → after.document ≡ go change before.document → IsHeld undo_room redo_room after
 command_alone_held undo_room redo_room before after change kept is held fits made =

@@ -1,14 +1,5 @@
-pub mod Counting
-pub mod MarkPlaces
-pub mod Lowered
-pub mod Stepping
-pub mod MarkOrder
-pub mod Sound
-pub mod Turned
 pub mod Closed
 pub mod Moving
 pub mod Marking
-pub mod Following
-pub mod Joined
 pub mod Keeping
 pub mod KeepingCommands

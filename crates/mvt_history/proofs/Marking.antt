@@ -4,21 +4,21 @@ use Rattle.std.specs.Option.{IsSome, ok_or}
 use Rattle.std.specs.Result.{OnOk, OnErr, IfErr, IsErrAnd, MatchResult}
 use Rattle.std.proofs.lemmas.Bool.{cases_Bool}
 use Rattle.std.proofs.lemmas.Bool.Decides.{nat_tests}
-use Rattle.mvt_history.specs.Marks.{Mark, has_name, point_of, bound, unbound}
-use Rattle.mvt_history.specs.History.{History, at_point, with_marks, marked, unmarked, gone_back}
-use Rattle.mvt_history.specs.Moves.{walk_in, moved_along, LeadsAlong}
-use Rattle.mvt_history.specs.Standing.{Standing, IsReady}
-use Rattle.mvt_history.specs.Held.{IsReached, IsHeld}
+use Rattle.mvt_history_steps.specs.Marks.{Mark, has_name, point_of, bound, unbound}
+use Rattle.mvt_history_steps.specs.History.{History, at_point, with_marks, marked, unmarked, gone_back}
+use Rattle.mvt_history_steps.specs.Moves.{walk_in, moved_along, LeadsAlong}
+use Rattle.mvt_history_steps.specs.Standing.{Standing, IsReady}
+use Rattle.mvt_history_steps.specs.Held.{IsReached, IsHeld}
 use Rattle.mvt_history.specs.Session.{StandsFor, Answers, IsOnTheWay, StopsAt, AnswersBack}
-use Rattle.mvt_history.specs.declared.TheConstants.{MAX_MARKS}
-use Rattle.mvt_history.specs.declared.steps.Direction.{Direction}
-use Rattle.mvt_history.specs.declared.steps.Direction.TheVariants.{Undo, Redo}
+use Rattle.mvt_history_steps.specs.declared.TheConstants.{MAX_MARKS}
+use Rattle.mvt_history_steps.specs.declared.steps.Direction.{Direction}
+use Rattle.mvt_history_steps.specs.declared.steps.Direction.TheVariants.{Undo, Redo}
 use Rattle.mvt_history_error.specs.declared.HistoryError.{HistoryError}
 use Rattle.mvt_history_error.specs.declared.HistoryError.TheVariants.{NoMark, TooManyMarks, Stopped}
-use Rattle.mvt_history.proofs.Counting.{counted_length, counted_point_of, counted_bound, counted_unbound}
+use Rattle.mvt_history_steps.proofs.Counting.{counted_length, counted_point_of, counted_bound, counted_unbound}
 use Rattle.mvt_meaning.proofs.Elements.{all_filtered}
-use Rattle.mvt_history.proofs.MarkOrder.{all_bound, order_bound, order_unbound, few_bound, length_filtered, point_holds}
-use Rattle.mvt_history.proofs.Sound.{sound_bound, sound_unbound}
+use Rattle.mvt_history_steps.proofs.MarkOrder.{all_bound, order_bound, order_unbound, few_bound, length_filtered, point_holds}
+use Rattle.mvt_history_steps.proofs.Sound.{sound_bound, sound_unbound}
 use Rattle.mvt_history.proofs.Closed.{is_closed}
 use Rattle.mvt_history.proofs.Moving.{walked_stands}
 

@@ -13,22 +13,22 @@ use Rattle.mvt_change.specs.Changes.{Change, turn}
 use Rattle.mvt_change.specs.declared.change.Change.{Change as HeldChange}
 use Rattle.mvt_change.specs.Joining.{FitAlong}
 use Rattle.mvt_change.proofs.Turning.{change_makes, turned_back, turned_fits}
-use Rattle.mvt_history.specs.History.{History, begun, after_all, after_steps, document_at, commands_in, at_point, with_group, opened}
-use Rattle.mvt_history.specs.Moves.{Track, stepped, walked, walk_in, with_walk, moved_along, LeadsAlong, gone}
-use Rattle.mvt_history.specs.Reached.{Leads, LeadBack, LeadOn, LeadOut, all_taken_by, all_put_by, step_allowance}
-use Rattle.mvt_history.specs.declared.steps.Direction.{Direction}
-use Rattle.mvt_history.specs.declared.steps.Direction.TheVariants.{Undo, Redo}
-use Rattle.mvt_history.specs.Standing.{Standing, IsReady}
-use Rattle.mvt_history.specs.Held.{from_last, IsReached, IsHeld}
-use Rattle.mvt_history.specs.declared.TheConstants.{MAX_DEPTH}
+use Rattle.mvt_history_steps.specs.History.{History, begun, after_all, after_steps, document_at, commands_in, at_point, with_group, opened}
+use Rattle.mvt_history_steps.specs.Moves.{Track, stepped, walked, walk_in, with_walk, moved_along, LeadsAlong, gone}
+use Rattle.mvt_history_steps.specs.Reached.{Leads, LeadBack, LeadOn, LeadOut, all_taken_by, all_put_by, step_allowance}
+use Rattle.mvt_history_steps.specs.declared.steps.Direction.{Direction}
+use Rattle.mvt_history_steps.specs.declared.steps.Direction.TheVariants.{Undo, Redo}
+use Rattle.mvt_history_steps.specs.Standing.{Standing, IsReady}
+use Rattle.mvt_history_steps.specs.Held.{from_last, IsReached, IsHeld}
+use Rattle.mvt_history_steps.specs.declared.TheConstants.{MAX_DEPTH}
 use Rattle.mvt_history_error.specs.declared.HistoryError.{HistoryError}
 use Rattle.mvt_history_error.specs.declared.HistoryError.TheVariants.{GroupOpen, NoMemory}
 use Rattle.mvt_history.specs.Session.{StandsFor, AnswersWithMemory}
-use Rattle.mvt_history.proofs.Sound.{begins_sound, sound_at_point, sound_with_group}
-use Rattle.mvt_history.proofs.Following.{next_document}
-use Rattle.mvt_history.proofs.Stepping.{walk_of, length_from_last}
+use Rattle.mvt_history_steps.proofs.Sound.{begins_sound, sound_at_point, sound_with_group}
+use Rattle.mvt_history_steps.proofs.Following.{next_document}
+use Rattle.mvt_history_steps.proofs.Stepping.{walk_of, length_from_last}
 use Rattle.mvt_history.proofs.Closed.{is_closed, stands_present}
-use Rattle.mvt_history.proofs.Turned.{turned_leads}
+use Rattle.mvt_history_steps.proofs.Turned.{turned_leads}
 
 -- ---- how many changes lie ahead and behind
 

@@ -1,7 +1,7 @@
 -- What contracts see of the fields of a session as a whole.
 use Rattle.std.specs.Prelude.{option_map}
-use Rattle.mvt_history.specs.Standing.{Standing}
-use Rattle.mvt_history.specs.Held.{standing_of, IsHeld}
+use Rattle.mvt_history_steps.specs.Standing.{Standing}
+use Rattle.mvt_history_steps.specs.Held.{standing_of, IsHeld}
 use Rattle.mvt_history.specs.declared.session.Session.TheInside.{Inside}
 
 -- what contracts see of the fields of a session, taken together

@@ -5,10 +5,10 @@ use Rattle.mvt_document.specs.Wire.{bytes_of}
 use Rattle.mvt_command.specs.Command.{Command}
 use Rattle.mvt_meaning.specs.declared.refusal.Refusal.{Refusal}
 use Rattle.mvt_meaning.specs.declared.refusal.Refusal.TheVariants as edit
-use Rattle.mvt_history.specs.Marks.{Mark, counted_from, point_of}
-use Rattle.mvt_history.specs.History.{History, IsSound, standing_document, present_document, at_point, with_group, edited, gone_back, cancelled}
-use Rattle.mvt_history.specs.Reached.{LeadBack, LeadOn, LeadOut}
-use Rattle.mvt_history.specs.Standing.{Standing}
+use Rattle.mvt_history_steps.specs.Marks.{Mark, counted_from, point_of}
+use Rattle.mvt_history_steps.specs.History.{History, IsSound, standing_document, present_document, at_point, with_group, edited, gone_back, cancelled}
+use Rattle.mvt_history_steps.specs.Reached.{LeadBack, LeadOn, LeadOut}
+use Rattle.mvt_history_steps.specs.Standing.{Standing}
 use Rattle.mvt_document.specs.declared.document.Document as held
 use Rattle.mvt_document.specs.Stands.{document_of}
 use Rattle.std.specs.Borrow.{Bor}

@@ -23,16 +23,9 @@
 #![tactic(auto)]
 
 mod error;
-mod marks;
 mod session;
-mod steps;
 
 pub use error::StartError;
 pub use mvt_history_error::HistoryError;
+pub use mvt_history_steps::{MAX_DEPTH, MAX_MARKS};
 pub use session::Session;
-
-/// The greatest depth that a session may have.
-pub const MAX_DEPTH: u32 = 10_000;
-
-/// How many names are marked at most.
-pub const MAX_MARKS: usize = 256;

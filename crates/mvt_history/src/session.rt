@@ -6,21 +6,21 @@ ghost use Rattle.mvt_history_error.specs.declared.HistoryError.TheVariants.{Grou
 ghost use Rattle.mvt_document.specs.Stands.{document_of};
 ghost use Rattle.mvt_document.specs.Opens.{IsDocument};
 ghost use Rattle.mvt_command.specs.CommandStands.{command_of};
-ghost use Rattle.mvt_history.specs.declared.TheConstants.{MAX_DEPTH};
-ghost use Rattle.mvt_history.specs.Marks.{point_of};
-ghost use Rattle.mvt_history.specs.History.{History, begun, closed, marked, opened, redone, standing_document, undone, unmarked};
-ghost use Rattle.mvt_history.specs.Moves.{gone, moved_along, walk_in};
+ghost use Rattle.mvt_history_steps.specs.declared.TheConstants.{MAX_DEPTH};
+ghost use Rattle.mvt_history_steps.specs.Marks.{point_of};
+ghost use Rattle.mvt_history_steps.specs.History.{History, begun, closed, marked, opened, redone, standing_document, undone, unmarked};
+ghost use Rattle.mvt_history_steps.specs.Moves.{gone, moved_along, walk_in};
 ghost use Rattle.mvt_history.specs.Session.{Answers, AnswersBack, AnswersCancel, AnswersCommand, AnswersWithMemory, IsStop, NotStarted, SeesMark, StandsFor};
 
-use crate::MAX_MARKS;
 use crate::error::StartError;
-use crate::marks::{Mark, bind, find_point, unbind};
-use crate::steps::{Direction, keep, take_back, walk, way};
 use circular_buffer::HeapCircularBuffer;
 use mvt_change::{Change, flip, join};
 use mvt_document::Document;
 use mvt_edit::{Command, Refusal, prepare};
 use mvt_history_error::HistoryError;
+use mvt_history_steps::{
+    Direction, MAX_MARKS, Mark, bind, find_point, keep, take_back, unbind, walk, way,
+};
 use mvt_write::size;
 use std::alloc::{AllocError, Global};
 use std::marker::Model;
@@ -42,7 +42,7 @@ pub struct Session {
 impl Model for Session {
     ghost use Rattle.std.specs.Coded.{codes};
     ghost use Rattle.mvt_change.specs.Codes.{coded_item};
-    ghost use Rattle.mvt_history.specs.Standing.{Standing};
+    ghost use Rattle.mvt_history_steps.specs.Standing.{Standing};
 
     ghost Value = { Standing };
 

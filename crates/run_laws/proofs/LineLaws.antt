@@ -6,7 +6,7 @@ use Rattle.tile_request.specs.Request.{Request}
 use Rattle.tile_script.specs.Line.{answer_to}
 use Rattle.tile_lines.specs.Lines.{lines_of, with_feed, EndsWithALine}
 use Rattle.mvt_document.specs.Wire.{bytes_of}
-use Rattle.mvt_history.specs.History.{History, standing_document}
+use Rattle.mvt_history_steps.specs.History.{History, standing_document}
 use Rattle.tile_answer.specs.Answering.{Told, carried_out}
 use Rattle.tile_answer.proofs.AnswerLaws.{looks_leave_history}
 use Rattle.tile_reply.specs.Replies.{accepted_reply, refused_reply, IsOutOfMemory, NoneIsOutOfMemory}

@@ -2,8 +2,8 @@
 use Rattle.std.proofs.Common.{◌≡◌, ℕ, false, List, [], ◌∷◌, ◌++◌, Some, None, Ok, refl, sym, ap, ap₂, ◌∙◌}
 use Rattle.std.proofs.lemmas.Grind.{flat_map-append}
 use Rattle.mvt_document.specs.Wire.{bytes_of}
-use Rattle.mvt_history.specs.History.{History, with_group, standing_document, gone_back, opened}
-use Rattle.mvt_history.specs.Requests.{or_before, asked, asked_all}
+use Rattle.mvt_history_steps.specs.History.{History, with_group, standing_document, gone_back, opened}
+use Rattle.mvt_history_steps.specs.Requests.{or_before, asked, asked_all}
 use Rattle.history_laws.proofs.NoTrace.{cancel_leaves_no_trace}
 use Rattle.history_laws.proofs.HistoryLaws.{step_undoes_whole}
 use Rattle.history_laws.proofs.BackToMark.{back_to_mark}

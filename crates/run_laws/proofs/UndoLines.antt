@@ -6,7 +6,7 @@ use Rattle.mvt_command.specs.Requests.{Edit, Undo}
 use Rattle.tile_request.specs.Request.{Request, OnHistory}
 use Rattle.tile_script.specs.Line.{answer_to}
 use Rattle.tile_lines.specs.Lines.{lines_of, HasNoLineFeed, with_feed, EndsWithALine}
-use Rattle.mvt_history.specs.History.{History, with_command, edited_to, edited}
+use Rattle.mvt_history_steps.specs.History.{History, with_command, edited_to, edited}
 use Rattle.tile_reply.specs.declared.refused.Refused.TheVariants as refused
 use Rattle.tile_answer.specs.Answering.{Told, told_by, carried_out}
 use Rattle.tile_run.specs.Run.{Progress, accepted, answered_by, settled_by, after_line, is_over, after_lines, ran, tile_of}

@@ -8,8 +8,8 @@ use Rattle.tile_request.specs.Request.{Request, OnHistory}
 use Rattle.mvt_meaning.specs.Meaning.{applied}
 use Rattle.tile_script.specs.Line.{answer_to}
 use Rattle.tile_lines.specs.Lines.{lines_of, HasNoLineFeed, with_feed, EndsWithALine}
-use Rattle.mvt_history.specs.History.{History, IsSound, commands_in, standing_document, marked, gone_back}
-use Rattle.mvt_history.specs.Requests.{SetsOther, LeavesOpen, asked_all}
+use Rattle.mvt_history_steps.specs.History.{History, IsSound, commands_in, standing_document, marked, gone_back}
+use Rattle.mvt_history_steps.specs.Requests.{SetsOther, LeavesOpen, asked_all}
 use Rattle.tile_words.specs.declared.parse_error.ParseError.{ParseError}
 use Rattle.tile_answer.specs.Laws.{Looks}
 use Rattle.tile_reply.specs.Replies.{accepted_reply, refused_reply, NoneIsOutOfMemory}

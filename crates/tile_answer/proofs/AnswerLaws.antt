@@ -22,8 +22,8 @@ use Rattle.tile_listing.specs.Listing.{listed}
 use Rattle.tile_listing.specs.Told.{MayBeTold, AreLinesToTell}
 use Rattle.tile_listing.proofs.Telling.{uncut-append, decimal_uncut, none_to_tell, one_to_tell}
 use Rattle.tile_listing.proofs.ListingLaws.{listings_are_lines, no_listing_is_out_of_memory}
-use Rattle.mvt_history.specs.Marks.{Mark}
-use Rattle.mvt_history.specs.History.{History, standing_document, unless_open, gone_to, ended, edited_to, edited, undone, redone, marked, unmarked, gone_back, opened, closed, cancelled}
+use Rattle.mvt_history_steps.specs.Marks.{Mark}
+use Rattle.mvt_history_steps.specs.History.{History, standing_document, unless_open, gone_to, ended, edited_to, edited, undone, redone, marked, unmarked, gone_back, opened, closed, cancelled}
 use Rattle.mvt_history_error.specs.declared.HistoryError.{HistoryError}
 use Rattle.mvt_history_error.specs.declared.HistoryError.TheVariants as history_errors
 use Rattle.tile_reply.specs.Replies.{IsOutOfMemory}

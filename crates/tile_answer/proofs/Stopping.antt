@@ -1,8 +1,8 @@
 -- Requests that are refused, or stopped halfway.
 use Rattle.std.proofs.Common.{ℕ, List, Err, ap, inl, inr}
-use Rattle.mvt_history.specs.History.{History}
+use Rattle.mvt_history_steps.specs.History.{History}
 use Rattle.mvt_history.specs.Session.{AnswersBack, AnswersCancel}
-use Rattle.mvt_history.specs.Standing.{Standing}
+use Rattle.mvt_history_steps.specs.Standing.{Standing}
 use Rattle.mvt_history_error.specs.declared.HistoryError.{HistoryError}
 use Rattle.mvt_command.specs.Requests.{GoBack, Cancel}
 use Rattle.tile_request.specs.Request.{OnHistory}

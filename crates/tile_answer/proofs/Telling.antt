@@ -8,9 +8,9 @@ use Rattle.std.proofs.lemmas.List.{take_all, take_more}
 use Rattle.std.proofs.lemmas.Grind.{flat_map-append}
 use Rattle.std.proofs.lemmas.Option.{slice_get_within, get_or_from_slice_get, slice_get-get_or}
 use Rattle.std.specs.Borrow.{Bor}
-use Rattle.mvt_history.specs.Marks.{Mark, counted_from}
-use Rattle.mvt_history.specs.History.{History}
-use Rattle.mvt_history.specs.Standing.{Standing}
+use Rattle.mvt_history_steps.specs.Marks.{Mark, counted_from}
+use Rattle.mvt_history_steps.specs.History.{History}
+use Rattle.mvt_history_steps.specs.Standing.{Standing}
 use Rattle.mvt_history.specs.Session.{StandsFor, SeesMark}
 use Rattle.tile_answer.specs.Answering.{offset_line, mark_line, mark_lines}
 

@@ -9,9 +9,9 @@ use Rattle.mvt_meaning.specs.declared.refusal.Refusal.{Refusal}
 use Rattle.tile_text.specs.Texts.{text_form}
 use Rattle.tile_request.specs.Request.{Request, OnHistory, ListMarks, TellHistory, Size, Lists}
 use Rattle.tile_listing.specs.Listing.{listed}
-use Rattle.mvt_history.specs.Marks.{Mark}
-use Rattle.mvt_history.specs.History.{History, standing_document}
-use Rattle.mvt_history.specs.Requests.{by_answer}
+use Rattle.mvt_history_steps.specs.Marks.{Mark}
+use Rattle.mvt_history_steps.specs.History.{History, standing_document}
+use Rattle.mvt_history_steps.specs.Requests.{by_answer}
 use Rattle.tile_reply.specs.declared.refused.Refused.{Refused}
 use Rattle.tile_reply.specs.declared.refused.Refused.TheVariants as refused
 

@@ -3,9 +3,9 @@ use Rattle.std.specs.Prelude.{◌≡◌, ◌⊎◌, ℕ, Result, Ok, Err, IsOk}
 use Rattle.mvt_document.specs.Held.{Held}
 use Rattle.mvt_command.specs.Requests.{Edit, TakeMark, GoBack, Begin, Cancel}
 use Rattle.tile_request.specs.Request.{Request, OnHistory, Lists}
-use Rattle.mvt_history.specs.History.{History}
+use Rattle.mvt_history_steps.specs.History.{History}
 use Rattle.mvt_history.specs.Session.{StandsFor, StopsAt, StopsWithin}
-use Rattle.mvt_history.specs.Standing.{Standing}
+use Rattle.mvt_history_steps.specs.Standing.{Standing}
 use Rattle.mvt_history_error.specs.declared.HistoryError.TheVariants.{Stopped}
 use Rattle.tile_reply.specs.Replies.{refusal_number}
 use Rattle.tile_reply.specs.declared.refused.Refused.{Refused}

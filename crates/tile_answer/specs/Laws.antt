@@ -2,7 +2,7 @@
 use Rattle.std.specs.Prelude.{◌≡◌, Ok, Err}
 use Rattle.tile_request.specs.Request.{Request, OnHistory}
 use Rattle.tile_listing.specs.Told.{AreLinesToTell}
-use Rattle.mvt_history.specs.History.{History}
+use Rattle.mvt_history_steps.specs.History.{History}
 use Rattle.tile_reply.specs.Replies.{IsOutOfMemory}
 use Rattle.tile_reply.specs.declared.refused.Refused.{Refused}
 use Rattle.tile_answer.specs.Answering.{Told, carried_out}

@@ -1,7 +1,7 @@
 //! `carry_out`: a request, carried out in a session, with the lines that it prints.
 
 ghost use Rattle.std.specs.Prelude.{◌≡◌, ◌⊎◌, [], IfErr};
-ghost use Rattle.mvt_history.specs.History.{History};
+ghost use Rattle.mvt_history_steps.specs.History.{History};
 ghost use Rattle.mvt_history.specs.Session.{StandsFor};
 ghost use Rattle.tile_request.specs.RequestStands.{request_of};
 ghost use Rattle.tile_reply.specs.Replies.{refusal_number};

@@ -3,7 +3,7 @@ use Rattle.std.specs.Prelude.{◌≡◌, ◌≤◌, ℕ, List, Some, codes}
 use Rattle.std.specs.Str.Parse.{IsNumeral, digits_value, without_leading_plus}
 use Rattle.clap.specs.Words.{found_of, one_text}
 use Rattle.clap.specs.declared.parser.matches.ArgMatches.{ArgMatches}
-use Rattle.mvt_history.specs.declared.TheConstants.{MAX_DEPTH}
+use Rattle.mvt_history_steps.specs.declared.TheConstants.{MAX_DEPTH}
 
 -- the text of the option `--depth` is a numeral of this number, perhaps behind a plus sign
 abbrev pub TellsDepth : ArgMatches → ℕ → Type 0

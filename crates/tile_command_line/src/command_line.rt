@@ -2,13 +2,13 @@
 
 ghost use Rattle.std.specs.Prelude.{◌≡◌, ◌≤◌, IfOk, codes, pos};
 ghost use Rattle.clap.specs.declared.builder.value_parser.ValueParser.TheVariants.{Signed};
-ghost use Rattle.mvt_history.specs.declared.TheConstants.{MAX_DEPTH};
+ghost use Rattle.mvt_history_steps.specs.declared.TheConstants.{MAX_DEPTH};
 ghost use Rattle.tile_command_line.specs.Depth.{HasDepth, TellsDepth};
 ghost use Rattle.tile_command_line.specs.Defaulted.{IsDefaulted};
 
 use crate::help::SCRIPT_HELP;
 use clap::{Arg, ArgAction, ArgMatches, Command, value_parser};
-use mvt_history::MAX_DEPTH;
+use mvt_history_steps::MAX_DEPTH;
 use std::alloc::Global;
 
 /// What `--version` tells behind the name of the program.

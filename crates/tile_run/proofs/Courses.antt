@@ -12,7 +12,7 @@ use Rattle.tile_device.proofs.Sending.{receives_nothing}
 use Rattle.tile_device.proofs.Supplying.{supplies_nothing}
 use Rattle.tile_run.specs.Course.{Course, Ends, IsEdited, IsWritten, OpensAgain, RepliesToAll, StopsAtTile, start_of}
 use Rattle.tile_run.specs.Headline.{Devices, Runs}
-use Rattle.mvt_history.specs.History.{History, standing_document}
+use Rattle.mvt_history_steps.specs.History.{History, standing_document}
 use Rattle.tile_run.specs.Outcomes.{edited_outcome, opening_outcome, script_outcome, writing_outcome}
 use Rattle.mvt_history.specs.Session.{StandsFor}
 use Rattle.tile_run.specs.Steps.{Moment, OpensTile, CarriesOutScript, WritesTile}

@@ -6,7 +6,7 @@ use Rattle.mvt_document.specs.Held.{Held}
 use Rattle.tile_device.specs.Device.{trouble_of}
 use Rattle.tile_device.specs.Seen.{Output, Writes}
 use Rattle.tile_device.specs.declared.device.Trouble.{Trouble}
-use Rattle.mvt_history.specs.History.{History}
+use Rattle.mvt_history_steps.specs.History.{History}
 use Rattle.tile_reply.specs.Replies.{reply_to}
 use Rattle.tile_run.specs.Run.{Progress, is_over, MayFollow, Walk}
 use Rattle.mvt_history.specs.Session.{StandsFor}

@@ -14,7 +14,7 @@ use Rattle.tile_run.specs.declared.outcome.Outcome.TheVariants as outcomes
 use Rattle.tile_run.specs.declared.outcome.DeviceName.TheVariants as devices
 use Rattle.tile_run.specs.declared.outcome.TileFault.{TileFault}
 use Rattle.tile_run.specs.declared.outcome.TileFault.TheVariants as faults
-use Rattle.mvt_history.specs.History.{standing_document}
+use Rattle.mvt_history_steps.specs.History.{standing_document}
 use Rattle.tile_run.specs.Run.{Progress, at_first, is_over, MayFollow, Walk, tile_of}
 
 -- what was read of the tile and of the script, and written to the replies and to `out`

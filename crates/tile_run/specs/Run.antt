@@ -5,7 +5,7 @@ use Rattle.mvt_document.specs.Wire.{bytes_of}
 use Rattle.tile_request.specs.Request.{Request}
 use Rattle.tile_script.specs.Line.{answer_to, TakesMemory}
 use Rattle.tile_lines.specs.Lines.{lines_of}
-use Rattle.mvt_history.specs.History.{History, begun, standing_document}
+use Rattle.mvt_history_steps.specs.History.{History, begun, standing_document}
 use Rattle.mvt_history_error.specs.declared.HistoryError.TheVariants.{Stopped}
 use Rattle.tile_reply.specs.Replies.{accepted_reply, refused_reply}
 use Rattle.tile_answer.specs.Answering.{Told, carried_out}

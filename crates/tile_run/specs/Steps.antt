@@ -22,7 +22,7 @@ use Rattle.tile_reply.specs.declared.refused.Refused.{Refused}
 use Rattle.tile_run.specs.declared.runs.TheConstants.{MAX_SCRIPT}
 use Rattle.mvt_history.specs.declared.session.Session.{Session}
 use Rattle.tile_run.specs.Course.{IsOpened, IsFaulty, IsWritten, CarriesThrough, StopsStrictly, StopsAtScript, StopsAtReplies, IsCutShort}
-use Rattle.mvt_history.specs.History.{History}
+use Rattle.mvt_history_steps.specs.History.{History}
 use Rattle.tile_run.specs.Run.{Progress, silent, accepted, refused_for, is_over, MayFollow, Walk}
 use Rattle.mvt_history.specs.Session.{StandsFor}
 

@@ -10,9 +10,9 @@ ghost use Rattle.tile_lines.specs.CutStands.{cut_seen};
 ghost use Rattle.tile_lines.specs.Cutting.{cut_of, nothing_held};
 ghost use Rattle.tile_lines.specs.Lines.{whole_lines};
 ghost use Rattle.tile_reply.specs.Replies.{answer_seen};
-ghost use Rattle.mvt_history.specs.History.{History, standing_document};
+ghost use Rattle.mvt_history_steps.specs.History.{History, standing_document};
 ghost use Rattle.mvt_history.specs.Session.{StandsFor};
-ghost use Rattle.mvt_history.specs.declared.TheConstants.{MAX_DEPTH};
+ghost use Rattle.mvt_history_steps.specs.declared.TheConstants.{MAX_DEPTH};
 ghost use Rattle.tile_run.specs.Run.{Progress, at_first, is_over};
 ghost use Rattle.tile_run.specs.Steps.{AnswersLine, CarriesOut, CarriesOutLines, CarriesOutPieces, CarriesOutScript, ComesTo, IsAt, Moment, WasGiven, moment_at, told_in};
 

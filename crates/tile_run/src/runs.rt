@@ -5,7 +5,7 @@ ghost use Rattle.mvt_document.specs.Opens.{IsDocument, OpensAs};
 ghost use Rattle.mvt_document.specs.Settle.{settle};
 ghost use Rattle.mvt_document.specs.Stands.{document_of};
 ghost use Rattle.mvt_document.specs.Wire.{bytes_of};
-ghost use Rattle.mvt_history.specs.declared.TheConstants.{MAX_DEPTH};
+ghost use Rattle.mvt_history_steps.specs.declared.TheConstants.{MAX_DEPTH};
 ghost use Rattle.tile_device.specs.Seen.{Intake, Output, Reads, Writes, source_at, sink_at};
 ghost use Rattle.tile_run.specs.Headline.{Headline, RefusesTile, Runs, WritesATile, LeavesOut, LeavesReplies, devices_at};
 ghost use Rattle.tile_run.specs.Steps.{OpensTile, WritesTile, document_in};

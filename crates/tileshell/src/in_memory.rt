@@ -1,7 +1,7 @@
 //! `edit`: a run over bytes in memory, with the devices that it is made of.
 
 ghost use Rattle.std.specs.Prelude.{◌≡◌, ◌≤◌, [], true, Some};
-ghost use Rattle.mvt_history.specs.declared.TheConstants.{MAX_DEPTH};
+ghost use Rattle.mvt_history_steps.specs.declared.TheConstants.{MAX_DEPTH};
 ghost use Rattle.tileshell.specs.InMemory.{EditsTile, RefusesFile, CutsLongScript, IsRunInMemory, NamesLongScript, GivesTile, handed_out};
 
 use std::alloc::Global;

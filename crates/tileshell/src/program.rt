@@ -1,7 +1,7 @@
 //! The program, from its words to its status.
 
 ghost use Rattle.std.specs.Prelude.{◌≤◌};
-ghost use Rattle.mvt_history.specs.declared.TheConstants.{MAX_DEPTH};
+ghost use Rattle.mvt_history_steps.specs.declared.TheConstants.{MAX_DEPTH};
 ghost use Rattle.tile_command_line.specs.Depth.{HasDepth};
 
 use crate::created::Created;

@@ -1,7 +1,7 @@
 //! Runs over devices.
 
 ghost use Rattle.std.specs.Prelude.{◌≤◌};
-ghost use Rattle.mvt_history.specs.declared.TheConstants.{MAX_DEPTH};
+ghost use Rattle.mvt_history_steps.specs.declared.TheConstants.{MAX_DEPTH};
 
 use device_tests::drip::{Calls, DripSink, DripSource};
 use std::alloc::Global;

@@ -8,7 +8,7 @@ use Rattle.clap.specs.declared.builder.value_parser.ValueParser.{ValueParser}
 use Rattle.clap.specs.declared.builder.value_parser.ValueParser.TheVariants as parsers
 use Rattle.clap.specs.declared.parser.matches.ArgMatches.{ArgMatches}
 use Rattle.clap.specs.Built.{IsParsedFrom}
-use Rattle.mvt_history.specs.declared.TheConstants.{MAX_DEPTH}
+use Rattle.mvt_history_steps.specs.declared.TheConstants.{MAX_DEPTH}
 use Rattle.tile_command_line.specs.Depth.{HasDepth}
 use Rattle.tile_command_line.proofs.NumberOption.{Awaits, awaits_begun, awaits_more, last_option_text, in_range}
 use Rattle.tile_command_line.proofs.command_line.matched.Goals as goal

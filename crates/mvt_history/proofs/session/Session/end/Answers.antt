@@ -3,12 +3,12 @@ use Rattle.circular_buffer.specs.Buffer.{Buffer}
 use Rattle.mvt_change.specs.declared.change.Change.{Change}
 use Rattle.mvt_change.specs.ChangeStands.{change_of}
 use Rattle.mvt_change.specs.Joining.{joined}
-use Rattle.mvt_history.specs.History.{closed}
-use Rattle.mvt_history.specs.Held.{IsHeld, from_last, standing_of}
+use Rattle.mvt_history_steps.specs.History.{closed}
+use Rattle.mvt_history_steps.specs.Held.{IsHeld, from_last, standing_of}
 use Rattle.mvt_history.specs.Inside.{seen_in}
 use Rattle.mvt_history.specs.Session.{StandsFor}
 use Rattle.mvt_history.proofs.Keeping.{IsKept, with_open}
-use Rattle.mvt_history.proofs.Stepping.{length_from_last}
+use Rattle.mvt_history_steps.proofs.Stepping.{length_from_last}
 use Rattle.mvt_history.proofs.KeepingCommands.{is_kept, joined_from, same_from_last, no_items, some_items, seen_open, ran_out_of_memory, on_error, empty_ended, end_accepted, ended_held, step_ended}
 use Rattle.mvt_history.proofs.session.Session.end.Goals as goal
 

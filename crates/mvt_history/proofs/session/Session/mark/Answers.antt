@@ -1,12 +1,12 @@
 use Rattle.std.proofs.Common.{◌≡◌, ◌<◌, Ok, true, false, not, is_some, length, map, ap, ◌∙◌, subst, sym, inr, arith}
 use Rattle.std.proofs.lemmas.List.{length-map}
-use Rattle.mvt_history.specs.Marks.{bound, point_of}
-use Rattle.mvt_history.specs.History.{History, marked}
-use Rattle.mvt_history.specs.Held.{IsHeld, mark_of}
+use Rattle.mvt_history_steps.specs.Marks.{bound, point_of}
+use Rattle.mvt_history_steps.specs.History.{History, marked}
+use Rattle.mvt_history_steps.specs.Held.{IsHeld, mark_of}
 use Rattle.mvt_history.specs.Inside.{seen_in}
 use Rattle.mvt_history.specs.Session.{StandsFor}
-use Rattle.mvt_history.specs.declared.TheConstants.{MAX_MARKS}
-use Rattle.mvt_history.proofs.Stepping.{length_from_last}
+use Rattle.mvt_history_steps.specs.declared.TheConstants.{MAX_MARKS}
+use Rattle.mvt_history_steps.proofs.Stepping.{length_from_last}
 use Rattle.mvt_history.proofs.Moving.{seen_closed}
 use Rattle.mvt_history.proofs.Marking.{with_names, has_room, no_room, named_room, few_room, marked_held, marked_answers, marked_refused}
 use Rattle.mvt_history.proofs.session.Session.mark.Goals as goal

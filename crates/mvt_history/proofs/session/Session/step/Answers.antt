@@ -1,6 +1,6 @@
 use Rattle.std.proofs.Common.{◌≤◌, length, refl, ap, ◌∙◌, subst, sym}
-use Rattle.mvt_history.specs.Standing.{IsReady}
-use Rattle.mvt_history.specs.Moves.{walk_in}
+use Rattle.mvt_history_steps.specs.Standing.{IsReady}
+use Rattle.mvt_history_steps.specs.Moves.{walk_in}
 use Rattle.mvt_history.proofs.Moving.{seen_closed, some_ahead, step_answers}
 use Rattle.mvt_history.proofs.session.Session.step.Goals as goal
 use Rattle.mvt_history.proofs.session.Session.step.Goals.{in_default-via-in-Undo+else-is_empty, in_default-via-in-Redo+else-is_empty-2}

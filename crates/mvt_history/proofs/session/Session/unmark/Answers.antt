@@ -1,8 +1,8 @@
 use Rattle.std.proofs.Common.{◌≡◌, subst, sym}
 use Rattle.std.specs.Option.{ok_or}
 use Rattle.std.specs.Result.{OnErr}
-use Rattle.mvt_history.specs.History.{unmarked}
-use Rattle.mvt_history.specs.Held.{IsHeld}
+use Rattle.mvt_history_steps.specs.History.{unmarked}
+use Rattle.mvt_history_steps.specs.Held.{IsHeld}
 use Rattle.mvt_history.specs.Inside.{seen_in}
 use Rattle.mvt_history.specs.Session.{StandsFor, Answers}
 use Rattle.mvt_history_error.specs.declared.HistoryError.TheVariants.{NoMark}

@@ -1,8 +1,8 @@
 use Rattle.mvt_document.specs.Stands.{document_of}
-use Rattle.mvt_history.specs.Held.{from_last}
+use Rattle.mvt_history_steps.specs.Held.{from_last}
 use Rattle.mvt_history.specs.Inside.{seen_in}
-use Rattle.mvt_history.specs.declared.steps.Direction.TheVariants.{Undo, Redo}
-use Rattle.mvt_history.proofs.Stepping.{walk_of}
+use Rattle.mvt_history_steps.specs.declared.steps.Direction.TheVariants.{Undo, Redo}
+use Rattle.mvt_history_steps.proofs.Stepping.{walk_of}
 use Rattle.mvt_history.proofs.Moving.{ended_held, closed_here, enough_here}
 use Rattle.mvt_history.proofs.session.Session.walk.Goals as goal
 

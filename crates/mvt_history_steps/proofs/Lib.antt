@@ -1,0 +1,9 @@
+pub mod Counting
+mod MarkPlaces
+mod Lowered
+pub mod Stepping
+pub mod MarkOrder
+pub mod Sound
+pub mod Turned
+pub mod Following
+pub mod Joined
