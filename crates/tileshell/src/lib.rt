@@ -3,26 +3,22 @@
 //!
 //! - `edit` is `run` over bytes in memory, and frees what the run held; docs/PROVED.md has its
 //!   clauses.
-//! - `shell` is the program, from its words to its status: it opens the files that the command line
-//!   names, and has `run` go over them. That the run has the depth that is asked for is tested, and
-//!   so are the texts and statuses of the program.
+//! - `shell` is the program, from its words to its status; it is passed on from `tile_files`.
 //!
 //! It passes on `run`, `run_and_hold` and the types that these take and give, `parse_line`,
 //! `listing`, `quote`, the commands, requests and refusals with their limits, the devices of the
 //! standard library, and modules of laws of the crates below it.
 #![tactic(auto)]
 
-mod created;
 mod in_memory;
-mod program;
 
 pub use in_memory::{Edited, edit};
 pub use mvt_command::{Command, FeatureChoice, LayerChoice, LayersChoice};
 pub use mvt_document::laws as wire_laws;
 pub use mvt_history::{HistoryError, MAX_DEPTH, MAX_MARKS};
 pub use mvt_meaning::Refusal;
-pub use program::shell;
 pub use tile_device::{FromRead, FromWrite, Retries, Sink, Source, Trouble};
+pub use tile_files::shell;
 pub use tile_lines::laws as line_laws;
 pub use tile_listing::{laws as listing_laws, listing};
 pub use tile_reply::Refused;

@@ -1,10 +1,10 @@
-//! The program: `main` hands its words to `tileshell::shell`, with whose status it ends.
+//! The program: `main` hands its words to `tile_files::shell`, with whose status it ends.
 #![tactic(auto)]
 
 use std::process::ExitCode;
 use std::rt::{Env, Files};
 use std::{env, io};
-use tileshell::shell;
+use tile_files::shell;
 
 /// The status of a command line that is refused.
 const REFUSED: u8 = 2;
