@@ -24,7 +24,7 @@ fn tile_and_zeros(alloc: Global, tile: &[u8], count: usize) -> Result<Document, 
     let mut document = read_document(alloc, tile)?;
     let bytes = Items::from_vec(vec![in alloc; 0u8; count]?);
     let tag = Tag::minimal(130);
-    let body = Body::Bytes { width: 4, bytes };
+    let body = FieldBody::new(Body::Bytes { width: 4, bytes });
     document.items.push(TileItem::Plain(Field { tag, body }))?;
     Ok(document)
 }
@@ -48,8 +48,8 @@ fn zeros_handed_back(error: &StartError) -> Option<usize> {
         return None;
     };
     match document.items.as_slice() {
-        [TileItem::Layer(_), TileItem::Plain(field)] => match &field.body {
-            Body::Bytes { bytes, .. } => Some(bytes.len()),
+        [TileItem::Layer(_), TileItem::Plain(field)] => match field.body.get() {
+            BodyRef::Bytes { bytes, .. } => Some(bytes.len()),
             _ => None,
         },
         _ => None,

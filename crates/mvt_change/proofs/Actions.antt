@@ -7,7 +7,8 @@ use Rattle.mvt_document.specs.Plain as plain
 use Rattle.mvt_document.specs.Splicing.{splice, moved}
 use Rattle.mvt_document.specs.Lists.{CanMove, CanSplice, change_at}
 use Rattle.mvt_document.specs.Places.{items_in, fields_in, fields_in_at, in_layer, in_feature}
-use Rattle.mvt_document.specs.Stands.{number_of, field_of, layer_item_of, tile_item_of, document_of}
+use Rattle.mvt_document.specs.Bodies.{number_of}
+use Rattle.mvt_document.specs.Stands.{field_of, layer_item_of, tile_item_of, document_of}
 use Rattle.mvt_document.specs.HeldPlaces.{held_items_in, held_fields_in, held_items_at, held_fields_in_at, in_held_layer, in_held_feature, change_held_at}
 use Rattle.mvt_document.specs.declared.document.LayerItem.{LayerItem}
 use Rattle.mvt_document.specs.declared.document.LayerItem.TheVariants as in_layer_item

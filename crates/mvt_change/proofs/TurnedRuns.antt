@@ -4,7 +4,8 @@ use Rattle.std.specs.Prelude.{Result, Ok, Err, is_ok, true, OnOk}
 use Rattle.std.specs.List.{AllZip}
 use Rattle.std.proofs.lemmas.List.{map-append, reverse-append}
 use Rattle.mvt_document.specs.Plain as plain
-use Rattle.mvt_document.specs.Stands.{number_of, field_of, layer_item_of, tile_item_of, document_of}
+use Rattle.mvt_document.specs.Bodies.{number_of}
+use Rattle.mvt_document.specs.Stands.{field_of, layer_item_of, tile_item_of, document_of}
 use Rattle.mvt_document.specs.declared.document.LayerItem.{LayerItem}
 use Rattle.mvt_document.specs.declared.document.LayerItem.TheVariants as in_layer_item
 use Rattle.mvt_document.specs.declared.document.TileItem.{TileItem}

@@ -6,6 +6,8 @@ pub mod Fills
 pub mod Shape
 pub mod Groups
 pub mod Opens
+pub mod Bodies
+pub mod BodyForms
 pub mod BodyShape
 pub mod Lending
 pub mod Kept

@@ -1,9 +1,7 @@
 -- Which plain value a value of the program stands for.
 use Rattle.std.specs.Prelude.{map}
 use Rattle.mvt_document.specs.Plain as plain
-use Rattle.mvt_document.specs.declared.varint.Varint.{Varint}
-use Rattle.mvt_document.specs.declared.body.Body.{Body}
-use Rattle.mvt_document.specs.declared.body.Body.TheVariants.{Number, Eight, Four, Bytes, Group}
+use Rattle.mvt_document.specs.Bodies.{number_of, body_of}
 use Rattle.mvt_document.specs.declared.document.Field.{Field}
 use Rattle.mvt_document.specs.declared.document.Feature.{Feature}
 use Rattle.mvt_document.specs.declared.document.LayerItem.{LayerItem}
@@ -12,18 +10,6 @@ use Rattle.mvt_document.specs.declared.document.Layer.{Layer}
 use Rattle.mvt_document.specs.declared.document.TileItem.{TileItem}
 use Rattle.mvt_document.specs.declared.document.TileItem.TheVariants as in_tile
 use Rattle.mvt_document.specs.declared.document.Document.{Document}
-
--- the plain number that a number of the program stands for
-abbrev pub number_of : Varint → plain.Number
-number_of n = record { value = n.value; width = n.width }
-
--- the plain body that a body of the program stands for
-abbrev pub body_of : Body → plain.Body
-body_of (Number number) = plain.Spelled (number_of number)
-body_of (Eight bytes) = plain.Eight bytes
-body_of (Four bytes) = plain.Four bytes
-body_of (Bytes width bytes) = plain.Delimited width bytes.items
-body_of (Group bytes) = plain.Group bytes.items
 
 -- the plain field that a field of the program stands for
 abbrev pub field_of : Field → plain.Field

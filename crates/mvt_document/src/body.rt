@@ -17,3 +17,18 @@ pub enum Body {
     /// SGROUP: all bytes up to the end of the group, its end tag among them.
     Group(Items<u8>),
 }
+
+/// The same, whose bytes lie where they were read, or in a field.
+#[derive(Clone, Copy, Debug)]
+pub enum BodyRef<'a> {
+    /// VARINT
+    Number(Varint),
+    /// I64
+    Eight([u8; 8]),
+    /// I32
+    Four([u8; 4]),
+    /// LEN: the bytes, and the width in which their length is spelled.
+    Bytes { width: u8, bytes: &'a [u8] },
+    /// SGROUP: all bytes up to the end of the group, its end tag among them.
+    Group(&'a [u8]),
+}

@@ -2,10 +2,12 @@
 //! layers, the tile.
 
 ghost use Rattle.std.specs.Prelude.{◌≡◌, ◌/◌};
+ghost use Rattle.mvt_document.specs.Bodies.{body_of};
+ghost use Rattle.mvt_document.specs.Groups.{wire_type};
 ghost use Rattle.mvt_document.specs.Shape.{IsTag, IsWidth};
-ghost use Rattle.mvt_document.specs.BodyShape.{wire_type_of, stored_width_of, EndsGroup};
+ghost use Rattle.mvt_document.specs.BodyShape.{stored_width, EndsGroup};
 
-use crate::body::Body;
+use crate::field_body::FieldBody;
 use crate::items::Items;
 use crate::layer_tag::LayerTag;
 use crate::message::Message;
@@ -16,10 +18,10 @@ use std::mem::size_of;
 #[derive(Debug, Drop)]
 pub struct Field {
     pub tag: Tag,
-    pub body: Body,
-    pub ghost is_tag: { IsTag tag.value (wire_type_of body) },
-    pub ghost is_width: { IsWidth (stored_width_of body) },
-    pub ghost is_group: { ∥ EndsGroup (tag.value / 8) body ∥₁ },
+    pub body: FieldBody,
+    pub ghost is_tag: { IsTag tag.value (wire_type (body_of body)) },
+    pub ghost is_width: { IsWidth (stored_width (body_of body)) },
+    pub ghost is_group: { ∥ EndsGroup (tag.value / 8) (body_of body) ∥₁ },
 }
 
 /// A feature of a layer. The width is the least in which its length is spelled.

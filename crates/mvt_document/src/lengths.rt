@@ -3,16 +3,18 @@
 
 ghost use Rattle.std.specs.Prelude.{◌≡◌, false};
 ghost use Rattle.mvt_document.specs.Wire.{body_bytes, field_bytes, feature_bytes, layer_item_bytes, layer_bytes, tile_item_bytes};
-ghost use Rattle.mvt_document.specs.Stands.{body_of, field_of, feature_of, layer_item_of, layer_of, tile_item_of};
+ghost use Rattle.mvt_document.specs.Bodies.{body_of};
+ghost use Rattle.mvt_document.specs.Stands.{field_of, feature_of, layer_item_of, layer_of, tile_item_of};
 ghost use Rattle.mvt_document.specs.Kinds.{in_layer_of_kind, in_tile_of_kind, is_delimited_field};
 
-use crate::body::Body;
+use crate::body::BodyRef;
 use crate::document::{Feature, Field, Layer, LayerItem, TileItem};
+use crate::field_body::FieldBody;
 use crate::measure::{Measured, delimited_size, message_size, size_of_all, sum_within};
 use crate::run::Kind;
 use crate::tags::{KEYS, NAME, VALUES};
 
-impl Measured for Body {
+impl Measured for FieldBody {
     ghost bytes = { λ b. body_bytes (body_of b) };
 
     ghost of_kind = { λ _ _. false };
@@ -22,12 +24,12 @@ impl Measured for Body {
     }
 
     fn size_within(&self, limit: usize) -> Option<usize> {
-        match self {
-            Body::Number(number) => number.size_within(limit),
-            Body::Eight(bytes) => sum_within(bytes[..].len(), 0, limit),
-            Body::Four(bytes) => sum_within(bytes[..].len(), 0, limit),
-            Body::Bytes { width, bytes } => delimited_size(*width, bytes.len(), limit),
-            Body::Group(bytes) => sum_within(bytes.len(), 0, limit),
+        match self.get() {
+            BodyRef::Number(number) => number.size_within(limit),
+            BodyRef::Eight(bytes) => sum_within(bytes[..].len(), 0, limit),
+            BodyRef::Four(bytes) => sum_within(bytes[..].len(), 0, limit),
+            BodyRef::Bytes { width, bytes } => delimited_size(width, bytes.len(), limit),
+            BodyRef::Group(bytes) => sum_within(bytes.len(), 0, limit),
         }
     }
 }
@@ -134,8 +136,8 @@ impl Measured for TileItem {
 fn is_delimited_field(field: &Field, number: u64) -> bool
     ensures { result ≡ is_delimited_field number field.now }
 {
-    match &field.body {
-        Body::Bytes { .. } => field.tag.number() == number,
+    match field.body.get() {
+        BodyRef::Bytes { .. } => field.tag.number() == number,
         _ => false,
     }
 }

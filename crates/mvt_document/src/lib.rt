@@ -42,6 +42,8 @@
 mod body;
 mod document;
 mod exchange;
+mod few;
+mod field_body;
 mod items;
 mod kept;
 pub mod laws;
@@ -56,8 +58,9 @@ pub mod tags;
 mod varint;
 mod zigzag;
 
-pub use body::Body;
+pub use body::{Body, BodyRef};
 pub use document::{Document, Feature, Field, Layer, LayerItem, TileItem};
+pub use field_body::FieldBody;
 pub use items::Items;
 pub use layer_tag::LayerTag;
 pub use measure::{Measured, message_size, size_beside_part, size_of_all, sum_within};

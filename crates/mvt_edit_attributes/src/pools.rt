@@ -12,7 +12,7 @@ ghost use Rattle.mvt_view.specs.Views.{keys, values};
 ghost use Rattle.mvt_edit_attributes.specs.Attribute.{AreFound, entries_for};
 
 use mvt_document::tags::{KEYS, LEN, VALUES};
-use mvt_document::{Body, Field, Items, LayerItem, Tag};
+use mvt_document::{Body, Field, FieldBody, Items, LayerItem, Tag};
 use mvt_view::{FoundEntry, LayerView, PoolSizes};
 use std::alloc::{AllocError, Global};
 
@@ -83,6 +83,6 @@ fn entry(tag: u64, bytes: Items<u8>) -> LayerItem
 {
     LayerItem::Plain(Field {
         tag: Tag::minimal(tag),
-        body: Body::Bytes { width: 1, bytes },
+        body: FieldBody::new(Body::Bytes { width: 1, bytes }),
     })
 }

@@ -19,7 +19,8 @@ ghost use Rattle.mvt_edit_attributes.specs.Attribute.{PutsPair, fields_with, run
 
 use mvt_document::tags::{LEN, TAGS};
 use mvt_document::{
-    Body, Field, Items, MAX_FILE, Tag, Varint, size_beside_part, size_of_all, sum_within,
+    Body, BodyRef, Field, FieldBody, Items, MAX_FILE, Tag, Varint, size_beside_part, size_of_all,
+    sum_within,
 };
 use mvt_edit_steps::{Fate, Run, Spot, is_tags};
 use mvt_numbers::renumber_field;
@@ -63,7 +64,7 @@ fn last_packed(fields: &[Field]) -> Option<usize>
 fn is_packed(field: &Field) -> bool
     ensures { result ≡ is_some (content_in 2 (field_of field.now)) }
 {
-    field.tag.number() == TAGS && matches!(field.body, Body::Bytes { .. })
+    field.tag.number() == TAGS && matches!(field.body.get(), BodyRef::Bytes { .. })
 }
 
 /// The position of the last tags field.
@@ -91,26 +92,19 @@ fn longer_tags(
     ensures field { IfOk result (λ field. field_of field ≡ option_map_or (λ old. with_more_content (shortest key ++ shortest value) (field_of old.now)) old.entry (new_content 18 (shortest key ++ shortest value))) }
     ensures valid { IfOk result (λ field. IsField (field_of field)) }
 {
-    Ok(match old {
-        Some(
-            Field {
-                tag,
-                body: Body::Bytes { width, bytes },
-            },
-        ) => Field {
-            tag: *tag,
-            body: Body::Bytes {
-                width: *width,
-                bytes: and_numbers(alloc, bytes.as_slice(), key, value)?,
-            },
-        },
-        _ => Field {
-            tag: Tag::minimal(TAGS_TAG),
-            body: Body::Bytes {
-                width: 1,
-                bytes: and_numbers(alloc, &[], key, value)?,
-            },
-        },
+    if let Some(field) = old {
+        if let BodyRef::Bytes { width, bytes } = field.body.get() {
+            let bytes = and_numbers(alloc, bytes, key, value)?;
+            return Ok(Field {
+                tag: field.tag,
+                body: FieldBody::new(Body::Bytes { width, bytes }),
+            });
+        }
+    }
+    let bytes = and_numbers(alloc, &[], key, value)?;
+    Ok(Field {
+        tag: Tag::minimal(TAGS_TAG),
+        body: FieldBody::new(Body::Bytes { width: 1, bytes }),
     })
 }
 

@@ -7,7 +7,8 @@ use Rattle.std.specs.List.{flat_map, last_or, list_any}
 use Rattle.std.specs.Option.{option_map_or}
 use Rattle.mvt_document.specs.Opens.{IsField}
 use Rattle.mvt_document.specs.Plain as plain
-use Rattle.mvt_document.specs.Stands.{body_of, field_of, number_of}
+use Rattle.mvt_document.specs.Bodies.{body_of, number_of}
+use Rattle.mvt_document.specs.Stands.{field_of}
 use Rattle.mvt_document.specs.Wire.{field_bytes, minimal_width, spell}
 use Rattle.mvt_document.specs.declared.Body.{Body}
 use Rattle.mvt_document.specs.declared.Body.TheVariants as body

@@ -20,7 +20,9 @@ ghost use Rattle.mvt_edit_steps.specs.Prepared.{Prepares};
 
 use mvt_change::{Change, fits_with_items, size_with_fields};
 use mvt_document::tags::{GEOMETRY, GEOMETRY_TAG, KIND_TAG};
-use mvt_document::{Body, Document, Field, Items, MAX_FILE, Measured, Tag, sum_within};
+use mvt_document::{
+    Body, BodyRef, Document, Field, FieldBody, Items, MAX_FILE, Measured, Tag, sum_within,
+};
 use mvt_edit_steps::{Run, number_put, put_once};
 use mvt_geometry::{EncodeError, Geometry, encode_geometry};
 use mvt_select::{FeatureChoice, FoundFeature, LayerChoice, Refusal, find_feature, find_layer};
@@ -58,10 +60,10 @@ fn geometry_field(alloc: Global, geometry: &Geometry) -> Result<Field, EncodeErr
 {
     Ok(Field {
         tag: Tag::minimal(GEOMETRY_TAG),
-        body: Body::Bytes {
+        body: FieldBody::new(Body::Bytes {
             width: 1,
             bytes: encode_geometry(alloc, geometry)?,
-        },
+        }),
     })
 }
 
@@ -95,7 +97,7 @@ fn and_others(bytes: usize, fields: &[Field]) -> Option<usize>
 fn is_geometry(field: &Field) -> bool
     ensures { result ≡ is_geometry_field (field_of field.now) }
 {
-    field.tag.number() == GEOMETRY && matches!(field.body, Body::Number(_) | Body::Bytes { .. })
+    field.tag.number() == GEOMETRY && matches!(field.body.get(), BodyRef::Number(_) | BodyRef::Bytes { .. })
 }
 
 /// The change of the run of the kind and, behind it, of this geometry in place of the others, on

@@ -2,7 +2,8 @@
 use Rattle.std.proofs.Common.{◌≡◌, ℕ, ◌/◌, ◌≤◌, ◌==◌, Bool, true, false, cond, Option, None, is_some, List, length, length-append, map, arith}
 use Rattle.std.specs.List.{flat_map}
 use Rattle.mvt_document.specs.Wire.{spell, body_bytes, field_bytes, layer_item_bytes, tile_item_bytes}
-use Rattle.mvt_document.specs.Stands.{body_of, field_of, layer_item_of, tile_item_of}
+use Rattle.mvt_document.specs.Bodies.{body_of}
+use Rattle.mvt_document.specs.Stands.{field_of, layer_item_of, tile_item_of}
 use Rattle.mvt_document.specs.declared.Body.{Body}
 use Rattle.mvt_document.specs.declared.Body.TheVariants.{Number, Eight, Four, Bytes, Group}
 use Rattle.mvt_view.specs.Views.{value_of}

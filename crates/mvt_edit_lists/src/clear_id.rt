@@ -9,7 +9,7 @@ ghost use Rattle.mvt_edit_steps.specs.Prepared.{Prepares};
 
 use mvt_change::Change;
 use mvt_document::tags::ID;
-use mvt_document::{Body, Document, Field, Items};
+use mvt_document::{BodyRef, Document, Field, Items};
 use mvt_edit_steps::{carry_out, goes_if};
 use mvt_select::{FeatureChoice, LayerChoice, Refusal, find_feature, find_layer};
 use std::alloc::Global;
@@ -42,5 +42,5 @@ pub fn clear_id(
 fn is_id(field: &Field) -> bool
     ensures { result ≡ is_id (field_of field.now) }
 {
-    field.tag.number() == ID && matches!(field.body, Body::Number(_))
+    field.tag.number() == ID && matches!(field.body.get(), BodyRef::Number(_))
 }

@@ -14,7 +14,7 @@ ghost use Rattle.mvt_edit_steps.specs.Prepared.{Prepares};
 
 use mvt_change::{Change, Step};
 use mvt_document::tags::{FEATURE_TAG, GEOMETRY_TAG, KIND_TAG};
-use mvt_document::{Body, Document, Feature, Field, Items, LayerItem, Tag, Varint};
+use mvt_document::{Body, Document, Feature, Field, FieldBody, Items, LayerItem, Tag, Varint};
 use mvt_edit_steps::{one_item, one_step_within_limit};
 use mvt_geometry::{EncodeError, Geometry, Kind, encode_geometry};
 use mvt_select::{LayerChoice, Refusal, find_layer};
@@ -93,11 +93,11 @@ fn fields_of(alloc: Global, kind: Kind, bytes: Items<u8>) -> Result<Items<Field>
 {
     let kind = Field {
         tag: Tag::minimal(KIND_TAG),
-        body: Body::Number(Varint::minimal(kind.number())),
+        body: FieldBody::new(Body::Number(Varint::minimal(kind.number()))),
     };
     let geometry = Field {
         tag: Tag::minimal(GEOMETRY_TAG),
-        body: Body::Bytes { width: 1, bytes },
+        body: FieldBody::new(Body::Bytes { width: 1, bytes }),
     };
     Ok(Items::from_vec(vec![in alloc; kind, geometry]?))
 }

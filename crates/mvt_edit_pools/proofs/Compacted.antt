@@ -4,7 +4,8 @@ use Rattle.std.proofs.lemmas.List.Concat.{flat_map-append}
 use Rattle.std.proofs.lemmas.List.Sums.{sum_by-cons}
 use Rattle.std.specs.List.{AllByRecursion, flat_map, sum_by}
 use Rattle.mvt_document.specs.Plain as plain
-use Rattle.mvt_document.specs.Stands.{body_of, document_of, field_of, layer_item_of, tile_item_of}
+use Rattle.mvt_document.specs.Bodies.{body_of}
+use Rattle.mvt_document.specs.Stands.{document_of, field_of, layer_item_of, tile_item_of}
 use Rattle.mvt_document.specs.Wire.{body_bytes, field_bytes, spell}
 use Rattle.mvt_document.specs.declared.Body.{Body}
 use Rattle.mvt_document.specs.declared.Body.TheVariants as body

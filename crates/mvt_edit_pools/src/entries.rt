@@ -9,7 +9,7 @@ ghost use Rattle.mvt_edit_pools.specs.Marks.{entry_steps, first_goes, gone_by};
 
 use mvt_change::Step;
 use mvt_document::tags::{KEYS, VALUES};
-use mvt_document::{Body, Field, LayerItem};
+use mvt_document::{BodyRef, LayerItem};
 use mvt_edit_steps::{Run, take_out};
 use mvt_select::FoundLayer;
 use std::alloc::{AllocError, Global};
@@ -81,13 +81,10 @@ fn is_entry(item: &LayerItem, number: u64) -> bool
     ensures { result ≡ is_entry number (layer_item_of item.now) }
 {
     match item {
-        LayerItem::Plain(
-            Field {
-                tag,
-                body: Body::Bytes { .. },
-            },
-        ) => tag.number() == number,
-        _ => false,
+        LayerItem::Plain(field) => {
+            field.tag.number() == number && matches!(field.body.get(), BodyRef::Bytes { .. })
+        }
+        LayerItem::Feature(_) => false,
     }
 }
 

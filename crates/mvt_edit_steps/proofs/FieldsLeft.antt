@@ -5,10 +5,12 @@ use Rattle.std.specs.Prelude.{IfSome}
 use Rattle.std.specs.List.{AllByRecursion, cons_option, flat_map, list_any, zip}
 use Rattle.std.specs.Option.{option_map_or}
 use Rattle.mvt_document.specs.Plain as plain
-use Rattle.mvt_document.specs.BodyShape.{stored_width_of, wire_type_of}
+use Rattle.mvt_document.specs.BodyShape.{stored_width}
+use Rattle.mvt_document.specs.Groups.{wire_type}
 use Rattle.mvt_document.specs.Opens.{IsField}
 use Rattle.mvt_document.specs.Shape.{IsTag, IsWidth}
-use Rattle.mvt_document.specs.Stands.{body_of, field_of, number_of}
+use Rattle.mvt_document.specs.Bodies.{body_of, number_of}
+use Rattle.mvt_document.specs.Stands.{field_of}
 use Rattle.mvt_document.specs.Wire.{field_bytes, spell}
 use Rattle.mvt_document.specs.declared.Body.{Body}
 use Rattle.mvt_document.specs.declared.Body.TheVariants as body
@@ -104,7 +106,7 @@ record IsGood (field : plain.Field) : Type 0 where
   valid : IsField field
   long : 2 ≤ length (field_bytes field)
 
-good : (tag : Varint) (body : Body) → IsTag tag.value (wire_type_of body) → IsWidth (stored_width_of body) → Packs (body_of body) → IsGood (record { tag = number_of tag; body = body_of body })
+good : (tag : Varint) (body : Body) → IsTag tag.value (wire_type (body_of body)) → IsWidth (stored_width (body_of body)) → Packs (body_of body) → IsGood (record { tag = number_of tag; body = body_of body })
 good tag (body.Number number) typed wide packs = record {
   valid = record { number = tag.spelled; tag = typed; body = number.spelled };
   long = omega (arith, number_has_bytes tag, number_has_bytes number, length-append (spell tag.value tag.width) (spell number.value number.width));

@@ -16,7 +16,7 @@ ghost use Rattle.mvt_edit_steps.specs.Decided.{pairs_decided, said_of};
 
 use crate::pairs::decide_pairs;
 use mvt_document::tags::TAGS;
-use mvt_document::{Body, Field};
+use mvt_document::{BodyRef, Field};
 use mvt_meaning::Refusal;
 use mvt_view::{FoundFeature, LayerView, Pair, PoolSizes};
 use std::alloc::{AllocError, Global};
@@ -82,5 +82,5 @@ fn decided(pair: Pair, named: &[bool], to: Option<u64>) -> (Option<u64>, Option<
 pub fn is_tags(field: &Field) -> bool
     ensures { result ≡ is_tags (field_of field.now) }
 {
-    field.tag.number() == TAGS && matches!(field.body, Body::Number(_) | Body::Bytes { .. })
+    field.tag.number() == TAGS && matches!(field.body.get(), BodyRef::Number(_) | BodyRef::Bytes { .. })
 }

@@ -5,7 +5,8 @@ ghost use Rattle.std.specs.List.{last_or};
 ghost use Rattle.std.specs.Option.{option_map_or};
 ghost use Rattle.mvt_document.specs.Opens.{IsField};
 ghost use Rattle.mvt_document.specs.Shape.{IsTag};
-ghost use Rattle.mvt_document.specs.Stands.{field_of, number_of};
+ghost use Rattle.mvt_document.specs.Bodies.{number_of};
+ghost use Rattle.mvt_document.specs.Stands.{field_of};
 ghost use Rattle.mvt_document.specs.Wire.{field_bytes};
 ghost use Rattle.mvt_meaning.specs.Fields.{new_number, with_field_value, with_number};
 ghost use Rattle.mvt_meaning.specs.Ordinals.{positions_of};
@@ -14,7 +15,7 @@ ghost use Rattle.mvt_edit_steps.specs.PutsLast.{ReplacesLast};
 
 use crate::fates::Run;
 use crate::put_last::Spot;
-use mvt_document::{Body, Field, Tag, Varint};
+use mvt_document::{Body, BodyRef, Field, FieldBody, Tag, Varint};
 use std::alloc::{AllocError, Global};
 
 /// The run that gives the value to the last VARINT field of the number of this tag, or puts one
@@ -55,7 +56,7 @@ fn last_number(fields: &[Field], tag: u64) -> Option<usize>
 fn is_numbered(field: &Field, tag: u64) -> bool
     ensures { result ≡ is_numbered tag (field_of field.now) }
 {
-    field.tag.number() == tag / 8 && matches!(field.body, Body::Number(_))
+    field.tag.number() == tag / 8 && matches!(field.body.get(), BodyRef::Number(_))
 }
 
 /// A field of the number of this tag: the old one, if it has the value, or one with its tag, or one
@@ -66,20 +67,17 @@ fn number_field(old: Option<&Field>, tag: u64, value: u64) -> Field
     ensures field { field_of result ≡ option_map_or (λ old. with_field_value value (field_of old.now)) old.entry (new_number tag value) }
     ensures valid { IsField (field_of result) }
 {
-    match old {
-        Some(
-            Field {
-                tag,
-                body: Body::Number(number),
-            },
-        ) => Field {
-            tag: *tag,
-            body: Body::Number(with_value(*number, value)),
-        },
-        _ => Field {
-            tag: Tag::minimal(tag),
-            body: Body::Number(Varint::minimal(value)),
-        },
+    if let Some(field) = old {
+        if let BodyRef::Number(number) = field.body.get() {
+            return Field {
+                tag: field.tag,
+                body: FieldBody::new(Body::Number(with_value(number, value))),
+            };
+        }
+    }
+    Field {
+        tag: Tag::minimal(tag),
+        body: FieldBody::new(Body::Number(Varint::minimal(value))),
     }
 }
 

@@ -5,9 +5,11 @@ use Rattle.std.specs.List.{AllByRecursion, flat_map}
 use Rattle.mvt_document.specs.Plain.{PlainInLayer}
 use Rattle.mvt_document.specs.Opens.{IsLayerItem}
 use Rattle.mvt_document.specs.Shape.{IsTag, IsWidth}
-use Rattle.mvt_document.specs.BodyShape.{stored_width_of, wire_type_of}
+use Rattle.mvt_document.specs.BodyShape.{stored_width}
+use Rattle.mvt_document.specs.Groups.{wire_type}
 use Rattle.mvt_document.specs.Wire.{layer_item_bytes}
-use Rattle.mvt_document.specs.Stands.{body_of, layer_item_of, number_of}
+use Rattle.mvt_document.specs.Bodies.{body_of, number_of}
+use Rattle.mvt_document.specs.Stands.{layer_item_of}
 use Rattle.mvt_document.specs.declared.Body.{Body}
 use Rattle.mvt_document.specs.declared.Body.TheVariants.{Number, Eight, Four, Bytes, Group}
 use Rattle.mvt_document.specs.declared.Varint.{Varint}
@@ -25,7 +27,7 @@ module _ (old new : List ℕ) where
     long : 2 ≤ length (layer_item_bytes (PlainInLayer (record { tag = number_of tag; body = body_of body })))
     valid : IsLayerItem (PlainInLayer (record { tag = number_of tag; body = with_content new (body_of body) }))
 
-  good : (tag : Varint) (body : Body) → IsTag tag.value (wire_type_of body) → IsWidth (stored_width_of body) → is_key old (PlainInLayer (record { tag = number_of tag; body = body_of body })) ≡ true → IsGood tag body
+  good : (tag : Varint) (body : Body) → IsTag tag.value (wire_type (body_of body)) → IsWidth (stored_width (body_of body)) → is_key old (PlainInLayer (record { tag = number_of tag; body = body_of body })) ≡ true → IsGood tag body
   good tag (Number number) typed wide key = absurd (elim (cases_Bool (tag.value / 8 == 3)) [ inl three ↦ let is = rw three at key in cc | inr other ↦ let is = rw other at key in cc ])
   good tag (Eight bytes) typed wide key = absurd (elim (cases_Bool (tag.value / 8 == 3)) [ inl three ↦ let is = rw three at key in cc | inr other ↦ let is = rw other at key in cc ])
   good tag (Four bytes) typed wide key = absurd (elim (cases_Bool (tag.value / 8 == 3)) [ inl three ↦ let is = rw three at key in cc | inr other ↦ let is = rw other at key in cc ])

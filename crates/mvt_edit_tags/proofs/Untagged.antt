@@ -4,7 +4,8 @@ use Rattle.std.proofs.lemmas.List.Folds.{flat_map-map}
 use Rattle.std.specs.List.{AllByRecursion, flat_map}
 use Rattle.mvt_document.specs.Plain as plain
 use Rattle.mvt_document.specs.Opens.{IsField}
-use Rattle.mvt_document.specs.Stands.{body_of, document_of, field_of, layer_item_of, tile_item_of}
+use Rattle.mvt_document.specs.Bodies.{body_of}
+use Rattle.mvt_document.specs.Stands.{document_of, field_of, layer_item_of, tile_item_of}
 use Rattle.mvt_document.specs.Wire.{body_bytes, delimited, field_bytes, minimal_width, spell}
 use Rattle.mvt_document.proofs.Spelling.{length-spell, minimal_width_some}
 use Rattle.mvt_document.specs.declared.body.Body.{Body}

@@ -3,7 +3,8 @@
 ghost use Rattle.std.specs.Prelude.{◌≡◌, ℕ, ◌+◌, List, [], ◌∷◌, ◌++◌, IfOk, IfSome, is_some, length, map};
 ghost use Rattle.std.specs.List.{flat_map};
 ghost use Rattle.mvt_document.specs.Plain as plain;
-ghost use Rattle.mvt_document.specs.Stands.{document_of, layer_item_of, number_of};
+ghost use Rattle.mvt_document.specs.Bodies.{number_of};
+ghost use Rattle.mvt_document.specs.Stands.{document_of, layer_item_of};
 ghost use Rattle.mvt_document.specs.Wire.{layer_item_bytes};
 ghost use Rattle.mvt_change.specs.Changes.{LayerStep};
 ghost use Rattle.mvt_change.specs.ChangeStands.{change_of};
@@ -19,7 +20,8 @@ ghost use Rattle.mvt_edit_tags.specs.KeyFates.{TellsOfKeys, key_fate};
 use mvt_change::{Change, fits_with_items};
 use mvt_document::tags::KEYS;
 use mvt_document::{
-    Body, Document, Field, Items, LayerItem, MAX_FILE, Measured, Tag, message_size, sum_within,
+    Body, BodyRef, Document, Field, FieldBody, Items, LayerItem, MAX_FILE, Measured, Tag,
+    message_size, sum_within,
 };
 use mvt_edit_steps::{Fate, carry_out};
 use mvt_select::{LayerChoice, Refusal, find_layer};
@@ -114,18 +116,12 @@ fn key_field(item: &LayerItem, key: &[u8]) -> Option<(Tag, u8)>
     ensures there { is_some result ≡ is_key key.now (layer_item_of item.now) }
     ensures parts { IfSome result (λ parts. layer_item_of item.now ≡ plain.PlainInLayer (record { tag = number_of parts.0; body = plain.Delimited parts.1 key.now })) }
 {
-    match item {
-        LayerItem::Plain(
-            Field {
-                tag,
-                body: Body::Bytes { width, bytes },
-            },
-        ) => {
-            if tag.number() == KEYS && bytes.as_slice() == key {
-                Some((*tag, *width))
-            } else {
-                None
-            }
+    let LayerItem::Plain(field) = item else {
+        return None;
+    };
+    match field.body.get() {
+        BodyRef::Bytes { width, bytes } if field.tag.number() == KEYS && bytes == key => {
+            Some((field.tag, width))
         }
         _ => None,
     }
@@ -166,10 +162,10 @@ fn fate_of(
     Ok(match key_field(item, old) {
         Some((tag, width)) => Fate::Becomes(LayerItem::Plain(Field {
             tag,
-            body: Body::Bytes {
+            body: FieldBody::new(Body::Bytes {
                 width,
                 bytes: Items::from_vec(Vec::from_slice(alloc, new)?),
-            },
+            }),
         })),
         None => Fate::Stays,
     })

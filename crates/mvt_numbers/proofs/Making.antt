@@ -9,7 +9,7 @@ use Rattle.mvt_document.specs.Wire.{spelling}
 use Rattle.mvt_document.specs.Groups.{IsNumber}
 use Rattle.mvt_numbers.specs.Renumbering.{renumbered, some_changed}
 use Rattle.mvt_numbers.specs.Deciding.{packed_numbers, StaysBefore, IsLeft}
-use Rattle.mvt_document.specs.Stands.{number_of}
+use Rattle.mvt_document.specs.Bodies.{number_of}
 use Rattle.mvt_document.specs.declared.varint.Varint.{Varint}
 use Rattle.mvt_document.proofs.EachItem.{all_joined}
 use Rattle.mvt_numbers.specs.Fates.{left_of_fate}

@@ -6,7 +6,8 @@ use Rattle.std.proofs.lemmas.List.{append-nil, append_cancel_left, drop_all, tak
 use Rattle.std.proofs.lemmas.List.Concat.{flat_map-append}
 use Rattle.mvt_document.specs.Plain.{Number, Spelled, Eight, Four, Delimited, Group, Field}
 use Rattle.mvt_document.specs.Wire.{spelling}
-use Rattle.mvt_document.specs.Stands.{number_of, field_of}
+use Rattle.mvt_document.specs.Bodies.{number_of}
+use Rattle.mvt_document.specs.Stands.{field_of}
 use Rattle.mvt_document.specs.Groups.{IsNumber}
 use Rattle.mvt_document.specs.declared.varint.Varint.{Varint}
 use Rattle.mvt_document.specs.declared.document.Field as program

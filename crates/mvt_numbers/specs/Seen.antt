@@ -1,6 +1,6 @@
 -- Which plain values the values of the program stand for.
 use Rattle.std.specs.Prelude.{ℕ, ◌<◌, List, [], ◌∷◌, Result, Ok, Err, length}
-use Rattle.mvt_document.specs.Stands.{number_of}
+use Rattle.mvt_document.specs.Bodies.{number_of}
 use Rattle.mvt_numbers.specs.Numbers.{Placed, pieces, unpacked}
 use Rattle.mvt_numbers.specs.Left.{packed_from}
 use Rattle.mvt_numbers.specs.declared.number.Number.{Number}

@@ -1,12 +1,13 @@
 //! Which field is the next that has numbers, and whether they are packed.
 
 ghost use Rattle.std.specs.Prelude.{◌≡◌, ℕ, ◌+◌, ◌<◌, ◌≤◌, ◌++◌, [], length, map, IfSome, MatchOption};
-ghost use Rattle.mvt_document.specs.Stands.{body_of, field_of};
+ghost use Rattle.mvt_document.specs.Bodies.{body_of};
+ghost use Rattle.mvt_document.specs.Stands.{field_of};
 ghost use Rattle.mvt_numbers.specs.Numbers.{numbers_in};
 ghost use Rattle.mvt_numbers.specs.Left.{numbers_from};
 ghost use Rattle.mvt_numbers.specs.Seen.{elements_seen, HasNumbers};
 
-use mvt_document::{Body, Field, Varint};
+use mvt_document::{BodyRef, Field, Varint};
 
 /// What a field has of numbers.
 #[derive(Clone, Copy, Debug)]
@@ -24,9 +25,9 @@ fn elements_in(field: &Field, number: u64) -> Option<Elements<'_>>
     if field.tag.number() != number {
         return None;
     }
-    match &field.body {
-        Body::Number(varint) => Some(Elements::One(*varint)),
-        Body::Bytes { bytes, .. } if bytes.len() > 0 => Some(Elements::Packed(bytes.as_slice())),
+    match field.body.get() {
+        BodyRef::Number(varint) => Some(Elements::One(varint)),
+        BodyRef::Bytes { bytes, .. } if bytes.len() > 0 => Some(Elements::Packed(bytes)),
         _ => None,
     }
 }

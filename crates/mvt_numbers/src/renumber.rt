@@ -5,14 +5,15 @@ ghost use Rattle.std.specs.List.{flat_map};
 ghost use Rattle.std.specs.Option.{unwrap_or};
 ghost use Rattle.mvt_document.specs.Plain as plain;
 ghost use Rattle.mvt_document.specs.Shape.{IsTag, IsWidth};
-ghost use Rattle.mvt_document.specs.Stands.{field_of, number_of};
+ghost use Rattle.mvt_document.specs.Bodies.{number_of};
+ghost use Rattle.mvt_document.specs.Stands.{field_of};
 ghost use Rattle.mvt_document.specs.Wire.{spelling};
 ghost use Rattle.mvt_numbers.specs.Deciding.{IsLeft, IsScanned, made_up_to, packed_field, packed_numbers, with_bytes};
 ghost use Rattle.mvt_numbers.specs.Fates.{IsChange, changes, left_of_fate};
 ghost use Rattle.mvt_numbers.specs.Renumbering.{field_numbers, renumbered, renumbered_field, some_changed, with_left};
 
 use crate::fate::Fate;
-use mvt_document::{Body, Field, Items, Tag, Varint, read_varint};
+use mvt_document::{Body, BodyRef, Field, FieldBody, Items, Tag, Varint, read_varint};
 use std::alloc::{AllocError, Global};
 
 /// What becomes of a field, by a decision for each number in the fields of its number, in order:
@@ -34,10 +35,10 @@ pub fn renumber_field<'a>(
     if field.tag.number() != number {
         return Ok((Fate::Stays, decisions));
     }
-    match &field.body {
-        Body::Number(old) => Ok(renumber_unpacked(field.tag, *old, decisions)),
-        Body::Bytes { width, bytes } => {
-            renumber_packed(alloc, field.tag, *width, bytes.as_slice(), decisions)
+    match field.body.get() {
+        BodyRef::Number(old) => Ok(renumber_unpacked(field.tag, old, decisions)),
+        BodyRef::Bytes { width, bytes } => {
+            renumber_packed(alloc, field.tag, width, bytes, decisions)
         }
         _ => Ok((Fate::Stays, decisions)),
     }
@@ -62,7 +63,7 @@ fn renumber_unpacked<'a>(
         Fate::Goes => Fate::Goes,
         Fate::Becomes(number) => Fate::Becomes(Field {
             tag,
-            body: Body::Number(number),
+            body: FieldBody::new(Body::Number(number)),
         }),
     };
     (fate, left)
@@ -111,7 +112,7 @@ fn packed_fate(tag: Tag, width: u8, left: Vec<u8>) -> Fate<Field>
     let bytes = Items::from_vec(left);
     Fate::Becomes(Field {
         tag,
-        body: Body::Bytes { width, bytes },
+        body: FieldBody::new(Body::Bytes { width, bytes }),
     })
 }
 

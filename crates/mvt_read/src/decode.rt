@@ -13,10 +13,10 @@ ghost use Rattle.mvt_document.specs.declared.document.TileItem.TheVariants as in
 ghost use Rattle.mvt_document.specs.Stands.{field_of, layer_item_of, tile_item_of};
 
 use crate::faults::ReadError;
-use crate::front::{BodyRef, FieldRef, field_at_front};
+use crate::front::{FieldRef, field_at_front};
 use mvt_document::tags::{FEATURE_TAG, LAYER_TAG};
 use mvt_document::{
-    Feature, Field, Items, Layer, LayerItem, LayerTag, Measured, Message, Tag, TileItem,
+    BodyRef, Feature, Field, Items, Layer, LayerItem, LayerTag, Measured, Message, Tag, TileItem,
 };
 use std::alloc::{AllocError, Global};
 

@@ -7,11 +7,12 @@ ghost use Rattle.mvt_document.specs.Groups.{IsNumber, IsFlatBody, StoresField};
 ghost use Rattle.mvt_document.specs.Opens.{IsField};
 ghost use Rattle.mvt_document.specs.Parts.{IsWholeBody, IsWholeField};
 ghost use Rattle.mvt_document.specs.Stands.{field_of};
-ghost use Rattle.mvt_read.specs.Fronts.{front_of, body_front_of};
+ghost use Rattle.mvt_document.specs.Bodies.{body_seen};
+ghost use Rattle.mvt_read.specs.Fronts.{front_of};
 
 use crate::groups::group_at_front;
 use mvt_document::tags::{I32, I64, LEN, SGROUP, VARINT};
-use mvt_document::{Body, Field, Items, Tag, Varint, read_varint};
+use mvt_document::{BodyRef, Field, FieldBody, Tag, Varint, read_varint};
 use std::alloc::{AllocError, Global};
 
 /// A field whose bytes lie in the message that it was read from.
@@ -19,21 +20,6 @@ use std::alloc::{AllocError, Global};
 pub struct FieldRef<'a> {
     pub tag: Varint,
     pub body: BodyRef<'a>,
-}
-
-/// The body of such a field, by its wire type.
-#[derive(Clone, Copy, Debug)]
-pub enum BodyRef<'a> {
-    /// VARINT
-    Number(Varint),
-    /// I64
-    Eight([u8; 8]),
-    /// I32
-    Four([u8; 4]),
-    /// LEN: the bytes, and the width in which their length is spelled.
-    Bytes { width: u8, bytes: &'a [u8] },
-    /// SGROUP: all bytes up to the end of the group, its end tag among them.
-    Group(&'a [u8]),
 }
 
 /// The field at the front, and how many bytes it takes.
@@ -72,8 +58,8 @@ pub(crate) fn read_tag(bytes: &[u8]) -> Option<Varint>
 fn body_at_front(tag: u64, bytes: &[u8]) -> Option<(BodyRef<'_>, usize)>
     requires { tag < 2 ^ 32 }
     ensures within { IfSome result (λ found. found.1 ≤ length bytes.now) }
-    ensures spelled { IfSome result (λ found. take found.1 bytes.now ≡ body_bytes (body_front_of found.0)) }
-    ensures whole { IfSome result (λ found. IsWholeBody tag (body_front_of found.0)) }
+    ensures spelled { IfSome result (λ found. take found.1 bytes.now ≡ body_bytes (body_seen found.0)) }
+    ensures whole { IfSome result (λ found. IsWholeBody tag (body_seen found.0)) }
     ensures none { IfNone result (¬ Begins (IsWholeBody tag) body_bytes bytes.now) }
 {
     match tag % 8 {
@@ -89,8 +75,8 @@ fn body_at_front(tag: u64, bytes: &[u8]) -> Option<(BodyRef<'_>, usize)>
 #[inline(always)]
 pub(crate) fn flat_body_at_front(wire_type: u64, bytes: &[u8]) -> Option<(BodyRef<'_>, usize)>
     ensures within { IfSome result (λ found. found.1 ≤ length bytes.now) }
-    ensures spelled { IfSome result (λ found. take found.1 bytes.now ≡ body_bytes (body_front_of found.0)) }
-    ensures whole { IfSome result (λ found. IsFlatBody wire_type (body_front_of found.0)) }
+    ensures spelled { IfSome result (λ found. take found.1 bytes.now ≡ body_bytes (body_seen found.0)) }
+    ensures whole { IfSome result (λ found. IsFlatBody wire_type (body_seen found.0)) }
     ensures none { IfNone result (¬ Begins (IsFlatBody wire_type) body_bytes bytes.now) }
 {
     match wire_type {
@@ -115,8 +101,8 @@ pub(crate) fn flat_body_at_front(wire_type: u64, bytes: &[u8]) -> Option<(BodyRe
 #[inline(always)]
 fn delimited_at_front(bytes: &[u8]) -> Option<(BodyRef<'_>, usize)>
     ensures within { IfSome result (λ found. found.1 ≤ length bytes.now) }
-    ensures spelled { IfSome result (λ found. take found.1 bytes.now ≡ body_bytes (body_front_of found.0)) }
-    ensures whole { IfSome result (λ found. IsFlatBody 2 (body_front_of found.0)) }
+    ensures spelled { IfSome result (λ found. take found.1 bytes.now ≡ body_bytes (body_seen found.0)) }
+    ensures whole { IfSome result (λ found. IsFlatBody 2 (body_seen found.0)) }
     ensures none { IfNone result (¬ Begins (IsFlatBody 2) body_bytes bytes.now) }
 {
     let length = read_varint(bytes)?;
@@ -139,19 +125,9 @@ impl FieldRef<'_> {
         requires { IsField (front_of self) }
         ensures { IfOk result (λ field. field_of field ≡ front_of self.entry) }
     {
-        let body = match self.body {
-            BodyRef::Number(number) => Body::Number(number),
-            BodyRef::Eight(bytes) => Body::Eight(bytes),
-            BodyRef::Four(bytes) => Body::Four(bytes),
-            BodyRef::Bytes { width, bytes } => Body::Bytes {
-                width,
-                bytes: Items::from_vec(Vec::from_slice(alloc, bytes)?),
-            },
-            BodyRef::Group(bytes) => Body::Group(Items::from_vec(Vec::from_slice(alloc, bytes)?)),
-        };
         Ok(Field {
             tag: Tag::new(self.tag),
-            body,
+            body: FieldBody::copied(alloc, self.body)?,
         })
     }
 }

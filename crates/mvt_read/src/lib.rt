@@ -15,5 +15,5 @@ mod groups;
 mod read;
 
 pub use faults::ReadError;
-pub use front::{BodyRef, FieldRef, field_at_front};
+pub use front::{FieldRef, field_at_front};
 pub use read::read_document;

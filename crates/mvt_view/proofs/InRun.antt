@@ -14,7 +14,8 @@ use Rattle.mvt_document.specs.Kinds.{in_layer_of_kind, is_delimited, is_entry, i
 use Rattle.mvt_document.specs.Plain.{Feature}
 use Rattle.mvt_document.specs.Plain as plain
 use Rattle.mvt_document.specs.Runs.{one_run, IsRunOf}
-use Rattle.mvt_document.specs.Stands.{body_of, layer_item_of}
+use Rattle.mvt_document.specs.Bodies.{body_of}
+use Rattle.mvt_document.specs.Stands.{layer_item_of}
 use Rattle.mvt_document.proofs.Running.{run_length}
 use Rattle.mvt_view.specs.Found.{with_position, placed_from, found_from, found_in}
 use Rattle.mvt_view.specs.Pools.{PassesOver, entry_in}

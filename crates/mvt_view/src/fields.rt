@@ -13,14 +13,14 @@ ghost use Rattle.mvt_view.specs.Seen.{found_feature_seen};
 ghost use Rattle.mvt_view.specs.Views.{content_in, contents, feature_in, last_value, layer_in, plain_fields, value_in};
 
 use crate::found::FoundFeature;
-use mvt_document::{Body, Feature, Field, Layer, LayerItem, Run, TileItem};
+use mvt_document::{BodyRef, Feature, Field, Layer, LayerItem, Run, TileItem};
 
 /// The value of a VARINT field of this number.
 fn value_in(field: &Field, number: u64) -> Option<u64>
     ensures { result ≡ value_in number (field_of field.now) }
 {
-    match &field.body {
-        Body::Number(value) if field.tag.number() == number => Some(value.value),
+    match field.body.get() {
+        BodyRef::Number(value) if field.tag.number() == number => Some(value.value),
         _ => None,
     }
 }
@@ -29,8 +29,8 @@ fn value_in(field: &Field, number: u64) -> Option<u64>
 fn content_in(field: &Field, number: u64) -> Option<&[u8]>
     ensures { option_copied result ≡ content_in number (field_of field.now) }
 {
-    match &field.body {
-        Body::Bytes { bytes, .. } if field.tag.number() == number => Some(bytes.as_slice()),
+    match field.body.get() {
+        BodyRef::Bytes { bytes, .. } if field.tag.number() == number => Some(bytes),
         _ => None,
     }
 }

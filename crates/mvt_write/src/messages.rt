@@ -1,19 +1,19 @@
 //! The bytes of the messages of a tile.
 
 use crate::encode::{Encode, put_bytes, put_length, put_message};
-use mvt_document::{Body, Feature, Field, Layer, LayerItem, TileItem};
+use mvt_document::{BodyRef, Feature, Field, FieldBody, Layer, LayerItem, TileItem};
 
-impl Encode for Body {
+impl Encode for FieldBody {
     fn fill(&self, room: &mut [u8]) -> usize {
-        match self {
-            Body::Number(number) => number.fill(room),
-            Body::Eight(bytes) => put_bytes(bytes, room),
-            Body::Four(bytes) => put_bytes(bytes, room),
-            Body::Bytes { width, bytes } => {
-                let left = put_bytes(bytes.as_slice(), room);
-                put_length(*width, bytes.len(), &mut room[..left])
+        match self.get() {
+            BodyRef::Number(number) => number.fill(room),
+            BodyRef::Eight(bytes) => put_bytes(&bytes, room),
+            BodyRef::Four(bytes) => put_bytes(&bytes, room),
+            BodyRef::Bytes { width, bytes } => {
+                let left = put_bytes(bytes, room);
+                put_length(width, bytes.len(), &mut room[..left])
             }
-            Body::Group(bytes) => put_bytes(bytes.as_slice(), room),
+            BodyRef::Group(bytes) => put_bytes(bytes, room),
         }
     }
 }

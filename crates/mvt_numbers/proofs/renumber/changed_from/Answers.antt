@@ -3,7 +3,7 @@ use Rattle.std.specs.List.{flat_map, AllByRecursion}
 use Rattle.mvt_document.specs.Groups.{IsNumber}
 use Rattle.std.proofs.lemmas.List.{append-nil, length-drop, drop-drop, drop_all, take_rest}
 use Rattle.mvt_document.specs.Plain.{Number}
-use Rattle.mvt_document.specs.Stands.{number_of}
+use Rattle.mvt_document.specs.Bodies.{number_of}
 use Rattle.mvt_document.specs.Wire.{spelling}
 use Rattle.mvt_document.proofs.Spelling.{spelling_some}
 use Rattle.mvt_numbers.specs.Deciding.{IsLeft, made_up_to, packed_numbers}

@@ -1,7 +1,7 @@
 use Rattle.std.proofs.Common.{◌||◌, ◌≡◌, ℕ, ◌+◌, ◌++◌, List, ◌∷◌, length, take, drop, subst, sym, ap, ◌∙◌, arith}
 use Rattle.std.proofs.lemmas.List.{length-drop, take_rest}
 use Rattle.mvt_document.specs.Plain.{Number}
-use Rattle.mvt_document.specs.Stands.{number_of}
+use Rattle.mvt_document.specs.Bodies.{number_of}
 use Rattle.mvt_document.specs.Wire.{spelling}
 use Rattle.mvt_document.proofs.Spelling.{spelling_some}
 use Rattle.mvt_numbers.specs.Deciding.{StaysBefore}

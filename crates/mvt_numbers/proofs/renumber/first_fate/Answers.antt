@@ -1,7 +1,7 @@
 use Rattle.std.proofs.Common.{◌≡◌, [], sym, ap, ◌∙◌}
 use Rattle.std.proofs.lemmas.List.{nil_from_length}
 use Rattle.mvt_document.specs.Plain.{Number}
-use Rattle.mvt_document.specs.Stands.{number_of}
+use Rattle.mvt_document.specs.Bodies.{number_of}
 use Rattle.mvt_numbers.specs.Renumbering.{some_changed}
 use Rattle.mvt_numbers.proofs.Decisions.{none_changed}
 use Rattle.mvt_numbers.proofs.renumber.first_fate.Goals as goal

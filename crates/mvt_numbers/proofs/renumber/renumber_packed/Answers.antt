@@ -1,5 +1,5 @@
 use Rattle.std.proofs.Common.{◌∙◌, sym}
-use Rattle.mvt_document.specs.Stands.{number_of}
+use Rattle.mvt_document.specs.Bodies.{number_of}
 use Rattle.mvt_numbers.specs.Deciding.{packed_field}
 use Rattle.mvt_numbers.proofs.PackedLeft.{IsChanged, whole_changed, changed_left, changed_behind, changed_field, changed_some}
 use Rattle.mvt_numbers.proofs.renumber.renumber_packed.Goals as goal

@@ -1,7 +1,7 @@
 use Rattle.std.proofs.Common.{false, ◌||◌, ◌≡◌, List, [], ◌∷◌, ◌++◌, ap, sym, ◌∙◌}
 use Rattle.std.proofs.lemmas.List.{append-nil}
 use Rattle.mvt_document.specs.Plain as plain
-use Rattle.mvt_document.specs.Stands.{number_of}
+use Rattle.mvt_document.specs.Bodies.{number_of}
 use Rattle.mvt_numbers.specs.Fates.{changes, left_of_fate}
 use Rattle.mvt_numbers.specs.Renumbering.{renumbered}
 use Rattle.mvt_numbers.proofs.Decisions.{renumbered-none}
@@ -18,7 +18,7 @@ returns-clause-fate c =
     elim c.match-fate.branch [
       | in-Stays w ↦ rw (w.fate-is, found, w.in-Stays.is)
       | in-Goes w ↦ rw (w.fate-is, found, w.in-Goes.is)
-      | in-Becomes w ↦ rw (w.fate-is, found, w.in-Becomes.is)
+      | in-Becomes w ↦ rw (w.fate-is, w.new.ensures, found, w.in-Becomes.is)
     ]
 
 pub returns-clause-left : goal.returns-clause-left

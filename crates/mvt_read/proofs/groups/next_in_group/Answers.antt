@@ -1,5 +1,5 @@
 use Rattle.std.proofs.Common.{arith}
-use Rattle.mvt_read.specs.Fronts.{body_front_of}
+use Rattle.mvt_document.specs.Bodies.{body_seen}
 use Rattle.mvt_document.proofs.Spelling.{spelling_some}
 use Rattle.mvt_read.proofs.GroupSteps.{IsTagFound, start_taken, end_taken, flat_taken, tag_missing, body_missing, level_missing, end_missing}
 use Rattle.mvt_read.proofs.groups.next_in_group.Goals as goal
@@ -57,4 +57,4 @@ returns-in_ok-length-in_default-clause-leads c =
     let n = c.in_ok-tag.tag in
     let t : IsTagFound n.value n.width c.args.bytes.now =
     record { at = record { within = c.in_ok-tag.ensures.within; spelled = c.in_ok-tag.ensures.found; valid = n.spelled }; low = c.in_ok-tag.ensures.low; high = c.in_ok-tag.ensures.high } in
-    rw c.from-start.ensures (flat_taken n.value n.width c.in_ok-length-in_default.length (body_front_of c.in_ok-length-in_default.field-0-0) c.args.bytes.now c.args.groups.now t c.requires c.in_ok-length-in_default.ensures.whole (rw c.from-start.ensures at c.in_ok-length-in_default.ensures.spelled))
+    rw c.from-start.ensures (flat_taken n.value n.width c.in_ok-length-in_default.length (body_seen c.in_ok-length-in_default.field-0-0) c.args.bytes.now c.args.groups.now t c.requires c.in_ok-length-in_default.ensures.whole (rw c.from-start.ensures at c.in_ok-length-in_default.ensures.spelled))

@@ -1,6 +1,6 @@
 use Rattle.std.proofs.Common.{◌≡◌, List, ℕ, ◌+◌, ◌∷◌, Ok, drop, take, sym, ap, ◌∙◌, arith}
 use Rattle.std.proofs.lemmas.List.{length-drop, drop-drop, take_rest}
-use Rattle.mvt_document.specs.Stands.{number_of}
+use Rattle.mvt_document.specs.Bodies.{number_of}
 use Rattle.mvt_document.specs.Wire.{spelling}
 use Rattle.mvt_numbers.specs.Numbers.{pieces, unpacked}
 use Rattle.mvt_numbers.proofs.Pieces.{packed-front, packed-bad}

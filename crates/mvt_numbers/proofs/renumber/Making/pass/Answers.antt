@@ -1,7 +1,7 @@
 use Rattle.std.proofs.Common.{ℕ, List, [], ◌++◌, ap, sym, ◌∙◌, append_assoc}
 use Rattle.std.specs.Prelude.{slice_range}
 use Rattle.std.proofs.lemmas.List.{append-nil}
-use Rattle.mvt_document.specs.Stands.{number_of}
+use Rattle.mvt_document.specs.Bodies.{number_of}
 use Rattle.mvt_document.specs.Wire.{spelling}
 use Rattle.mvt_numbers.proofs.Making.{range_more}
 use Rattle.mvt_numbers.proofs.renumber.Making.pass.Goals as goal

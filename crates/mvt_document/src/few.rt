@@ -1,0 +1,50 @@
+//! Few bytes, in the value that holds them.
+
+ghost use Rattle.std.specs.Prelude.{◌≡◌, ◌<◌, length, MatchOption};
+
+use std::marker::Model;
+
+/// How many bytes are few: as many as leave a body at four words, with its form and its width beside them.
+const MOST: usize = 29;
+
+/// At most 29 bytes, with no memory of their own. Contracts see the list of them.
+#[derive(Debug, Drop)]
+pub(crate) struct Few {
+    count: u8,
+    room: [u8; MOST],
+}
+
+impl Model for Few {
+    ghost use Rattle.std.specs.Prelude.{ℕ, List, take, ◌≤◌};
+
+    ghost Value = { List ℕ };
+
+    ghost view = { λ f. take f.count f.room };
+
+    ghost invariant = { λ f. f.count ≤ 29 };
+}
+
+impl Few {
+    /// These bytes, where they are few.
+    #[inline(always)]
+    pub(crate) fn new(bytes: &[u8]) -> Option<Few>
+        ensures { MatchOption result (29 < length bytes.now) (λ few. few ≡ bytes.now) }
+    {
+        let count = bytes.len();
+        if count > MOST {
+            return None;
+        }
+        let mut room = [0; MOST];
+        room[..count].copy_from_slice(bytes);
+        Some(Few {
+            count: count as u8,
+            room,
+        })
+    }
+
+    pub(crate) fn as_slice(&self) -> &[u8]
+        ensures { result.now ≡ self.now }
+    {
+        &self.room[..usize::from(self.count)]
+    }
+}
