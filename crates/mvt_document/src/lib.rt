@@ -42,28 +42,32 @@
 mod body;
 mod document;
 mod exchange;
+mod fields;
 mod items;
 mod kept;
 pub mod laws;
-mod layer_tag;
 mod lengths;
 mod measure;
 mod message;
+mod message_tag;
 mod places;
 mod run;
 mod tag;
 pub mod tags;
+mod values;
 mod varint;
 mod zigzag;
 
 pub use body::Body;
 pub use document::{Document, Feature, Field, Layer, LayerItem, TileItem};
+pub use fields::Fields;
 pub use items::Items;
-pub use layer_tag::LayerTag;
 pub use measure::{Measured, message_size, size_beside_part, size_of_all, sum_within};
 pub use message::Message;
+pub use message_tag::MessageTag;
 pub use run::{Kind, Run, Runs};
 pub use tag::Tag;
+pub use values::{last_value, value_in};
 pub use varint::{Varint, least_width, put_number, read_varint};
 pub use zigzag::{from_zigzag, to_zigzag};
 
