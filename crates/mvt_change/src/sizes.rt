@@ -149,7 +149,7 @@ fn items_size(layer: &Layer, item: usize, fields: Option<usize>) -> Option<usize
         IsFileSize result (length (flat_map layer_item_bytes (change_at (in_feature change) item (layer_of layer.now).items))) }
 {
     let holder = feature_at(layer, item);
-    let size = message_size(holder.tag, holder.width, fields?, MAX_FILE)?;
+    let size = message_size(holder.tag.to_tag(), holder.width, fields?, MAX_FILE)?;
     size_with(&layer.items, item, size)
 }
 

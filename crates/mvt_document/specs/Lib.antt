@@ -15,6 +15,8 @@ pub mod Runs
 pub mod KeptForms
 pub mod LendingKept
 pub mod Stands
+pub mod Values
+pub mod StoredIds
 pub mod Kinds
 pub mod Parts
 pub mod Settle

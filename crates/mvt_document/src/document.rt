@@ -8,9 +8,9 @@ ghost use Rattle.mvt_document.specs.Shape.{IsTag, IsWidth};
 ghost use Rattle.mvt_document.specs.BodyShape.{stored_width, EndsGroup};
 
 use crate::field_body::FieldBody;
-use crate::items::Items;
-use crate::layer_tag::LayerTag;
+use crate::fields::Fields;
 use crate::message::Message;
+use crate::message_tag::MessageTag;
 use crate::tag::Tag;
 use std::mem::size_of;
 
@@ -27,9 +27,9 @@ pub struct Field {
 /// A feature of a layer. The width is the least in which its length is spelled.
 #[derive(Debug, Drop)]
 pub struct Feature {
-    pub tag: Tag,
+    pub tag: MessageTag,
     pub width: u8,
-    pub fields: Items<Field>,
+    pub fields: Fields,
     pub ghost is_feature: { tag.value ≡ 18 },
     pub ghost is_width: { IsWidth width },
 }
@@ -43,7 +43,7 @@ pub enum LayerItem {
 /// A layer of the tile. The width is the least in which its length is spelled.
 #[derive(Debug, Drop)]
 pub struct Layer {
-    pub tag: LayerTag,
+    pub tag: MessageTag,
     pub width: u8,
     pub items: Message<LayerItem>,
     pub ghost is_layer: { tag.value ≡ 26 },

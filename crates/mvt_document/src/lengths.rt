@@ -63,7 +63,7 @@ impl Measured for Feature {
 
     fn size_within(&self, limit: usize) -> Option<usize> {
         message_size(
-            self.tag,
+            self.tag.to_tag(),
             self.width,
             size_of_all(self.fields.as_slice(), limit)?,
             limit,

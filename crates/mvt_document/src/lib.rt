@@ -7,7 +7,10 @@
 //!   it fits: `Varint::minimal`. A signed number has one ZigZag, and each ZigZag is that of one:
 //!   `to_zigzag`, `from_zigzag`.
 //! - The tag of a field is a number below 2^32, in half the memory of a number, and gives that number
-//!   back: `Tag`.
+//!   back: `Tag`. That of a layer or of a feature is below 2^8, and takes two bytes: `MessageTag`.
+//! - The value of a VARINT field of a number, and that of the last one in a list, are those of the definitions:
+//!   `value_in`, `last_value`. The id of a feature is kept beside its fields, and is the right one after every
+//!   change, which their type keeps: `Fields::id`.
 //! - How many bytes a value takes, where a file may have as many, or where they are within any
 //!   limit: `Measured::size` and `size_within`, those of `Message`, and `size_of_all`. So are those
 //!   beside a part of a list (`size_beside_part`), and those of a message with a content of a given
@@ -36,7 +39,7 @@
 //!   `change_fields`); a part and both positions are within the list (`exchange`, `move_item`,
 //!   `size_beside_part`); a size that is given is that of the items (`Message::of_size`,
 //!   `know_size`); a width is at least 1, and the room has as many bytes (`put_number`); a number that
-//!   becomes a tag is below 2^32 (`Tag::new`, `Tag::minimal`), or that of layers (`LayerTag::new`).
+//!   becomes a tag is below 2^32 (`Tag::new`, `Tag::minimal`), or below 2^8 (`MessageTag::new`).
 #![tactic(auto)]
 
 mod body;
@@ -44,29 +47,33 @@ mod document;
 mod exchange;
 mod few;
 mod field_body;
+mod fields;
 mod items;
 mod kept;
 pub mod laws;
-mod layer_tag;
 mod lengths;
 mod measure;
 mod message;
+mod message_tag;
 mod places;
 mod run;
 mod tag;
 pub mod tags;
+mod values;
 mod varint;
 mod zigzag;
 
 pub use body::{Body, BodyRef};
 pub use document::{Document, Feature, Field, Layer, LayerItem, TileItem};
 pub use field_body::FieldBody;
+pub use fields::Fields;
 pub use items::Items;
-pub use layer_tag::LayerTag;
 pub use measure::{Measured, message_size, size_beside_part, size_of_all, sum_within};
 pub use message::Message;
+pub use message_tag::MessageTag;
 pub use run::{Kind, Run, Runs};
 pub use tag::Tag;
+pub use values::{last_value, value_in};
 pub use varint::{Varint, least_width, put_number, read_varint};
 pub use zigzag::{from_zigzag, to_zigzag};
 

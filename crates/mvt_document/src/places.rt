@@ -78,7 +78,7 @@ fn change_in_feature<W, R, F: FnOnce(&mut Items<Field>, &mut [W]) -> R>(
     ensures { MakesThere F.FnOnce change (held_fields_in item.old) beside.old result beside.new (λ made. item.new ≡ in_held_feature (λ _. made) item.old) }
 {
     match item {
-        LayerItem::Feature(feature) => change(&mut feature.fields, beside),
+        LayerItem::Feature(feature) => feature.fields.change(beside, change),
         LayerItem::Plain(_) => unreachable!(),
     }
 }

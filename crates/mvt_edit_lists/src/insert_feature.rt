@@ -14,7 +14,9 @@ ghost use Rattle.mvt_edit_steps.specs.Prepared.{Prepares};
 
 use mvt_change::{Change, Step};
 use mvt_document::tags::{FEATURE_TAG, GEOMETRY_TAG, KIND_TAG};
-use mvt_document::{Body, Document, Feature, Field, FieldBody, Items, LayerItem, Tag, Varint};
+use mvt_document::{
+    Body, Document, Feature, Field, FieldBody, Fields, Items, LayerItem, MessageTag, Tag, Varint,
+};
 use mvt_edit_steps::{one_item, one_step_within_limit};
 use mvt_geometry::{EncodeError, Geometry, Kind, encode_geometry};
 use mvt_select::{LayerChoice, Refusal, find_layer};
@@ -80,14 +82,14 @@ fn new_feature(alloc: Global, geometry: &Geometry) -> Result<LayerItem, EncodeEr
 {
     let bytes = encode_geometry(alloc, geometry)?;
     Ok(LayerItem::Feature(Feature {
-        tag: Tag::minimal(FEATURE_TAG),
+        tag: MessageTag::new(Varint::minimal(FEATURE_TAG)),
         width: 1,
         fields: fields_of(alloc, geometry.kind(), bytes)?,
     }))
 }
 
 /// The fields of a feature of this kind, whose geometry has these bytes.
-fn fields_of(alloc: Global, kind: Kind, bytes: Items<u8>) -> Result<Items<Field>, AllocError>
+fn fields_of(alloc: Global, kind: Kind, bytes: Items<u8>) -> Result<Fields, AllocError>
     ensures { IfOk result (λ fields. map field_of fields.items
         ≡ new_number 24 (kind_number kind) ∷ new_content 34 bytes.items ∷ []) }
 {
@@ -99,5 +101,5 @@ fn fields_of(alloc: Global, kind: Kind, bytes: Items<u8>) -> Result<Items<Field>
         tag: Tag::minimal(GEOMETRY_TAG),
         body: FieldBody::new(Body::Bytes { width: 1, bytes }),
     };
-    Ok(Items::from_vec(vec![in alloc; kind, geometry]?))
+    Ok(Fields::from_vec(vec![in alloc; kind, geometry]?))
 }

@@ -16,7 +16,7 @@ use crate::faults::ReadError;
 use crate::front::{FieldRef, field_at_front};
 use mvt_document::tags::{FEATURE_TAG, LAYER_TAG};
 use mvt_document::{
-    BodyRef, Feature, Field, Items, Layer, LayerItem, LayerTag, Measured, Message, Tag, TileItem,
+    BodyRef, Feature, Field, Fields, Layer, LayerItem, Measured, Message, MessageTag, TileItem,
 };
 use std::alloc::{AllocError, Global};
 
@@ -127,9 +127,9 @@ impl Decode for LayerItem {
         match front.body {
             BodyRef::Bytes { width, bytes } if front.tag.value == FEATURE_TAG => {
                 Ok(LayerItem::Feature(Feature {
-                    tag: Tag::new(front.tag),
+                    tag: MessageTag::new(front.tag),
                     width,
-                    fields: Items::from_vec(decode_inside(alloc, bytes)?),
+                    fields: Fields::from_vec(decode_inside(alloc, bytes)?),
                 }))
             }
             _ => Ok(LayerItem::Plain(front.to_field(alloc)?)),
@@ -150,7 +150,7 @@ impl Decode for TileItem {
         match front.body {
             BodyRef::Bytes { width, bytes } if front.tag.value == LAYER_TAG => {
                 Ok(TileItem::Layer(Layer {
-                    tag: LayerTag::new(front.tag),
+                    tag: MessageTag::new(front.tag),
                     width,
                     items: Message::of_size(decode_inside(alloc, bytes)?, bytes.len()),
                 }))

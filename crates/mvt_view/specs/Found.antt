@@ -1,8 +1,8 @@
 -- What is found in a list: each item that counts, with its ordinal among those that do, and its position among all.
-use Rattle.std.specs.Prelude.{ℕ, List, Option, drop, option_map}
+use Rattle.std.specs.Prelude.{ℕ, List, Option, drop, filter, option_map}
 use Rattle.std.specs.List.{filter_map, enumerate_from}
 use Rattle.mvt_document.specs.Plain.{Feature, Layer, LayerItem, Document}
-use Rattle.mvt_view.specs.Views.{feature_in, layer_in}
+use Rattle.mvt_view.specs.Views.{feature_in, has_id, layer_in}
 
 -- what an item is, with its position, or none where it does not count
 abbrev pub with_position : {A B : Type 0} → (A → Option B) → ℕ × A → Option (ℕ × B)
@@ -27,3 +27,7 @@ found_layers document = found_in layer_in document
 -- the features among the items of a layer, in order, each with its ordinal and its position (tiles 4.2)
 abbrev pub found_features : List LayerItem → List (ℕ × (ℕ × Feature))
 found_features items = found_in feature_in items
+
+-- the features that have this id, in order, each with its ordinal and its position (tiles 4.2)
+abbrev pub with_id : ℕ → List (ℕ × (ℕ × Feature)) → List (ℕ × (ℕ × Feature))
+with_id id found = filter (λ (f : ℕ × (ℕ × Feature)). has_id id f.1.1) found

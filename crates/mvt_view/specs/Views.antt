@@ -3,31 +3,19 @@ use Rattle.std.specs.Prelude.{ℕ, ◌/◌, ◌==◌, Bool, false, List, [], ◌
 use Rattle.std.specs.List.{filter_map, last_or, enumerate_from}
 use Rattle.std.specs.Option.{option_map_or, unwrap_or}
 use Rattle.std.specs.Str.{bytes_eq}
-use Rattle.mvt_document.specs.Plain.{Body, Spelled, Delimited, Field, Feature, LayerItem, OfFeature, PlainInLayer, Layer, TileItem, OfLayer, PlainInTile, Document}
+pub use Rattle.mvt_document.specs.Values.{last_value, value_in, value_of}
+use Rattle.mvt_document.specs.Plain.{Body, Delimited, Field, Feature, LayerItem, OfFeature, PlainInLayer, Layer, TileItem, OfLayer, PlainInTile, Document}
 
 -- ---- the fields of a message
-
--- the value of a VARINT body; none of another body (guide, Message Structure)
-abbrev pub value_of : Body → Option ℕ
-value_of (Spelled number) = Some number.value
-value_of body = None
 
 -- the content of a LEN body; none of another body (guide, Message Structure)
 abbrev pub content_of : Body → Option (List ℕ)
 content_of (Delimited width bytes) = Some bytes
 content_of body = None
 
--- the value of a VARINT field of this number; none of another field (guide, Message Structure)
-abbrev pub value_in : ℕ → Field → Option ℕ
-value_in number field = if field.tag.value / 8 == number then value_of field.body else None
-
 -- the content of a LEN field of this number; none of another field (guide, Message Structure)
 abbrev pub content_in : ℕ → Field → Option (List ℕ)
 content_in number field = if field.tag.value / 8 == number then content_of field.body else None
-
--- the value of the last VARINT field of this number, or none (guide, Last One Wins)
-abbrev pub last_value : ℕ → List Field → Option ℕ
-last_value number fields = last_or None (filter_map (value_in number) fields)
 
 -- the contents of the LEN fields of this number, in order (guide, Repeated Elements)
 abbrev pub contents : ℕ → List Field → List (List ℕ)

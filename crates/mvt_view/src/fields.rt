@@ -7,23 +7,13 @@ ghost use Rattle.mvt_document.specs.declared.run.Kind.TheVariants.{Message};
 ghost use Rattle.mvt_document.specs.Kinds.{in_layer_of_kind};
 ghost use Rattle.mvt_document.specs.Runs.{IsRunOf};
 ghost use Rattle.mvt_document.specs.Stands.{feature_of, field_of, layer_item_of, layer_of, tile_item_of};
-ghost use Rattle.mvt_view.specs.Found.{found_features, placed_from};
+ghost use Rattle.mvt_view.specs.Found.{found_features, found_from, placed_from, with_id};
 ghost use Rattle.mvt_view.specs.Pools.{PassesOver, entry_in};
 ghost use Rattle.mvt_view.specs.Seen.{found_feature_seen};
-ghost use Rattle.mvt_view.specs.Views.{content_in, contents, feature_in, last_value, layer_in, plain_fields, value_in};
+ghost use Rattle.mvt_view.specs.Views.{content_in, contents, feature_in, has_id, last_value, layer_in, plain_fields, value_in};
 
 use crate::found::FoundFeature;
-use mvt_document::{BodyRef, Feature, Field, Layer, LayerItem, Run, TileItem};
-
-/// The value of a VARINT field of this number.
-fn value_in(field: &Field, number: u64) -> Option<u64>
-    ensures { result ≡ value_in number (field_of field.now) }
-{
-    match field.body.get() {
-        BodyRef::Number(value) if field.tag.number() == number => Some(value.value),
-        _ => None,
-    }
-}
+use mvt_document::{BodyRef, Feature, Field, Layer, LayerItem, Run, TileItem, value_in};
 
 /// The content of a LEN field of this number.
 fn content_in(field: &Field, number: u64) -> Option<&[u8]>
@@ -33,17 +23,6 @@ fn content_in(field: &Field, number: u64) -> Option<&[u8]>
         BodyRef::Bytes { bytes, .. } if field.tag.number() == number => Some(bytes),
         _ => None,
     }
-}
-
-/// The value of the last VARINT field of this number.
-pub(crate) fn last_value(fields: &[Field], number: u64) -> Option<u64>
-    ensures { result ≡ last_value number (map field_of fields.now) }
-{
-    let mut last = None;
-    for field in fields {
-        last = value_in(field, number).or(last);
-    }
-    last
 }
 
 /// The items of a layer before the run of its features and those behind it.
@@ -115,6 +94,45 @@ pub(crate) fn first_feature(items: &[LayerItem], start: usize) -> Option<(usize,
         }
     }
     None
+}
+
+/// The first feature that has this id from this position on, where the first from there on has this ordinal.
+pub(crate) fn first_with_id(
+    items: &[LayerItem],
+    id: u64,
+    start: usize,
+    first: usize,
+) -> Option<FoundFeature<'_>>
+    requires there { start ≤ length items.now }
+    requires before { first ≤ start }
+    ensures found { let all = map layer_item_of items.now in let left = with_id id (found_from feature_in first start all) in
+        MatchOption result (left ≡ []) (λ found. left ≡ found_feature_seen found ∷ with_id id (found_from feature_in (found.ordinal + 1) (found.position + 1) all)) }
+    ensures within { IfSome result (λ found. (found.ordinal ≤ found.position) × (found.position < length items.now)) }
+{
+    let mut ordinal = first;
+    for position in start..items.len() {
+        if let LayerItem::Feature(feature) = &items[position] {
+            if has_id(feature, id) {
+                return Some(FoundFeature {
+                    ordinal,
+                    position,
+                    feature,
+                });
+            }
+            ordinal += 1;
+        }
+    }
+    None
+}
+
+#[inline(always)]
+fn has_id(feature: &Feature, id: u64) -> bool
+    ensures { result ≡ has_id id (feature_of feature.now) }
+{
+    match feature.fields.id() {
+        Some(found) => found == id,
+        None => false,
+    }
 }
 
 /// The feature of this ordinal, which is one of the run.

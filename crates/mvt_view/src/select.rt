@@ -5,17 +5,17 @@ ghost use Rattle.std.specs.Iterator.{AlwaysYields};
 ghost use Rattle.std.specs.Option.{option_copied, option_map_or};
 ghost use Rattle.std.specs.Result.{result_map_both};
 ghost use Rattle.std.specs.Str.{bytes_eq};
-ghost use Rattle.mvt_document.specs.Plain.{Feature, Layer};
+ghost use Rattle.mvt_document.specs.Plain.{Layer};
 ghost use Rattle.mvt_document.specs.Stands.{document_of};
 ghost use Rattle.mvt_view.specs.Found.{found_features, found_layers};
 ghost use Rattle.mvt_view.specs.Views.{has_id, is_named, layers, the_one};
-ghost use Rattle.mvt_view.specs.Seen.{feature_seen, found_feature_seen, found_layer_seen, layer_seen};
+ghost use Rattle.mvt_view.specs.Seen.{found_feature_seen, found_layer_seen, layer_seen};
 ghost use Rattle.mvt_view.specs.declared.select.LayerError.TheVariants.{AmbiguousLayer, NoLayer};
 ghost use Rattle.mvt_view.specs.declared.select.FeatureError.TheVariants.{AmbiguousFeature, NoFeature};
 
 use crate::found::{FoundFeature, FoundLayer};
 use crate::lists::LayerViews;
-use crate::views::{FeatureView, LayerView};
+use crate::views::LayerView;
 use mvt_document::Document;
 use thiserror::Error;
 
@@ -85,19 +85,10 @@ fn the_one_layer<'a, I: Iterator<Item = FoundLayer<'a>>>(
 pub fn feature_by_id<'a>(layer: &LayerView<'a>, id: u64) -> Result<FoundFeature<'a>, FeatureError>
     ensures { result_map_both found_feature_seen (λ error. error) result ≡ the_one NoFeature AmbiguousFeature (filter (λ found. has_id id found.1.1) (found_features (layer_seen layer.now).items)) }
 {
-    the_one_feature(layer.features().filter(|found| has_id(found.view(), id)))
-}
-
-/// The one feature that comes, or which error it is that there is none or that there are several.
-fn the_one_feature<'a, I: Iterator<Item = FoundFeature<'a>>>(
-    mut features: I,
-) -> Result<FoundFeature<'a>, FeatureError>
-    requires { I.can_next features }
-    ensures { (list : List (ℕ × (ℕ × Feature))) → AlwaysYields I.next_gives found_feature_seen features list → result_map_both found_feature_seen (λ error. error) result ≡ the_one NoFeature AmbiguousFeature list }
-{
-    match features.next() {
+    let mut features = layer.features();
+    match features.next_with_id(id) {
         None => Err(FeatureError::NoFeature),
-        Some(found) => match features.next() {
+        Some(found) => match features.next_with_id(id) {
             None => Ok(found),
             Some(_) => Err(FeatureError::AmbiguousFeature),
         },
@@ -117,10 +108,4 @@ fn is_text(text: Option<&[u8]>, name: &[u8]) -> bool
         Some(text) => text == name,
         None => false,
     }
-}
-
-fn has_id(feature: FeatureView, id: u64) -> bool
-    ensures { result ≡ has_id id (feature_seen feature.entry) }
-{
-    feature.id() == Some(id)
 }

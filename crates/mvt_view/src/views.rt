@@ -11,12 +11,12 @@ ghost use Rattle.mvt_view.specs.Seen.{feature_seen, found_entry_seen, found_feat
 ghost use Rattle.mvt_view.specs.Tags.{tag_pairs};
 
 use crate::entries::{Entries, entry, entry_count, first_equal, last_name};
-use crate::fields::{feature_in_run, last_value, last_value_in_layer};
+use crate::fields::{feature_in_run, last_value_in_layer};
 use crate::found::{FoundEntry, FoundFeature};
 use crate::lists::{Contents, FeatureViews};
 use crate::tag_pairs::{PoolSizes, TagPairs};
-use mvt_document::tags::{EXTENT, GEOMETRY, ID, KEYS, KIND, TAGS, VALUES, VERSION};
-use mvt_document::{Feature, Layer};
+use mvt_document::tags::{EXTENT, GEOMETRY, KEYS, KIND, TAGS, VALUES, VERSION};
+use mvt_document::{Feature, Layer, last_value};
 use mvt_numbers::Numbers;
 
 const DEFAULT_VERSION: u64 = 1;
@@ -194,7 +194,7 @@ impl<'a> FeatureView<'a> {
     pub fn id(self) -> Option<u64>
         ensures { result ≡ id_of (feature_seen self.entry) }
     {
-        last_value(self.feature.fields.as_slice(), ID)
+        self.feature.fields.id()
     }
 
     /// The last kind is the one that counts.

@@ -10,6 +10,7 @@ pub use Rattle.mvt_document.specs.Lending
 pub use Rattle.mvt_document.specs.Kept
 pub use Rattle.mvt_document.specs.LendingKept
 pub use Rattle.mvt_document.specs.Stands
+pub use Rattle.mvt_document.specs.Values
 pub use Rattle.mvt_document.specs.Settle
 pub use Rattle.mvt_read.specs.Fronts
 pub use Rattle.mvt_document.specs.declared.TheConstants

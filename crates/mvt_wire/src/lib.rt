@@ -8,9 +8,10 @@
 #![tactic(auto)]
 
 pub use mvt_document::{
-    Body, BodyRef, Document, Feature, Field, FieldBody, Items, Layer, LayerItem, LayerTag, MAX_FILE, MAX_GROUPS,
-    Measured, Message, Tag, TileItem, Varint, laws, least_width, message_size, put_number,
-    read_varint, size_beside_part, size_of_all, sum_within, tags,
+    Body, BodyRef, Document, Feature, Field, FieldBody, Fields, Items, Layer, LayerItem, MAX_FILE,
+    MAX_GROUPS, Measured, Message, MessageTag, Tag, TileItem, Varint, last_value, laws,
+    least_width, message_size, put_number, read_varint, size_beside_part, size_of_all, sum_within,
+    tags, value_in,
 };
 pub use mvt_read::{FieldRef, ReadError, field_at_front, read_document};
 pub use mvt_write::{WriteError, size, write_document, write_document_into};

@@ -27,7 +27,7 @@ impl Encode for Field {
 
 impl Encode for Feature {
     fn fill(&self, room: &mut [u8]) -> usize {
-        put_message(self.tag, self.width, self.fields.as_slice(), room)
+        put_message(self.tag.to_tag(), self.width, self.fields.as_slice(), room)
     }
 }
 

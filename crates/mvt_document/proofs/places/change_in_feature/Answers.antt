@@ -5,4 +5,4 @@ use Rattle.mvt_document.proofs.places.change_in_feature.Goals as goal
 
 pub returns : goal.returns
 returns g c =
-    rw c.in-Feature.is (c.change.new.arg2, record { shown = _; given = _; shows = (refl, refl); ended = _; passed = _; met = c.change.ensures; leaves = (refl, refl) }, ap Feature (same_feature _ _ refl refl refl))
+    rw c.in-Feature.is (_, c.change.ensures, ap Feature (same_feature _ _ refl refl refl))
