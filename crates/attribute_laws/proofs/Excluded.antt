@@ -8,8 +8,8 @@ use Rattle.mvt_document.specs.Plain.{Number, Field, Feature, LayerItem, Layer, D
 use Rattle.mvt_document.specs.Places.{in_feature}
 use Rattle.mvt_command.specs.Command.{FeatureChoice}
 use Rattle.mvt_numbers.specs.Numbers.{numbers}
-use Rattle.mvt_numbers.specs.Renumbering.{renumber, renumbered, with_number}
-use Rattle.mvt_numbers.proofs.Redone.{left_is_read}
+use Rattle.mvt_renumber.specs.Renumbering.{renumber, renumbered, with_number}
+use Rattle.mvt_renumber.proofs.Redone.{left_is_read}
 use Rattle.mvt_view.specs.Attributes.{attribute_at, attributes, is_pair, pairs_in, pairs_of}
 use Rattle.mvt_view.specs.Laws.{Names}
 use Rattle.mvt_view.specs.Views.{contents, features, key_field, keys, layers, plain_fields, value_field, values}

@@ -26,9 +26,9 @@ use Rattle.mvt_meaning.specs.Tagging.{attributed, excluded, is_key, is_packed_la
 use Rattle.mvt_geometry.specs.Checks.{is_in_range}
 use Rattle.mvt_meaning.specs.Meaning.{applied, refuse_if, can_shift, fields_of, layer_count, feature_count, has_key, has_pairs, is_drawn, is_id, items_of, refuse_first, repeats_key, is_kept, is_name, is_taken, within_limit, change_layer, change_layers, change_readable, change_feature, identified, named_items, new_content, new_feature, new_number, with_content, with_field_value, with_field_value, with_number, with_text, with_value, without_id}
 use Rattle.mvt_meaning.specs.declared.refusal.Refusal.TheVariants.{BadGeometry, BadPlace, BadTags, KeyTaken, NameTaken, NoKey, NoLayer, OutOfRange, RepeatedKey, TooLarge}
-use Rattle.mvt_numbers.specs.Renumbering.{renumber}
+use Rattle.mvt_renumber.specs.Renumbering.{renumber}
 use Rattle.mvt_document.proofs.EachItem.{all_joined}
-use Rattle.mvt_numbers.proofs.Redone.{stays_valid}
+use Rattle.mvt_renumber.proofs.Redone.{stays_valid}
 use Rattle.mvt_meaning.proofs.Elements.{all_filtered}
 use Rattle.mvt_meaning.proofs.Compaction.{new_ordinals_short}
 use Rattle.mvt_meaning.proofs.Found.{fields_of_nth, items_of_nth}

@@ -23,7 +23,7 @@ use Rattle.mvt_meaning.specs.Tagging.{attributed, excluded, is_tags, removals, r
 use Rattle.mvt_meaning.specs.Meaning.{applied, refuse_if, can_shift, layer_count, feature_count, has_key, has_pairs, is_drawn, items_of, refuse_first, repeats_key, within_limit, change_layer, change_layers, change_readable, change_feature, is_id, is_kept, is_taken, without_id, identified, named_items, new_feature}
 use Rattle.mvt_meaning.specs.Weights.{weigh}
 use Rattle.mvt_meaning.specs.declared.refusal.Refusal.TheVariants.{BadGeometry, BadPlace, BadTags, KeyTaken, NameTaken, NoKey, NoLayer, OutOfRange, RepeatedKey, TooLarge}
-use Rattle.mvt_numbers.proofs.Redone.{lower_no_longer, no_longer}
+use Rattle.mvt_renumber.proofs.Redone.{lower_no_longer, no_longer}
 use Rattle.command_laws.proofs.NewOrdinals.{new_ordinals_lower}
 use Rattle.mvt_meaning.proofs.Removals.{none_new}
 use Rattle.command_laws.specs.SizeLaws.{CommandFits, NeverLonger, may_lengthen}

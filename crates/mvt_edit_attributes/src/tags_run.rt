@@ -8,7 +8,7 @@ ghost use Rattle.mvt_document.specs.Opens.{IsField};
 ghost use Rattle.mvt_document.specs.Stands.{field_of};
 ghost use Rattle.mvt_document.specs.Wire.{field_bytes, shortest};
 ghost use Rattle.mvt_change.specs.FileSizes.{IsFileSize};
-ghost use Rattle.mvt_numbers.specs.Fates.{changes, fate_seen};
+ghost use Rattle.mvt_renumber.specs.Fates.{changes, fate_seen};
 ghost use Rattle.mvt_view.specs.Views.{content_in};
 ghost use Rattle.mvt_meaning.specs.Fields.{new_content};
 ghost use Rattle.mvt_meaning.specs.Tagging.{is_packed_last, is_tags, with_more_content};
@@ -22,7 +22,7 @@ use mvt_document::{
     Body, Field, Items, MAX_FILE, Tag, Varint, size_beside_part, size_of_all, sum_within,
 };
 use mvt_edit_steps::{Fate, Run, Spot, is_tags};
-use mvt_numbers::renumber_field;
+use mvt_renumber::renumber_field;
 use std::alloc::{AllocError, Global};
 
 const TAGS_TAG: u64 = 8 * TAGS + LEN;

@@ -8,7 +8,7 @@ ghost use Rattle.mvt_document.specs.Signed.{zigzag};
 ghost use Rattle.mvt_document.specs.Stands.{document_of, feature_of, field_of};
 ghost use Rattle.mvt_document.specs.Wire.{field_bytes};
 ghost use Rattle.mvt_geometry.specs.Checks.{is_way};
-ghost use Rattle.mvt_numbers.specs.Renumbering.{renumber};
+ghost use Rattle.mvt_renumber.specs.Renumbering.{renumber};
 ghost use Rattle.mvt_change.specs.Changes.{FeatureStep};
 ghost use Rattle.mvt_change.specs.ChangeStands.{step_of};
 ghost use Rattle.mvt_change.specs.FileSizes.{IsFileSize};

@@ -7,10 +7,10 @@ use Rattle.std.proofs.lemmas.Simd.{map-map}
 use Rattle.std.specs.List.{flat_map, list_all}
 use Rattle.std.specs.Option.{option_map_or, unwrap_or}
 use Rattle.mvt_document.specs.Plain.{Number, Field, Feature, Layer, LayerItem}
-use Rattle.mvt_numbers.specs.Laws.{NoneIsNew}
+use Rattle.mvt_renumber.specs.Laws.{NoneIsNew}
 use Rattle.mvt_numbers.specs.Numbers.{Placed, numbers}
-use Rattle.mvt_numbers.specs.Renumbering.{field_numbers}
-use Rattle.mvt_numbers.proofs.Reread.{read_of_fields}
+use Rattle.mvt_renumber.specs.Renumbering.{field_numbers}
+use Rattle.mvt_renumber.proofs.Reread.{read_of_fields}
 use Rattle.mvt_view.specs.Attributes.{is_ordinal, is_pair}
 use Rattle.mvt_view.specs.Found.{found_features}
 use Rattle.mvt_view.specs.Views.{contents, key_field, keys, plain_fields, value_field, values}

@@ -9,7 +9,7 @@ use Rattle.mvt_meaning.specs.Compaction.{is_entry}
 use Rattle.mvt_meaning.specs.Tagging.{pairs_among}
 use Rattle.mvt_edit_steps.specs.Decided.{decided_by, field_fates}
 use Rattle.mvt_edit_steps.specs.Fates.{Splice, goes_if, splices_of}
-use Rattle.mvt_numbers.specs.declared.fate.Fate.{Fate}
+use Rattle.mvt_renumber.specs.declared.fate.Fate.{Fate}
 
 -- ---- marks
 

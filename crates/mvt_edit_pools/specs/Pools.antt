@@ -8,7 +8,7 @@ use Rattle.mvt_meaning.specs.Compaction.{is_any, is_entry, is_key_used, is_value
 use Rattle.mvt_edit_steps.specs.Decided.{field_fates}
 use Rattle.mvt_edit_steps.specs.EachFeature.{layer_steps}
 use Rattle.mvt_edit_pools.specs.Marks.{entry_steps}
-use Rattle.mvt_numbers.specs.declared.fate.Fate.{Fate}
+use Rattle.mvt_renumber.specs.declared.fate.Fate.{Fate}
 use Rattle.mvt_edit_pools.specs.declared.compact.Pools.{Pools}
 use Rattle.mvt_edit_pools.specs.declared.compact.Pools.TheVariants.{Keys, Values, Both}
 

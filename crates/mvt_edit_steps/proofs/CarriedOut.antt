@@ -5,10 +5,10 @@ use Rattle.std.proofs.lemmas.List.{append-nil, take_at, drop_at, drop-drop}
 use Rattle.std.specs.List.{flat_map}
 use Rattle.mvt_document.specs.Splicing.{part, splice}
 use Rattle.mvt_document.specs.Lists.{HasPart}
-use Rattle.mvt_numbers.specs.Fates.{changes, left_of_fate}
+use Rattle.mvt_renumber.specs.Fates.{changes, left_of_fate}
 use Rattle.mvt_edit_steps.specs.Fates.{Splice, and_splices, splices_from, splices_of}
-use Rattle.mvt_numbers.specs.declared.fate.Fate.{Fate}
-use Rattle.mvt_numbers.specs.declared.fate.Fate.TheVariants.{Stays, Goes, Becomes}
+use Rattle.mvt_renumber.specs.declared.fate.Fate.{Fate}
+use Rattle.mvt_renumber.specs.declared.fate.Fate.TheVariants.{Stays, Goes, Becomes}
 
 -- ---- splices, one after the other
 

@@ -15,7 +15,7 @@ use Rattle.mvt_view.specs.Found.{found_features, with_position}
 use Rattle.mvt_view.specs.Views.{feature_in}
 use Rattle.mvt_meaning.proofs.Between.{get_between}
 use Rattle.mvt_edit_steps.specs.Fates.{splices_of}
-use Rattle.mvt_numbers.specs.declared.fate.Fate.{Fate}
+use Rattle.mvt_renumber.specs.declared.fate.Fate.{Fate}
 use Rattle.mvt_edit_steps.proofs.CarriedOut.{AreThere, put_all, spliced_all, taken_all}
 use Rattle.mvt_edit_steps.proofs.Carrying.{carried, in_feature_at, in_the_feature, in_the_layer, makes_alike}
 use Rattle.mvt_edit_steps.proofs.Leading.{both_lead}

@@ -7,9 +7,9 @@ use Rattle.mvt_document.specs.Plain as plain
 use Rattle.mvt_document.specs.Stands.{field_of}
 use Rattle.mvt_document.specs.Wire.{field_bytes}
 use Rattle.mvt_document.specs.declared.document.Field.{Field}
-use Rattle.mvt_numbers.specs.Fates.{fate_seen, field_fate}
-use Rattle.mvt_numbers.specs.Renumbering.{field_numbers, renumber, renumbered_field}
-use Rattle.mvt_numbers.specs.declared.fate.Fate.{Fate}
+use Rattle.mvt_renumber.specs.Fates.{fate_seen, field_fate}
+use Rattle.mvt_renumber.specs.Renumbering.{field_numbers, renumber, renumbered_field}
+use Rattle.mvt_renumber.specs.declared.fate.Fate.{Fate}
 use Rattle.mvt_change.specs.FileSizes.{IsFileSize}
 use Rattle.mvt_edit_steps.specs.Decided.{IsSizeBeside, field_fates}
 

@@ -5,7 +5,7 @@ use Rattle.std.proofs.lemmas.List.{length-map}
 use Rattle.std.specs.List.{flat_map}
 use Rattle.mvt_document.specs.Plain.{Field, Feature, OfFeature, Layer, OfLayer, Document}
 use Rattle.mvt_document.specs.Wire.{field_bytes}
-use Rattle.mvt_numbers.specs.Renumbering.{renumber}
+use Rattle.mvt_renumber.specs.Renumbering.{renumber}
 use Rattle.mvt_change.specs.Changes.{Change, Fits, go, turn, weight}
 use Rattle.mvt_meaning.specs.Decided.{as_before, as_renumbered, renumbered_fields}
 use Rattle.mvt_meaning.specs.Meaning.{change_feature}

@@ -15,13 +15,13 @@ use Rattle.mvt_document.specs.declared.Body.TheVariants as body
 use Rattle.mvt_document.specs.declared.Varint.{Varint}
 use Rattle.mvt_document.specs.declared.document.Field.{Field}
 use Rattle.mvt_document.proofs.EachItem.{all_dropped, all_taken}
-use Rattle.mvt_numbers.specs.Fates.{changes, fate_left, field_fate, left_of_fate}
-use Rattle.mvt_numbers.specs.declared.fate.Fate.{Fate}
-use Rattle.mvt_numbers.specs.declared.fate.Fate.TheVariants.{Stays}
-use Rattle.mvt_numbers.specs.Laws.{AreShort, keeping}
-use Rattle.mvt_numbers.specs.Renumbering.{decided, field_numbers, is_changed, renumber, renumbered, renumbered_field, some_changed, with_left}
-use Rattle.mvt_numbers.proofs.Decisions.{renumbered-none, renumbered_more, with_number-same}
-use Rattle.mvt_numbers.proofs.Redone.{kept_stays, stays_valid}
+use Rattle.mvt_renumber.specs.Fates.{changes, fate_left, field_fate, left_of_fate}
+use Rattle.mvt_renumber.specs.declared.fate.Fate.{Fate}
+use Rattle.mvt_renumber.specs.declared.fate.Fate.TheVariants.{Stays}
+use Rattle.mvt_renumber.specs.Laws.{AreShort, keeping}
+use Rattle.mvt_renumber.specs.Renumbering.{decided, field_numbers, is_changed, renumber, renumbered, renumbered_field, some_changed, with_left}
+use Rattle.mvt_renumber.proofs.Decisions.{renumbered-none, renumbered_more, with_number-same}
+use Rattle.mvt_renumber.proofs.Redone.{kept_stays, stays_valid}
 use Rattle.mvt_meaning.specs.Decided.{as_before, as_renumbered, decided_fields, is_renumbered, renumbered_fields}
 use Rattle.mvt_edit_steps.specs.Decided.{field_fates}
 use Rattle.mvt_edit_steps.specs.Fates.{splices_of}

@@ -8,12 +8,12 @@ use Rattle.std.specs.Option.{IfSome}
 use Rattle.mvt_change.specs.Changes as plain
 use Rattle.mvt_change.specs.ChangeStands.{step_of}
 use Rattle.mvt_change.specs.declared.change.Step.{Step}
-use Rattle.mvt_numbers.specs.Fates.{changes}
+use Rattle.mvt_renumber.specs.Fates.{changes}
 use Rattle.mvt_edit_steps.specs.Fates.{Splice, and_last, and_splices, splice_of, splices_from, steps_then}
 use Rattle.mvt_edit_steps.specs.declared.fates.Run.{Run}
 use Rattle.mvt_edit_steps.specs.declared.fates.Walk.{Walk}
-use Rattle.mvt_numbers.specs.declared.fate.Fate.{Fate}
-use Rattle.mvt_numbers.specs.declared.fate.Fate.TheVariants.{Stays, Goes, Becomes}
+use Rattle.mvt_renumber.specs.declared.fate.Fate.{Fate}
+use Rattle.mvt_renumber.specs.declared.fate.Fate.TheVariants.{Stays, Goes, Becomes}
 
 -- ---- a run that is whole
 

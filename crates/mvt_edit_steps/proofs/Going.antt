@@ -2,9 +2,9 @@
 use Rattle.std.proofs.Common.{◌≡◌, ◌≤◌, Bool, true, false, not, List, [], ◌∷◌, length, map, filter, suc, refl, ap, ◌∙◌, subst, inl, inr}
 use Rattle.std.proofs.lemmas.Bool.{cases_Bool}
 use Rattle.std.specs.List.{AllZip, flat_map}
-use Rattle.mvt_numbers.specs.Fates.{changes, fate_seen, left_of_fate}
+use Rattle.mvt_renumber.specs.Fates.{changes, fate_seen, left_of_fate}
 use Rattle.mvt_edit_steps.specs.Fates.{Splice, goes_if, splices_of}
-use Rattle.mvt_numbers.specs.declared.fate.Fate.{Fate}
+use Rattle.mvt_renumber.specs.declared.fate.Fate.{Fate}
 use Rattle.mvt_edit_steps.proofs.CarriedOut.{spliced_all, taken_all, put_all, AreThere, carries_out, new_in}
 use Rattle.mvt_edit_steps.proofs.Planned.{count_planned, splices_planned}
 pub use Rattle.mvt_edit_steps.specs.Fates.{seen}

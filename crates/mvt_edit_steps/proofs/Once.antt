@@ -3,8 +3,8 @@ use Rattle.std.proofs.Common.{◌≡◌, ℕ, ◌+◌, ◌<◌, ◌≤◌, Bool,
 use Rattle.std.proofs.lemmas.Bool.{cases_Bool}
 use Rattle.std.proofs.lemmas.List.{append-nil, map-append}
 use Rattle.std.specs.List.{AllZip, flat_map, list_any}
-use Rattle.mvt_numbers.specs.Fates.{changes, fate_seen, left_of_fate}
-use Rattle.mvt_numbers.specs.declared.fate.Fate.{Fate}
+use Rattle.mvt_renumber.specs.Fates.{changes, fate_seen, left_of_fate}
+use Rattle.mvt_renumber.specs.declared.fate.Fate.{Fate}
 use Rattle.mvt_meaning.specs.Ordinals.{put_once}
 use Rattle.mvt_edit_steps.specs.Fates.{Splice, and_splices, seen, splices_from, splices_of}
 use Rattle.mvt_edit_steps.specs.Once.{at_end, left_once, once_fate, once_fates, once_splices}

@@ -3,10 +3,10 @@ use Rattle.std.proofs.Common.{◌≡◌, ℕ, ◌+◌, ◌==◌, suc, List, [], 
 use Rattle.std.proofs.lemmas.Bool.{cases_Bool}
 use Rattle.std.proofs.lemmas.List.{length-map, map-append}
 use Rattle.std.specs.List.{AllZip}
-use Rattle.mvt_numbers.specs.Fates.{changes, fate_seen}
+use Rattle.mvt_renumber.specs.Fates.{changes, fate_seen}
 use Rattle.mvt_edit_steps.specs.Fates.{Splice, and_splices, seen, splices_from, splices_of}
-use Rattle.mvt_numbers.specs.declared.fate.Fate.{Fate}
-use Rattle.mvt_numbers.specs.declared.fate.Fate.TheVariants.{Stays, Goes, Becomes}
+use Rattle.mvt_renumber.specs.declared.fate.Fate.{Fate}
+use Rattle.mvt_renumber.specs.declared.fate.Fate.TheVariants.{Stays, Goes, Becomes}
 
 module _ {T A : Type 0} (view : T → A) where
   seen_and : (s : Splice T) (splices : List (Splice T)) → map (seen view) (and_splices s splices) ≡ and_splices (seen view s) (map (seen view) splices)

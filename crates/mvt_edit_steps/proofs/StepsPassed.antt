@@ -4,8 +4,8 @@ use Rattle.std.proofs.lemmas.List.{append-nil}
 use Rattle.std.proofs.lemmas.Bool.{eq-eqb}
 use Rattle.std.specs.List.{flat_map}
 use Rattle.mvt_document.specs.Plain.{Number, Field}
-use Rattle.mvt_numbers.specs.Laws.{NoneIsNew}
-use Rattle.mvt_numbers.specs.Renumbering.{field_numbers, some_changed}
+use Rattle.mvt_renumber.specs.Laws.{NoneIsNew}
+use Rattle.mvt_renumber.specs.Renumbering.{field_numbers, some_changed}
 use Rattle.mvt_edit_steps.specs.Decided.{field_fates, is_any_gone}
 use Rattle.mvt_edit_steps.specs.Fates.{splices_from}
 

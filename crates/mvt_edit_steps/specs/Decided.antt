@@ -7,9 +7,9 @@ use Rattle.mvt_document.specs.Plain.{Field}
 use Rattle.mvt_change.specs.FileSizes.{IsFileSize}
 use Rattle.mvt_meaning.specs.Ordinals.{count}
 use Rattle.mvt_meaning.specs.Tagging.{revalued, without_pairs}
-use Rattle.mvt_numbers.specs.Renumbering.{field_numbers}
-use Rattle.mvt_numbers.specs.Fates.{field_fate}
-use Rattle.mvt_numbers.specs.declared.fate.Fate.{Fate}
+use Rattle.mvt_renumber.specs.Renumbering.{field_numbers}
+use Rattle.mvt_renumber.specs.Fates.{field_fate}
+use Rattle.mvt_renumber.specs.declared.fate.Fate.{Fate}
 
 -- what becomes of each field of a message, by a decision for each number in the fields of this number, in order
 abbrev pub field_fates : ℕ → List (Option ℕ) → List Field → List (Fate Field)

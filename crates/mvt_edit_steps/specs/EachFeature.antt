@@ -5,7 +5,7 @@ use Rattle.mvt_document.specs.Plain.{Field, Feature, LayerItem, Layer}
 use Rattle.mvt_change.specs.Changes.{Change, FeatureStep}
 use Rattle.mvt_view.specs.Found.{found_features}
 use Rattle.mvt_edit_steps.specs.Fates.{splices_of}
-use Rattle.mvt_numbers.specs.declared.fate.Fate.{Fate}
+use Rattle.mvt_renumber.specs.declared.fate.Fate.{Fate}
 
 -- the steps of what becomes of the fields of a feature, which is found with its position, in the layer at that position
 abbrev pub feature_steps : (List Field → List (Fate Field)) → ℕ → ℕ × (ℕ × Feature) → Change

@@ -4,9 +4,9 @@ use Rattle.mvt_change.specs.Changes as plain
 use Rattle.mvt_change.specs.Changes.{Place, OfTheTile, OfTheLayer, OfTheFeature, Step, TileStep, LayerStep, FeatureStep}
 use Rattle.mvt_edit_steps.specs.declared.fates.Run.{Run}
 use Rattle.mvt_edit_steps.specs.declared.fates.Walk.{Walk}
-use Rattle.mvt_numbers.specs.Fates.{changes}
-use Rattle.mvt_numbers.specs.declared.fate.Fate.{Fate}
-use Rattle.mvt_numbers.specs.declared.fate.Fate.TheVariants.{Stays, Goes, Becomes}
+use Rattle.mvt_renumber.specs.Fates.{changes}
+use Rattle.mvt_renumber.specs.declared.fate.Fate.{Fate}
+use Rattle.mvt_renumber.specs.declared.fate.Fate.TheVariants.{Stays, Goes, Becomes}
 
 -- so many items from an index of a list are taken out, and these come there
 pub record Splice (A : Type 0) : Type 0 where

@@ -1,8 +1,8 @@
 -- A new item in place of the first that passes: what becomes of each item, and the splices that carry it out.
 use Rattle.std.specs.Prelude.{ℕ, Bool, true, false, List, [], ◌∷◌, ◌++◌, Option, Some, None, if◌then◌else◌}
 use Rattle.mvt_edit_steps.specs.Fates.{Splice, splices_of}
-use Rattle.mvt_numbers.specs.declared.fate.Fate.{Fate}
-use Rattle.mvt_numbers.specs.declared.fate.Fate.TheVariants.{Stays, Goes, Becomes}
+use Rattle.mvt_renumber.specs.declared.fate.Fate.{Fate}
+use Rattle.mvt_renumber.specs.declared.fate.Fate.TheVariants.{Stays, Goes, Becomes}
 
 -- an item that is picked becomes the new one, where that is left, and else goes
 abbrev pub once_fate : {A : Type 0} → Bool → Option A → Fate A

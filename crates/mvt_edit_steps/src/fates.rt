@@ -8,8 +8,8 @@ ghost use Rattle.std.specs.Option.{option_map_or};
 ghost use Rattle.mvt_document.specs.Plain as document;
 ghost use Rattle.mvt_document.specs.Stands.{field_of, layer_item_of};
 ghost use Rattle.mvt_document.specs.Wire.{field_bytes};
-ghost use Rattle.mvt_numbers.specs.Fates.{changes, left_of_fate};
-ghost use Rattle.mvt_numbers.specs.Renumbering.{renumber};
+ghost use Rattle.mvt_renumber.specs.Fates.{changes, left_of_fate};
+ghost use Rattle.mvt_renumber.specs.Renumbering.{renumber};
 ghost use Rattle.mvt_change.specs.Changes as plain;
 ghost use Rattle.mvt_change.specs.ChangeStands.{step_of};
 ghost use Rattle.mvt_edit_steps.specs.Decided.{IsSizeBeside, field_fates};
@@ -18,7 +18,7 @@ ghost use Rattle.mvt_edit_steps.specs.Fates.{IsCarriedOut, Splice, Tells, and_la
 
 use mvt_change::Step;
 use mvt_document::{Field, Items, LayerItem, MAX_FILE, Measured, sum_within};
-use mvt_numbers::{Fate, renumber_field};
+use mvt_renumber::{Fate, renumber_field};
 use std::alloc::{AllocError, Global};
 
 /// An item goes where it is picked, and else stays.

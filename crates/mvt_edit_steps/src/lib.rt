@@ -34,7 +34,7 @@ mod steps;
 
 pub use decide::{decide_or_refuse, is_tags, named_keys};
 pub use fates::{Run, carry_out, goes_if, put_once, take_out};
-pub use mvt_numbers::Fate;
+pub use mvt_renumber::Fate;
 pub use numbered::number_put;
 pub use pairs::{decide_pairs, renumber_feature};
 pub use put_last::Spot;

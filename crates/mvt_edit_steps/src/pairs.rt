@@ -7,7 +7,7 @@ ghost use Rattle.std.specs.List.{flat_map};
 ghost use Rattle.std.specs.Result.{IsErrOf};
 ghost use Rattle.mvt_document.specs.Wire.{field_bytes};
 ghost use Rattle.mvt_numbers.specs.Numbers.{numbers};
-ghost use Rattle.mvt_numbers.specs.Renumbering.{renumber};
+ghost use Rattle.mvt_renumber.specs.Renumbering.{renumber};
 ghost use Rattle.mvt_change.specs.ChangeStands.{step_of};
 ghost use Rattle.mvt_meaning.specs.declared.refusal.Refusal.TheVariants.{BadTags, NoMemory};
 ghost use Rattle.mvt_view.specs.Tags.{plain_pairs, tag_pairs};

@@ -11,7 +11,7 @@ ghost use Rattle.mvt_change.specs.FileSizes.{IsFileSize};
 ghost use Rattle.mvt_command.specs.Command.{RenameKey};
 ghost use Rattle.mvt_command.specs.CommandStands.{layer_choice_of};
 ghost use Rattle.mvt_meaning.specs.Tagging.{is_key, renamed_keys};
-ghost use Rattle.mvt_numbers.specs.Fates.{fate_seen};
+ghost use Rattle.mvt_renumber.specs.Fates.{fate_seen};
 ghost use Rattle.mvt_edit_steps.specs.Fates.{splices_of};
 ghost use Rattle.mvt_edit_steps.specs.Prepared.{Prepares};
 ghost use Rattle.mvt_edit_tags.specs.KeyFates.{TellsOfKeys, key_fate};

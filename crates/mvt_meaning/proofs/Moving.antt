@@ -6,7 +6,7 @@ use Rattle.std.specs.List.{AllByRecursion}
 use Rattle.std.specs.Option.{option_and_then, option_map_or, unwrap_or}
 use Rattle.mvt_document.specs.Plain.{Field, Feature}
 use Rattle.mvt_document.specs.Signed.{zigzag}
-use Rattle.mvt_numbers.specs.Laws.{AreShort}
+use Rattle.mvt_renumber.specs.Laws.{AreShort}
 use Rattle.mvt_geometry.specs.Checks.{is_way}
 use Rattle.mvt_geometry.specs.Found.{geometry_in}
 use Rattle.mvt_geometry.specs.Integers.{integers}

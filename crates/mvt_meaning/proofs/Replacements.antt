@@ -4,7 +4,7 @@ use Rattle.std.proofs.lemmas.Bool.{and_parts, cond_both}
 use Rattle.std.specs.List.{list_all}
 use Rattle.std.specs.Option.{option_map_or}
 use Rattle.mvt_document.specs.Plain.{Field, LayerItem}
-use Rattle.mvt_numbers.specs.Laws.{AreShort}
+use Rattle.mvt_renumber.specs.Laws.{AreShort}
 use Rattle.mvt_numbers.specs.Numbers.{numbers}
 use Rattle.mvt_view.specs.Attributes.{is_ordinal, is_pair}
 use Rattle.mvt_view.specs.Views.{contents, key_field, plain_fields, value_field}

@@ -4,7 +4,7 @@ use Rattle.std.proofs.lemmas.Simd.{map-map}
 use Rattle.mvt_document.specs.Stands.{field_of}
 use Rattle.mvt_document.specs.declared.document.Field.{Field}
 use Rattle.mvt_change.specs.ChangeStands.{step_of}
-use Rattle.mvt_numbers.proofs.FieldFate.{field_fate-seen}
+use Rattle.mvt_renumber.proofs.FieldFate.{field_fate-seen}
 use Rattle.mvt_edit_steps.specs.Fates.{Splice, seen, splices_of}
 use Rattle.mvt_edit_steps.proofs.Decided.{Decided, Sized, all_decided, all_sized, decided_more, sized_more, sized_none}
 use Rattle.mvt_edit_steps.proofs.Following.{all_steps, goes_on}

@@ -2,7 +2,7 @@ use Rattle.std.proofs.Common.{◌≤◌, ◌++◌, [], filter, length, map, refl
 use Rattle.std.proofs.lemmas.Result.{IfOk-weaker}
 use Rattle.std.proofs.lemmas.List.{take_all}
 use Rattle.mvt_change.specs.ChangeStands.{step_of}
-use Rattle.mvt_numbers.specs.Fates.{changes}
+use Rattle.mvt_renumber.specs.Fates.{changes}
 use Rattle.mvt_edit_steps.specs.Fates.{goes_if, splices_of}
 use Rattle.mvt_edit_steps.proofs.Following.{all_steps, goes_on}
 use Rattle.mvt_edit_steps.proofs.Marked.{marked_more}
