@@ -11,8 +11,8 @@ use Rattle.mvt_renumber.specs.Laws.{keeping}
 use Rattle.mvt_renumber.specs.Renumbering.{field_numbers, renumber}
 use Rattle.mvt_renumber.proofs.Redone.{kept_stays}
 use Rattle.mvt_renumber.proofs.Reread.{read_of_fields}
-use Rattle.mvt_view.specs.Attributes.{is_ordinal, is_pair}
-use Rattle.mvt_view.specs.Views.{content_in, contents, features_in, key_field, plain_fields, value_field}
+use Rattle.mvt_messages.specs.Attributes.{is_ordinal, is_pair}
+use Rattle.mvt_messages.specs.Views.{content_in, contents, features_in, key_field, plain_fields, value_field}
 use Rattle.mvt_meaning.specs.Compaction.{compacted, is_any, is_entry, is_key_used, is_value_used, new_ordinal, repointed, staying, with_entries, with_new_ordinals}
 use Rattle.mvt_meaning.specs.Tagging.{pairs_among}
 use Rattle.attribute_laws.proofs.Excluded.{some_of}

@@ -7,7 +7,7 @@ use Rattle.mvt_document.specs.Places.{in_feature}
 use Rattle.mvt_renumber.specs.Laws.{AreShort}
 use Rattle.mvt_renumber.specs.Renumbering.{renumber, with_number}
 use Rattle.mvt_renumber.proofs.Decisions.{with_number-same}
-use Rattle.mvt_view.specs.Views.{contents, features_in, key_field, plain_fields, value_field}
+use Rattle.mvt_messages.specs.Views.{contents, features_in, key_field, plain_fields, value_field}
 use Rattle.mvt_meaning.specs.Compaction.{all_pairs, compacted, is_any, is_entry, is_key_used, is_value_used, new_ordinal, repointed, staying, with_entries, with_new_ordinals}
 use Rattle.mvt_meaning.specs.Tagging.{pairs_among}
 use Rattle.mvt_meaning.proofs.Compaction.{new_ordinals_short}

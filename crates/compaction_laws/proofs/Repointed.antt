@@ -11,8 +11,8 @@ use Rattle.mvt_renumber.specs.Laws.{AreShort}
 use Rattle.mvt_numbers.specs.Numbers.{numbers}
 use Rattle.mvt_renumber.specs.Renumbering.{renumber, renumbered, with_number}
 use Rattle.mvt_renumber.proofs.Redone.{left_is_read}
-use Rattle.mvt_view.specs.Attributes.{is_ordinal, is_pair, pairs_in}
-use Rattle.mvt_view.specs.Views.{content_in, contents, feature_in, features_in, key_field, plain_fields, value_field}
+use Rattle.mvt_messages.specs.Attributes.{is_ordinal, is_pair, pairs_in}
+use Rattle.mvt_messages.specs.Views.{content_in, contents, feature_in, features_in, key_field, plain_fields, value_field}
 use Rattle.mvt_meaning.specs.Compaction.{is_entry, new_ordinal, repointed, staying, with_entries, with_new_ordinals}
 use Rattle.mvt_meaning.specs.Tagging.{pairs_among}
 use Rattle.mvt_meaning.proofs.Compaction.{new_ordinal_low, new_ordinals_short}

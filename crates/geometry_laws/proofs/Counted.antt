@@ -22,7 +22,7 @@ use Rattle.mvt_renumber.specs.Laws.{read_numbers}
 use Rattle.mvt_renumber.specs.Renumbering.{field_numbers}
 use Rattle.mvt_renumber.proofs.Redone.{packed-read}
 use Rattle.mvt_renumber.proofs.Reread.{read_of_fields}
-use Rattle.mvt_view.specs.Views.{features, features_in, layers}
+use Rattle.mvt_messages.specs.Views.{features, features_in, layers}
 use Rattle.mvt_meaning.specs.Weights.{weigh}
 use Rattle.command_laws.proofs.ReadValues.{numbers_of_values}
 use Rattle.geometry_laws.specs.Laws.{NoCoordinateIsFar}

@@ -17,9 +17,9 @@ use Rattle.mvt_renumber.specs.Laws.{read_numbers}
 use Rattle.mvt_numbers.specs.Numbers.{numbers}
 use Rattle.mvt_renumber.proofs.Decisions.{packed-spellings}
 use Rattle.mvt_renumber.proofs.Reread.{both_found, field_read, fields_read, found_in, read_is}
-use Rattle.mvt_view.specs.Attributes.{values_in}
+use Rattle.mvt_messages.specs.Attributes.{values_in}
 use Rattle.mvt_view.specs.FeatureGeometry.{HasFeatureGeometry}
-use Rattle.mvt_view.specs.Views.{kind_of, value_in}
+use Rattle.mvt_messages.specs.Views.{kind_of, value_in}
 use Rattle.mvt_meaning.specs.Fields.{new_content, new_number, with_field_value}
 use Rattle.mvt_meaning.specs.Geometries.{is_geometry_field, is_kind, with_geometry, with_kind}
 use Rattle.mvt_meaning.specs.Meaning.{◌>>=◌, change_feature, refuse_if, within_limit}

@@ -21,9 +21,9 @@ use Rattle.mvt_renumber.specs.Renumbering.{field_numbers, renumber, renumbered}
 use Rattle.mvt_renumber.proofs.Decisions.{with_number-same}
 use Rattle.mvt_renumber.proofs.Redone.{left_is_read}
 use Rattle.mvt_renumber.proofs.Reread.{read_of_fields}
-use Rattle.mvt_view.specs.Attributes.{values_in}
+use Rattle.mvt_messages.specs.Attributes.{values_in}
 use Rattle.mvt_view.specs.FeatureGeometry.{HasFeatureGeometry}
-use Rattle.mvt_view.specs.Views.{kind_of}
+use Rattle.mvt_messages.specs.Views.{kind_of}
 use Rattle.mvt_meaning.specs.Geometries.{can_move, can_move_integers, further, geometry_among, integers_among, moved_integers, moves, shifted}
 use Rattle.mvt_command.specs.Command.{FeatureChoice, LayerChoice, Shift}
 use Rattle.mvt_meaning.specs.Meaning.{◌>>=◌, applied, can_shift, change_feature, is_drawn, refuse_if, within_limit}

@@ -9,9 +9,9 @@ use Rattle.mvt_document.specs.Plain.{Feature, Field, Layer, LayerItem}
 use Rattle.mvt_document.specs.Splicing.{part}
 use Rattle.mvt_document.specs.Wire.{field_bytes, layer_item_bytes}
 use Rattle.mvt_numbers.specs.Numbers.{numbers}
-use Rattle.mvt_view.specs.Tags.{plain_pairs, tag_pairs}
-use Rattle.mvt_view.specs.Views.{keys, values}
-use Rattle.mvt_view.proofs.Pairing.{tags_are_pairs}
+use Rattle.mvt_messages.specs.Tags.{plain_pairs, tag_pairs}
+use Rattle.mvt_messages.specs.Views.{keys, values}
+use Rattle.mvt_layers.proofs.Pairing.{tags_are_pairs}
 use Rattle.mvt_meaning.specs.Ordinals.{count}
 use Rattle.mvt_meaning.specs.Tagging.{is_key_at, missing_entries, new_pair, pairs_among, pairs_with, replacements, revalued, with_attribute}
 use Rattle.mvt_meaning.specs.Weights.{set_puts, set_takes, weigh}

@@ -13,7 +13,7 @@ use Rattle.mvt_renumber.specs.Renumbering.{field_numbers, is_changed}
 use Rattle.mvt_renumber.specs.declared.fate.Fate.{Fate}
 use Rattle.mvt_renumber.specs.declared.fate.Fate.TheVariants.{Stays, Goes, Becomes}
 use Rattle.mvt_renumber.proofs.Reread.{read_of_fields}
-use Rattle.mvt_view.specs.Attributes.{if_pairs, in_pairs, is_pair, pairs_in}
+use Rattle.mvt_messages.specs.Attributes.{if_pairs, in_pairs, is_pair, pairs_in}
 use Rattle.mvt_edit_steps.specs.Decided.{field_fates}
 use Rattle.mvt_edit_steps.specs.Fates.{splices_from}
 use Rattle.mvt_edit_steps.proofs.FieldsLeft.{changes_one}

@@ -11,7 +11,7 @@ use Rattle.mvt_document.specs.Plain as plain
 use Rattle.mvt_document.specs.Stands.{field_of}
 use Rattle.mvt_document.specs.Wire.{field_bytes}
 use Rattle.mvt_document.specs.declared.document.Field.{Field}
-use Rattle.mvt_view.specs.Views.{content_in}
+use Rattle.mvt_messages.specs.Views.{content_in}
 use Rattle.mvt_meaning.specs.Fields.{new_content}
 use Rattle.mvt_meaning.specs.Ordinals.{put_last}
 use Rattle.mvt_meaning.specs.Tagging.{is_packed_last, is_tags, with_more_content, with_more_tags}

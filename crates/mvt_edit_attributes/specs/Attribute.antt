@@ -9,7 +9,7 @@ use Rattle.mvt_document.specs.Plain.{Field, LayerItem, PlainInLayer, Layer}
 use Rattle.mvt_document.specs.Splicing.{part, splice}
 use Rattle.mvt_document.specs.Wire.{field_bytes, layer_item_bytes}
 use Rattle.mvt_change.specs.Changes.{Change, LayerStep}
-use Rattle.mvt_view.specs.Views.{keys, values}
+use Rattle.mvt_messages.specs.Views.{keys, values}
 use Rattle.mvt_meaning.specs.Fields.{new_content}
 use Rattle.mvt_meaning.specs.Meaning.{◌>>=◌, refuse_if}
 use Rattle.mvt_meaning.specs.Tagging.{is_packed_last, key_ordinal, is_tags, missing_entries, pairs_among, pairs_with, value_ordinal, with_attribute, with_more_tags}

@@ -9,7 +9,7 @@ ghost use Rattle.mvt_document.specs.Stands.{field_of};
 ghost use Rattle.mvt_document.specs.Wire.{field_bytes, shortest};
 ghost use Rattle.mvt_change.specs.FileSizes.{IsFileSize};
 ghost use Rattle.mvt_renumber.specs.Fates.{changes, fate_seen};
-ghost use Rattle.mvt_view.specs.Views.{content_in};
+ghost use Rattle.mvt_messages.specs.Views.{content_in};
 ghost use Rattle.mvt_meaning.specs.Fields.{new_content};
 ghost use Rattle.mvt_meaning.specs.Tagging.{is_packed_last, is_tags, with_more_content};
 ghost use Rattle.mvt_meaning.specs.Ordinals.{positions_of};

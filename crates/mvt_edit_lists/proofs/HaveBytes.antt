@@ -5,7 +5,7 @@ use Rattle.mvt_document.specs.Wire.{spell, body_bytes, field_bytes, layer_item_b
 use Rattle.mvt_document.specs.Stands.{body_of, field_of, layer_item_of, tile_item_of}
 use Rattle.mvt_document.specs.declared.Body.{Body}
 use Rattle.mvt_document.specs.declared.Body.TheVariants.{Number, Eight, Four, Bytes, Group}
-use Rattle.mvt_view.specs.Views.{value_of}
+use Rattle.mvt_messages.specs.Views.{value_of}
 use Rattle.mvt_document.specs.declared.Field.{Field}
 use Rattle.mvt_document.specs.declared.TileItem.{TileItem}
 use Rattle.mvt_document.specs.declared.TileItem.TheVariants as in_tile

@@ -9,7 +9,7 @@ use Rattle.std.specs.List.Sorted.{IsPermutation}
 use Rattle.mvt_document.specs.Plain.{TileItem, OfLayer, PlainInTile, Document}
 use Rattle.mvt_document.specs.Opens.{IsTileItem}
 use Rattle.mvt_document.specs.Wire.{tile_item_bytes}
-use Rattle.mvt_view.specs.Views.{is_named, layers}
+use Rattle.mvt_messages.specs.Views.{is_named, layers}
 use Rattle.mvt_change.specs.Changes.{Change}
 use Rattle.mvt_command.specs.Command.{KeepLayers}
 use Rattle.mvt_meaning.specs.Meaning.{applied, is_kept}

@@ -15,8 +15,8 @@ use Rattle.mvt_document.specs.declared.document.LayerItem.{LayerItem}
 use Rattle.mvt_document.specs.declared.document.LayerItem.TheVariants as in_layer
 use Rattle.mvt_document.specs.declared.document.TileItem.{TileItem}
 use Rattle.mvt_document.specs.declared.document.TileItem.TheVariants as in_tile
-use Rattle.mvt_view.specs.Attributes.{pairs_of}
-use Rattle.mvt_view.specs.Views.{content_of, features, ordinals_of}
+use Rattle.mvt_messages.specs.Attributes.{pairs_of}
+use Rattle.mvt_messages.specs.Views.{content_of, features, ordinals_of}
 use Rattle.mvt_change.specs.Changes.{Change}
 use Rattle.mvt_command.specs.Command.{Command, LayersChoice}
 use Rattle.mvt_meaning.specs.Compaction.{compacted, is_any, is_key_used, is_value_used, new_ordinals}

@@ -10,7 +10,7 @@ use Rattle.mvt_document.specs.Places.{change_items, items_at, items_in}
 use Rattle.mvt_document.specs.Wire.{field_bytes, layer_item_bytes}
 use Rattle.mvt_renumber.specs.declared.fate.Fate.{Fate}
 use Rattle.mvt_change.specs.Changes.{Change}
-use Rattle.mvt_view.specs.Views.{features, key_field, value_field}
+use Rattle.mvt_messages.specs.Views.{features, key_field, value_field}
 use Rattle.mvt_meaning.specs.Compaction.{compacted, is_entry, leaving, new_ordinals, repointing, staying, with_new_ordinals}
 use Rattle.mvt_meaning.specs.Tagging.{differing}
 use Rattle.mvt_meaning.specs.Weights.{as_after, as_before, compact_puts, compact_takes}

@@ -11,9 +11,9 @@ use Rattle.mvt_renumber.specs.Laws.{NoneIsNew}
 use Rattle.mvt_numbers.specs.Numbers.{Placed, numbers}
 use Rattle.mvt_renumber.specs.Renumbering.{field_numbers}
 use Rattle.mvt_renumber.proofs.Reread.{read_of_fields}
-use Rattle.mvt_view.specs.Attributes.{is_ordinal, is_pair}
-use Rattle.mvt_view.specs.Found.{found_features}
-use Rattle.mvt_view.specs.Views.{contents, key_field, keys, plain_fields, value_field, values}
+use Rattle.mvt_messages.specs.Attributes.{is_ordinal, is_pair}
+use Rattle.mvt_messages.specs.Found.{found_features}
+use Rattle.mvt_messages.specs.Views.{contents, key_field, keys, plain_fields, value_field, values}
 use Rattle.mvt_meaning.specs.Compaction.{new_ordinal, new_ordinals, repointed}
 use Rattle.mvt_meaning.specs.Tagging.{pairs_among}
 use Rattle.mvt_meaning.proofs.Removals.{flat, head_same, make_pairs}

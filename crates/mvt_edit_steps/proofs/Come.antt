@@ -11,8 +11,8 @@ use Rattle.mvt_document.specs.Wire.{field_bytes}
 use Rattle.mvt_document.specs.Lists.{change_at}
 use Rattle.mvt_document.specs.Places.{change_fields, change_items, fields_at, fields_in, fields_in_at, in_feature, items_at, items_in}
 use Rattle.mvt_change.specs.Changes.{Change, Fits, go, turn, weight}
-use Rattle.mvt_view.specs.Found.{found_features, with_position}
-use Rattle.mvt_view.specs.Views.{feature_in}
+use Rattle.mvt_messages.specs.Found.{found_features, with_position}
+use Rattle.mvt_messages.specs.Views.{feature_in}
 use Rattle.mvt_meaning.proofs.Between.{get_between}
 use Rattle.mvt_edit_steps.specs.Fates.{splices_of}
 use Rattle.mvt_renumber.specs.declared.fate.Fate.{Fate}

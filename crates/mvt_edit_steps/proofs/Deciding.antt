@@ -3,9 +3,9 @@ use Rattle.std.proofs.Common.{◌≡◌, ℕ, ◌+◌, ◌≤◌, Bool, true, fa
 use Rattle.std.proofs.lemmas.Bool.{cases_Bool}
 use Rattle.mvt_document.specs.Plain.{Feature, Layer}
 use Rattle.mvt_numbers.specs.Numbers.{and_more, numbers}
-use Rattle.mvt_view.specs.Tags.{plain_pairs, tag_pairs}
-use Rattle.mvt_view.specs.Views.{keys, values}
-use Rattle.mvt_view.proofs.Pairing.{tags_are_pairs}
+use Rattle.mvt_messages.specs.Tags.{plain_pairs, tag_pairs}
+use Rattle.mvt_messages.specs.Views.{keys, values}
+use Rattle.mvt_layers.proofs.Pairing.{tags_are_pairs}
 use Rattle.mvt_meaning.specs.Ordinals.{count}
 use Rattle.mvt_meaning.specs.Tagging.{pairs_among}
 use Rattle.mvt_edit_steps.specs.Decided.{counted_by, decided_by}

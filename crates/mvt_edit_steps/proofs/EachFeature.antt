@@ -5,9 +5,9 @@ use Rattle.std.proofs.lemmas.List.Concat.{flat_map-append}
 use Rattle.std.proofs.lemmas.List.Folds.{flat_map-map}
 use Rattle.std.specs.List.{flat_map}
 use Rattle.mvt_document.specs.Plain.{Feature, Layer}
-use Rattle.mvt_view.specs.Found.{found_features}
-use Rattle.mvt_view.specs.Views.{feature_in, features}
-use Rattle.mvt_view.proofs.Placing.{found_items}
+use Rattle.mvt_messages.specs.Found.{found_features}
+use Rattle.mvt_messages.specs.Views.{feature_in, features}
+use Rattle.mvt_layers.proofs.Placing.{found_items}
 
 module _ {A B C : Type 0} (f : A → List B) where
   pub mapped_each : (g : B → C) (list : List A) → map g (flat_map f list) ≡ flat_map (λ x. map g (f x)) list

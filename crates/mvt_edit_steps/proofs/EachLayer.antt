@@ -5,8 +5,8 @@ use Rattle.mvt_document.specs.Plain.{Field, Layer, LayerItem, TileItem, OfLayer,
 use Rattle.mvt_document.specs.Wire.{field_bytes}
 use Rattle.mvt_document.specs.Places.{change_items, in_layer}
 use Rattle.mvt_change.specs.Changes.{Change, Fits, go, turn, weight}
-use Rattle.mvt_view.specs.Found.{found_layers, with_position}
-use Rattle.mvt_view.specs.Views.{layer_in}
+use Rattle.mvt_messages.specs.Found.{found_layers, with_position}
+use Rattle.mvt_messages.specs.Views.{layer_in}
 use Rattle.mvt_command.specs.Command.{LayerChoice, LayersChoice, TheLayer, EachLayer}
 use Rattle.mvt_meaning.specs.Meaning.{change_layers}
 use Rattle.mvt_meaning.specs.Selection.{selected, selected_layers}

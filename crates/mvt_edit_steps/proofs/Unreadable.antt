@@ -5,10 +5,10 @@ use Rattle.std.proofs.lemmas.List.{append-nil}
 use Rattle.std.proofs.lemmas.Simd.{map-map}
 use Rattle.std.specs.List.{enumerate_from}
 use Rattle.mvt_document.specs.Plain.{Feature, Layer}
-use Rattle.mvt_view.specs.Attributes.{pairs_of}
-use Rattle.mvt_view.specs.Found.{found_features, placed_from}
-use Rattle.mvt_view.specs.Views.{feature_in, features, ordinals_of}
-use Rattle.mvt_view.proofs.Placing.{placed_items}
+use Rattle.mvt_messages.specs.Attributes.{pairs_of}
+use Rattle.mvt_messages.specs.Found.{found_features, placed_from}
+use Rattle.mvt_messages.specs.Views.{feature_in, features, ordinals_of}
+use Rattle.mvt_layers.proofs.Placing.{placed_items}
 use Rattle.mvt_meaning.specs.Meaning.{refuse_first}
 use Rattle.mvt_meaning.specs.Tagging.{unreadable}
 use Rattle.mvt_meaning.specs.declared.refusal.Refusal.{Refusal}

@@ -3,7 +3,7 @@ use Rattle.std.specs.Prelude.{ℕ, List, map}
 use Rattle.std.specs.List.{flat_map}
 use Rattle.mvt_document.specs.Plain.{Field, Feature, LayerItem, Layer}
 use Rattle.mvt_change.specs.Changes.{Change, FeatureStep}
-use Rattle.mvt_view.specs.Found.{found_features}
+use Rattle.mvt_messages.specs.Found.{found_features}
 use Rattle.mvt_edit_steps.specs.Fates.{splices_of}
 use Rattle.mvt_renumber.specs.declared.fate.Fate.{Fate}
 

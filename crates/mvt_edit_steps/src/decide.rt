@@ -9,16 +9,16 @@ ghost use Rattle.mvt_numbers.specs.Numbers.{numbers};
 ghost use Rattle.mvt_meaning.specs.Ordinals.{count};
 ghost use Rattle.mvt_meaning.specs.Tagging.{is_tags};
 ghost use Rattle.mvt_meaning.specs.declared.refusal.Refusal.TheVariants.{BadTags, NoMemory};
-ghost use Rattle.mvt_view.specs.Tags.{plain_pairs, tag_pairs};
-ghost use Rattle.mvt_view.specs.Seen.{found_feature_seen, layer_seen, pair_seen};
-ghost use Rattle.mvt_view.specs.Views.{keys};
+ghost use Rattle.mvt_messages.specs.Tags.{plain_pairs, tag_pairs};
+ghost use Rattle.mvt_layers.specs.Seen.{found_feature_seen, layer_seen, pair_seen};
+ghost use Rattle.mvt_messages.specs.Views.{keys};
 ghost use Rattle.mvt_edit_steps.specs.Decided.{pairs_decided, said_of};
 
 use crate::pairs::decide_pairs;
 use mvt_document::tags::TAGS;
 use mvt_document::{Body, Field};
+use mvt_layers::{FoundFeature, LayerView, Pair, PoolSizes};
 use mvt_meaning::Refusal;
-use mvt_view::{FoundFeature, LayerView, Pair, PoolSizes};
 use std::alloc::{AllocError, Global};
 
 /// For each key of the layer, in order, whether it is these bytes.

@@ -10,16 +10,16 @@ ghost use Rattle.mvt_numbers.specs.Numbers.{numbers};
 ghost use Rattle.mvt_renumber.specs.Renumbering.{renumber};
 ghost use Rattle.mvt_change.specs.ChangeStands.{step_of};
 ghost use Rattle.mvt_meaning.specs.declared.refusal.Refusal.TheVariants.{BadTags, NoMemory};
-ghost use Rattle.mvt_view.specs.Tags.{plain_pairs, tag_pairs};
-ghost use Rattle.mvt_view.specs.Seen.{feature_seen, found_feature_seen, pair_seen};
+ghost use Rattle.mvt_messages.specs.Tags.{plain_pairs, tag_pairs};
+ghost use Rattle.mvt_layers.specs.Seen.{feature_seen, found_feature_seen, pair_seen};
 ghost use Rattle.mvt_edit_steps.specs.Decided.{IsDecided, IsSizeBeside, field_fates};
 ghost use Rattle.mvt_edit_steps.specs.EachFeature.{feature_steps};
 ghost use Rattle.mvt_edit_steps.specs.Fates.{Tells};
 
 use crate::fates::renumber_fields;
 use mvt_change::Step;
+use mvt_layers::{FeatureView, FoundFeature, Pair, PairsError, PoolSizes};
 use mvt_meaning::Refusal;
-use mvt_view::{FeatureView, FoundFeature, Pair, PairsError, PoolSizes};
 use std::alloc::{AllocError, Global};
 
 /// Decides on each number of the tags of a feature, in place of what was decided before: on the two

@@ -10,7 +10,7 @@ use Rattle.mvt_document.specs.declared.document.LayerItem.{LayerItem}
 use Rattle.mvt_document.specs.declared.document.LayerItem.TheVariants as in_layer
 use Rattle.mvt_document.specs.declared.document.TileItem.{TileItem}
 use Rattle.mvt_document.specs.declared.document.TileItem.TheVariants as in_tile
-use Rattle.mvt_view.specs.Views.{features}
+use Rattle.mvt_messages.specs.Views.{features}
 use Rattle.mvt_change.specs.Changes.{Change}
 use Rattle.mvt_command.specs.Command.{LayersChoice, Exclude}
 use Rattle.mvt_meaning.specs.Selection.{selected_layers}

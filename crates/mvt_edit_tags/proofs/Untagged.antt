@@ -15,9 +15,9 @@ use Rattle.mvt_document.specs.declared.document.LayerItem.{LayerItem}
 use Rattle.mvt_document.specs.declared.document.LayerItem.TheVariants as in_layer
 use Rattle.mvt_document.specs.declared.document.TileItem.{TileItem}
 use Rattle.mvt_document.specs.declared.document.TileItem.TheVariants as in_tile
-use Rattle.mvt_view.specs.Found.{found_features}
-use Rattle.mvt_view.specs.Views.{content_of, feature_in, value_of}
-use Rattle.mvt_view.proofs.Placing.{found_items}
+use Rattle.mvt_messages.specs.Found.{found_features}
+use Rattle.mvt_messages.specs.Views.{content_of, feature_in, value_of}
+use Rattle.mvt_layers.proofs.Placing.{found_items}
 use Rattle.mvt_change.specs.Changes.{Change}
 use Rattle.mvt_command.specs.Command.{LayersChoice, ExcludeAll}
 use Rattle.mvt_meaning.specs.Meaning.{applied}

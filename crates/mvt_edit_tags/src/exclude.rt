@@ -8,7 +8,7 @@ ghost use Rattle.mvt_command.specs.CommandStands.{layers_choice_of};
 ghost use Rattle.mvt_meaning.specs.Meaning.{refuse_first};
 ghost use Rattle.mvt_meaning.specs.Tagging.{unreadable};
 ghost use Rattle.mvt_meaning.specs.declared.refusal.Refusal.TheVariants.{NoMemory};
-ghost use Rattle.mvt_view.specs.Seen.{found_layer_seen};
+ghost use Rattle.mvt_layers.specs.Seen.{found_layer_seen};
 ghost use Rattle.mvt_edit_steps.specs.Prepared.{Prepares};
 ghost use Rattle.mvt_edit_steps.specs.EachFeature.{layer_steps};
 ghost use Rattle.mvt_edit_steps.specs.Decided.{is_any_gone};

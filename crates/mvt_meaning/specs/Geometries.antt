@@ -9,8 +9,8 @@ use Rattle.mvt_geometry.specs.Checks.{is_way}
 use Rattle.mvt_geometry.specs.Found.{geometry_in}
 use Rattle.mvt_geometry.specs.Integers.{encoded}
 use Rattle.mvt_geometry.specs.Shapes.{Geometry, kind_number}
-use Rattle.mvt_view.specs.Attributes.{values_in}
-use Rattle.mvt_view.specs.Views.{content_in, last_value, value_in}
+use Rattle.mvt_messages.specs.Attributes.{values_in}
+use Rattle.mvt_messages.specs.Views.{content_in, last_value, value_in}
 use Rattle.mvt_meaning.specs.Decided.{renumbered_fields}
 use Rattle.mvt_meaning.specs.Fields.{new_content, new_number, with_field_value}
 use Rattle.mvt_meaning.specs.Ordinals.{put_last, put_once}

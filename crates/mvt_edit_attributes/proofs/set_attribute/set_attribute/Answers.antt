@@ -9,7 +9,7 @@ use Rattle.mvt_document.specs.Stands.{document_of, feature_of, field_of, layer_i
 use Rattle.mvt_document.specs.Wire.{bytes_of, field_bytes, layer_item_bytes}
 use Rattle.mvt_value.specs.Messages.{encoded_value}
 use Rattle.mvt_value.specs.Stands.{new_value_of}
-use Rattle.mvt_view.specs.Seen.{layer_seen}
+use Rattle.mvt_layers.specs.Seen.{layer_seen}
 use Rattle.mvt_change.specs.FileSizes.{IsFileSize}
 use Rattle.mvt_change.proofs.Resized.{fields_there, items_there}
 use Rattle.mvt_command.specs.CommandStands.{feature_choice_of, layer_choice_of}

@@ -13,7 +13,7 @@ use Rattle.mvt_renumber.specs.Renumbering.{renumber}
 use Rattle.mvt_change.specs.ChangeStands.{step_of}
 use Rattle.mvt_change.specs.FileSizes.{IsFileSize}
 use Rattle.mvt_command.specs.CommandStands.{feature_choice_of, layer_choice_of}
-use Rattle.mvt_view.specs.Seen.{feature_seen}
+use Rattle.mvt_layers.specs.Seen.{feature_seen}
 use Rattle.mvt_meaning.specs.Geometries.{can_move, moves, shifted}
 use Rattle.mvt_meaning.proofs.Moving.{moves_short}
 use Rattle.mvt_meaning.specs.declared.refusal.Refusal.TheVariants.{OutOfRange}

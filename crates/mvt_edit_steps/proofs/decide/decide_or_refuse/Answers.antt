@@ -2,8 +2,8 @@ use Rattle.std.proofs.Common.{ℕ, Bool, false, rules, slice_get, ◌∙◌}
 use Rattle.std.proofs.lemmas.Result.{IfOk-weaker}
 use Rattle.std.specs.Option.{unwrap_or}
 use Rattle.mvt_numbers.specs.Numbers.{numbers}
-use Rattle.mvt_view.specs.Seen.{found_feature_seen}
-use Rattle.mvt_view.specs.Tags.{plain_pairs, tag_pairs}
+use Rattle.mvt_layers.specs.Seen.{found_feature_seen}
+use Rattle.mvt_messages.specs.Tags.{plain_pairs, tag_pairs}
 use Rattle.mvt_edit_steps.specs.Decided.{said_of}
 use Rattle.mvt_edit_steps.proofs.NamedKeys.{said_pairs}
 use Rattle.mvt_edit_steps.proofs.decide.decide_or_refuse.Goals as goal

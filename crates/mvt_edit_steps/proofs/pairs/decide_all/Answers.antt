@@ -4,9 +4,9 @@ use Rattle.std.proofs.lemmas.Fn.{says}
 use Rattle.std.proofs.lemmas.List.{append-nil}
 use Rattle.mvt_numbers.specs.Numbers.{and_more}
 use Rattle.mvt_numbers.specs.Seen.{placed_of}
-use Rattle.mvt_view.specs.Seen.{pair_seen}
-use Rattle.mvt_view.specs.Tags.{plain_pairs}
-use Rattle.mvt_view.proofs.Pairing.{plain_more}
+use Rattle.mvt_layers.specs.Seen.{pair_seen}
+use Rattle.mvt_messages.specs.Tags.{plain_pairs}
+use Rattle.mvt_layers.proofs.Pairing.{plain_more}
 use Rattle.mvt_edit_steps.specs.Decided.{counted_by, decided_by}
 use Rattle.mvt_edit_steps.proofs.Deciding.{counted_behind, counted_more, counted_none, decided_behind, decided_more, decided_none, more_some, none_is}
 use Rattle.mvt_edit_steps.proofs.pairs.decide_all.Goals as goal

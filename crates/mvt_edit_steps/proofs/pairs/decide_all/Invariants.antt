@@ -1,8 +1,8 @@
 use Rattle.std.proofs.Common.{◌≡◌, ℕ, ◌≤◌, Bool, Option, is_some, length}
 use Rattle.std.specs.Fn.{FnReturns}
 use Rattle.mvt_numbers.specs.Numbers.{numbers}
-use Rattle.mvt_view.specs.Seen.{feature_seen, pair_seen}
-use Rattle.mvt_view.specs.Tags.{plain_pairs, tag_pairs}
+use Rattle.mvt_layers.specs.Seen.{feature_seen, pair_seen}
+use Rattle.mvt_messages.specs.Tags.{plain_pairs, tag_pairs}
 use Rattle.mvt_edit_steps.specs.Fates.{Tells}
 use Rattle.mvt_edit_steps.proofs.Deciding.{SoFarDecided}
 use Rattle.mvt_edit_steps.proofs.pairs.decide_all.Given as goal

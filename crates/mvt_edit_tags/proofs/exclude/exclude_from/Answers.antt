@@ -4,8 +4,8 @@ use Rattle.std.specs.List.{flat_map}
 use Rattle.std.specs.Str.{bytes_eq}
 use Rattle.mvt_document.specs.Stands.{layer_of}
 use Rattle.mvt_change.specs.ChangeStands.{step_of}
-use Rattle.mvt_view.specs.Seen.{found_feature_seen}
-use Rattle.mvt_view.specs.Views.{keys, values}
+use Rattle.mvt_layers.specs.Seen.{found_feature_seen}
+use Rattle.mvt_messages.specs.Views.{keys, values}
 use Rattle.mvt_edit_steps.specs.Decided.{field_fates, is_any_gone}
 use Rattle.mvt_edit_steps.specs.EachFeature.{feature_steps}
 use Rattle.mvt_edit_tags.specs.EachFeature.{pairs_go}
