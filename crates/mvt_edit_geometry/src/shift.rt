@@ -17,14 +17,14 @@ ghost use Rattle.mvt_command.specs.CommandStands.{feature_choice_of, layer_choic
 ghost use Rattle.mvt_layers.specs.Seen.{feature_seen};
 ghost use Rattle.mvt_meaning.specs.Geometries.{can_move, further, geometry_among, moves};
 ghost use Rattle.mvt_meaning.specs.declared.refusal.Refusal.TheVariants.{BadGeometry, NoMemory};
-ghost use Rattle.mvt_edit_steps.specs.Decided.{field_fates};
-ghost use Rattle.mvt_edit_steps.specs.Fates.{splices_of};
+ghost use Rattle.mvt_fates.specs.Decided.{field_fates};
+ghost use Rattle.mvt_fates.specs.Fates.{splices_of};
 ghost use Rattle.mvt_edit_steps.specs.Prepared.{Prepares};
 
 use mvt_change::{Change, Step, fits_with_items, size_with_fields};
 use mvt_document::tags::GEOMETRY;
 use mvt_document::{Document, Items, from_zigzag, to_zigzag};
-use mvt_edit_steps::renumber_feature;
+use mvt_edit_pairs::renumber_feature;
 use mvt_geometry::is_way;
 use mvt_layers::FeatureView;
 use mvt_numbers::Numbers;
