@@ -2,7 +2,7 @@
 use Rattle.std.proofs.Common.{◌≡◌, ℕ, ◌+◌, List, [], ◌∷◌, map, refl, sym, ap, ◌∙◌}
 use Rattle.mvt_document.specs.Plain.{Field, LayerItem, OfFeature, PlainInLayer}
 use Rattle.mvt_document.specs.Places.{in_feature}
-use Rattle.mvt_view.specs.Views.{features_in, plain_fields}
+use Rattle.mvt_messages.specs.Views.{features_in, plain_fields}
 use Rattle.mvt_meaning.specs.Selection.{is_feature}
 use Rattle.mvt_meaning.proofs.Positions.{positions_from, positions_pass, positions_skip}
 use Rattle.command_laws.proofs.Parts.{with_fields}

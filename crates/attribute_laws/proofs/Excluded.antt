@@ -8,12 +8,12 @@ use Rattle.mvt_document.specs.Plain.{Number, Field, Feature, LayerItem, Layer, D
 use Rattle.mvt_document.specs.Places.{in_feature}
 use Rattle.mvt_command.specs.Command.{FeatureChoice}
 use Rattle.mvt_numbers.specs.Numbers.{numbers}
-use Rattle.mvt_numbers.specs.Renumbering.{renumber, renumbered, with_number}
-use Rattle.mvt_numbers.proofs.Redone.{left_is_read}
-use Rattle.mvt_view.specs.Attributes.{attribute_at, attributes, is_pair, pairs_in, pairs_of}
-use Rattle.mvt_view.specs.Laws.{Names}
-use Rattle.mvt_view.specs.Views.{contents, features, key_field, keys, layers, plain_fields, value_field, values}
-use Rattle.mvt_view.proofs.Pairing.{pairs_are_named}
+use Rattle.mvt_renumber.specs.Renumbering.{renumber, renumbered, with_number}
+use Rattle.mvt_renumber.proofs.Redone.{left_is_read}
+use Rattle.mvt_messages.specs.Attributes.{attribute_at, attributes, is_pair, pairs_in, pairs_of}
+use Rattle.mvt_layers.specs.Laws.{Names}
+use Rattle.mvt_messages.specs.Views.{contents, features, key_field, keys, layers, plain_fields, value_field, values}
+use Rattle.mvt_layers.proofs.Pairing.{pairs_are_named}
 use Rattle.mvt_meaning.specs.Ordinals.{change_nth}
 use Rattle.mvt_meaning.specs.Selection.{is_feature, selected, selected_feature, selected_in, selected_layers}
 use Rattle.mvt_meaning.specs.Tagging.{excluded, is_key_at, pairs_among, removals, unreadable, without_attribute, without_pairs}

@@ -4,10 +4,10 @@ use Rattle.std.specs.Prelude.{nat_lt}
 use Rattle.std.proofs.lemmas.Bool.{and_from, and_parts, lt-ltb, ltb-true}
 use Rattle.std.specs.List.{AllByRecursion, list_all}
 use Rattle.mvt_document.specs.Plain.{Feature, Layer}
-use Rattle.mvt_view.specs.Attributes.{attribute_at, attributes, is_ordinal, is_pair, pairs_of}
-use Rattle.mvt_view.specs.Laws.{Names}
-use Rattle.mvt_view.specs.Views.{keys, values}
-use Rattle.mvt_view.proofs.Pairing.{pairs_are_named}
+use Rattle.mvt_messages.specs.Attributes.{attribute_at, attributes, is_ordinal, is_pair, pairs_of}
+use Rattle.mvt_layers.specs.Laws.{Names}
+use Rattle.mvt_messages.specs.Views.{keys, values}
+use Rattle.mvt_layers.proofs.Pairing.{pairs_are_named}
 use Rattle.attribute_laws.proofs.PairsRead.{pairs_again, pairs_read}
 
 ordinal_grows : (count more ordinal : ℕ) → count ≤ more → is_ordinal count ordinal ≡ true → is_ordinal more ordinal ≡ true

@@ -2,7 +2,7 @@
 use Rattle.std.proofs.Common.{◌≡◌, None, ap, arith}
 use Rattle.std.specs.List.{last_or}
 use Rattle.mvt_document.specs.Plain.{Feature}
-use Rattle.mvt_view.specs.Views.{id_of}
+use Rattle.mvt_messages.specs.Views.{id_of}
 use Rattle.mvt_meaning.specs.Tagging.{without_tags}
 use Rattle.command_laws.proofs.OtherFields.{values_stay}
 

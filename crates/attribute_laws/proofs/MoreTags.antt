@@ -9,12 +9,12 @@ use Rattle.mvt_document.specs.Groups.{IsNumber}
 use Rattle.mvt_document.specs.Plain.{Number, Body, Spelled, Eight, Four, Delimited, Group, Field}
 use Rattle.mvt_document.specs.Wire.{spelling}
 use Rattle.mvt_document.proofs.EachItem.{all_joined}
-use Rattle.mvt_numbers.specs.Deciding.{packed_numbers}
-use Rattle.mvt_numbers.specs.Laws.{read_numbers}
-use Rattle.mvt_numbers.proofs.Decisions.{packed-spellings}
-use Rattle.mvt_numbers.proofs.Redone.{packed-read}
-use Rattle.mvt_numbers.proofs.Reread.{appended_is_read, both_found, both_some, field_read, fields_read, found_in, read_is}
-use Rattle.mvt_view.specs.Views.{content_in}
+use Rattle.mvt_renumber.specs.Deciding.{packed_numbers}
+use Rattle.mvt_renumber.specs.Laws.{read_numbers}
+use Rattle.mvt_renumber.proofs.Decisions.{packed-spellings}
+use Rattle.mvt_renumber.proofs.Redone.{packed-read}
+use Rattle.mvt_renumber.proofs.Reread.{appended_is_read, both_found, both_some, field_read, fields_read, found_in, read_is}
+use Rattle.mvt_messages.specs.Views.{content_in}
 use Rattle.mvt_meaning.specs.Fields.{new_content}
 use Rattle.mvt_meaning.specs.Ordinals.{change_last}
 use Rattle.mvt_meaning.specs.Tagging.{is_packed_last, is_tags, with_more_content, with_more_tags, without_tags}

@@ -4,9 +4,9 @@ use Rattle.std.proofs.lemmas.Bool.{cases_Bool, eq-eqb}
 use Rattle.std.specs.List.{AllByRecursion, cons_option, enumerate_from, filter_map, flat_map}
 use Rattle.mvt_document.specs.Plain.{Feature, Layer, Document}
 use Rattle.mvt_command.specs.Command.{LayersChoice, TheLayer, EachLayer}
-use Rattle.mvt_view.specs.Attributes.{pairs_of}
-use Rattle.mvt_view.specs.Found.{found_layers, placed_from, with_position}
-use Rattle.mvt_view.specs.Views.{features, layer_in, layers, ordinals_of}
+use Rattle.mvt_messages.specs.Attributes.{pairs_of}
+use Rattle.mvt_messages.specs.Found.{found_layers, placed_from, with_position}
+use Rattle.mvt_messages.specs.Views.{features, layer_in, layers, ordinals_of}
 use Rattle.mvt_meaning.specs.Selection.{selected_layers}
 use Rattle.mvt_meaning.specs.Tagging.{unreadable}
 use Rattle.mvt_meaning.specs.Meaning.{refuse_first}

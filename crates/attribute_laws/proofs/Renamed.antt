@@ -6,10 +6,10 @@ use Rattle.std.proofs.lemmas.Slice.Eq.{bytes_eq-Decides}
 use Rattle.std.specs.List.{AllByRecursion, cons_option, filter_map, list_any}
 use Rattle.std.specs.Str.{bytes_eq}
 use Rattle.mvt_document.specs.Plain.{Number, Body, Spelled, Eight, Four, Delimited, Group, Field, Feature, LayerItem, OfFeature, PlainInLayer, Layer, Document}
-use Rattle.mvt_view.specs.Attributes.{attribute_at, attributes, pairs_in, pairs_of}
-use Rattle.mvt_view.specs.Laws.{Names}
-use Rattle.mvt_view.specs.Views.{content_in, contents, features_in, keys, plain_fields, values}
-use Rattle.mvt_view.proofs.Pairing.{pairs_are_named}
+use Rattle.mvt_messages.specs.Attributes.{attribute_at, attributes, pairs_in, pairs_of}
+use Rattle.mvt_layers.specs.Laws.{Names}
+use Rattle.mvt_messages.specs.Views.{content_in, contents, features_in, keys, plain_fields, values}
+use Rattle.mvt_layers.proofs.Pairing.{pairs_are_named}
 use Rattle.mvt_numbers.specs.Numbers.{numbers}
 use Rattle.mvt_meaning.specs.Selection.{selected}
 use Rattle.mvt_meaning.specs.Fields.{with_text}

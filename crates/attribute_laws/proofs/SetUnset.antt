@@ -11,8 +11,8 @@ use Rattle.std.specs.Str.{bytes_eq}
 use Rattle.mvt_document.specs.Plain.{Field, Feature, LayerItem, OfFeature, PlainInLayer, Layer}
 use Rattle.mvt_value.specs.Messages.{encoded_value}
 use Rattle.mvt_command.specs.Command.{UnsetAttribute}
-use Rattle.mvt_view.specs.Attributes.{attribute_at, attributes, pairs_of}
-use Rattle.mvt_view.specs.Views.{content_in, contents, features, key_field, keys, layers, name_of, plain_fields}
+use Rattle.mvt_messages.specs.Attributes.{attribute_at, attributes, pairs_of}
+use Rattle.mvt_messages.specs.Views.{content_in, contents, features, key_field, keys, layers, name_of, plain_fields}
 use Rattle.mvt_meaning.specs.Selection.{selected, selected_feature, selected_in}
 use Rattle.mvt_meaning.specs.Tagging.{is_key, without_attribute, without_tags}
 use Rattle.mvt_meaning.specs.Meaning.{applied, change_feature, has_key, has_pairs, items_of}

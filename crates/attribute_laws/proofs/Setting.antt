@@ -19,13 +19,13 @@ use Rattle.mvt_document.proofs.Sizes.{length-message}
 use Rattle.mvt_document.proofs.Spelling.{minimal_spelling}
 use Rattle.mvt_value.specs.Messages.{encoded_value}
 use Rattle.mvt_command.specs.Command.{FeatureChoice}
-use Rattle.mvt_numbers.specs.Laws.{AreShort}
-use Rattle.mvt_numbers.specs.Renumbering.{renumber, renumbered, with_number}
-use Rattle.mvt_numbers.proofs.Redone.{left_is_read}
-use Rattle.mvt_view.specs.Attributes.{attribute_at, attributes, is_ordinal, is_pair, pairs_of}
-use Rattle.mvt_view.specs.Laws.{Names}
-use Rattle.mvt_view.specs.Views.{content_in, contents, features, features_in, key_field, keys, layer_in, layers, plain_fields, plain_in, value_field, values}
-use Rattle.mvt_view.proofs.Pairing.{pairs_are_named}
+use Rattle.mvt_renumber.specs.Laws.{AreShort}
+use Rattle.mvt_renumber.specs.Renumbering.{renumber, renumbered, with_number}
+use Rattle.mvt_renumber.proofs.Redone.{left_is_read}
+use Rattle.mvt_messages.specs.Attributes.{attribute_at, attributes, is_ordinal, is_pair, pairs_of}
+use Rattle.mvt_layers.specs.Laws.{Names}
+use Rattle.mvt_messages.specs.Views.{content_in, contents, features, features_in, key_field, keys, layer_in, layers, plain_fields, plain_in, value_field, values}
+use Rattle.mvt_layers.proofs.Pairing.{pairs_are_named}
 use Rattle.mvt_meaning.specs.Fields.{new_content}
 use Rattle.mvt_meaning.specs.Ordinals.{change_nth, count}
 use Rattle.mvt_meaning.specs.Selection.{is_feature, selected, selected_feature, selected_in}

@@ -9,14 +9,14 @@ use Rattle.mvt_document.specs.Plain.{Number, Field, Feature, LayerItem, OfFeatur
 use Rattle.mvt_document.specs.Lists.{change_at}
 use Rattle.mvt_document.specs.Places.{in_feature, in_layer}
 use Rattle.mvt_command.specs.Command.{LayerChoice, LayersChoice, TheLayer, EachLayer, Exclude}
-use Rattle.mvt_numbers.specs.Laws.{keeping}
+use Rattle.mvt_renumber.specs.Laws.{keeping}
 use Rattle.mvt_numbers.specs.Numbers.{Placed, numbers}
-use Rattle.mvt_numbers.specs.Renumbering.{field_numbers, renumber}
-use Rattle.mvt_numbers.proofs.Redone.{kept_stays}
-use Rattle.mvt_numbers.proofs.Reread.{read_of_fields}
-use Rattle.mvt_view.specs.Attributes.{pairs_in, pairs_of}
-use Rattle.mvt_view.specs.Found.{with_position}
-use Rattle.mvt_view.specs.Views.{contents, features_in, key_field, layer_in, layers, plain_fields, value_field}
+use Rattle.mvt_renumber.specs.Renumbering.{field_numbers, renumber}
+use Rattle.mvt_renumber.proofs.Redone.{kept_stays}
+use Rattle.mvt_renumber.proofs.Reread.{read_of_fields}
+use Rattle.mvt_messages.specs.Attributes.{pairs_in, pairs_of}
+use Rattle.mvt_messages.specs.Found.{with_position}
+use Rattle.mvt_messages.specs.Views.{contents, features_in, key_field, layer_in, layers, plain_fields, value_field}
 use Rattle.mvt_meaning.specs.Selection.{selected, selected_layers}
 use Rattle.mvt_meaning.specs.Tagging.{excluded, is_key_at, pairs_among, unreadable, without_attribute, without_pairs}
 use Rattle.mvt_meaning.specs.Meaning.{◌>>=◌, applied, change_layer, change_layers, refuse_first}

@@ -8,9 +8,9 @@ use Rattle.mvt_document.specs.Plain.{Field, Feature, LayerItem, OfFeature, Plain
 use Rattle.mvt_document.specs.Lists.{change_at}
 use Rattle.mvt_document.specs.Places.{in_feature, in_layer}
 use Rattle.mvt_command.specs.Command.{FeatureChoice}
-use Rattle.mvt_view.specs.Found.{found_features}
-use Rattle.mvt_view.specs.Views.{feature_in, features, features_in, id_of, plain_fields}
-use Rattle.mvt_view.proofs.Placing.{found_count}
+use Rattle.mvt_messages.specs.Found.{found_features}
+use Rattle.mvt_messages.specs.Views.{feature_in, features, features_in, id_of, plain_fields}
+use Rattle.mvt_layers.proofs.Placing.{found_count}
 use Rattle.mvt_meaning.specs.Ordinals.{change_nth}
 use Rattle.mvt_meaning.specs.Selection.{feature_positions, is_feature, selected, selected_feature, selected_in}
 use Rattle.mvt_meaning.specs.Tagging.{is_key, pairs_among, removals, without_attribute}

@@ -2,7 +2,7 @@
 use Rattle.std.specs.Prelude.{◌≡◌, ℕ, Some, Ok, slice_get}
 use Rattle.mvt_document.specs.Plain.{Layer, Document}
 use Rattle.mvt_command.specs.Command.{LayersChoice, TheLayer, EachLayer}
-use Rattle.mvt_view.specs.Views.{layers}
+use Rattle.mvt_messages.specs.Views.{layers}
 use Rattle.mvt_meaning.specs.Selection.{layer_positions, selected}
 use Rattle.command_laws.specs.Kept.{tile_fields}
 

@@ -17,7 +17,7 @@ use Rattle.mvt_geometry.specs.declared.Kind.{Kind}
 use Rattle.mvt_geometry.specs.declared.Kind.TheVariants.{Dots, Lines, Areas}
 use Rattle.mvt_geometry.specs.Integers.{encoded}
 use Rattle.mvt_command.specs.Command.{LayersChoice, TheLayer, EachLayer, Command, IsCommand, RenameLayer, MoveLayer, DropLayer, KeepLayers, InsertFeature, MoveFeature, DropFeature, SetId, ClearId, SetAttribute, UnsetAttribute, RenameKey, Exclude, ExcludeAll, Shift, SetGeometry, CompactKeys, CompactValues, Compact}
-use Rattle.mvt_view.specs.Views.{contents, key_field, layers, plain_fields, value_field}
+use Rattle.mvt_messages.specs.Views.{contents, key_field, layers, plain_fields, value_field}
 use Rattle.mvt_meaning.specs.Ordinals.{change_last, change_nth, without, move_nth, insert_nth}
 use Rattle.mvt_meaning.specs.Selection.{is_feature, is_layer, selected, selected_in, selected_layers}
 use Rattle.mvt_meaning.specs.Compaction.{compacted, is_any, is_entry, is_key_used, is_value_used, new_ordinals, staying, with_entries, with_new_ordinals}
@@ -26,9 +26,9 @@ use Rattle.mvt_meaning.specs.Tagging.{attributed, excluded, is_key, is_packed_la
 use Rattle.mvt_geometry.specs.Checks.{is_in_range}
 use Rattle.mvt_meaning.specs.Meaning.{applied, refuse_if, can_shift, fields_of, layer_count, feature_count, has_key, has_pairs, is_drawn, is_id, items_of, refuse_first, repeats_key, is_kept, is_name, is_taken, within_limit, change_layer, change_layers, change_readable, change_feature, identified, named_items, new_content, new_feature, new_number, with_content, with_field_value, with_field_value, with_number, with_text, with_value, without_id}
 use Rattle.mvt_meaning.specs.declared.refusal.Refusal.TheVariants.{BadGeometry, BadPlace, BadTags, KeyTaken, NameTaken, NoKey, NoLayer, OutOfRange, RepeatedKey, TooLarge}
-use Rattle.mvt_numbers.specs.Renumbering.{renumber}
+use Rattle.mvt_renumber.specs.Renumbering.{renumber}
 use Rattle.mvt_document.proofs.EachItem.{all_joined}
-use Rattle.mvt_numbers.proofs.Redone.{stays_valid}
+use Rattle.mvt_renumber.proofs.Redone.{stays_valid}
 use Rattle.mvt_meaning.proofs.Elements.{all_filtered}
 use Rattle.mvt_meaning.proofs.Compaction.{new_ordinals_short}
 use Rattle.mvt_meaning.proofs.Found.{fields_of_nth, items_of_nth}

@@ -10,7 +10,7 @@ use Rattle.mvt_document.specs.Places.{in_feature}
 use Rattle.mvt_document.specs.Wire.{field_bytes, layer_item_bytes}
 use Rattle.mvt_document.proofs.Sizes.{length-message}
 use Rattle.mvt_document.proofs.Spelling.{minimal_width_some}
-use Rattle.mvt_view.specs.Views.{content_in, contents, ordinals_of, plain_fields, value_field}
+use Rattle.mvt_messages.specs.Views.{content_in, contents, ordinals_of, plain_fields, value_field}
 use Rattle.mvt_meaning.specs.Ordinals.{change_nth}
 use Rattle.mvt_meaning.specs.Selection.{is_feature}
 use Rattle.mvt_meaning.specs.Tagging.{attributed, entry_ordinal, missing_entries, value_ordinal, with_attribute}

@@ -6,7 +6,7 @@ use Rattle.mvt_document.specs.Plain.{Field, Feature, LayerItem, Layer, Document}
 use Rattle.mvt_geometry.specs.Shapes.{Geometry, IsGeometry}
 use Rattle.mvt_command.specs.Command.{FeatureChoice}
 use Rattle.mvt_document.specs.Places.{in_feature}
-use Rattle.mvt_view.specs.Views.{feature_in, features, features_in, layers, plain_in, value_in}
+use Rattle.mvt_messages.specs.Views.{feature_in, features, features_in, layers, plain_in, value_in}
 use Rattle.mvt_meaning.specs.Ordinals.{change_nth, insert_nth, move_nth, without}
 use Rattle.mvt_meaning.specs.Selection.{is_feature, selected, selected_feature, selected_in}
 use Rattle.mvt_geometry.specs.Checks.{is_in_range}

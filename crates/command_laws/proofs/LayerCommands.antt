@@ -3,7 +3,7 @@ use Rattle.std.proofs.Common.{◌≡◌, ◌≢◌, ℕ, ◌<◌, Bool, true, no
 use Rattle.std.proofs.lemmas.Bool.{cases_Bool, not-false, ltb-true}
 use Rattle.std.specs.List.{list_any}
 use Rattle.mvt_document.specs.Plain.{OfLayer, PlainInTile, Document}
-use Rattle.mvt_view.specs.Views.{layer_in, layers}
+use Rattle.mvt_messages.specs.Views.{layer_in, layers}
 use Rattle.mvt_meaning.specs.Ordinals.{move_nth, without}
 use Rattle.mvt_meaning.specs.Selection.{is_layer, selected}
 use Rattle.mvt_meaning.specs.Meaning.{◌>>=◌, is_kept, layer_count, refuse_if}

@@ -14,7 +14,7 @@ use Rattle.mvt_document.specs.Places.{in_layer, in_feature}
 use Rattle.mvt_command.specs.Command.{LayersChoice, TheLayer, EachLayer, Command, RenameLayer, MoveLayer, DropLayer, KeepLayers, InsertFeature, MoveFeature, DropFeature, SetId, ClearId, SetAttribute, UnsetAttribute, RenameKey, Exclude, ExcludeAll, Shift, SetGeometry, CompactKeys, CompactValues, Compact}
 use Rattle.mvt_meaning.specs.Ordinals.{from_nth, change_first, change_nth, without, before, behind, move_nth, insert_nth}
 use Rattle.mvt_meaning.specs.Selection.{is_feature, is_layer, selected, selected_in, selected_layers}
-use Rattle.mvt_view.specs.Views.{key_field, layers, value_field}
+use Rattle.mvt_messages.specs.Views.{key_field, layers, value_field}
 use Rattle.mvt_value.specs.Messages.{encoded_value}
 use Rattle.mvt_geometry.specs.Checks.{is_in_range}
 use Rattle.mvt_meaning.specs.Compaction.{compacted, is_any, is_entry, is_key_used, is_value_used, new_ordinals, staying, with_entries, with_new_ordinals}
@@ -23,7 +23,7 @@ use Rattle.mvt_meaning.specs.Tagging.{attributed, excluded, is_tags, removals, r
 use Rattle.mvt_meaning.specs.Meaning.{applied, refuse_if, can_shift, layer_count, feature_count, has_key, has_pairs, is_drawn, items_of, refuse_first, repeats_key, within_limit, change_layer, change_layers, change_readable, change_feature, is_id, is_kept, is_taken, without_id, identified, named_items, new_feature}
 use Rattle.mvt_meaning.specs.Weights.{weigh}
 use Rattle.mvt_meaning.specs.declared.refusal.Refusal.TheVariants.{BadGeometry, BadPlace, BadTags, KeyTaken, NameTaken, NoKey, NoLayer, OutOfRange, RepeatedKey, TooLarge}
-use Rattle.mvt_numbers.proofs.Redone.{lower_no_longer, no_longer}
+use Rattle.mvt_renumber.proofs.Redone.{lower_no_longer, no_longer}
 use Rattle.command_laws.proofs.NewOrdinals.{new_ordinals_lower}
 use Rattle.mvt_meaning.proofs.Removals.{none_new}
 use Rattle.command_laws.specs.SizeLaws.{CommandFits, NeverLonger, may_lengthen}

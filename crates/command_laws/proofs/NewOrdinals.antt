@@ -4,11 +4,11 @@ use Rattle.std.proofs.lemmas.Simd.{map-map}
 use Rattle.std.specs.List.{flat_map}
 use Rattle.std.specs.Option.{option_map_or}
 use Rattle.mvt_document.specs.Plain.{Number, Field, LayerItem}
-use Rattle.mvt_numbers.specs.Laws.{NoneIsGreater}
+use Rattle.mvt_renumber.specs.Laws.{NoneIsGreater}
 use Rattle.mvt_numbers.specs.Numbers.{Placed, numbers}
-use Rattle.mvt_numbers.specs.Renumbering.{field_numbers}
-use Rattle.mvt_numbers.proofs.Reread.{read_of_fields}
-use Rattle.mvt_view.specs.Views.{contents, key_field, plain_fields, value_field}
+use Rattle.mvt_renumber.specs.Renumbering.{field_numbers}
+use Rattle.mvt_renumber.proofs.Reread.{read_of_fields}
+use Rattle.mvt_messages.specs.Views.{contents, key_field, plain_fields, value_field}
 use Rattle.mvt_meaning.specs.Compaction.{new_ordinal, new_ordinals, repointed}
 use Rattle.mvt_meaning.specs.Tagging.{pairs_among}
 use Rattle.mvt_meaning.proofs.Removals.{flat, head_same, make_pairs}

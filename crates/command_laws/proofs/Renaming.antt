@@ -5,7 +5,7 @@ use Rattle.std.proofs.lemmas.Bool.Decides.{nat_tests}
 use Rattle.std.proofs.lemmas.Slice.Eq.{bytes_eq-Decides}
 use Rattle.std.specs.List.{filter_map, cons_option, list_any, last_or}
 use Rattle.mvt_document.specs.Plain.{Number, Body, Spelled, Eight, Four, Delimited, Group, LayerItem, OfFeature, PlainInLayer, Layer, Document}
-use Rattle.mvt_view.specs.Views.{content_in, contents, is_named, layer_in, layers, name_of, plain_fields}
+use Rattle.mvt_messages.specs.Views.{content_in, contents, is_named, layer_in, layers, name_of, plain_fields}
 use Rattle.mvt_meaning.specs.Selection.{selected}
 use Rattle.mvt_meaning.specs.Meaning.{◌>>=◌, change_layer, is_name, is_taken, name_in, named_items, new_content, refuse_if, with_text, within_limit}
 use Rattle.mvt_meaning.specs.declared.refusal.Refusal.TheVariants.{NameTaken}

@@ -5,7 +5,7 @@ use Rattle.std.proofs.lemmas.Slice.Eq.{bytes_eq-Decides}
 use Rattle.std.specs.Option.{option_map_or}
 use Rattle.std.specs.Str.{bytes_eq}
 use Rattle.mvt_document.specs.Plain.{Layer}
-use Rattle.mvt_view.specs.Views.{is_named, layers, name_of}
+use Rattle.mvt_messages.specs.Views.{is_named, layers, name_of}
 use Rattle.mvt_meaning.specs.declared.refusal.Refusal.TheVariants.{NoLayer}
 use Rattle.mvt_meaning.proofs.Positions.{positions_from, positions_pass, positions_skip}
 use Rattle.mvt_meaning.proofs.SelectionLemmas.{one_layer, two_apart}

@@ -7,12 +7,12 @@ use Rattle.std.specs.List.{flat_map, list_all}
 use Rattle.std.specs.Option.{option_map_or}
 use Rattle.mvt_document.specs.Plain.{Number, Field, LayerItem, OfFeature, PlainInLayer}
 use Rattle.mvt_document.specs.Places.{in_feature}
-use Rattle.mvt_numbers.specs.Laws.{keeping}
-use Rattle.mvt_numbers.specs.Renumbering.{field_numbers, renumber}
-use Rattle.mvt_numbers.proofs.Redone.{kept_stays}
-use Rattle.mvt_numbers.proofs.Reread.{read_of_fields}
-use Rattle.mvt_view.specs.Attributes.{is_ordinal, is_pair}
-use Rattle.mvt_view.specs.Views.{content_in, contents, features_in, key_field, plain_fields, value_field}
+use Rattle.mvt_renumber.specs.Laws.{keeping}
+use Rattle.mvt_renumber.specs.Renumbering.{field_numbers, renumber}
+use Rattle.mvt_renumber.proofs.Redone.{kept_stays}
+use Rattle.mvt_renumber.proofs.Reread.{read_of_fields}
+use Rattle.mvt_messages.specs.Attributes.{is_ordinal, is_pair}
+use Rattle.mvt_messages.specs.Views.{content_in, contents, features_in, key_field, plain_fields, value_field}
 use Rattle.mvt_meaning.specs.Compaction.{compacted, is_any, is_entry, is_key_used, is_value_used, new_ordinal, repointed, staying, with_entries, with_new_ordinals}
 use Rattle.mvt_meaning.specs.Tagging.{pairs_among}
 use Rattle.attribute_laws.proofs.Excluded.{some_of}

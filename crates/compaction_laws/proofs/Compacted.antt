@@ -5,8 +5,8 @@ use Rattle.std.specs.List.{AllByRecursion}
 use Rattle.mvt_document.specs.Plain.{Field, Feature, LayerItem, OfFeature, PlainInLayer, Layer, Document}
 use Rattle.mvt_document.specs.Places.{in_feature}
 use Rattle.mvt_command.specs.Command.{LayersChoice}
-use Rattle.mvt_view.specs.Attributes.{attribute_at}
-use Rattle.mvt_view.specs.Views.{content_in, contents, features, features_in, key_field, plain_fields, plain_in, value_field}
+use Rattle.mvt_messages.specs.Attributes.{attribute_at}
+use Rattle.mvt_messages.specs.Views.{content_in, contents, features, features_in, key_field, plain_fields, plain_in, value_field}
 use Rattle.mvt_meaning.specs.Compaction.{compacted, is_any, is_entry, is_key_used, is_value_used, new_ordinals, staying}
 use Rattle.mvt_meaning.specs.Selection.{selected_layers}
 use Rattle.mvt_meaning.specs.Tagging.{pairs_among, unreadable}

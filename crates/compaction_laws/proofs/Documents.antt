@@ -5,7 +5,7 @@ use Rattle.std.specs.List.{AllByRecursion, last_or}
 use Rattle.mvt_document.specs.Plain.{LayerItem, Layer, TileItem, OfLayer, PlainInTile, Document}
 use Rattle.mvt_document.specs.Places.{in_layer}
 use Rattle.mvt_command.specs.Command.{LayerChoice, LayersChoice, TheLayer, EachLayer}
-use Rattle.mvt_view.specs.Views.{contents, features_in, layers, name_of, plain_fields}
+use Rattle.mvt_messages.specs.Views.{contents, features_in, layers, name_of, plain_fields}
 use Rattle.mvt_meaning.specs.Selection.{selected, selected_layers}
 use Rattle.mvt_meaning.specs.Tagging.{unreadable}
 use Rattle.mvt_meaning.specs.Meaning.{◌>>=◌, change_layer, change_layers, change_readable, refuse_first}

@@ -4,10 +4,10 @@ use Rattle.std.specs.List.{AllByRecursion}
 use Rattle.std.specs.Option.{option_map_or}
 use Rattle.mvt_document.specs.Plain.{Number, Field, Feature, LayerItem, OfFeature, PlainInLayer}
 use Rattle.mvt_document.specs.Places.{in_feature}
-use Rattle.mvt_numbers.specs.Laws.{AreShort}
-use Rattle.mvt_numbers.specs.Renumbering.{renumber, with_number}
-use Rattle.mvt_numbers.proofs.Decisions.{with_number-same}
-use Rattle.mvt_view.specs.Views.{contents, features_in, key_field, plain_fields, value_field}
+use Rattle.mvt_renumber.specs.Laws.{AreShort}
+use Rattle.mvt_renumber.specs.Renumbering.{renumber, with_number}
+use Rattle.mvt_renumber.proofs.Decisions.{with_number-same}
+use Rattle.mvt_messages.specs.Views.{contents, features_in, key_field, plain_fields, value_field}
 use Rattle.mvt_meaning.specs.Compaction.{all_pairs, compacted, is_any, is_entry, is_key_used, is_value_used, new_ordinal, repointed, staying, with_entries, with_new_ordinals}
 use Rattle.mvt_meaning.specs.Tagging.{pairs_among}
 use Rattle.mvt_meaning.proofs.Compaction.{new_ordinals_short}
@@ -18,7 +18,7 @@ use Rattle.compaction_laws.proofs.Staying.{all_same, all_staying, map-staying}
 use Rattle.attribute_laws.proofs.PairsRead.{pairs_read}
 use Rattle.compaction_laws.specs.Laws.{value_of}
 use Rattle.compaction_laws.proofs.Compacted.{EachIsRead, any_covered, keys_covered, read_staying}
-use Rattle.mvt_numbers.proofs.DecidedTwice.{InTurn, and_more, nothing, renumbered_twice}
+use Rattle.mvt_renumber.proofs.DecidedTwice.{InTurn, and_more, nothing, renumbered_twice}
 use Rattle.compaction_laws.proofs.Repointed.{new_fields, new_items, pairs_new, repoint}
 use Rattle.compaction_laws.proofs.Used.{IsReadStaying, all_pairs_new, names, names_same}
 

@@ -7,12 +7,12 @@ use Rattle.std.specs.List.{AllByRecursion, list_all}
 use Rattle.std.specs.Option.{option_map_or}
 use Rattle.mvt_document.specs.Plain.{Number, Field, LayerItem, OfFeature, PlainInLayer}
 use Rattle.mvt_document.specs.Places.{in_feature}
-use Rattle.mvt_numbers.specs.Laws.{AreShort}
+use Rattle.mvt_renumber.specs.Laws.{AreShort}
 use Rattle.mvt_numbers.specs.Numbers.{numbers}
-use Rattle.mvt_numbers.specs.Renumbering.{renumber, renumbered, with_number}
-use Rattle.mvt_numbers.proofs.Redone.{left_is_read}
-use Rattle.mvt_view.specs.Attributes.{is_ordinal, is_pair, pairs_in}
-use Rattle.mvt_view.specs.Views.{content_in, contents, feature_in, features_in, key_field, plain_fields, value_field}
+use Rattle.mvt_renumber.specs.Renumbering.{renumber, renumbered, with_number}
+use Rattle.mvt_renumber.proofs.Redone.{left_is_read}
+use Rattle.mvt_messages.specs.Attributes.{is_ordinal, is_pair, pairs_in}
+use Rattle.mvt_messages.specs.Views.{content_in, contents, feature_in, features_in, key_field, plain_fields, value_field}
 use Rattle.mvt_meaning.specs.Compaction.{is_entry, new_ordinal, repointed, staying, with_entries, with_new_ordinals}
 use Rattle.mvt_meaning.specs.Tagging.{pairs_among}
 use Rattle.mvt_meaning.proofs.Compaction.{new_ordinal_low, new_ordinals_short}
@@ -24,7 +24,7 @@ use Rattle.compaction_laws.proofs.Staying.{filter_map-apart, filter_map-staying,
 use Rattle.attribute_laws.proofs.EachFeature.{features_changed, fields_stay}
 use Rattle.attribute_laws.proofs.PairsRead.{pairs_again, pairs_read}
 use Rattle.compaction_laws.specs.Laws.{is_entry_of, key_of, value_of}
-use Rattle.mvt_numbers.proofs.DecidedTwice.{InTurn, and_again, and_more, nothing, renumbered_tags}
+use Rattle.mvt_renumber.proofs.DecidedTwice.{InTurn, and_again, and_more, nothing, renumbered_tags}
 
 -- ---- pairs
 

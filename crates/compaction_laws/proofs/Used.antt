@@ -7,7 +7,7 @@ use Rattle.std.specs.List.{AllByRecursion, flat_map, list_any}
 use Rattle.std.specs.Option.{unwrap_or}
 use Rattle.mvt_document.specs.Plain.{Feature, LayerItem, Layer}
 use Rattle.mvt_document.proofs.EachItem.{all_by}
-use Rattle.mvt_view.specs.Views.{contents, features_in, key_field, plain_fields, value_field}
+use Rattle.mvt_messages.specs.Views.{contents, features_in, key_field, plain_fields, value_field}
 use Rattle.mvt_meaning.specs.Compaction.{all_pairs, is_key_used, is_value_used, new_ordinal}
 use Rattle.mvt_meaning.specs.Tagging.{pairs_among}
 use Rattle.command_laws.proofs.Parts.{with_fields}

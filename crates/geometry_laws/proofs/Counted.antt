@@ -17,12 +17,12 @@ use Rattle.mvt_geometry.specs.Integers.{integers}
 use Rattle.mvt_geometry.specs.Laws.{IsWithin}
 use Rattle.mvt_geometry.specs.declared.shapes.Point.{Point}
 use Rattle.mvt_geometry.proofs.Reach.{integers_reach}
-use Rattle.mvt_numbers.specs.Deciding.{packed_numbers}
-use Rattle.mvt_numbers.specs.Laws.{read_numbers}
-use Rattle.mvt_numbers.specs.Renumbering.{field_numbers}
-use Rattle.mvt_numbers.proofs.Redone.{packed-read}
-use Rattle.mvt_numbers.proofs.Reread.{read_of_fields}
-use Rattle.mvt_view.specs.Views.{features, features_in, layers}
+use Rattle.mvt_renumber.specs.Deciding.{packed_numbers}
+use Rattle.mvt_renumber.specs.Laws.{read_numbers}
+use Rattle.mvt_renumber.specs.Renumbering.{field_numbers}
+use Rattle.mvt_renumber.proofs.Redone.{packed-read}
+use Rattle.mvt_renumber.proofs.Reread.{read_of_fields}
+use Rattle.mvt_messages.specs.Views.{features, features_in, layers}
 use Rattle.mvt_meaning.specs.Weights.{weigh}
 use Rattle.command_laws.proofs.ReadValues.{numbers_of_values}
 use Rattle.geometry_laws.specs.Laws.{NoCoordinateIsFar}

@@ -12,14 +12,14 @@ use Rattle.mvt_geometry.specs.Integers.{IsInRange, encoded, integers}
 use Rattle.mvt_geometry.specs.Shapes.{Geometry, IsGeometry, kind_number}
 use Rattle.mvt_geometry.proofs.Checks.{in_range-Decides}
 use Rattle.mvt_geometry.proofs.Small.{packs_integers}
-use Rattle.mvt_numbers.specs.Deciding.{packed_numbers}
-use Rattle.mvt_numbers.specs.Laws.{read_numbers}
+use Rattle.mvt_renumber.specs.Deciding.{packed_numbers}
+use Rattle.mvt_renumber.specs.Laws.{read_numbers}
 use Rattle.mvt_numbers.specs.Numbers.{numbers}
-use Rattle.mvt_numbers.proofs.Decisions.{packed-spellings}
-use Rattle.mvt_numbers.proofs.Reread.{both_found, field_read, fields_read, found_in, read_is}
-use Rattle.mvt_view.specs.Attributes.{values_in}
+use Rattle.mvt_renumber.proofs.Decisions.{packed-spellings}
+use Rattle.mvt_renumber.proofs.Reread.{both_found, field_read, fields_read, found_in, read_is}
+use Rattle.mvt_messages.specs.Attributes.{values_in}
 use Rattle.mvt_view.specs.FeatureGeometry.{HasFeatureGeometry}
-use Rattle.mvt_view.specs.Views.{kind_of, value_in}
+use Rattle.mvt_messages.specs.Views.{kind_of, value_in}
 use Rattle.mvt_meaning.specs.Fields.{new_content, new_number, with_field_value}
 use Rattle.mvt_meaning.specs.Geometries.{is_geometry_field, is_kind, with_geometry, with_kind}
 use Rattle.mvt_meaning.specs.Meaning.{◌>>=◌, change_feature, refuse_if, within_limit}

@@ -8,11 +8,11 @@ use Rattle.std.specs.List.{AllByRecursion, flat_map}
 use Rattle.std.specs.Option.{unwrap_or}
 use Rattle.mvt_document.specs.Plain.{Number, Body, Spelled, Eight, Four, Delimited, Group, Field}
 use Rattle.mvt_document.proofs.EachItem.{all_dropped}
-use Rattle.mvt_numbers.specs.Laws.{AreShort, keeping, read_numbers}
-use Rattle.mvt_numbers.specs.Renumbering.{field_numbers, renumber, renumbered, renumbered_field, with_left, with_numbers}
-use Rattle.mvt_numbers.proofs.Decisions.{renumbered-none, renumbered_more, with_number-same}
-use Rattle.mvt_numbers.proofs.Redone.{kept_stays, left_is_read, renumbered-append}
-use Rattle.mvt_numbers.proofs.Reread.{both_found, field_read, read_is, read_of_fields}
+use Rattle.mvt_renumber.specs.Laws.{AreShort, keeping, read_numbers}
+use Rattle.mvt_renumber.specs.Renumbering.{field_numbers, renumber, renumbered, renumbered_field, with_left, with_numbers}
+use Rattle.mvt_renumber.proofs.Decisions.{renumbered-none, renumbered_more, with_number-same}
+use Rattle.mvt_renumber.proofs.Redone.{kept_stays, left_is_read, renumbered-append}
+use Rattle.mvt_renumber.proofs.Reread.{both_found, field_read, read_is, read_of_fields}
 use Rattle.geometry_laws.specs.Laws.{front, stored_width}
 
 -- ---- no number goes

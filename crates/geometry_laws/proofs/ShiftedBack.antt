@@ -15,14 +15,14 @@ use Rattle.mvt_geometry.specs.Checks.{is_way}
 use Rattle.mvt_geometry.specs.Found.{geometry_in}
 use Rattle.mvt_geometry.specs.Shapes.{Geometry}
 use Rattle.mvt_geometry.proofs.Found.{found_geometry}
-use Rattle.mvt_numbers.specs.Laws.{read_numbers}
+use Rattle.mvt_renumber.specs.Laws.{read_numbers}
 use Rattle.mvt_numbers.specs.Numbers.{numbers}
-use Rattle.mvt_numbers.specs.Renumbering.{field_numbers, renumbered, with_number}
-use Rattle.mvt_numbers.proofs.Decisions.{with_number-same}
-use Rattle.mvt_numbers.proofs.Reread.{read_of_fields}
-use Rattle.mvt_view.specs.Attributes.{values_in}
+use Rattle.mvt_renumber.specs.Renumbering.{field_numbers, renumbered, with_number}
+use Rattle.mvt_renumber.proofs.Decisions.{with_number-same}
+use Rattle.mvt_renumber.proofs.Reread.{read_of_fields}
+use Rattle.mvt_messages.specs.Attributes.{values_in}
 use Rattle.mvt_view.specs.FeatureGeometry.{HasFeatureGeometry}
-use Rattle.mvt_view.specs.Views.{contents, id_of, kind_of, name_of}
+use Rattle.mvt_messages.specs.Views.{contents, id_of, kind_of, name_of}
 use Rattle.mvt_meaning.specs.Geometries.{can_move, can_move_integers, further, geometry_among, moves, shifted}
 use Rattle.mvt_meaning.specs.Meaning.{can_shift, change_feature, fields_of, is_drawn, items_of, within_limit}
 use Rattle.mvt_meaning.specs.Ordinals.{change_first, change_nth}

@@ -8,11 +8,11 @@ use Rattle.std.specs.List.{cons_option, enumerate_from, filter_map, find, list_a
 use Rattle.std.specs.Option.{option_map_or}
 use Rattle.std.specs.Str.{bytes_eq}
 use Rattle.mvt_document.specs.Plain.{LayerItem, OfFeature, PlainInLayer}
-use Rattle.mvt_view.specs.Found.{with_position}
-use Rattle.mvt_view.specs.Pools.{entry_in, first_equal, found_entries}
-use Rattle.mvt_view.specs.Seen.{found_entry_seen}
-use Rattle.mvt_view.specs.Views.{content_in, contents, plain_fields}
-use Rattle.mvt_view.specs.declared.found.FoundEntry.{FoundEntry}
+use Rattle.mvt_messages.specs.Found.{with_position}
+use Rattle.mvt_layers.specs.Pools.{entry_in, first_equal, found_entries}
+use Rattle.mvt_layers.specs.Seen.{found_entry_seen}
+use Rattle.mvt_messages.specs.Views.{content_in, contents, plain_fields}
+use Rattle.mvt_layers.specs.declared.found.FoundEntry.{FoundEntry}
 use Rattle.mvt_meaning.specs.Tagging.{entry_ordinal}
 
 -- ---- bytes that are equal

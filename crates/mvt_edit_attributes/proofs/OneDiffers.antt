@@ -7,19 +7,19 @@ use Rattle.std.proofs.lemmas.Simd.{map-map}
 use Rattle.std.specs.List.{cons_option, flat_map, list_all, list_any, zip}
 use Rattle.std.specs.Option.{option_and_then}
 use Rattle.mvt_document.specs.Plain.{Field, Number}
-use Rattle.mvt_numbers.specs.Fates.{changes, field_fate}
+use Rattle.mvt_renumber.specs.Fates.{changes, field_fate}
 use Rattle.mvt_numbers.specs.Numbers.{Placed, all_good, and_more, numbers}
-use Rattle.mvt_numbers.specs.Renumbering.{field_numbers, is_changed}
-use Rattle.mvt_numbers.specs.declared.fate.Fate.{Fate}
-use Rattle.mvt_numbers.specs.declared.fate.Fate.TheVariants.{Stays, Goes, Becomes}
-use Rattle.mvt_numbers.proofs.Reread.{read_of_fields}
-use Rattle.mvt_view.specs.Attributes.{if_pairs, in_pairs, is_pair, pairs_in}
-use Rattle.mvt_edit_steps.specs.Decided.{field_fates}
-use Rattle.mvt_edit_steps.specs.Fates.{splices_from}
-use Rattle.mvt_edit_steps.proofs.FieldsLeft.{changes_one}
+use Rattle.mvt_renumber.specs.Renumbering.{field_numbers, is_changed}
+use Rattle.mvt_renumber.specs.declared.fate.Fate.{Fate}
+use Rattle.mvt_renumber.specs.declared.fate.Fate.TheVariants.{Stays, Goes, Becomes}
+use Rattle.mvt_renumber.proofs.Reread.{read_of_fields}
+use Rattle.mvt_messages.specs.Attributes.{if_pairs, in_pairs, is_pair, pairs_in}
+use Rattle.mvt_fates.specs.Decided.{field_fates}
+use Rattle.mvt_fates.specs.Fates.{splices_from}
+use Rattle.mvt_edit_pairs.proofs.FieldsLeft.{changes_one}
 use Rattle.mvt_edit_attributes.specs.Attribute.{run_for}
 use Rattle.mvt_meaning.specs.Tagging.{revalued}
-use Rattle.mvt_edit_steps.proofs.Deciding.{counted_first}
+use Rattle.mvt_edit_pairs.proofs.Deciding.{counted_first}
 
 pub some_mapped : {A B : Type 0} (f : A → B) (found : Option A) → is_some (option_map f found) ≡ is_some found
 some_mapped f None = refl

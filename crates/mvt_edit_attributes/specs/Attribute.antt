@@ -9,16 +9,16 @@ use Rattle.mvt_document.specs.Plain.{Field, LayerItem, PlainInLayer, Layer}
 use Rattle.mvt_document.specs.Splicing.{part, splice}
 use Rattle.mvt_document.specs.Wire.{field_bytes, layer_item_bytes}
 use Rattle.mvt_change.specs.Changes.{Change, LayerStep}
-use Rattle.mvt_view.specs.Views.{keys, values}
+use Rattle.mvt_messages.specs.Views.{keys, values}
 use Rattle.mvt_meaning.specs.Fields.{new_content}
 use Rattle.mvt_meaning.specs.Meaning.{◌>>=◌, refuse_if}
 use Rattle.mvt_meaning.specs.Tagging.{is_packed_last, key_ordinal, is_tags, missing_entries, pairs_among, pairs_with, value_ordinal, with_attribute, with_more_tags}
 use Rattle.mvt_meaning.specs.Weights.{set_puts, set_takes, weigh, weigh_last}
 use Rattle.mvt_meaning.specs.declared.refusal.Refusal.{Refusal}
 use Rattle.mvt_meaning.specs.declared.refusal.Refusal.TheVariants.{BadTags, RepeatedKey}
-use Rattle.mvt_edit_steps.specs.Fates.{Splice}
-use Rattle.mvt_numbers.specs.declared.fate.Fate.{Fate}
-use Rattle.mvt_numbers.specs.declared.fate.Fate.TheVariants.{Stays, Goes, Becomes}
+use Rattle.mvt_fates.specs.Fates.{Splice}
+use Rattle.mvt_renumber.specs.declared.fate.Fate.{Fate}
+use Rattle.mvt_renumber.specs.declared.fate.Fate.TheVariants.{Stays, Goes, Becomes}
 use Rattle.mvt_edit_attributes.specs.declared.pools.Ordinals.{Ordinals}
 
 -- ---- a run of fields, where they change

@@ -7,13 +7,13 @@ ghost use Rattle.mvt_document.specs.Plain.{PlainInLayer};
 ghost use Rattle.mvt_document.specs.Shape.{IsTag};
 ghost use Rattle.mvt_document.specs.Stands.{layer_item_of};
 ghost use Rattle.mvt_meaning.specs.Fields.{new_content};
-ghost use Rattle.mvt_view.specs.Seen.{layer_seen};
-ghost use Rattle.mvt_view.specs.Views.{keys, values};
+ghost use Rattle.mvt_layers.specs.Seen.{layer_seen};
+ghost use Rattle.mvt_messages.specs.Views.{keys, values};
 ghost use Rattle.mvt_edit_attributes.specs.Attribute.{AreFound, entries_for};
 
 use mvt_document::tags::{KEYS, LEN, VALUES};
 use mvt_document::{Body, Field, FieldBody, Items, LayerItem, Tag};
-use mvt_view::{FoundEntry, LayerView, PoolSizes};
+use mvt_layers::{FoundEntry, LayerView, PoolSizes};
 use std::alloc::{AllocError, Global};
 
 const KEY_TAG: u64 = 8 * KEYS + LEN;

@@ -8,9 +8,9 @@ ghost use Rattle.mvt_change.specs.Changes.{FeatureStep};
 ghost use Rattle.mvt_change.specs.ChangeStands.{change_of};
 ghost use Rattle.mvt_command.specs.Command.{SetAttribute};
 ghost use Rattle.mvt_command.specs.CommandStands.{feature_choice_of, layer_choice_of};
-ghost use Rattle.mvt_view.specs.Views.{keys, values};
+ghost use Rattle.mvt_messages.specs.Views.{keys, values};
 ghost use Rattle.mvt_meaning.specs.declared.refusal.Refusal.TheVariants.{NoMemory};
-ghost use Rattle.mvt_edit_steps.specs.Fates.{seen, splice_of};
+ghost use Rattle.mvt_fates.specs.Fates.{seen, splice_of};
 ghost use Rattle.mvt_edit_steps.specs.Prepared.{Prepares};
 ghost use Rattle.mvt_edit_attributes.specs.Attribute.{AreFound, GivesAttribute, attribute_checked, behind_all};
 
@@ -18,12 +18,13 @@ use crate::pools::{Ordinals, look_for, missing_entries};
 use crate::tags_run::{and_pair, first_renumbered, size_with};
 use mvt_change::{Change, Step, fits_with_items, size_with_fields};
 use mvt_document::{Document, Field, Items, LayerItem, MAX_FILE, size_of_all};
-use mvt_edit_steps::{Run, decide_or_refuse, named_keys};
+use mvt_edit_pairs::{decide_or_refuse, named_keys};
+use mvt_fates::Run;
+use mvt_layers::PoolSizes;
 use mvt_select::{
     FeatureChoice, FoundFeature, FoundLayer, LayerChoice, Refusal, find_feature, find_layer,
 };
 use mvt_value::{NewValue, encode_value};
-use mvt_view::PoolSizes;
 use std::alloc::{AllocError, Global};
 
 /// The feature's one pair of the key gets the value, or a further pair comes where there is none.

@@ -8,13 +8,13 @@ ghost use Rattle.mvt_document.specs.Opens.{IsField};
 ghost use Rattle.mvt_document.specs.Stands.{field_of};
 ghost use Rattle.mvt_document.specs.Wire.{field_bytes, shortest};
 ghost use Rattle.mvt_change.specs.FileSizes.{IsFileSize};
-ghost use Rattle.mvt_numbers.specs.Fates.{changes, fate_seen};
-ghost use Rattle.mvt_view.specs.Views.{content_in};
+ghost use Rattle.mvt_renumber.specs.Fates.{changes, fate_seen};
+ghost use Rattle.mvt_messages.specs.Views.{content_in};
 ghost use Rattle.mvt_meaning.specs.Fields.{new_content};
 ghost use Rattle.mvt_meaning.specs.Tagging.{is_packed_last, is_tags, with_more_content};
 ghost use Rattle.mvt_meaning.specs.Ordinals.{positions_of};
-ghost use Rattle.mvt_edit_steps.specs.Decided.{field_fates};
-ghost use Rattle.mvt_edit_steps.specs.Fates.{seen, splice_of, splices_of};
+ghost use Rattle.mvt_fates.specs.Decided.{field_fates};
+ghost use Rattle.mvt_fates.specs.Fates.{seen, splice_of, splices_of};
 ghost use Rattle.mvt_edit_attributes.specs.Attribute.{PutsPair, fields_with, run_for};
 
 use mvt_document::tags::{LEN, TAGS};
@@ -22,8 +22,10 @@ use mvt_document::{
     Body, BodyRef, Field, FieldBody, Items, MAX_FILE, Tag, Varint, size_beside_part, size_of_all,
     sum_within,
 };
-use mvt_edit_steps::{Fate, Run, Spot, is_tags};
-use mvt_numbers::renumber_field;
+use mvt_edit_pairs::is_tags;
+use mvt_edit_steps::Spot;
+use mvt_fates::{Fate, Run};
+use mvt_renumber::renumber_field;
 use std::alloc::{AllocError, Global};
 
 const TAGS_TAG: u64 = 8 * TAGS + LEN;

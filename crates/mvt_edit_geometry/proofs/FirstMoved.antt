@@ -6,9 +6,9 @@ use Rattle.mvt_document.specs.Plain.{Field}
 use Rattle.mvt_document.specs.Signed.{zigzag}
 use Rattle.mvt_numbers.specs.Numbers.{Placed, all_good, and_more}
 use Rattle.mvt_geometry.specs.Checks.{is_way}
-use Rattle.mvt_view.specs.Attributes.{values_in}
+use Rattle.mvt_messages.specs.Attributes.{values_in}
 use Rattle.mvt_meaning.specs.Geometries.{can_move, can_move_integers, further, moved_integers, moves}
-use Rattle.mvt_meaning.proofs.Moving.{FirstIntegers}
+use Rattle.mvt_edit_geometry.proofs.FirstIntegers.{FirstIntegers}
 
 -- ---- the next number
 

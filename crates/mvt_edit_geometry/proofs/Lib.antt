@@ -1,3 +1,4 @@
+mod FirstIntegers
 mod FirstMoved
 mod Shifted
 pub mod Drawn

@@ -8,27 +8,28 @@ ghost use Rattle.mvt_document.specs.Signed.{zigzag};
 ghost use Rattle.mvt_document.specs.Stands.{document_of, feature_of, field_of};
 ghost use Rattle.mvt_document.specs.Wire.{field_bytes};
 ghost use Rattle.mvt_geometry.specs.Checks.{is_way};
-ghost use Rattle.mvt_numbers.specs.Renumbering.{renumber};
+ghost use Rattle.mvt_renumber.specs.Renumbering.{renumber};
 ghost use Rattle.mvt_change.specs.Changes.{FeatureStep};
 ghost use Rattle.mvt_change.specs.ChangeStands.{step_of};
 ghost use Rattle.mvt_change.specs.FileSizes.{IsFileSize};
 ghost use Rattle.mvt_command.specs.Command.{Shift};
 ghost use Rattle.mvt_command.specs.CommandStands.{feature_choice_of, layer_choice_of};
-ghost use Rattle.mvt_view.specs.Seen.{feature_seen};
+ghost use Rattle.mvt_layers.specs.Seen.{feature_seen};
 ghost use Rattle.mvt_meaning.specs.Geometries.{can_move, further, geometry_among, moves};
 ghost use Rattle.mvt_meaning.specs.declared.refusal.Refusal.TheVariants.{BadGeometry, NoMemory};
-ghost use Rattle.mvt_edit_steps.specs.Decided.{field_fates};
-ghost use Rattle.mvt_edit_steps.specs.Fates.{splices_of};
+ghost use Rattle.mvt_fates.specs.Decided.{field_fates};
+ghost use Rattle.mvt_fates.specs.Fates.{splices_of};
 ghost use Rattle.mvt_edit_steps.specs.Prepared.{Prepares};
 
 use mvt_change::{Change, Step, fits_with_items, size_with_fields};
 use mvt_document::tags::GEOMETRY;
 use mvt_document::{Document, Items, from_zigzag, to_zigzag};
-use mvt_edit_steps::renumber_feature;
+use mvt_edit_pairs::renumber_feature;
 use mvt_geometry::is_way;
+use mvt_layers::FeatureView;
 use mvt_numbers::Numbers;
 use mvt_select::{FeatureChoice, FoundFeature, LayerChoice, Refusal, find_feature, find_layer};
-use mvt_view::{FeatureView, GeometryError, geometry};
+use mvt_view::{GeometryError, geometry};
 use std::alloc::{AllocError, Global};
 
 /// The geometry of the feature moves by so much along each axis. Of its integers the first two

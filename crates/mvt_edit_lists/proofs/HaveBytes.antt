@@ -6,12 +6,12 @@ use Rattle.mvt_document.specs.Bodies.{body_of}
 use Rattle.mvt_document.specs.Stands.{field_of, layer_item_of, tile_item_of}
 use Rattle.mvt_document.specs.declared.Body.{Body}
 use Rattle.mvt_document.specs.declared.Body.TheVariants.{Number, Eight, Four, Bytes, Group}
-use Rattle.mvt_view.specs.Views.{value_of}
+use Rattle.mvt_messages.specs.Views.{value_of}
 use Rattle.mvt_document.specs.declared.Field.{Field}
 use Rattle.mvt_document.specs.declared.TileItem.{TileItem}
 use Rattle.mvt_document.specs.declared.TileItem.TheVariants as in_tile
 use Rattle.mvt_meaning.specs.Meaning.{is_id}
-use Rattle.mvt_edit_steps.proofs.Heavy.{number_has_bytes, tag_and_content}
+use Rattle.mvt_fates.proofs.Heavy.{number_has_bytes, tag_and_content}
 use Rattle.mvt_edit_lists.proofs.Kept.{goes}
 
 pub layer_has_bytes : (names : List (List ℕ)) (item : TileItem) → goes names (tile_item_of item) ≡ true → 2 ≤ length (tile_item_bytes (tile_item_of item))

@@ -14,7 +14,7 @@ use Rattle.mvt_geometry.specs.Integers.{IsInRange}
 use Rattle.mvt_geometry.proofs.Checks.{in_range-Decides}
 use Rattle.mvt_geometry.specs.declared.EncodeError.{EncodeError}
 use Rattle.mvt_geometry.specs.declared.EncodeError.TheVariants as encode_errors
-use Rattle.mvt_view.specs.Views.{features_in}
+use Rattle.mvt_messages.specs.Views.{features_in}
 use Rattle.mvt_document.specs.Lists.{CanSplice}
 use Rattle.mvt_document.specs.Places.{change_items}
 use Rattle.mvt_change.specs.Changes.{FitsStep, LayerStep, go_step}

@@ -4,7 +4,7 @@ use Rattle.std.proofs.lemmas.Bool.{le-ltb, lt-ltb}
 use Rattle.std.specs.Option.{IsSomeAnd}
 use Rattle.mvt_document.specs.Plain.{LayerItem, OfFeature, PlainInLayer, Layer, OfLayer, PlainInTile, Document}
 use Rattle.mvt_document.specs.Splicing.{moved}
-use Rattle.mvt_view.specs.Views.{feature_in, features_in, layer_in, layers}
+use Rattle.mvt_messages.specs.Views.{feature_in, features_in, layer_in, layers}
 use Rattle.mvt_document.specs.Lists.{CanMove}
 use Rattle.mvt_change.specs.Changes.{MoveStep, OfTheLayer, OfTheTile}
 use Rattle.mvt_command.specs.Command.{FeatureChoice, LayerChoice, MoveFeature, MoveLayer}

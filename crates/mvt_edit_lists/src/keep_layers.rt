@@ -13,9 +13,9 @@ ghost use Rattle.mvt_edit_steps.specs.Prepared.{Prepares};
 
 use mvt_change::{Change, Step};
 use mvt_document::{Document, Items, TileItem};
-use mvt_edit_steps::{carry_out, goes_if};
+use mvt_fates::{carry_out, goes_if};
+use mvt_layers::{LayerView, layer_count};
 use mvt_select::Refusal;
-use mvt_view::{LayerView, layer_count};
 use std::alloc::{AllocError, Global};
 
 /// The layers stay that have one of the names. The names are put in order once, and each layer's

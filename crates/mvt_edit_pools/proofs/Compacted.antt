@@ -16,8 +16,8 @@ use Rattle.mvt_document.specs.declared.document.LayerItem.{LayerItem}
 use Rattle.mvt_document.specs.declared.document.LayerItem.TheVariants as in_layer
 use Rattle.mvt_document.specs.declared.document.TileItem.{TileItem}
 use Rattle.mvt_document.specs.declared.document.TileItem.TheVariants as in_tile
-use Rattle.mvt_view.specs.Attributes.{pairs_of}
-use Rattle.mvt_view.specs.Views.{content_of, features, ordinals_of}
+use Rattle.mvt_messages.specs.Attributes.{pairs_of}
+use Rattle.mvt_messages.specs.Views.{content_of, features, ordinals_of}
 use Rattle.mvt_change.specs.Changes.{Change}
 use Rattle.mvt_command.specs.Command.{Command, LayersChoice}
 use Rattle.mvt_meaning.specs.Compaction.{compacted, is_any, is_key_used, is_value_used, new_ordinals}
@@ -28,10 +28,10 @@ use Rattle.mvt_meaning.specs.Weights.{compact_puts, compact_takes, layers_weight
 use Rattle.mvt_meaning.specs.declared.refusal.Refusal.{Refusal}
 use Rattle.mvt_meaning.proofs.Compaction.{new_ordinals_short}
 use Rattle.mvt_edit_steps.specs.Prepared.{IsPrepared}
-use Rattle.mvt_edit_steps.proofs.Come.{Carries, CarriesIn}
-use Rattle.mvt_edit_steps.proofs.EachLayer.{InTile, each_found, layers_made}
-use Rattle.mvt_edit_steps.proofs.FieldsLeft.{fields_left}
-use Rattle.mvt_edit_steps.proofs.Heavy.{tag_and_content}
+use Rattle.mvt_edit_pairs.proofs.Come.{Carries, CarriesIn}
+use Rattle.mvt_edit_pairs.proofs.EachLayer.{InTile, each_found, layers_made}
+use Rattle.mvt_edit_pairs.proofs.FieldsLeft.{fields_left}
+use Rattle.mvt_fates.proofs.Heavy.{tag_and_content}
 use Rattle.mvt_edit_pools.specs.Pools.{compacting, compaction, keys_stay, values_stay}
 use Rattle.mvt_edit_pools.specs.declared.compact.Pools.{Pools}
 use Rattle.mvt_edit_pools.specs.declared.compact.Pools.TheVariants.{Keys, Values, Both}

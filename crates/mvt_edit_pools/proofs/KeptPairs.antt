@@ -3,8 +3,8 @@ use Rattle.std.proofs.Common.{◌≡◌, ℕ, ◌≤◌, List, ◌∷◌, ◌++�
 use Rattle.std.proofs.lemmas.List.{drop-map, length-map, take-map}
 use Rattle.std.proofs.Math.Seq.{take-append_seam, drop-append_seam}
 use Rattle.mvt_document.specs.Plain.{Feature, LayerItem}
-use Rattle.mvt_view.specs.Seen.{pair_seen}
-use Rattle.mvt_view.specs.declared.attributes.Pair.{Pair}
+use Rattle.mvt_layers.specs.Seen.{pair_seen}
+use Rattle.mvt_layers.specs.declared.attributes.Pair.{Pair}
 use Rattle.mvt_edit_pools.specs.Marks.{pair_counts, pairs_at}
 use Rattle.mvt_edit_pools.proofs.Marking.{pairs_left}
 

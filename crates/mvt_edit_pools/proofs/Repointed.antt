@@ -7,21 +7,21 @@ use Rattle.std.proofs.lemmas.Simd.{map-map}
 use Rattle.std.specs.List.{flat_map, list_all}
 use Rattle.std.specs.Option.{option_map_or, unwrap_or}
 use Rattle.mvt_document.specs.Plain.{Number, Field, Feature, Layer, LayerItem}
-use Rattle.mvt_numbers.specs.Laws.{NoneIsNew}
+use Rattle.mvt_renumber.specs.Laws.{NoneIsNew}
 use Rattle.mvt_numbers.specs.Numbers.{Placed, numbers}
-use Rattle.mvt_numbers.specs.Renumbering.{field_numbers}
-use Rattle.mvt_numbers.proofs.Reread.{read_of_fields}
-use Rattle.mvt_view.specs.Attributes.{is_ordinal, is_pair}
-use Rattle.mvt_view.specs.Found.{found_features}
-use Rattle.mvt_view.specs.Views.{contents, key_field, keys, plain_fields, value_field, values}
+use Rattle.mvt_renumber.specs.Renumbering.{field_numbers}
+use Rattle.mvt_renumber.proofs.Reread.{read_of_fields}
+use Rattle.mvt_messages.specs.Attributes.{is_ordinal, is_pair}
+use Rattle.mvt_messages.specs.Found.{found_features}
+use Rattle.mvt_messages.specs.Views.{contents, key_field, keys, plain_fields, value_field, values}
 use Rattle.mvt_meaning.specs.Compaction.{new_ordinal, new_ordinals, repointed}
 use Rattle.mvt_meaning.specs.Tagging.{pairs_among}
 use Rattle.mvt_meaning.proofs.Removals.{flat, head_same, make_pairs}
-use Rattle.mvt_edit_steps.specs.Decided.{counted_by, decided_by, field_fates, is_any_gone}
-use Rattle.mvt_edit_steps.specs.EachFeature.{feature_steps, layer_steps}
-use Rattle.mvt_edit_steps.specs.Fates.{splices_from}
-use Rattle.mvt_edit_steps.proofs.Carrying.{in_feature_at}
-use Rattle.mvt_edit_steps.proofs.StepsPassed.{no_splices}
+use Rattle.mvt_fates.specs.Decided.{counted_by, decided_by, field_fates, is_any_gone}
+use Rattle.mvt_edit_pairs.specs.EachFeature.{feature_steps, layer_steps}
+use Rattle.mvt_fates.specs.Fates.{splices_from}
+use Rattle.mvt_fates.proofs.Carrying.{in_feature_at}
+use Rattle.mvt_edit_pairs.proofs.StepsPassed.{no_splices}
 use Rattle.mvt_edit_pools.specs.Marks.{keeps_ordinal, numbered_from, ordinals_in, pair_repointed, pairs_at, pairs_repointed, stays_from}
 use Rattle.mvt_edit_pools.specs.Pools.{ordinal_fates}
 use Rattle.mvt_edit_pools.proofs.Numbering.{got_numbered}

@@ -1,8 +1,8 @@
 -- The steps of a layer by marks are those that are meant.
 use Rattle.std.proofs.Common.{◌≡◌, ℕ, Bool, List, ◌++◌, length, ap, ◌∙◌}
 use Rattle.mvt_document.specs.Plain.{Layer, LayerItem}
-use Rattle.mvt_view.specs.Views.{keys, values}
-use Rattle.mvt_edit_steps.specs.EachFeature.{layer_steps}
+use Rattle.mvt_messages.specs.Views.{keys, values}
+use Rattle.mvt_edit_pairs.specs.EachFeature.{layer_steps}
 use Rattle.mvt_edit_pools.specs.Marks.{entry_steps, gone_by, numbered_from, pairs_repointed, stays_from}
 use Rattle.mvt_edit_pools.specs.Pools.{compacting, ordinal_fates}
 use Rattle.mvt_edit_pools.proofs.Gone.{gone_same}

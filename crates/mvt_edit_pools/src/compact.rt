@@ -8,9 +8,9 @@ ghost use Rattle.mvt_meaning.specs.Compaction.{all_pairs};
 ghost use Rattle.mvt_meaning.specs.Meaning.{refuse_first};
 ghost use Rattle.mvt_meaning.specs.Tagging.{unreadable};
 ghost use Rattle.mvt_meaning.specs.declared.refusal.Refusal.TheVariants.{NoMemory};
-ghost use Rattle.mvt_view.specs.Found.{found_features};
-ghost use Rattle.mvt_view.specs.Seen.{found_layer_seen, pair_seen};
-ghost use Rattle.mvt_view.specs.Views.{keys, values};
+ghost use Rattle.mvt_messages.specs.Found.{found_features};
+ghost use Rattle.mvt_layers.specs.Seen.{found_layer_seen, pair_seen};
+ghost use Rattle.mvt_messages.specs.Views.{keys, values};
 ghost use Rattle.mvt_edit_steps.specs.Prepared.{Prepares};
 ghost use Rattle.mvt_edit_pools.specs.Pools.{all_keys, all_values, compaction, compacting, keys_stay, values_stay};
 ghost use Rattle.mvt_edit_pools.specs.Marks.{pair_counts, stays_from};
@@ -20,8 +20,8 @@ use crate::repoint::repoint;
 use crate::used::{Marks, mark_used, number, same_marks};
 use mvt_change::{Change, Step};
 use mvt_document::{Document, Items};
+use mvt_layers::PoolSizes;
 use mvt_select::{FoundLayer, LayersChoice, Refusal, find_layers};
-use mvt_view::PoolSizes;
 use std::alloc::Global;
 
 /// Which entries of a layer go where no feature uses them.

@@ -10,7 +10,7 @@ ghost use Rattle.mvt_edit_pools.specs.Marks.{entry_steps, first_goes, gone_by};
 use mvt_change::Step;
 use mvt_document::tags::{KEYS, VALUES};
 use mvt_document::{BodyRef, LayerItem};
-use mvt_edit_steps::{Run, take_out};
+use mvt_fates::{Run, take_out};
 use mvt_select::FoundLayer;
 use std::alloc::{AllocError, Global};
 

@@ -4,18 +4,18 @@ ghost use Rattle.std.specs.Prelude.{◌≡◌, ◌++◌, IfOk, map, slice_get};
 ghost use Rattle.mvt_document.specs.Stands.{layer_of};
 ghost use Rattle.mvt_change.specs.ChangeStands.{step_of};
 ghost use Rattle.mvt_meaning.specs.Compaction.{all_pairs};
-ghost use Rattle.mvt_view.specs.Found.{found_features};
-ghost use Rattle.mvt_view.specs.Seen.{found_layer_seen, pair_seen};
-ghost use Rattle.mvt_edit_steps.specs.Decided.{counted_by, decided_by};
-ghost use Rattle.mvt_edit_steps.specs.EachFeature.{layer_steps};
+ghost use Rattle.mvt_messages.specs.Found.{found_features};
+ghost use Rattle.mvt_layers.specs.Seen.{found_layer_seen, pair_seen};
+ghost use Rattle.mvt_fates.specs.Decided.{counted_by, decided_by};
+ghost use Rattle.mvt_edit_pairs.specs.EachFeature.{layer_steps};
 ghost use Rattle.mvt_edit_pools.specs.Marks.{keeps_ordinal, pair_counts, pair_repointed, pairs_repointed};
 
 use crate::used::Marks;
 use mvt_change::Step;
 use mvt_document::tags::TAGS;
-use mvt_edit_steps::renumber_feature;
+use mvt_edit_pairs::renumber_feature;
+use mvt_layers::Pair;
 use mvt_select::FoundLayer;
-use mvt_view::Pair;
 use std::alloc::{AllocError, Global};
 
 /// Puts the steps by which the tags of each feature of the layer name what they named by its new

@@ -8,14 +8,14 @@ ghost use Rattle.mvt_meaning.specs.Compaction.{all_pairs, is_key_used, is_value_
 ghost use Rattle.mvt_meaning.specs.Meaning.{refuse_first};
 ghost use Rattle.mvt_meaning.specs.Tagging.{unreadable};
 ghost use Rattle.mvt_meaning.specs.declared.refusal.Refusal.TheVariants.{BadTags, NoMemory};
-ghost use Rattle.mvt_view.specs.Found.{found_features};
-ghost use Rattle.mvt_view.specs.Seen.{feature_seen, found_feature_seen, found_layer_seen, pair_seen};
-ghost use Rattle.mvt_view.specs.Tags.{plain_pairs, tag_pairs};
-ghost use Rattle.mvt_view.specs.Views.{keys, values};
+ghost use Rattle.mvt_messages.specs.Found.{found_features};
+ghost use Rattle.mvt_layers.specs.Seen.{feature_seen, found_feature_seen, found_layer_seen, pair_seen};
+ghost use Rattle.mvt_messages.specs.Tags.{plain_pairs, tag_pairs};
+ghost use Rattle.mvt_messages.specs.Views.{keys, values};
 ghost use Rattle.mvt_edit_pools.specs.Marks.{is_one, marked, names_key, names_value, numbered_from, pair_counts};
 
+use mvt_layers::{FeatureView, Pair, PairsError, PoolSizes};
 use mvt_select::{FoundFeature, FoundLayer, Refusal};
-use mvt_view::{FeatureView, Pair, PairsError, PoolSizes};
 use std::alloc::{AllocError, Global};
 
 /// What was read of the tags of a layer: for each of its keys and values, in order, whether it stays;

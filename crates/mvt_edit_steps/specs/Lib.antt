@@ -1,7 +1,3 @@
-pub mod Fates
-pub mod Once
-pub mod Decided
-pub mod EachFeature
 pub mod Prepared
 pub mod PutsLast
 pub mod NumberPut

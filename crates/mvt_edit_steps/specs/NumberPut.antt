@@ -1,7 +1,7 @@
 -- A message whose last VARINT field of a number gets a value.
 use Rattle.std.specs.Prelude.{ℕ, ◌/◌, Bool, List, is_some}
 use Rattle.mvt_document.specs.Plain.{Field}
-use Rattle.mvt_view.specs.Views.{value_in}
+use Rattle.mvt_messages.specs.Views.{value_in}
 use Rattle.mvt_meaning.specs.Fields.{new_number, with_field_value}
 use Rattle.mvt_meaning.specs.Ordinals.{put_last}
 

@@ -7,7 +7,7 @@ ghost use Rattle.mvt_document.specs.Stands.{document_of};
 ghost use Rattle.mvt_document.specs.Wire.{bytes_of};
 ghost use Rattle.mvt_change.specs.Changes.{FitsStep, go_step};
 ghost use Rattle.mvt_change.specs.ChangeStands.{change_of, place_of, step_of};
-ghost use Rattle.mvt_edit_steps.specs.Fates.{item_out};
+ghost use Rattle.mvt_fates.specs.Fates.{item_out};
 ghost use Rattle.mvt_meaning.specs.declared.refusal.Refusal.TheVariants.{NoMemory, TooLarge};
 
 use mvt_change::{Change, Place, Step, fits_after};

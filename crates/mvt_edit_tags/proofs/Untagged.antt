@@ -16,9 +16,9 @@ use Rattle.mvt_document.specs.declared.document.LayerItem.{LayerItem}
 use Rattle.mvt_document.specs.declared.document.LayerItem.TheVariants as in_layer
 use Rattle.mvt_document.specs.declared.document.TileItem.{TileItem}
 use Rattle.mvt_document.specs.declared.document.TileItem.TheVariants as in_tile
-use Rattle.mvt_view.specs.Found.{found_features}
-use Rattle.mvt_view.specs.Views.{content_of, feature_in, value_of}
-use Rattle.mvt_view.proofs.Placing.{found_items}
+use Rattle.mvt_messages.specs.Found.{found_features}
+use Rattle.mvt_messages.specs.Views.{content_of, feature_in, value_of}
+use Rattle.mvt_layers.proofs.Placing.{found_items}
 use Rattle.mvt_change.specs.Changes.{Change}
 use Rattle.mvt_command.specs.Command.{LayersChoice, ExcludeAll}
 use Rattle.mvt_meaning.specs.Meaning.{applied}
@@ -26,13 +26,13 @@ use Rattle.mvt_meaning.specs.Selection.{selected_layers}
 use Rattle.mvt_meaning.specs.Tagging.{is_tags, tags_fields, without_tags}
 use Rattle.mvt_meaning.specs.declared.refusal.Refusal.{Refusal}
 use Rattle.mvt_edit_steps.specs.Prepared.{IsPrepared}
-use Rattle.mvt_edit_steps.specs.Fates.{splices_of}
-use Rattle.mvt_edit_steps.proofs.CarriedOut.{put_all, taken_all}
-use Rattle.mvt_edit_steps.proofs.Going.{takes_out}
-use Rattle.mvt_edit_steps.proofs.Heavy.{heavy, number_has_bytes}
-use Rattle.mvt_edit_steps.specs.EachFeature.{layer_steps}
+use Rattle.mvt_fates.specs.Fates.{splices_of}
+use Rattle.mvt_fates.proofs.CarriedOut.{put_all, taken_all}
+use Rattle.mvt_fates.proofs.Going.{takes_out}
+use Rattle.mvt_fates.proofs.Heavy.{heavy, number_has_bytes}
+use Rattle.mvt_edit_pairs.specs.EachFeature.{layer_steps}
 use Rattle.mvt_edit_tags.specs.EachFeature.{tags_go}
-use Rattle.mvt_edit_steps.proofs.Come.{Carries, CarriesIn, puts_in, takes_in}
+use Rattle.mvt_edit_pairs.proofs.Come.{Carries, CarriesIn, puts_in, takes_in}
 use Rattle.mvt_edit_tags.proofs.EachFeature.{CarriesInTile, layers_made, none_made}
 
 -- ---- tags fields have two bytes or more

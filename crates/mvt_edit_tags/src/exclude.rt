@@ -8,16 +8,16 @@ ghost use Rattle.mvt_command.specs.CommandStands.{layers_choice_of};
 ghost use Rattle.mvt_meaning.specs.Meaning.{refuse_first};
 ghost use Rattle.mvt_meaning.specs.Tagging.{unreadable};
 ghost use Rattle.mvt_meaning.specs.declared.refusal.Refusal.TheVariants.{NoMemory};
-ghost use Rattle.mvt_view.specs.Seen.{found_layer_seen};
+ghost use Rattle.mvt_layers.specs.Seen.{found_layer_seen};
 ghost use Rattle.mvt_edit_steps.specs.Prepared.{Prepares};
-ghost use Rattle.mvt_edit_steps.specs.EachFeature.{layer_steps};
-ghost use Rattle.mvt_edit_steps.specs.Decided.{is_any_gone};
+ghost use Rattle.mvt_edit_pairs.specs.EachFeature.{layer_steps};
+ghost use Rattle.mvt_fates.specs.Decided.{is_any_gone};
 ghost use Rattle.mvt_edit_tags.specs.EachFeature.{pairs_go};
 
 use mvt_change::{Change, Step};
 use mvt_document::tags::TAGS;
 use mvt_document::{Document, Items};
-use mvt_edit_steps::{decide_or_refuse, named_keys, renumber_feature};
+use mvt_edit_pairs::{decide_or_refuse, named_keys, renumber_feature};
 use mvt_select::{FoundLayer, LayersChoice, Refusal, find_layers};
 use std::alloc::Global;
 

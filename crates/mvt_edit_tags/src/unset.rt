@@ -10,7 +10,7 @@ ghost use Rattle.mvt_edit_steps.specs.Prepared.{Prepares};
 use mvt_change::Change;
 use mvt_document::tags::TAGS;
 use mvt_document::{Document, Items};
-use mvt_edit_steps::{decide_or_refuse, named_keys, renumber_feature};
+use mvt_edit_pairs::{decide_or_refuse, named_keys, renumber_feature};
 use mvt_select::{FeatureChoice, LayerChoice, Refusal, find_feature, find_layer};
 use std::alloc::Global;
 

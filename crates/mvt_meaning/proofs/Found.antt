@@ -5,7 +5,7 @@ use Rattle.std.proofs.lemmas.Bool.Decides.{nat_tests}
 use Rattle.std.specs.List.{filter_map}
 use Rattle.std.specs.Option.{option_and_then, option_map_or}
 use Rattle.mvt_document.specs.Plain.{Field, Feature, LayerItem, OfFeature, PlainInLayer, Layer, TileItem, OfLayer, PlainInTile, Document}
-use Rattle.mvt_view.specs.Views.{layer_in, layers}
+use Rattle.mvt_messages.specs.Views.{layer_in, layers}
 use Rattle.mvt_document.specs.Lists.{change_at}
 use Rattle.mvt_document.specs.Places.{change_fields, change_items, fields_at, fields_in, fields_in_at, in_feature, in_layer, items_at, items_in}
 use Rattle.mvt_command.specs.Command.{FeatureChoice}

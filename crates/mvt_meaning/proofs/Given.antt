@@ -2,7 +2,7 @@
 use Rattle.std.proofs.Common.{◌≡◌, ℕ, ◌/◌, true, ◌==◌, is_some, Some, refl, inl, inr}
 use Rattle.std.proofs.lemmas.Bool.{cases_Bool, eqb-true}
 use Rattle.mvt_document.specs.Plain.{Number, Body, Spelled, Eight, Four, Delimited, Group, Field}
-use Rattle.mvt_view.specs.Views.{value_in}
+use Rattle.mvt_messages.specs.Views.{value_in}
 use Rattle.mvt_meaning.specs.Fields.{with_field_value, with_number}
 
 pub number_given : (id : ℕ) (number : Number) → (with_number id number).value ≡ id

@@ -6,12 +6,12 @@ use Rattle.std.proofs.lemmas.Simd.{map-map}
 use Rattle.std.specs.List.{flat_map, list_all}
 use Rattle.std.specs.Option.{option_and_then, option_map_or}
 use Rattle.mvt_document.specs.Plain.{Number, Field, LayerItem}
-use Rattle.mvt_numbers.specs.Laws.{AreShort, NoneIsNew}
+use Rattle.mvt_renumber.specs.Laws.{AreShort, NoneIsNew}
 use Rattle.mvt_numbers.specs.Numbers.{Placed, all_good, and_more, numbers}
-use Rattle.mvt_numbers.specs.Renumbering.{field_numbers}
-use Rattle.mvt_numbers.proofs.Reread.{read_of_fields}
-use Rattle.mvt_view.specs.Attributes.{if_pairs, in_pairs, is_ordinal, is_pair, pairs_in}
-use Rattle.mvt_view.specs.Views.{contents, key_field, plain_fields, value_field}
+use Rattle.mvt_renumber.specs.Renumbering.{field_numbers}
+use Rattle.mvt_renumber.proofs.Reread.{read_of_fields}
+use Rattle.mvt_messages.specs.Attributes.{if_pairs, in_pairs, is_ordinal, is_pair, pairs_in}
+use Rattle.mvt_messages.specs.Views.{contents, key_field, plain_fields, value_field}
 use Rattle.mvt_meaning.specs.Tagging.{is_key_at, pairs_among, removals, without_pairs}
 
 -- ---- pairs of numbers

@@ -1,7 +1,7 @@
 -- The one layer that has a name, and that positions of items that pass are in order.
 use Rattle.std.proofs.Common.{◌≡◌, ℕ, ◌+◌, ◌<◌, Bool, Result, List, [], ◌∷◌, slice_get, ap, inl, inr, arith}
 use Rattle.std.proofs.lemmas.Bool.{cases_Bool}
-use Rattle.mvt_view.specs.Views.{the_one}
+use Rattle.mvt_messages.specs.Views.{the_one}
 use Rattle.mvt_meaning.specs.declared.refusal.Refusal.{Refusal}
 use Rattle.mvt_meaning.specs.declared.refusal.Refusal.TheVariants.{AmbiguousLayer, NoLayer}
 use Rattle.mvt_meaning.proofs.Positions.{positions_from, positions_pass, positions_skip, positions_within}

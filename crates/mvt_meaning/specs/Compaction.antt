@@ -4,8 +4,8 @@ use Rattle.std.specs.List.{enumerate_from, flat_map, list_any}
 use Rattle.std.specs.Option.{option_map_or, unwrap_or}
 use Rattle.mvt_document.specs.Plain.{Field, LayerItem, OfFeature, PlainInLayer, Layer}
 use Rattle.mvt_document.specs.Places.{in_feature}
-use Rattle.mvt_numbers.specs.Renumbering.{renumber}
-use Rattle.mvt_view.specs.Views.{content_in, features, features_in, key_field, value_field}
+use Rattle.mvt_renumber.specs.Renumbering.{renumber}
+use Rattle.mvt_messages.specs.Views.{content_in, features, features_in, key_field, value_field}
 use Rattle.mvt_meaning.specs.Tagging.{differing, pairs_among}
 
 -- ---- what the features of a layer use

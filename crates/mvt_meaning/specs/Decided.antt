@@ -3,7 +3,7 @@ use Rattle.std.specs.Prelude.{ℕ, ◌==◌, Bool, true, not, List, [], ◌∷�
 use Rattle.std.specs.List.{flat_map, list_any, zip}
 use Rattle.std.specs.Option.{option_map_or}
 use Rattle.mvt_document.specs.Plain.{Field}
-use Rattle.mvt_numbers.specs.Renumbering.{field_numbers, renumbered_field}
+use Rattle.mvt_renumber.specs.Renumbering.{field_numbers, renumbered_field}
 
 -- each field with what is decided on its numbers, in order
 abbrev pub decided_fields : ℕ → List (Option ℕ) → List Field → List (List (Option ℕ) × Field)

@@ -2,7 +2,7 @@
 use Rattle.std.specs.Prelude.{ℕ, List}
 use Rattle.mvt_document.specs.Plain.{Body, Spelled, Delimited, Field, LayerItem, OfFeature, PlainInLayer}
 use Rattle.mvt_document.specs.Wire.{minimal}
-pub use Rattle.mvt_numbers.specs.Renumbering.{with_number}
+pub use Rattle.mvt_renumber.specs.Renumbering.{with_number}
 
 -- a VARINT body with this number; another body as it is
 abbrev pub with_value : ℕ → Body → Body

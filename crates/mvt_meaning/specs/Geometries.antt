@@ -4,13 +4,13 @@ use Rattle.std.specs.Option.{option_and_then, option_map_or, unwrap_or}
 use Rattle.mvt_document.specs.Plain.{Field}
 use Rattle.mvt_document.specs.Signed.{unzigzag, zigzag}
 use Rattle.mvt_numbers.specs.Numbers.{numbers}
-use Rattle.mvt_numbers.specs.Renumbering.{renumber}
+use Rattle.mvt_renumber.specs.Renumbering.{renumber}
 use Rattle.mvt_geometry.specs.Checks.{is_way}
 use Rattle.mvt_geometry.specs.Found.{geometry_in}
 use Rattle.mvt_geometry.specs.Integers.{encoded}
 use Rattle.mvt_geometry.specs.Shapes.{Geometry, kind_number}
-use Rattle.mvt_view.specs.Attributes.{values_in}
-use Rattle.mvt_view.specs.Views.{content_in, last_value, value_in}
+use Rattle.mvt_messages.specs.Attributes.{values_in}
+use Rattle.mvt_messages.specs.Views.{content_in, last_value, value_in}
 use Rattle.mvt_meaning.specs.Decided.{renumbered_fields}
 use Rattle.mvt_meaning.specs.Fields.{new_content, new_number, with_field_value}
 use Rattle.mvt_meaning.specs.Ordinals.{put_last, put_once}

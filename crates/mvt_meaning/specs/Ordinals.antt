@@ -2,7 +2,7 @@
 use Rattle.std.specs.Prelude.{ℕ, ◌-◌, ◌==◌, nat_lt, Bool, ◌&&◌, not, List, [], ◌∷◌, ◌++◌, length, take, drop, filter, slice_get, if◌then◌else◌}
 use Rattle.std.specs.List.{list_any}
 use Rattle.std.specs.Option.{option_map_or}
-use Rattle.mvt_view.specs.Views.{ordinals_of}
+use Rattle.mvt_messages.specs.Views.{ordinals_of}
 
 -- ---- positions
 

@@ -3,8 +3,8 @@ use Rattle.std.specs.Prelude.{ℕ, ◌==◌, Bool, List, length, filter, slice_g
 use Rattle.std.specs.Option.{option_map_or}
 use Rattle.std.specs.Result.{result_map_both}
 use Rattle.mvt_document.specs.Plain.{LayerItem, Layer, TileItem, Document}
-use Rattle.mvt_view.specs.Found.{found_layers}
-use Rattle.mvt_view.specs.Views.{feature_in, features, has_id, is_named, layer_in, layers, ordinals_of, the_one}
+use Rattle.mvt_messages.specs.Found.{found_layers}
+use Rattle.mvt_messages.specs.Views.{feature_in, features, has_id, is_named, layer_in, layers, ordinals_of, the_one}
 use Rattle.mvt_command.specs.Command.{LayerChoice, AtOrdinal, Named, LayersChoice, TheLayer, EachLayer, FeatureChoice, FeatureAtOrdinal, WithId}
 use Rattle.mvt_meaning.specs.Ordinals.{positions_of}
 use Rattle.mvt_meaning.specs.declared.refusal.Refusal.{Refusal}

@@ -7,9 +7,9 @@ use Rattle.mvt_document.specs.Plain.{Body, Delimited, Field, LayerItem, OfFeatur
 use Rattle.mvt_document.specs.Places.{in_feature}
 use Rattle.mvt_document.specs.Wire.{shortest}
 use Rattle.mvt_numbers.specs.Numbers.{numbers}
-use Rattle.mvt_numbers.specs.Renumbering.{renumber}
-use Rattle.mvt_view.specs.Attributes.{pairs_in, pairs_of}
-use Rattle.mvt_view.specs.Views.{content_in, contents, features, key_field, ordinals_of, plain_fields, value_field, value_in}
+use Rattle.mvt_renumber.specs.Renumbering.{renumber}
+use Rattle.mvt_messages.specs.Attributes.{pairs_in, pairs_of}
+use Rattle.mvt_messages.specs.Views.{content_in, contents, features, key_field, ordinals_of, plain_fields, value_field, value_in}
 use Rattle.mvt_meaning.specs.Decided.{decided_fields, is_renumbered, renumbered_fields}
 use Rattle.mvt_meaning.specs.Fields.{new_content, with_text}
 use Rattle.mvt_meaning.specs.Ordinals.{change_last, change_nth, count}

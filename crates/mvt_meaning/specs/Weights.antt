@@ -5,7 +5,7 @@ use Rattle.std.specs.Option.{option_map_or}
 use Rattle.mvt_document.specs.Plain.{Field, LayerItem, Layer, Document}
 use Rattle.mvt_document.specs.Wire.{field_bytes, layer_item_bytes, tile_item_bytes}
 use Rattle.mvt_value.specs.Messages.{encoded_value}
-use Rattle.mvt_view.specs.Views.{key_field, value_field}
+use Rattle.mvt_messages.specs.Views.{key_field, value_field}
 use Rattle.mvt_command.specs.Command.{LayerChoice, LayersChoice, FeatureChoice, Command, RenameLayer, DropLayer, KeepLayers, InsertFeature, DropFeature, SetId, ClearId, SetAttribute, UnsetAttribute, RenameKey, Exclude, ExcludeAll, Shift, SetGeometry, CompactKeys, CompactValues, Compact}
 pub use Rattle.mvt_meaning.specs.Decided.{as_before, as_renumbered}
 use Rattle.mvt_meaning.specs.Compaction.{is_any, is_key_used, is_value_used, leaving, repointing}

@@ -6,11 +6,11 @@ use Rattle.std.specs.List.{enumerate_from}
 use Rattle.mvt_document.specs.Plain.{Layer, OfLayer, Document}
 use Rattle.mvt_document.specs.Stands.{layer_of}
 use Rattle.mvt_command.specs.Command.{LayerChoice, TheLayer}
-use Rattle.mvt_view.specs.Found.{found_layers, placed_from}
-use Rattle.mvt_view.specs.Seen.{found_layer_seen}
-use Rattle.mvt_view.specs.Views.{layer_in}
-use Rattle.mvt_view.specs.declared.found.FoundLayer.{FoundLayer}
-use Rattle.mvt_view.proofs.Placing.{found_count}
+use Rattle.mvt_messages.specs.Found.{found_layers, placed_from}
+use Rattle.mvt_layers.specs.Seen.{found_layer_seen}
+use Rattle.mvt_messages.specs.Views.{layer_in}
+use Rattle.mvt_layers.specs.declared.found.FoundLayer.{FoundLayer}
+use Rattle.mvt_layers.proofs.Placing.{found_count}
 use Rattle.mvt_meaning.specs.Selection.{layer_positions, selected, selected_layers}
 use Rattle.mvt_meaning.specs.declared.refusal.Refusal.{Refusal}
 use Rattle.mvt_meaning.proofs.Selecting.{selected_within}

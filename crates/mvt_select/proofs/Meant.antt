@@ -9,12 +9,12 @@ use Rattle.std.specs.Result.{IfErr, IfOk, result_map_both}
 use Rattle.mvt_document.specs.Plain as plain
 use Rattle.mvt_document.specs.Stands.{feature_of, layer_of}
 use Rattle.mvt_command.specs.Command.{LayerChoice, AtOrdinal, Named, FeatureChoice, FeatureAtOrdinal, WithId}
-use Rattle.mvt_view.specs.Found.{with_position, placed_from, found_in, found_layers, found_features}
-use Rattle.mvt_view.specs.Seen.{found_feature_seen, found_layer_seen}
-use Rattle.mvt_view.specs.Views.{feature_in, features, has_id, is_named, layer_in, layers, ordinals_of, the_one}
-use Rattle.mvt_view.specs.declared.found.FoundLayer.{FoundLayer}
-use Rattle.mvt_view.specs.declared.found.FoundFeature.{FoundFeature}
-use Rattle.mvt_view.proofs.Placing.{found_count, placed_items}
+use Rattle.mvt_messages.specs.Found.{with_position, placed_from, found_in, found_layers, found_features}
+use Rattle.mvt_layers.specs.Seen.{found_feature_seen, found_layer_seen}
+use Rattle.mvt_messages.specs.Views.{feature_in, features, has_id, is_named, layer_in, layers, ordinals_of, the_one}
+use Rattle.mvt_layers.specs.declared.found.FoundLayer.{FoundLayer}
+use Rattle.mvt_layers.specs.declared.found.FoundFeature.{FoundFeature}
+use Rattle.mvt_layers.proofs.Placing.{found_count, placed_items}
 use Rattle.mvt_meaning.specs.Selection.{selected, selected_feature}
 use Rattle.mvt_meaning.specs.declared.refusal.Refusal.{Refusal}
 use Rattle.mvt_meaning.specs.declared.refusal.Refusal.TheVariants.{AmbiguousFeature, AmbiguousLayer, NoFeature, NoLayer}

@@ -11,9 +11,9 @@ use Rattle.std.specs.Result.{IfErr, IfOk, result_map_both}
 use Rattle.std.specs.Str.{bytes_eq}
 use Rattle.mvt_document.specs.Plain as plain
 use Rattle.mvt_document.specs.Stands.{layer_of}
-use Rattle.mvt_view.specs.Views.{is_named, layers, name_of, ordinals_of, the_one}
-use Rattle.mvt_view.specs.Seen.{found_layer_seen}
-use Rattle.mvt_view.specs.declared.found.FoundLayer.{FoundLayer}
+use Rattle.mvt_messages.specs.Views.{is_named, layers, name_of, ordinals_of, the_one}
+use Rattle.mvt_layers.specs.Seen.{found_layer_seen}
+use Rattle.mvt_layers.specs.declared.found.FoundLayer.{FoundLayer}
 use Rattle.mvt_meaning.specs.Meaning.{is_taken}
 use Rattle.mvt_meaning.specs.declared.refusal.Refusal.{Refusal}
 use Rattle.mvt_meaning.specs.declared.refusal.Refusal.TheVariants.{AmbiguousLayer, NoLayer}

@@ -3,9 +3,9 @@ use Rattle.std.proofs.Common.{◌≡◌, ℕ, ◌+◌, Option, Some, None, List,
 use Rattle.std.specs.Prelude.{is_some, if◌then◌else◌}
 use Rattle.std.specs.List.{cons_option, enumerate_from, filter_map, last_or}
 use Rattle.mvt_document.specs.Plain.{LayerItem, OfFeature, PlainInLayer}
-use Rattle.mvt_view.specs.Found.{placed_from, with_position}
-use Rattle.mvt_view.specs.Pools.{entry_in, found_entries}
-use Rattle.mvt_view.proofs.Yielded.{map_last}
+use Rattle.mvt_messages.specs.Found.{placed_from, with_position}
+use Rattle.mvt_layers.specs.Pools.{entry_in, found_entries}
+use Rattle.mvt_layers.proofs.Yielded.{map_last}
 use Rattle.mvt_meaning.specs.Meaning.{is_name}
 use Rattle.mvt_meaning.specs.Ordinals.{positions_of}
 use Rattle.mvt_meaning.proofs.Positions.{positions_from}

@@ -5,9 +5,9 @@ use Rattle.mvt_document.specs.Plain as plain
 use Rattle.mvt_document.specs.Stands.{feature_of, layer_of}
 use Rattle.mvt_command.specs.Command.{LayerChoice, FeatureChoice}
 use Rattle.mvt_meaning.specs.Selection.{feature_positions, layer_positions, selected, selected_feature}
-use Rattle.mvt_view.specs.Seen.{found_layer_seen}
-use Rattle.mvt_view.specs.declared.found.FoundLayer.{FoundLayer}
-use Rattle.mvt_view.specs.declared.found.FoundFeature.{FoundFeature}
+use Rattle.mvt_layers.specs.Seen.{found_layer_seen}
+use Rattle.mvt_layers.specs.declared.found.FoundLayer.{FoundLayer}
+use Rattle.mvt_layers.specs.declared.found.FoundFeature.{FoundFeature}
 use Rattle.mvt_select.specs.declared.layers.SelectedLayers.{SelectedLayers}
 use Rattle.mvt_select.specs.declared.layers.SelectedLayers.TheVariants.{One, All}
 

@@ -1,8 +1,8 @@
 -- The refusals for what selects no layer and no feature.
-use Rattle.mvt_view.specs.declared.select.LayerError.{LayerError}
-use Rattle.mvt_view.specs.declared.select.LayerError.TheVariants as layers_seen
-use Rattle.mvt_view.specs.declared.select.FeatureError.{FeatureError}
-use Rattle.mvt_view.specs.declared.select.FeatureError.TheVariants as features_seen
+use Rattle.mvt_layers.specs.declared.select.LayerError.{LayerError}
+use Rattle.mvt_layers.specs.declared.select.LayerError.TheVariants as layers_seen
+use Rattle.mvt_layers.specs.declared.select.FeatureError.{FeatureError}
+use Rattle.mvt_layers.specs.declared.select.FeatureError.TheVariants as features_seen
 use Rattle.mvt_meaning.specs.declared.refusal.Refusal.{Refusal}
 use Rattle.mvt_meaning.specs.declared.refusal.Refusal.TheVariants.{NoLayer, AmbiguousLayer, NoFeature, AmbiguousFeature}
 

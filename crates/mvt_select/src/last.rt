@@ -12,6 +12,6 @@ use mvt_document::{LayerItem, Message};
 pub fn last_name(items: &Message<LayerItem>) -> Option<usize>
     ensures { result ≡ last_or None (positions_of is_name (map layer_item_of items.now.items)) }
 {
-    let found = mvt_view::last_name(items)?;
+    let found = mvt_layers::last_name(items)?;
     Some(found.position)
 }

@@ -9,8 +9,8 @@ ghost use Rattle.mvt_select.specs.Found.{layers_left};
 use crate::find::find_layer;
 use mvt_command::LayersChoice;
 use mvt_document::Document;
+use mvt_layers::{FoundLayer, LayerViews, layers};
 use mvt_meaning::Refusal;
-use mvt_view::{FoundLayer, LayerViews, layers};
 
 /// The layers that are meant, in order, each with its ordinal and its position.
 #[derive(Clone, Debug, Drop)]
@@ -22,7 +22,7 @@ pub enum SelectedLayers<'a> {
 
 impl<'a> Iterator for SelectedLayers<'a> {
     ghost use Rattle.std.specs.Iterator.{YieldsFirstBy, item_count};
-    ghost use Rattle.mvt_view.specs.Seen.{found_layer_seen};
+    ghost use Rattle.mvt_layers.specs.Seen.{found_layer_seen};
 
     type Item = FoundLayer<'a>;
 

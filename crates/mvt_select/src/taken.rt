@@ -4,10 +4,10 @@ ghost use Rattle.std.specs.Prelude.{◌≡◌, ℕ, Bool, List, [], ◌∷◌, �
 ghost use Rattle.std.specs.Result.{result_map_both};
 ghost use Rattle.mvt_document.specs.Plain as plain;
 ghost use Rattle.mvt_document.specs.Stands.{document_of};
-ghost use Rattle.mvt_view.specs.Found.{found_layers};
-ghost use Rattle.mvt_view.specs.Seen.{found_layer_seen};
-ghost use Rattle.mvt_view.specs.Views.{is_named, the_one};
-ghost use Rattle.mvt_view.specs.declared.found.FoundLayer.{FoundLayer};
+ghost use Rattle.mvt_messages.specs.Found.{found_layers};
+ghost use Rattle.mvt_layers.specs.Seen.{found_layer_seen};
+ghost use Rattle.mvt_messages.specs.Views.{is_named, the_one};
+ghost use Rattle.mvt_layers.specs.declared.found.FoundLayer.{FoundLayer};
 ghost use Rattle.mvt_command.specs.Command.{Named};
 ghost use Rattle.mvt_command.specs.CommandStands.{layer_choice_of};
 ghost use Rattle.mvt_meaning.specs.Meaning.{is_taken};
@@ -18,8 +18,8 @@ ghost use Rattle.mvt_select.specs.Found.{IsFoundLayer};
 use crate::find::{find_layer, find_named};
 use mvt_command::LayerChoice;
 use mvt_document::Document;
+use mvt_layers::{FoundLayer, layers};
 use mvt_meaning::Refusal;
-use mvt_view::{FoundLayer, layers};
 
 /// The layer that is meant, and whether a layer of another ordinal has the name. Each layer's name
 /// is looked for once.

@@ -1,5 +1,5 @@
-pub mod Pairing
-pub mod Yielded
-pub mod Placing
 pub mod Integers
-pub mod InRun
+pub use Rattle.mvt_layers.proofs.Pairing
+pub use Rattle.mvt_layers.proofs.Yielded
+pub use Rattle.mvt_layers.proofs.Placing
+pub use Rattle.mvt_layers.proofs.InRun

@@ -6,8 +6,8 @@ use Rattle.mvt_document.specs.Plain.{Feature}
 use Rattle.mvt_numbers.specs.Numbers.{Placed, numbers}
 use Rattle.mvt_geometry.specs.Shapes.{Geometry}
 use Rattle.mvt_geometry.specs.Integers.{HasGeometry}
-use Rattle.mvt_view.specs.Views.{kind_of}
-use Rattle.mvt_view.specs.Attributes.{values_in}
+use Rattle.mvt_messages.specs.Views.{kind_of}
+use Rattle.mvt_messages.specs.Attributes.{values_in}
 
 -- no chunk among the feature's numbers of field 4 is bad, and they have this geometry, of the feature's kind
 -- (tiles 4.3)

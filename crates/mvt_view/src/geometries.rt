@@ -6,10 +6,10 @@ ghost use Rattle.mvt_numbers.specs.Numbers.{numbers};
 ghost use Rattle.mvt_numbers.specs.Seen.{number_seen};
 ghost use Rattle.mvt_geometry.specs.Shapes.{Geometry as PlainGeometry};
 ghost use Rattle.mvt_view.specs.FeatureGeometry.{HasFeatureGeometry, integer_in, integers_in};
-ghost use Rattle.mvt_view.specs.Seen.{feature_seen};
+ghost use Rattle.mvt_layers.specs.Seen.{feature_seen};
 
-use crate::views::FeatureView;
 use mvt_geometry::{Geometry, GeometryError, geometry_of};
+use mvt_layers::FeatureView;
 use mvt_numbers::{BadChunk, Number, Numbers};
 use std::alloc::Global;
 

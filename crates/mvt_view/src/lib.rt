@@ -1,56 +1,24 @@
-//! Views of a document: they borrow from it and copy nothing.
+//! All that is seen of a tile: the views of its layers and features, and the geometry of a feature.
 //!
-//! - The layers of a document, the features of a layer, its keys and its values are those of the
-//!   definitions, in order, by ordinal (none past the last), and counted: `layers`, `layer`,
-//!   `layer_count`, and the calls of `LayerView`.
-//! - The keys and the values of a layer with their ordinals and positions, and the first that is
-//!   these bytes: `LayerView::key_entries`, `value_entries`, `first_key`, `first_value`. The last name
-//!   of a layer with its position: `last_name`.
-//! - The name, version and extent of a layer, and the id and kind of a feature, are those of the
-//!   last field of the number and wire type, or the default: the calls of `LayerView` and
-//!   `FeatureView`.
-//! - A name selects the one layer that has it, and an id the one feature; else the error says
-//!   whether none has it or several: `layer_named`, `feature_by_id`.
-//! - The tags of a feature are the numbers of its fields of number 2, those of its geometry of
-//!   number 4: `FeatureView::tags`, `FeatureView::geometry_numbers`.
-//! - The tags of a feature come pair by pair, each with the ordinals of a key and of a value and
-//!   with the two numbers that these are, or as an error that stands where they are no such pair: a
-//!   chunk is bad, a key has no value, or an ordinal names no key, no value, or has more than 32
-//!   bits. The keys and the values are counted once for a layer: `LayerView::pool_sizes`,
-//!   `FeatureView::tag_pairs`.
-//! - The same pairs in a list (`pairs`), refused only where one is an error (`bad_tags`). Out of
-//!   memory alone may come in place of either: `pairs`.
 //! - The geometry of a feature is read from its numbers, for its kind (`found`), and refused only
 //!   where there is none (`bad`): a chunk is bad, or the numbers are those of no geometry of the
 //!   kind. Out of memory alone may come in place of either: `geometry`.
 //!
-//! Only `pairs` and `geometry` are given an allocator. The crate passes on the names of
-//! `mvt_numbers` and `mvt_geometry`, so it has all that is seen of a tile, with the encoder of
-//! geometries. A value it gives as its bytes: `mvt_value` says which value they are.
+//! `geometry` is given an allocator. The crate passes on the names of `mvt_layers`, which has the
+//! views, of `mvt_numbers` and of `mvt_geometry`, so it has all that is seen of a tile, with the
+//! encoder of geometries. Definitions of these have the paths of this crate too:
+//! `Rattle.mvt_view.specs.Views` is the Views of `mvt_messages`.
 #![tactic(auto)]
 
-mod attributes;
-mod entries;
-mod fields;
-mod found;
 mod geometries;
-pub mod laws;
-mod lists;
-mod select;
-mod tag_pairs;
-mod views;
 
-pub use attributes::{Pair, PairsError, pairs};
-pub use entries::{Entries, last_name};
-pub use found::{FoundEntry, FoundFeature, FoundLayer};
 pub use geometries::geometry;
-pub use lists::{Contents, FeatureViews, LayerViews};
 pub use mvt_geometry::{
     EncodeError, Geometry, GeometryError, Kind, Part, Point, encode_geometry, geometry_of,
 };
-pub use mvt_numbers::{BadChunk, Number, Numbers};
-pub use select::{
-    FeatureError, LayerError, feature_by_id, layer, layer_count, layer_named, layers,
+pub use mvt_layers::{
+    BadPair, Contents, Entries, FeatureError, FeatureView, FeatureViews, FoundEntry, FoundFeature,
+    FoundLayer, LayerError, LayerView, LayerViews, Pair, PairsError, PoolSizes, TagPair, TagPairs,
+    feature_by_id, last_name, laws, layer, layer_count, layer_named, layers, pairs,
 };
-pub use tag_pairs::{BadPair, PoolSizes, TagPair, TagPairs};
-pub use views::{FeatureView, LayerView};
+pub use mvt_numbers::{BadChunk, Number, Numbers};

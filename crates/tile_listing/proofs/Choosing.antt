@@ -4,9 +4,9 @@ use Rattle.std.specs.Result.{IfErr, IfOk}
 use Rattle.mvt_document.specs.Plain as plain
 use Rattle.mvt_document.specs.Stands.{layer_of}
 use Rattle.mvt_command.specs.Command.{FeatureChoice, LayerChoice}
-use Rattle.mvt_view.specs.Views.{feature_in}
-use Rattle.mvt_view.specs.declared.found.FoundFeature.{FoundFeature}
-use Rattle.mvt_view.specs.declared.found.FoundLayer.{FoundLayer}
+use Rattle.mvt_messages.specs.Views.{feature_in}
+use Rattle.mvt_layers.specs.declared.found.FoundFeature.{FoundFeature}
+use Rattle.mvt_layers.specs.declared.found.FoundLayer.{FoundLayer}
 use Rattle.mvt_meaning.specs.Selection.{selected, selected_feature}
 use Rattle.mvt_meaning.specs.declared.refusal.Refusal.{Refusal}
 use Rattle.mvt_meaning.proofs.Found.{layer_found as layer_at_place, picked_found}

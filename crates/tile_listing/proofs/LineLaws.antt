@@ -10,8 +10,8 @@ use Rattle.mvt_value.proofs.Fields.{read_in_range}
 use Rattle.mvt_numbers.specs.Numbers.{numbers}
 use Rattle.mvt_geometry.specs.Shapes.{Geometry, IsGeometry, kind_number}
 use Rattle.mvt_geometry.specs.declared.shapes.Kind.{Kind}
-use Rattle.mvt_view.specs.Views.{extent_of, features, id_of, keys, kind_of, layers, name_of, values, version_of}
-use Rattle.mvt_view.specs.Attributes.{attributes, values_in}
+use Rattle.mvt_messages.specs.Views.{extent_of, features, id_of, keys, kind_of, layers, name_of, values, version_of}
+use Rattle.mvt_messages.specs.Attributes.{attributes, values_in}
 use Rattle.mvt_value.specs.Found.{value_in}
 use Rattle.mvt_geometry.specs.Found.{geometry_in}
 use Rattle.mvt_value.proofs.Found.{value_in_bytes}

@@ -3,8 +3,8 @@ use Rattle.std.proofs.Common.{◌≡◌, ℕ, ◌+◌, Option, List, [], ◌∷�
 use Rattle.std.proofs.lemmas.List.{flat_map_more, map_push}
 use Rattle.tile_lines.specs.Lines.{with_feed}
 use Rattle.std.specs.List.{enumerate_from, filter_map}
-use Rattle.mvt_view.specs.Found.{found_in, placed_from}
-use Rattle.mvt_view.proofs.Placing.{placed_items}
+use Rattle.mvt_messages.specs.Found.{found_in, placed_from}
+use Rattle.mvt_layers.proofs.Placing.{placed_items}
 use Rattle.tile_listing.specs.Listing.{joined_lines, numbered}
 
 -- the lines of items that came with their ordinals

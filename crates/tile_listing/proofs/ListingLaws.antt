@@ -5,7 +5,7 @@ use Rattle.std.specs.Option.{ok_or}
 use Rattle.std.proofs.lemmas.List.Elements.{All-from_recursion}
 use Rattle.mvt_document.specs.Plain.{Document, Layer}
 use Rattle.mvt_command.specs.Command.{LayerChoice, FeatureChoice, AtOrdinal, Named, FeatureAtOrdinal, WithId}
-use Rattle.mvt_view.specs.Views.{features, has_id, is_named, layers, ordinals_of, the_one}
+use Rattle.mvt_messages.specs.Views.{features, has_id, is_named, layers, ordinals_of, the_one}
 use Rattle.mvt_meaning.specs.Meaning.{◌>>=◌}
 use Rattle.mvt_meaning.specs.Selection.{selected, selected_feature}
 use Rattle.mvt_meaning.specs.declared.refusal.Refusal.{Refusal}

@@ -10,10 +10,10 @@ use Rattle.std.proofs.lemmas.List.{length-map}
 use Rattle.std.proofs.lemmas.List.Elements.{All-from_recursion}
 use Rattle.mvt_document.specs.Plain.{Feature, Layer}
 use Rattle.mvt_numbers.specs.Numbers.{numbers}
-use Rattle.mvt_view.specs.Views.{keys, values}
-use Rattle.mvt_view.specs.Attributes.{attribute_at, if_pairs, in_pairs, is_ordinal, is_pair, pairs_of, values_in}
-use Rattle.mvt_view.specs.Seen.{pair_seen}
-use Rattle.mvt_view.specs.declared.attributes.Pair.{Pair}
+use Rattle.mvt_messages.specs.Views.{keys, values}
+use Rattle.mvt_messages.specs.Attributes.{attribute_at, if_pairs, in_pairs, is_ordinal, is_pair, pairs_of, values_in}
+use Rattle.mvt_layers.specs.Seen.{pair_seen}
+use Rattle.mvt_layers.specs.declared.attributes.Pair.{Pair}
 use Rattle.tile_listing.specs.Listing.{attribute_line, attribute_lines, joined_lines}
 use Rattle.tile_listing.specs.ListingStands.{contents_of, named_by}
 

@@ -10,8 +10,8 @@ use Rattle.mvt_value.specs.declared.value.Value.{Value}
 use Rattle.mvt_value.specs.declared.value.Value.TheVariants as shown
 use Rattle.mvt_numbers.specs.Numbers.{numbers}
 use Rattle.mvt_geometry.specs.Shapes.{Geometry}
-use Rattle.mvt_view.specs.Views.{kind_of}
-use Rattle.mvt_view.specs.Attributes.{values_in}
+use Rattle.mvt_messages.specs.Views.{kind_of}
+use Rattle.mvt_messages.specs.Attributes.{values_in}
 use Rattle.mvt_view.specs.FeatureGeometry.{HasFeatureGeometry}
 use Rattle.mvt_value.specs.Found.{value_in}
 use Rattle.mvt_geometry.specs.Found.{geometry_in}

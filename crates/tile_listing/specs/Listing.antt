@@ -6,8 +6,8 @@ use Rattle.mvt_document.specs.Held.{Held}
 use Rattle.mvt_document.specs.Plain.{Document, Feature, Layer}
 use Rattle.mvt_geometry.specs.Shapes.{Geometry, kind_number}
 use Rattle.mvt_command.specs.Command.{FeatureChoice, LayerChoice}
-use Rattle.mvt_view.specs.Views.{extent_of, features, id_of, keys, kind_of, layers, name_of, values, version_of}
-use Rattle.mvt_view.specs.Attributes.{attributes}
+use Rattle.mvt_messages.specs.Views.{extent_of, features, id_of, keys, kind_of, layers, name_of, values, version_of}
+use Rattle.mvt_messages.specs.Attributes.{attributes}
 use Rattle.mvt_meaning.specs.Meaning.{◌>>=◌}
 use Rattle.mvt_meaning.specs.Selection.{selected, selected_feature}
 use Rattle.mvt_meaning.specs.Geometries.{geometry_among}

@@ -4,8 +4,8 @@ use Rattle.std.specs.Borrow.{Bor}
 use Rattle.std.specs.Result.{result_map_both}
 use Rattle.mvt_document.specs.Plain.{Feature, Layer}
 use Rattle.mvt_document.specs.Stands.{feature_of, layer_of}
-use Rattle.mvt_view.specs.declared.found.FoundFeature.{FoundFeature}
-use Rattle.mvt_view.specs.declared.found.FoundLayer.{FoundLayer}
+use Rattle.mvt_layers.specs.declared.found.FoundFeature.{FoundFeature}
+use Rattle.mvt_layers.specs.declared.found.FoundLayer.{FoundLayer}
 use Rattle.mvt_meaning.specs.declared.refusal.Refusal.{Refusal}
 
 -- a layer with its ordinal, or a refusal, as plain values

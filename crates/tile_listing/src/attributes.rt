@@ -1,15 +1,15 @@
 //! The lines of the attributes of a feature.
 
 ghost use Rattle.std.specs.Prelude.{◌≡◌, ◌++◌, All, IsTrue, OnOk, length, map};
-ghost use Rattle.mvt_view.specs.Attributes.{attribute_at, is_pair};
-ghost use Rattle.mvt_view.specs.Seen.{feature_seen, layer_seen, pair_seen};
-ghost use Rattle.mvt_view.specs.Views.{keys, values};
+ghost use Rattle.mvt_messages.specs.Attributes.{attribute_at, is_pair};
+ghost use Rattle.mvt_layers.specs.Seen.{feature_seen, layer_seen, pair_seen};
+ghost use Rattle.mvt_messages.specs.Views.{keys, values};
 ghost use Rattle.tile_lines.specs.Lines.{with_feed};
 ghost use Rattle.tile_listing.specs.Listing.{attribute_line, attribute_lines, joined_lines};
 ghost use Rattle.tile_listing.specs.ListingStands.{contents_of, named_by};
 
 use crate::words::put_shown_value;
-use mvt_view::{FeatureView, LayerView, Pair, PairsError, pairs};
+use mvt_layers::{FeatureView, LayerView, Pair, PairsError, pairs};
 use std::alloc::{AllocError, Global};
 use tile_text::put_text;
 

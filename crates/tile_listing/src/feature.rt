@@ -1,14 +1,15 @@
 //! The lines that show a feature.
 
 ghost use Rattle.std.specs.Prelude.{◌≡◌, ◌++◌, OnOk};
-ghost use Rattle.mvt_view.specs.Seen.{feature_seen, layer_seen};
+ghost use Rattle.mvt_layers.specs.Seen.{feature_seen, layer_seen};
 ghost use Rattle.tile_lines.specs.Lines.{with_feed};
 ghost use Rattle.tile_listing.specs.Listing.{feature_line, geometry_line, joined_lines, lines_of_feature};
 
 use crate::attributes::put_attributes;
 use crate::words::{put_id, put_kind, put_number};
 use mvt_geometry::GeometryError;
-use mvt_view::{FeatureView, LayerView, geometry};
+use mvt_layers::{FeatureView, LayerView};
+use mvt_view::geometry;
 use std::alloc::{AllocError, Global};
 use tile_text::put_geometry;
 

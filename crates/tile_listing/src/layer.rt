@@ -1,14 +1,14 @@
 //! The lines that show a layer.
 
 ghost use Rattle.std.specs.Prelude.{◌≡◌, ◌∷◌, ◌++◌, OnOk};
-ghost use Rattle.mvt_view.specs.Views.{features, keys, values};
-ghost use Rattle.mvt_view.specs.Seen.{layer_seen};
+ghost use Rattle.mvt_messages.specs.Views.{features, keys, values};
+ghost use Rattle.mvt_layers.specs.Seen.{layer_seen};
 ghost use Rattle.tile_lines.specs.Lines.{with_feed};
 ghost use Rattle.tile_listing.specs.Listing.{feature_line, joined_lines, key_line, layer_line, layer_numbers, lines_of_layer, numbered, value_line};
 
 use crate::feature::put_feature_line;
 use crate::words::{put_name, put_number, put_shown_value};
-use mvt_view::LayerView;
+use mvt_layers::LayerView;
 use std::alloc::AllocError;
 use tile_text::put_text;
 

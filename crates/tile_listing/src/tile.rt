@@ -4,11 +4,11 @@ ghost use Rattle.std.specs.Prelude.{◌≡◌, ◌++◌, OnOk};
 ghost use Rattle.mvt_document.specs.Stands.{document_of};
 ghost use Rattle.tile_listing.specs.Listing.{joined_lines, layer_line, layers_line, lines_of_tile, numbered};
 ghost use Rattle.tile_lines.specs.Lines.{with_feed};
-ghost use Rattle.mvt_view.specs.Views.{layers};
+ghost use Rattle.mvt_messages.specs.Views.{layers};
 
 use crate::layer::put_layer_line;
 use mvt_document::Document;
-use mvt_view::{layer_count, layers};
+use mvt_layers::{layer_count, layers};
 use std::alloc::AllocError;
 use tile_text::put_decimal;
 

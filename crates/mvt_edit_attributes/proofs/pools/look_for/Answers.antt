@@ -1,6 +1,6 @@
 use Rattle.std.proofs.Common.{◌∙◌}
-use Rattle.mvt_view.specs.Seen.{layer_seen}
-use Rattle.mvt_view.specs.Views.{key_field, value_field}
+use Rattle.mvt_layers.specs.Seen.{layer_seen}
+use Rattle.mvt_messages.specs.Views.{key_field, value_field}
 use Rattle.mvt_edit_attributes.proofs.EntryOrdinals.{told_ordinal, told_there}
 use Rattle.mvt_edit_attributes.proofs.pools.look_for.Goals as goal
 

@@ -9,13 +9,13 @@ use Rattle.mvt_document.specs.Stands.{document_of, feature_of, field_of, layer_i
 use Rattle.mvt_document.specs.Wire.{bytes_of, field_bytes, layer_item_bytes}
 use Rattle.mvt_value.specs.Messages.{encoded_value}
 use Rattle.mvt_value.specs.Stands.{new_value_of}
-use Rattle.mvt_view.specs.Seen.{layer_seen}
+use Rattle.mvt_layers.specs.Seen.{layer_seen}
 use Rattle.mvt_change.specs.FileSizes.{IsFileSize}
 use Rattle.mvt_change.proofs.Resized.{fields_there, items_there}
 use Rattle.mvt_command.specs.CommandStands.{feature_choice_of, layer_choice_of}
 use Rattle.mvt_meaning.specs.Tagging.{missing_entries, with_attribute}
-use Rattle.mvt_edit_steps.specs.Fates.{seen, splice_of}
-use Rattle.mvt_edit_steps.proofs.Carrying.{in_feature_at}
+use Rattle.mvt_fates.specs.Fates.{seen, splice_of}
+use Rattle.mvt_fates.proofs.Carrying.{in_feature_at}
 use Rattle.mvt_edit_attributes.specs.Attribute.{AreFound, behind_all, entries_for, fields_with}
 use Rattle.mvt_edit_attributes.proofs.AttributeSet.{attribute_set, attributed_at, entries_lacked, no_feature_gets, set_too_large, tags_refused}
 use Rattle.mvt_edit_steps.proofs.Limits.{not_false, not_true}

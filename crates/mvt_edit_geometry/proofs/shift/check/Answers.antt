@@ -3,7 +3,7 @@ use Rattle.std.proofs.lemmas.Bool.{false_from_ne_true}
 use Rattle.mvt_document.specs.Stands.{feature_of}
 use Rattle.mvt_view.specs.FeatureGeometry.{HasFeatureGeometry}
 use Rattle.mvt_meaning.specs.Geometries.{geometry_among}
-use Rattle.mvt_meaning.proofs.Moving.{drawn_again, geometry_of}
+use Rattle.mvt_edit_geometry.proofs.FirstIntegers.{drawn_again, geometry_of}
 use Rattle.mvt_edit_geometry.proofs.shift.check.Goals as goal
 use Rattle.mvt_edit_geometry.proofs.shift.check.Goals.{in-Ok, in-Err-BadGeometry, in-Err-NoMemory}
 

@@ -2,10 +2,10 @@ use Rattle.std.proofs.Common.{◌≡◌, ◌∷◌, sym, ap, ◌∙◌, w64}
 use Rattle.std.proofs.lemmas.Int.{to_z-of_z}
 use Rattle.mvt_document.specs.Signed.{zigzag}
 use Rattle.mvt_geometry.specs.Checks.{is_way}
-use Rattle.mvt_view.specs.Attributes.{values_in}
-use Rattle.mvt_view.specs.Seen.{feature_seen}
+use Rattle.mvt_messages.specs.Attributes.{values_in}
+use Rattle.mvt_layers.specs.Seen.{feature_seen}
 use Rattle.mvt_meaning.specs.Geometries.{further}
-use Rattle.mvt_meaning.proofs.Moving.{first_integers}
+use Rattle.mvt_edit_geometry.proofs.FirstIntegers.{first_integers}
 use Rattle.mvt_edit_geometry.proofs.FirstMoved.{first_moved, next_read, no_way_along, no_way_down}
 use Rattle.mvt_edit_geometry.proofs.shift.decide.Goals as goal
 

@@ -9,18 +9,18 @@ use Rattle.mvt_document.specs.Places.{change_fields}
 use Rattle.mvt_document.specs.Plain.{Feature}
 use Rattle.mvt_document.specs.Stands.{document_of, feature_of, layer_of}
 use Rattle.mvt_document.specs.Wire.{bytes_of, field_bytes}
-use Rattle.mvt_numbers.specs.Renumbering.{renumber}
+use Rattle.mvt_renumber.specs.Renumbering.{renumber}
 use Rattle.mvt_change.specs.ChangeStands.{step_of}
 use Rattle.mvt_change.specs.FileSizes.{IsFileSize}
 use Rattle.mvt_command.specs.CommandStands.{feature_choice_of, layer_choice_of}
-use Rattle.mvt_view.specs.Seen.{feature_seen}
+use Rattle.mvt_layers.specs.Seen.{feature_seen}
 use Rattle.mvt_meaning.specs.Geometries.{can_move, moves, shifted}
 use Rattle.mvt_meaning.proofs.Moving.{moves_short}
 use Rattle.mvt_meaning.specs.declared.refusal.Refusal.TheVariants.{OutOfRange}
-use Rattle.mvt_edit_steps.specs.Decided.{field_fates}
-use Rattle.mvt_edit_steps.specs.Fates.{splices_of}
-use Rattle.mvt_edit_steps.proofs.Carrying.{in_feature_at}
-use Rattle.mvt_edit_steps.proofs.FieldsLeft.{fields_left}
+use Rattle.mvt_fates.specs.Decided.{field_fates}
+use Rattle.mvt_fates.specs.Fates.{splices_of}
+use Rattle.mvt_fates.proofs.Carrying.{in_feature_at}
+use Rattle.mvt_edit_pairs.proofs.FieldsLeft.{fields_left}
 use Rattle.mvt_edit_steps.proofs.Refusing.{none_refused, some_found}
 use Rattle.mvt_edit_geometry.proofs.FeatureFits.{told_by_fields}
 use Rattle.mvt_edit_geometry.proofs.Shifted.{no_feature_moves, not_drawn, shift_made, shift_too_large, too_far}

@@ -6,9 +6,9 @@ use Rattle.mvt_change.specs.ChangeStands.{step_of}
 use Rattle.mvt_document.specs.Stands.{document_of}
 use Rattle.mvt_command.specs.CommandStands.{layers_choice_of}
 use Rattle.mvt_meaning.specs.Tagging.{unreadable}
-use Rattle.mvt_view.specs.Seen.{found_layer_seen}
+use Rattle.mvt_layers.specs.Seen.{found_layer_seen}
 use Rattle.mvt_select.specs.Found.{layers_left}
-use Rattle.mvt_edit_steps.proofs.StepsPassed.{steps_more}
+use Rattle.mvt_edit_pairs.proofs.StepsPassed.{steps_more}
 use Rattle.mvt_edit_pools.specs.Pools.{compacting, keys_stay, values_stay}
 use Rattle.mvt_edit_pools.proofs.Compacted.{compacts, layer_refused, none_meant, readable_behind}
 use Rattle.mvt_edit_pools.proofs.compact.compact.Goals as goal

@@ -1,9 +1,9 @@
 use Rattle.std.proofs.Common.{◌≡◌, ◌++◌, length, map, append_assoc, sym, ap, ◌∙◌}
 use Rattle.mvt_document.specs.Stands.{layer_of}
 use Rattle.mvt_change.specs.ChangeStands.{step_of}
-use Rattle.mvt_view.specs.Seen.{found_layer_seen}
-use Rattle.mvt_view.specs.Views.{keys, values}
-use Rattle.mvt_edit_steps.specs.EachFeature.{layer_steps}
+use Rattle.mvt_layers.specs.Seen.{found_layer_seen}
+use Rattle.mvt_messages.specs.Views.{keys, values}
+use Rattle.mvt_edit_pairs.specs.EachFeature.{layer_steps}
 use Rattle.mvt_edit_pools.specs.Marks.{entry_steps, gone_by, numbered_from, pairs_repointed, stays_from}
 use Rattle.mvt_edit_pools.specs.Pools.{keys_stay, values_stay}
 use Rattle.mvt_edit_pools.proofs.Steps.{layer_as_meant}

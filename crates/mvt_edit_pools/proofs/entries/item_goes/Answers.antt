@@ -1,6 +1,6 @@
 use Rattle.std.proofs.Common.{◌≡◌, true, false, ◌∷◌, drop, refl, sym, ap, ◌∙◌}
 use Rattle.mvt_document.specs.Stands.{layer_item_of}
-use Rattle.mvt_view.specs.Views.{key_field, value_field}
+use Rattle.mvt_messages.specs.Views.{key_field, value_field}
 use Rattle.mvt_meaning.specs.Compaction.{is_entry}
 use Rattle.mvt_edit_pools.specs.Marks.{first_goes, gone_by}
 use Rattle.mvt_edit_pools.proofs.Gone.{goes_key, goes_neither, goes_value}

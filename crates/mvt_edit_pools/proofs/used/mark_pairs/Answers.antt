@@ -1,11 +1,11 @@
 use Rattle.std.proofs.Common.{◌≡◌, [], ◌∷◌, ◌++◌, Ok, Err, Some, is_some, map, option_map, refl, sym, ap, ◌∙◌}
 use Rattle.std.proofs.lemmas.List.{append-nil, map-append}
-use Rattle.mvt_edit_steps.proofs.Deciding.{more_some, none_is}
+use Rattle.mvt_edit_pairs.proofs.Deciding.{more_some, none_is}
 use Rattle.mvt_numbers.specs.Numbers.{and_more}
 use Rattle.mvt_numbers.specs.Seen.{placed_of}
-use Rattle.mvt_view.specs.Seen.{pair_seen}
-use Rattle.mvt_view.specs.Tags.{plain_pairs}
-use Rattle.mvt_view.proofs.Pairing.{plain_more}
+use Rattle.mvt_layers.specs.Seen.{pair_seen}
+use Rattle.mvt_messages.specs.Tags.{plain_pairs}
+use Rattle.mvt_layers.proofs.Pairing.{plain_more}
 use Rattle.mvt_edit_pools.specs.Marks.{marked, names_key, names_value}
 use Rattle.mvt_edit_pools.proofs.Marking.{keys_pair, marked_none, pairs_pair, values_pair}
 use Rattle.mvt_edit_pools.proofs.used.mark_pairs.Goals as goal

@@ -4,16 +4,16 @@ use Rattle.std.specs.List.{flat_map}
 use Rattle.std.specs.Str.{bytes_eq}
 use Rattle.mvt_document.specs.Stands.{layer_of}
 use Rattle.mvt_change.specs.ChangeStands.{step_of}
-use Rattle.mvt_view.specs.Seen.{found_feature_seen}
-use Rattle.mvt_view.specs.Views.{keys, values}
-use Rattle.mvt_edit_steps.specs.Decided.{field_fates, is_any_gone}
-use Rattle.mvt_edit_steps.specs.EachFeature.{feature_steps}
+use Rattle.mvt_layers.specs.Seen.{found_feature_seen}
+use Rattle.mvt_messages.specs.Views.{keys, values}
+use Rattle.mvt_fates.specs.Decided.{field_fates, is_any_gone}
+use Rattle.mvt_edit_pairs.specs.EachFeature.{feature_steps}
 use Rattle.mvt_edit_tags.specs.EachFeature.{pairs_go}
-use Rattle.mvt_edit_steps.proofs.Deciding.{no_pairs}
+use Rattle.mvt_edit_pairs.proofs.Deciding.{no_pairs}
 use Rattle.mvt_edit_tags.proofs.Deciding.{on_pairs}
-use Rattle.mvt_edit_steps.proofs.StepsPassed.{none_more, steps_more}
+use Rattle.mvt_edit_pairs.proofs.StepsPassed.{none_more, steps_more}
 use Rattle.mvt_edit_tags.proofs.NoneLost.{no_steps}
-use Rattle.mvt_edit_steps.proofs.Unreadable.{bad_among, feature_refused, readable_more, unreadable_in}
+use Rattle.mvt_edit_pairs.proofs.Unreadable.{bad_among, feature_refused, readable_more, unreadable_in}
 use Rattle.mvt_edit_tags.proofs.exclude.exclude_from.Goals as goal
 
 pub returns-in_err-decide_or_refuse-clause-refused : goal.returns-in_err-decide_or_refuse-clause-refused

@@ -1,8 +1,8 @@
 use Rattle.std.proofs.Common.{filter, ap, ◌∙◌}
 use Rattle.std.proofs.lemmas.Iterator.Consumers.{YieldsList-at, YieldsList-end, YieldsList-from_first}
 use Rattle.mvt_document.specs.Stands.{layer_of}
-use Rattle.mvt_view.specs.Seen.{found_layer_seen}
-use Rattle.mvt_view.specs.Views.{is_named, name_of, the_one}
+use Rattle.mvt_layers.specs.Seen.{found_layer_seen}
+use Rattle.mvt_messages.specs.Views.{is_named, name_of, the_one}
 use Rattle.mvt_meaning.specs.declared.refusal.Refusal.TheVariants.{AmbiguousLayer, NoLayer}
 use Rattle.mvt_select.proofs.Named.{layer_is, named_among, one_more}
 use Rattle.mvt_select.proofs.taken.named_twice.Goals as goal

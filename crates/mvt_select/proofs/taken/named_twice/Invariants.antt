@@ -1,7 +1,7 @@
 use Rattle.std.proofs.Common.{◌≡◌}
 use Rattle.std.specs.Result.{result_map_both}
-use Rattle.mvt_view.specs.Seen.{found_layer_seen}
-use Rattle.mvt_view.specs.Views.{the_one}
+use Rattle.mvt_layers.specs.Seen.{found_layer_seen}
+use Rattle.mvt_messages.specs.Views.{the_one}
 use Rattle.mvt_meaning.specs.declared.refusal.Refusal.TheVariants.{AmbiguousLayer, NoLayer}
 use Rattle.mvt_select.proofs.Named.{named_among}
 use Rattle.mvt_select.proofs.taken.named_twice.Given as goal

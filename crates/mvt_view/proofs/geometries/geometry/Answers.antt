@@ -1,6 +1,6 @@
 use Rattle.std.proofs.Common.{◌≡◌, Option, Some, None, false, is_some, refl, sym, ◌∙◌}
 use Rattle.mvt_view.specs.FeatureGeometry.{integers_in}
-use Rattle.mvt_view.specs.Seen.{feature_seen}
+use Rattle.mvt_layers.specs.Seen.{feature_seen}
 use Rattle.mvt_view.proofs.Integers.{no_geometry}
 use Rattle.mvt_view.proofs.geometries.geometry.Goals as goal
 

@@ -1,7 +1,7 @@
 use Rattle.std.proofs.Common.{List, Err, Some, map, sym, ap, codes, ◌∙◌}
 use Rattle.std.proofs.lemmas.Result.{on_ok_weaker}
-use Rattle.mvt_view.specs.Seen.{feature_seen, layer_seen, pair_seen}
-use Rattle.mvt_view.specs.declared.attributes.Pair.{Pair}
+use Rattle.mvt_layers.specs.Seen.{feature_seen, layer_seen, pair_seen}
+use Rattle.mvt_layers.specs.declared.attributes.Pair.{Pair}
 use Rattle.tile_listing.proofs.PairLines.{attributes_put, no_attributes_put, pairs_fit}
 use Rattle.tile_listing.proofs.Puts.{ok_put}
 use Rattle.tile_listing.proofs.attributes.put_attributes.Goals as goal

@@ -1,6 +1,6 @@
 use Rattle.std.proofs.Common.{◌≡◌, ℕ, ◌++◌, map, take}
-use Rattle.mvt_view.specs.Attributes.{attribute_at}
-use Rattle.mvt_view.specs.Seen.{layer_seen, pair_seen}
+use Rattle.mvt_messages.specs.Attributes.{attribute_at}
+use Rattle.mvt_layers.specs.Seen.{layer_seen, pair_seen}
 use Rattle.tile_listing.specs.Listing.{attribute_line, joined_lines}
 use Rattle.tile_listing.proofs.attributes.put_few_pairs.Given as goal
 

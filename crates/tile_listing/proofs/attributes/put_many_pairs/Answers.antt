@@ -2,8 +2,8 @@ use Rattle.std.proofs.Common.{◌≡◌, ℕ, List, Bor, Ok, map, ap, ◌∙◌}
 use Rattle.std.proofs.lemmas.Iterator.Consumers.{YieldsList-from_first, map_from_collect}
 use Rattle.std.specs.declared.alloc.AllocError.{AllocError}
 use Rattle.std.proofs.lemmas.Result.{on_ok_weaker}
-use Rattle.mvt_view.specs.Views.{keys, values}
-use Rattle.mvt_view.specs.Seen.{layer_seen, pair_seen}
+use Rattle.mvt_messages.specs.Views.{keys, values}
+use Rattle.mvt_layers.specs.Seen.{layer_seen, pair_seen}
 use Rattle.tile_listing.specs.ListingStands.{contents_of}
 use Rattle.tile_listing.proofs.PairLines.{held_fit, held_put}
 use Rattle.tile_listing.proofs.attributes.put_many_pairs.Goals as goal

@@ -1,5 +1,5 @@
 use Rattle.std.proofs.Common.{◌≡◌, ℕ, ◌++◌, map, take}
-use Rattle.mvt_view.specs.Seen.{pair_seen}
+use Rattle.mvt_layers.specs.Seen.{pair_seen}
 use Rattle.tile_listing.specs.Listing.{attribute_line, joined_lines}
 use Rattle.tile_listing.specs.ListingStands.{contents_of, named_by}
 use Rattle.tile_listing.proofs.attributes.put_named.Given as goal

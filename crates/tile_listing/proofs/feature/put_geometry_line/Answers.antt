@@ -1,6 +1,6 @@
 use Rattle.std.proofs.Common.{Err, ap, codes}
 use Rattle.std.proofs.lemmas.Result.{on_ok_weaker}
-use Rattle.mvt_view.specs.Seen.{feature_seen}
+use Rattle.mvt_layers.specs.Seen.{feature_seen}
 use Rattle.tile_listing.proofs.Puts.{ok_put, geometry_put, no_geometry_put}
 use Rattle.tile_listing.proofs.feature.put_geometry_line.Goals as goal
 

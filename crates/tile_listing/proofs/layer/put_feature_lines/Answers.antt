@@ -1,7 +1,7 @@
 use Rattle.std.proofs.Common.{◌++◌, ap, ◌∙◌}
 use Rattle.std.proofs.lemmas.Iterator.Consumers.{YieldsList-at, YieldsList-end, YieldsList-from_first}
-use Rattle.mvt_view.specs.Seen.{found_feature_seen, layer_seen}
-use Rattle.mvt_view.specs.Views.{feature_in}
+use Rattle.mvt_layers.specs.Seen.{found_feature_seen, layer_seen}
+use Rattle.mvt_messages.specs.Views.{feature_in}
 use Rattle.tile_lines.specs.Lines.{with_feed}
 use Rattle.tile_listing.specs.Listing.{feature_line}
 use Rattle.tile_listing.proofs.Lines.{found_lines_all, found_line_more}

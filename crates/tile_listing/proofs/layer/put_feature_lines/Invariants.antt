@@ -1,5 +1,5 @@
 use Rattle.std.proofs.Common.{◌≡◌, ◌++◌, map}
-use Rattle.mvt_view.specs.Seen.{found_feature_seen}
+use Rattle.mvt_layers.specs.Seen.{found_feature_seen}
 use Rattle.tile_listing.specs.Listing.{feature_line, joined_lines}
 use Rattle.tile_listing.proofs.layer.put_feature_lines.Given as goal
 

@@ -1,8 +1,8 @@
 use Rattle.std.proofs.Common.{◌++◌, ap, ◌∙◌}
 use Rattle.std.proofs.lemmas.Iterator.Consumers.{YieldsList-at, YieldsList-end, YieldsList-from_first}
 use Rattle.mvt_document.specs.Stands.{document_of}
-use Rattle.mvt_view.specs.Seen.{found_layer_seen}
-use Rattle.mvt_view.specs.Views.{layer_in}
+use Rattle.mvt_layers.specs.Seen.{found_layer_seen}
+use Rattle.mvt_messages.specs.Views.{layer_in}
 use Rattle.tile_lines.specs.Lines.{with_feed}
 use Rattle.tile_listing.specs.Listing.{layer_line}
 use Rattle.tile_listing.proofs.Lines.{found_lines_all, found_line_more}

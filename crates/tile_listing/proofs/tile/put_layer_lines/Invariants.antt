@@ -1,5 +1,5 @@
 use Rattle.std.proofs.Common.{◌≡◌, ◌++◌, map}
-use Rattle.mvt_view.specs.Seen.{found_layer_seen}
+use Rattle.mvt_layers.specs.Seen.{found_layer_seen}
 use Rattle.tile_listing.specs.Listing.{layer_line, joined_lines}
 use Rattle.tile_listing.proofs.tile.put_layer_lines.Given as goal
 

@@ -1,0 +1,11 @@
+pub mod FieldsLeft
+pub mod FeatureRenumbered
+pub mod Leading
+pub mod Come
+pub mod EachFeature
+pub mod EachLayer
+pub mod StepsPassed
+pub mod Unreadable
+pub mod Deciding
+pub mod Apart
+pub mod NamedKeys

@@ -1,0 +1,11 @@
+pub mod CarriedOut
+pub mod Once
+pub mod Following
+pub mod ListPlaces
+pub mod Planned
+pub mod Decided
+pub mod Going
+pub mod Carrying
+pub mod Heavy
+pub mod PutLast
+pub mod Marked

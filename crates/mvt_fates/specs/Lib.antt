@@ -1,0 +1,3 @@
+pub mod Fates
+pub mod Once
+pub mod Decided

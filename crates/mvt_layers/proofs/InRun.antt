@@ -1,0 +1,355 @@
+-- Items of which those of one kind stand in a run: which of them has an ordinal, how many there are, and what is beside them.
+use Rattle.std.proofs.Common.{◌≡◌, ℕ, zero, suc, ◌+◌, ◌-◌, ◌<◌, ◌≤◌, Bool, true, false, Option, Some, None, List, [], ◌∷◌, ◌++◌, length, length-append, length-drop, map, take, drop, take-append-drop, option_map, refl, sym, ap, ◌∙◌, append_assoc, arith}
+use Rattle.std.specs.Prelude.{if◌then◌else◌, is_some, replicate, slice_get, MatchOption}
+use Rattle.std.specs.List.{cons_option, filter_map, enumerate_from, last_or}
+use Rattle.std.specs.Option.{option_and_then}
+use Rattle.std.proofs.lemmas.List.{drop-drop, drop-map, drop_all, drop_at, length-map, length-replicate, length-take-le, map-append, take-map, take_all, take_at}
+use Rattle.std.proofs.lemmas.List.Elements.{filter_map-append}
+use Rattle.mvt_document.specs.declared.body.Body.TheVariants as in_body
+use Rattle.mvt_document.specs.declared.document.LayerItem.{LayerItem}
+use Rattle.mvt_document.specs.declared.document.LayerItem.TheVariants as in_layer
+use Rattle.mvt_document.specs.declared.run.Kind.TheVariants.{Message}
+use Rattle.mvt_document.specs.declared.run.Run.{Run}
+use Rattle.mvt_document.specs.Kinds.{in_layer_of_kind, is_delimited, is_entry, is_feature}
+use Rattle.mvt_document.specs.Plain.{Feature}
+use Rattle.mvt_document.specs.Plain as plain
+use Rattle.mvt_document.specs.Runs.{one_run, IsRunOf}
+use Rattle.mvt_document.specs.Bodies.{body_of}
+use Rattle.mvt_document.specs.Stands.{layer_item_of}
+use Rattle.mvt_document.proofs.Running.{run_length}
+use Rattle.mvt_messages.specs.Found.{with_position, placed_from, found_from, found_in}
+use Rattle.mvt_layers.specs.Pools.{PassesOver, entry_in}
+use Rattle.mvt_messages.specs.Views.{content_in, content_of, contents, feature_in, plain_fields}
+use Rattle.mvt_layers.proofs.Placing.{found_items, placed_items}
+use Rattle.mvt_layers.proofs.Yielded.{last_joined, map_last}
+
+-- ---- what is picked, and what is not
+
+picked_none : {B : Type 0} (found : Option B) → is_some found ≡ false → found ≡ None
+picked_none None is = refl
+picked_none (Some x) is = absurd (cc)
+
+picked_some : {B : Type 0} (found : Option B) → is_some found ≡ true → (x : B) × (found ≡ Some x)
+picked_some None is = absurd (cc)
+picked_some (Some x) is = (x, refl)
+
+numbered_joined : {B : Type 0} (n : ℕ) (xs ys : List B) → enumerate_from n (xs ++ ys) ≡ enumerate_from n xs ++ enumerate_from (n + length xs) ys
+numbered_joined n [] ys =
+    let same : n ≡ n + 0 = omega arith in
+    ap (λ k. enumerate_from k ys) same
+numbered_joined n (x ∷ xs) ys =
+    let next : n + 1 + length xs ≡ n + suc (length xs) = omega arith in
+    ap (λ t. (n, x) ∷ t) (numbered_joined (n + 1) xs ys ∙ ap (λ k. enumerate_from (n + 1) xs ++ enumerate_from k ys) next)
+
+numbered_length : {B : Type 0} (n : ℕ) (xs : List B) → length (enumerate_from n xs) ≡ length xs
+numbered_length n [] = refl
+numbered_length n (x ∷ xs) = ap suc (numbered_length (n + 1) xs)
+
+behind_all : {B : Type 0} (xs ys : List B) (k : ℕ) → length xs ≤ k → slice_get (xs ++ ys) k ≡ slice_get ys (k - length xs)
+behind_all [] ys k past =
+    let same : k ≡ k - 0 = omega arith in
+    ap (slice_get ys) same
+behind_all (x ∷ xs) ys zero past = absurd (omega arith)
+behind_all (x ∷ xs) ys (suc k) past =
+    let less : k - length xs ≡ suc k - suc (length xs) = omega arith in
+    behind_all xs ys k (omega arith) ∙ ap (slice_get ys) less
+
+pub got_mapped : {A B : Type 0} (g : A → B) (xs : List A) (k : ℕ) → slice_get (map g xs) k ≡ option_map g (slice_get xs k)
+got_mapped g [] k = refl
+got_mapped g (x ∷ xs) zero = refl
+got_mapped g (x ∷ xs) (suc k) = got_mapped g xs k
+
+last_over : {A : Type 0} (o : Option A) (xs : List A) (x : A) → last_or None xs ≡ Some x → last_or o xs ≡ Some x
+last_over o [] x is = absurd (cc)
+last_over o (y ∷ xs) x is = is
+
+last_there : {A : Type 0} (y : A) (xs : List A) → last_or (Some y) xs ≡ None → ⊥
+last_there y [] is = cc
+last_there y (x ∷ xs) is = last_there x xs is
+
+last_none : {A : Type 0} (xs : List A) → last_or None xs ≡ None → xs ≡ []
+last_none [] is = refl
+last_none (x ∷ xs) is = absurd (last_there x xs is)
+
+last_got : {A : Type 0} (o : Option A) (xs : List A) (k : ℕ) → length xs ≡ suc k → last_or o xs ≡ slice_get xs k
+last_got o [] k long = absurd (omega (arith, long))
+last_got o (x ∷ []) zero long = refl
+last_got o (x ∷ []) (suc k) long = absurd (omega (arith, long))
+last_got o (x ∷ (y ∷ xs)) zero long = absurd (omega (arith, long))
+last_got o (x ∷ (y ∷ xs)) (suc k) long = last_got (Some x) (y ∷ xs) k (omega (arith, long))
+
+none_left : {A : Type 0} (xs : List A) → length xs ≡ 0 → xs ≡ []
+none_left [] none = refl
+none_left (x ∷ xs) none = absurd (omega (arith, none))
+
+-- ---- the bounds of a run
+
+pub run_within : {X : Type 0} (f : X → Bool) (run : Run) (items : List X) → IsRunOf f run items → run.first + run.count ≤ length items
+run_within f run items h = omega (arith, length-map items f, ap length h.is, length-append (one_run run.first run.count h.behind) h.rest, run_length run.first run.count h.behind)
+
+pub until_within : {X : Type 0} (f : X → Bool) (run : Run) (items : List X) → IsRunOf f run items → run.until ≤ length items
+until_within f run items h = omega (arith, h.until, length-map items f, ap length h.is, length-append (one_run run.first run.count h.behind) h.rest, run_length run.first run.count h.behind)
+
+pub count_before : {X : Type 0} (f : X → Bool) (run : Run) (items : List X) → IsRunOf f run items → run.count ≤ run.until
+count_before f run items h = omega (arith, h.until)
+
+-- ---- what is found, where what is picked are the items of one kind
+
+module _ {X A B : Type 0} (view : X → A) (pick : A → Option B) (f : X → Bool) (agrees : (x : X) → is_some (pick (view x)) ≡ f x) where
+  -- what is found among items, from an ordinal and a position on
+  abbrev placed : ℕ → ℕ → List X → List (ℕ × (ℕ × B))
+  placed ordinal position items = enumerate_from ordinal (filter_map (with_position pick) (enumerate_from position (map view items)))
+
+  -- what an item is, with an ordinal and a position
+  abbrev pub there : ℕ → ℕ → Option X → Option (ℕ × (ℕ × B))
+  there ordinal position item = option_and_then (λ i. option_map (λ found. (ordinal, (position, found))) (pick (view i))) item
+
+  in_run : (ordinal position first count k : ℕ) (tail : List Bool) (items : List X) → map f items ≡ replicate first false ++ (replicate count true ++ tail) → k < count → slice_get (placed ordinal position items) k ≡ there (ordinal + k) (position + (first + k)) (slice_get items (first + k))
+  in_run ordinal position zero zero k tail items e inside = absurd (omega arith)
+  in_run ordinal position zero (suc count) k tail [] e inside = absurd (cc)
+  in_run ordinal position (suc first) count k tail [] e inside = absurd (cc)
+  in_run ordinal position (suc first) count k tail (x ∷ items) e inside =
+      let other : f x ≡ false = cc in
+      let none = picked_none (pick (view x)) (agrees x ∙ other) in
+      let next : suc first + k ≡ suc (first + k) = omega arith in
+      let at : position + 1 + (first + k) ≡ position + (suc first + k) = omega arith in
+      let rest = filter_map (with_position pick) (enumerate_from (position + 1) (map view items)) in
+      ap (λ o. slice_get (enumerate_from ordinal (cons_option (option_map (λ found. (position, found)) o) rest)) k) none
+      ∙ in_run ordinal (position + 1) first count k tail items (ap (drop 1) e) inside
+      ∙ ap (λ p. there (ordinal + k) p (slice_get items (first + k))) at
+      ∙ sym (ap (λ n. there (ordinal + k) (position + (suc first + k)) (slice_get (x ∷ items) n)) next)
+  in_run ordinal position zero (suc count) zero tail (x ∷ items) e inside =
+      let same : ordinal ≡ ordinal + 0 = omega arith in
+      let at : position ≡ position + (0 + 0) = omega arith in
+      let one : f x ≡ true = cc in
+      let some = picked_some (pick (view x)) (agrees x ∙ one) in
+      let rest = filter_map (with_position pick) (enumerate_from (position + 1) (map view items)) in
+      ap (λ o. slice_get (enumerate_from ordinal (cons_option (option_map (λ found. (position, found)) o) rest)) 0) some.1
+      ∙ ap (λ o. Some (o, (position, some.0))) same
+      ∙ ap (λ p. Some (ordinal + 0, (p, some.0))) at
+      ∙ sym (ap (λ o. option_map (λ found. (ordinal + 0, (position + (0 + 0), found))) o) some.1)
+  in_run ordinal position zero (suc count) (suc k) tail (x ∷ items) e inside =
+      let same : ordinal + 1 + k ≡ ordinal + suc k = omega arith in
+      let at : position + 1 + (0 + k) ≡ position + (0 + suc k) = omega arith in
+      let next : 0 + suc k ≡ suc (0 + k) = omega arith in
+      let one : f x ≡ true = cc in
+      let some = picked_some (pick (view x)) (agrees x ∙ one) in
+      let rest = filter_map (with_position pick) (enumerate_from (position + 1) (map view items)) in
+      ap (λ o. slice_get (enumerate_from ordinal (cons_option (option_map (λ found. (position, found)) o) rest)) (suc k)) some.1
+      ∙ in_run (ordinal + 1) (position + 1) zero count k tail items (ap (drop 1) e) (omega arith)
+      ∙ ap (λ o. there o (position + 1 + (0 + k)) (slice_get items (0 + k))) same
+      ∙ ap (λ p. there (ordinal + suc k) p (slice_get items (0 + k))) at
+      ∙ sym (ap (λ n. there (ordinal + suc k) (position + (0 + suc k)) (slice_get (x ∷ items) n)) next)
+
+  count_in : (first count behind : ℕ) (items : List X) → map f items ≡ one_run first count behind → length (filter_map pick (map view items)) ≡ count
+  count_in first count behind [] e = omega (arith, ap length e, run_length first count behind)
+  count_in (suc first) count behind (x ∷ items) e =
+      let other : f x ≡ false = cc in
+      ap (λ o. length (cons_option o (filter_map pick (map view items)))) (picked_none (pick (view x)) (agrees x ∙ other)) ∙ count_in first count behind items (ap (drop 1) e)
+  count_in zero (suc count) behind (x ∷ items) e =
+      let one : f x ≡ true = cc in
+      ap (λ o. length (cons_option o (filter_map pick (map view items)))) (picked_some (pick (view x)) (agrees x ∙ one)).1 ∙ ap suc (count_in zero count behind items (ap (drop 1) e))
+  count_in zero zero zero (x ∷ items) e = absurd (cc)
+  count_in zero zero (suc behind) (x ∷ items) e =
+      let other : f x ≡ false = cc in
+      ap (λ o. length (cons_option o (filter_map pick (map view items)))) (picked_none (pick (view x)) (agrees x ∙ other)) ∙ count_in zero zero behind items (ap (drop 1) e)
+
+  -- what is found is what is found in the part that is known, and then what is found behind that
+  split : (run : Run) (items : List X) → IsRunOf f run items
+      → (front : List (ℕ × (ℕ × B))) × (found_in pick (map view items) ≡ front ++ found_from pick run.count run.until (map view items)) × (length front ≡ run.count)
+  split run items h =
+      let known = take run.until items in
+      let rest = drop run.until items in
+      let within = until_within f run items h in
+      let long : length (map view known) ≡ run.until = length-map known view ∙ length-take-le run.until items within in
+      let values : map f known ≡ one_run run.first run.count h.behind =
+      sym (take-map f run.until items) ∙ ap (take run.until) h.is ∙ take_at (one_run run.first run.count h.behind) h.rest run.until (run_length run.first run.count h.behind ∙ sym h.until) in
+      let front = filter_map (with_position pick) (enumerate_from 0 (map view known)) in
+      let count : length front ≡ run.count = sym (length-map front (λ (p : ℕ × B). p.1)) ∙ ap length (placed_items pick 0 (map view known)) ∙ count_in run.first run.count h.behind known values in
+      let at : 0 + length (map view known) ≡ run.until = omega (arith, long) in
+      let ordinal : 0 + length front ≡ run.count = omega (arith, count) in
+      let back = filter_map (with_position pick) (enumerate_from run.until (drop run.until (map view items))) in (
+        enumerate_from 0 front,
+        ap (λ xs. enumerate_from 0 (filter_map (with_position pick) (enumerate_from 0 (map view xs)))) (sym (take-append-drop run.until items))
+            ∙ ap (λ xs. enumerate_from 0 (filter_map (with_position pick) (enumerate_from 0 xs))) (map-append view known rest ∙ ap (λ t. map view known ++ t) (sym (drop-map view run.until items)))
+            ∙ ap (λ xs. enumerate_from 0 (filter_map (with_position pick) xs)) (numbered_joined 0 (map view known) (drop run.until (map view items)) ∙ ap (λ n. enumerate_from 0 (map view known) ++ enumerate_from n (drop run.until (map view items))) at)
+            ∙ ap (enumerate_from 0) (filter_map-append (with_position pick) (enumerate_from 0 (map view known)) (enumerate_from run.until (drop run.until (map view items))))
+            ∙ numbered_joined 0 front back
+            ∙ ap (λ n. enumerate_from 0 front ++ enumerate_from n back) ordinal,
+        numbered_length 0 front ∙ count,
+      )
+
+  -- the item of an ordinal stands as far behind the first
+  pub run_there : (run : Run) (items : List X) (k : ℕ) → IsRunOf f run items → k < run.count → slice_get (found_in pick (map view items)) k ≡ there k (run.first + k) (slice_get items (run.first + k))
+  run_there run items k h inside =
+      let F = replicate run.first false in
+      let C = replicate run.count true in
+      let B' = replicate h.behind false in
+      let same : 0 + k ≡ k = omega arith in
+      let at : 0 + (run.first + k) ≡ run.first + k = omega arith in
+      in_run 0 0 run.first run.count k (B' ++ h.rest) items (h.is ∙ append_assoc F (C ++ B') h.rest ∙ ap (λ t. F ++ t) (append_assoc C B' h.rest)) inside
+      ∙ ap (λ o. there o (0 + (run.first + k)) (slice_get items (run.first + k))) same
+      ∙ ap (λ p. there k p (slice_get items (run.first + k))) at
+
+  -- those that are not in the run are found behind what is known
+  pub run_past : (run : Run) (items : List X) (k : ℕ) → IsRunOf f run items → run.count ≤ k → slice_get (found_in pick (map view items)) k ≡ slice_get (found_from pick run.count run.until (map view items)) (k - run.count)
+  run_past run items k h past =
+      let parts = split run items h in
+      ap (λ xs. slice_get xs k) parts.1
+      ∙ behind_all parts.0 (found_from pick run.count run.until (map view items)) k (omega (arith, parts.2))
+      ∙ ap (λ n. slice_get (found_from pick run.count run.until (map view items)) (k - n)) parts.2
+
+  pub run_total : (run : Run) (items : List X) → IsRunOf f run items → length (found_in pick (map view items)) ≡ run.count + length (found_from pick run.count run.until (map view items))
+  run_total run items h =
+      let parts = split run items h in
+      ap length parts.1 ∙ length-append parts.0 (found_from pick run.count run.until (map view items)) ∙ ap (λ n. n + length (found_from pick run.count run.until (map view items))) parts.2
+
+  -- the last that is found is the last behind what is known
+  pub run_last_behind : (run : Run) (items : List X) (last : ℕ × (ℕ × B)) → IsRunOf f run items → last_or None (found_from pick run.count run.until (map view items)) ≡ Some last → last_or None (found_in pick (map view items)) ≡ Some last
+  run_last_behind run items last h is =
+      let parts = split run items h in
+      let behind = found_from pick run.count run.until (map view items) in
+      ap (last_or None) parts.1 ∙ last_joined None parts.0 behind ∙ last_over (last_or None parts.0) behind last is
+
+  -- or else the last of the run
+  pub run_last_in : (run : Run) (items : List X) (k : ℕ) → IsRunOf f run items → last_or None (found_from pick run.count run.until (map view items)) ≡ None → run.count ≡ suc k → last_or None (found_in pick (map view items)) ≡ slice_get (found_in pick (map view items)) k
+  run_last_in run items k h none count =
+      let behind = ap length (last_none (found_from pick run.count run.until (map view items)) none) in
+      last_got None (found_in pick (map view items)) k (omega (arith, run_total run items h, behind, count))
+
+  -- or there is none
+  pub run_no_last : (run : Run) (items : List X) → IsRunOf f run items → last_or None (found_from pick run.count run.until (map view items)) ≡ None → run.count ≡ 0 → last_or None (found_in pick (map view items)) ≡ None
+  run_no_last run items h none count =
+      let behind = ap length (last_none (found_from pick run.count run.until (map view items)) none) in
+      ap (last_or None) (none_left (found_in pick (map view items)) (omega (arith, run_total run items h, behind, count)))
+
+-- ---- features, and entries
+
+pub is_found_feature : (item : LayerItem) → is_some (feature_in (layer_item_of item)) ≡ in_layer_of_kind Message item
+is_found_feature (in_layer.Feature feature) = refl
+is_found_feature (in_layer.Plain field) = refl
+
+entry_is : (test : Bool) (body : _) → is_some (if test then content_of (body_of body) else None) ≡ (if test then is_delimited body else false)
+entry_is false body = refl
+entry_is true (in_body.Number number) = refl
+entry_is true (in_body.Eight bytes) = refl
+entry_is true (in_body.Four bytes) = refl
+entry_is true (in_body.Bytes width bytes) = refl
+entry_is true (in_body.Group bytes) = refl
+
+pub is_found_entry : (number : ℕ) (item : LayerItem) → is_some (entry_in number (layer_item_of item)) ≡ is_entry number item
+is_found_entry number (in_layer.Feature feature) = refl
+is_found_entry number (in_layer.Plain field) = entry_is _ field.body
+
+-- the entries of a number are the contents of that number
+entry_contents : (number : ℕ) (items : List plain.LayerItem) → filter_map (entry_in number) items ≡ contents number (plain_fields items)
+entry_contents number [] = refl
+entry_contents number (plain.OfFeature feature ∷ items) = entry_contents number items
+entry_contents number (plain.PlainInLayer field ∷ items) = ap (cons_option (content_in number field)) (entry_contents number items)
+
+pub found_contents : (number : ℕ) (items : List plain.LayerItem) → map (λ (found : ℕ × (ℕ × List ℕ)). found.1.1) (found_in (entry_in number) items) ≡ contents number (plain_fields items)
+found_contents number items = found_items (entry_in number) items ∙ entry_contents number items
+
+-- the last entry of a number is the last content of that number
+pub last_content : (number : ℕ) (items : List plain.LayerItem) → option_map (λ (found : ℕ × (ℕ × List ℕ)). found.1.1) (last_or None (found_in (entry_in number) items)) ≡ last_or None (contents number (plain_fields items))
+last_content number items = map_last (λ found. found.1.1) None (found_in (entry_in number) items) ∙ ap (last_or None) (found_contents number items)
+
+content_of_found : {B : Type 0} (found : Option B) (ordinal position : ℕ) → option_map (λ (f : ℕ × (ℕ × B)). f.1.1) (option_map (λ x. (ordinal, (position, x))) found) ≡ found
+content_of_found None ordinal position = refl
+content_of_found (Some x) ordinal position = refl
+
+-- the content of what is there
+pub content_there : (number ordinal position : ℕ) (item : LayerItem) → option_map (λ (found : ℕ × (ℕ × List ℕ)). found.1.1) (there layer_item_of (entry_in number) (is_entry number) (is_found_entry number) ordinal position (Some item)) ≡ entry_in number (layer_item_of item)
+content_there number ordinal position item = content_of_found (entry_in number (layer_item_of item)) ordinal position
+
+-- ---- the other fields
+
+none_among : (n : ℕ) (items : List LayerItem) → map is_feature items ≡ replicate n true → plain_fields (map layer_item_of items) ≡ []
+none_among n [] e = refl
+none_among zero (item ∷ items) e = absurd (cc)
+none_among (suc n) (in_layer.Plain field ∷ items) e = absurd (cc)
+none_among (suc n) (in_layer.Feature feature ∷ items) e = none_among n items (ap (drop 1) e)
+
+fields_apart : (xs ys : List LayerItem) → plain_fields (map layer_item_of (xs ++ ys)) ≡ plain_fields (map layer_item_of xs) ++ plain_fields (map layer_item_of ys)
+fields_apart xs ys = ap plain_fields (map-append layer_item_of xs ys) ∙ filter_map-append _ (map layer_item_of xs) (map layer_item_of ys)
+
+-- the items before the run, those of the run, which are features, and those behind it
+pub run_parts : (run : Run) (items : List LayerItem) → IsRunOf (in_layer_of_kind Message) run items
+    → (items ≡ take run.first items ++ (take run.count (drop run.first items) ++ drop (run.first + run.count) items)) × (map is_feature (take run.count (drop run.first items)) ≡ replicate run.count true)
+run_parts run items h =
+    let F = replicate run.first false in
+    let C = replicate run.count true in
+    let B = replicate h.behind false in
+    let rest = drop run.first items in (
+      sym (take-append-drop run.first items) ∙ ap (λ xs. take run.first items ++ xs) (sym (take-append-drop run.count rest) ∙ ap (λ xs. take run.count rest ++ xs) (drop-drop run.count run.first items)),
+      sym (take-map is_feature run.count rest)
+          ∙ ap (take run.count) (sym (drop-map is_feature run.first items) ∙ ap (drop run.first) (h.is ∙ append_assoc F (C ++ B) h.rest) ∙ drop_at F ((C ++ B) ++ h.rest) run.first (length-replicate run.first false) ∙ append_assoc C B h.rest)
+          ∙ take_at C (B ++ h.rest) run.count (length-replicate run.count true),
+    )
+
+pub fields_beside : (run : Run) (items : List LayerItem) → IsRunOf (in_layer_of_kind Message) run items
+    → plain_fields (map layer_item_of items) ≡ plain_fields (map layer_item_of (take run.first items)) ++ plain_fields (map layer_item_of (drop (run.first + run.count) items))
+fields_beside run items h =
+    let part = take run.count (drop run.first items) in
+    let back = drop (run.first + run.count) items in
+    let parts = run_parts run items h in
+    ap (λ xs. plain_fields (map layer_item_of xs)) parts.0
+    ∙ fields_apart (take run.first items) (part ++ back)
+    ∙ ap (λ xs. plain_fields (map layer_item_of (take run.first items)) ++ xs) (fields_apart part back ∙ ap (λ xs. xs ++ plain_fields (map layer_item_of back)) (none_among run.count part parts.1))
+
+-- the same of the slices
+pub fields_parted : (run : Run) (items : List LayerItem) → IsRunOf (in_layer_of_kind Message) run items
+    → plain_fields (map layer_item_of items) ≡ plain_fields (map layer_item_of (take run.first items)) ++ plain_fields (map layer_item_of (take (length items - (run.first + run.count)) (drop (run.first + run.count) items)))
+fields_parted run items h =
+    let end = run.first + run.count in
+    let back = take_all (length items - end) (drop end items) (omega (arith, length-drop end items)) in
+    fields_beside run items h ∙ ap (λ xs. plain_fields (map layer_item_of (take run.first items)) ++ plain_fields (map layer_item_of xs)) (sym back)
+
+pub parted_length : (run : Run) (items : List LayerItem) → IsRunOf (in_layer_of_kind Message) run items
+    → length (take run.first items) + length (take (length items - (run.first + run.count)) (drop (run.first + run.count) items)) ≤ length items
+parted_length run items h =
+    let end = run.first + run.count in
+    let within = run_within (in_layer_of_kind Message) run items h in
+    let back = ap length (take_all (length items - end) (drop end items) (omega (arith, length-drop end items))) in
+    omega (arith, within, back, length-drop end items, length-take-le run.first items (omega (arith, within)))
+
+-- ---- the keys and the values
+
+none_placed : (number n position : ℕ) (part back : List LayerItem) → map is_feature part ≡ replicate n true
+    → filter_map (with_position (entry_in number)) (enumerate_from position (map layer_item_of (part ++ back))) ≡ filter_map (with_position (entry_in number)) (enumerate_from (position + n) (map layer_item_of back))
+none_placed number zero position [] back e =
+    let same : position ≡ position + 0 = omega arith in
+    ap (λ p. filter_map (with_position (entry_in number)) (enumerate_from p (map layer_item_of back))) same
+none_placed number (suc n) position [] back e = absurd (cc)
+none_placed number zero position (item ∷ part) back e = absurd (cc)
+none_placed number (suc n) position (in_layer.Plain field ∷ part) back e = absurd (cc)
+none_placed number (suc n) position (in_layer.Feature feature ∷ part) back e =
+    let next : position + 1 + n ≡ position + suc n = omega arith in
+    none_placed number n (position + 1) part back (ap (drop 1) e)
+    ∙ ap (λ p. filter_map (with_position (entry_in number)) (enumerate_from p (map layer_item_of back))) next
+
+pub passes_over : (number : ℕ) (run : Run) (items : List LayerItem) → IsRunOf (in_layer_of_kind Message) run items → PassesOver number run (map layer_item_of items)
+passes_over number run items h =
+    let parts = run_parts run items h in
+    let rest = drop run.first items in
+    let part = take run.count rest in
+    let back = drop (run.first + run.count) items in
+    record {
+      within = omega (arith, run_within (in_layer_of_kind Message) run items h, length-map items layer_item_of);
+      none = ap (λ xs. filter_map (with_position (entry_in number)) (enumerate_from run.first xs))
+          (drop-map layer_item_of run.first items ∙ ap (map layer_item_of) (sym (take-append-drop run.count rest) ∙ ap (λ xs. part ++ xs) (drop-drop run.count run.first items)))
+          ∙ none_placed number run.count run.first part back parts.1
+          ∙ ap (λ xs. filter_map (with_position (entry_in number)) (enumerate_from (run.first + run.count) xs)) (sym (drop-map layer_item_of (run.first + run.count) items));
+    }
+
+pub passes_none : (number : ℕ) (items : List LayerItem) → PassesOver number (record { first = 0; count = 0; until = 0 }) (map layer_item_of items)
+passes_none number items = record { within = omega arith; none = refl }
+
+-- nothing is found behind all items
+pub placed_past : (number : ℕ) (items : List LayerItem) → placed_from (entry_in number) (length items) (map layer_item_of items) ≡ []
+placed_past number items = ap (λ xs. filter_map (with_position (entry_in number)) (enumerate_from (length items) xs)) (drop_all (length items) (map layer_item_of items) (omega (arith, length-map items layer_item_of)))
+
+-- what is found in a part is found in the whole that begins with it
+pub matched : {X Y : Type 0} (found : Option X) (whole part last end : List Y) (next : X → List Y) → whole ≡ part → last ≡ end → MatchOption found (part ≡ last) (λ x. part ≡ next x) → MatchOption found (whole ≡ end) (λ x. whole ≡ next x)
+matched None whole part last end next same past h = same ∙ h ∙ past
+matched (Some x) whole part last end next same past h = same ∙ h

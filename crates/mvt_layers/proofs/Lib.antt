@@ -1,0 +1,4 @@
+pub mod Pairing
+pub mod Yielded
+pub mod Placing
+pub mod InRun

@@ -1,0 +1,19 @@
+use Rattle.std.proofs.Common.{refl, ◌∙◌, arith}
+use Rattle.mvt_document.specs.Stands.{layer_item_of}
+use Rattle.mvt_messages.specs.Views.{feature_in}
+use Rattle.mvt_layers.proofs.Placing.{placed_from-more}
+use Rattle.mvt_layers.proofs.fields.first_feature.Goals as goal
+
+pub returns-in-Feature-clause-found : goal.returns-in-Feature-clause-found
+returns-in-Feature-clause-found c =
+    c.loop-position.invariant.rest
+    ∙ placed_from-more layer_item_of feature_in c.loop-position.position c.args.items.now c.index-items-position.result c.loop-position-test.true c.index-items-position.is
+    ∙ rw c.in-Feature.is refl
+
+pub loop-position-preserved : goal.loop-position-preserved
+loop-position-preserved c = record {
+  after = omega (arith, c.loop-position.invariant.after);
+  rest = c.loop-position.invariant.rest
+      ∙ placed_from-more layer_item_of feature_in c.loop-position.position c.args.items.now c.index-items-position.result c.loop-position-test.true c.index-items-position.is
+      ∙ rw c.in_default.is refl;
+}

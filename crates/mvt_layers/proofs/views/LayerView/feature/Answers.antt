@@ -1,0 +1,15 @@
+use Rattle.std.proofs.Common.{sym, ◌∙◌}
+use Rattle.std.proofs.lemmas.Iterator.Consumers.{nth_from_yields_List, YieldsList-from_first}
+use Rattle.mvt_document.specs.declared.run.Kind.TheVariants.{Message}
+use Rattle.mvt_document.specs.Kinds.{in_layer_of_kind}
+use Rattle.mvt_document.specs.Stands.{layer_item_of}
+use Rattle.mvt_messages.specs.Views.{feature_in}
+use Rattle.mvt_layers.specs.Seen.{found_feature_seen}
+use Rattle.mvt_layers.proofs.InRun.{is_found_feature, run_past}
+use Rattle.mvt_layers.proofs.views.LayerView.feature.Goals as goal
+
+pub returns : goal.returns
+returns c =
+    let items = c.args.self.layer.now.items.items in
+    nth_from_yields_List _ _ _ c.nth.ensures.ran (YieldsList-from_first found_feature_seen (λ left. left) _ c.behind.ensures.items)
+    ∙ rw c.as_slice-items.ensures (sym (run_past layer_item_of feature_in (in_layer_of_kind Message) is_found_feature c.runs.result.messages items c.args.ordinal c.runs.ensures.messages c.if-ordinal-features.false))

@@ -1,0 +1,71 @@
+//! `pairs`: the tags of a feature in pairs.
+
+ghost use Rattle.std.specs.Prelude.{◌≡◌, Some, None, map, IfOk};
+ghost use Rattle.std.specs.Result.{IsErrOf};
+ghost use Rattle.mvt_messages.specs.Attributes.{pairs_of};
+ghost use Rattle.mvt_layers.specs.Seen.{feature_seen, layer_seen, pair_seen};
+ghost use Rattle.mvt_layers.specs.declared.attributes.PairsError.TheVariants.{BadTags, NoMemory};
+
+use crate::tag_pairs::BadPair;
+use crate::views::{FeatureView, LayerView};
+use mvt_document::Items;
+use std::alloc::{AllocError, AllocFailed, Global};
+use thiserror::Error;
+
+/// The ordinals of a key and of a value of the layer.
+#[derive(Clone, Copy, Debug, PartialEq, Eq)]
+pub struct Pair {
+    pub key: u32,
+    pub value: u32,
+}
+
+/// Why there are no pairs.
+#[derive(Clone, Copy, Debug, PartialEq, Eq, Error)]
+pub enum PairsError {
+    /// There is something that is no number, a key without a value, or a number that names no key or no value.
+    #[error("the tags are not pairs of a key and a value")]
+    BadTags,
+    #[error("out of memory")]
+    NoMemory,
+}
+
+impl From<BadPair> for PairsError {
+    ghost from_gives = { λ _ e. e ≡ BadTags };
+
+    fn from(_e: BadPair) -> PairsError {
+        PairsError::BadTags
+    }
+}
+
+impl From<AllocError> for PairsError {
+    ghost from_gives = { λ _ e. e ≡ NoMemory };
+
+    fn from(_e: AllocError) -> PairsError {
+        PairsError::NoMemory
+    }
+}
+
+impl<T: Drop> From<AllocFailed<T>> for PairsError {
+    ghost from_gives = { λ _ e. e ≡ NoMemory };
+
+    fn from(_e: AllocFailed<T>) -> PairsError {
+        PairsError::NoMemory
+    }
+}
+
+/// The pairs that the tags of a feature of this layer are. The layer's keys and values are counted once, in a pass
+/// over its items.
+pub fn pairs(
+    alloc: Global,
+    layer: &LayerView,
+    feature: &FeatureView,
+) -> Result<Items<Pair>, PairsError>
+    ensures pairs { IfOk result (λ pairs. pairs_of (layer_seen layer.now) (feature_seen feature.now) ≡ Some (map pair_seen pairs.items)) }
+    ensures bad_tags { IsErrOf result PairsError.BadTags → pairs_of (layer_seen layer.now) (feature_seen feature.now) ≡ None }
+{
+    let mut pairs = Vec::new(alloc);
+    for tags in feature.tag_pairs(layer.pool_sizes()) {
+        pairs.push(tags?.pair)?;
+    }
+    Ok(Items::from_vec(pairs))
+}

@@ -1,0 +1,187 @@
+//! The keys and values of a layer with where they stand, as an iterator, the first that is given, and the
+//! last name.
+
+ghost use Rattle.std.specs.Prelude.{◌≡◌, ◌<◌, None, length, map, option_map, slice_get};
+ghost use Rattle.std.specs.List.{last_or};
+ghost use Rattle.std.specs.Option.{option_copied};
+ghost use Rattle.mvt_document.specs.declared.run.Kind.TheVariants as kind;
+ghost use Rattle.mvt_document.specs.Kinds.{in_layer_of_kind, is_entry};
+ghost use Rattle.mvt_document.specs.Runs.{IsRunOf};
+ghost use Rattle.mvt_document.specs.Stands.{layer_item_of};
+ghost use Rattle.mvt_layers.specs.Pools.{first_equal, found_entries};
+ghost use Rattle.mvt_layers.specs.Seen.{found_entry_seen};
+ghost use Rattle.mvt_messages.specs.Views.{contents, plain_fields};
+
+use crate::fields::{entry_in, first_entry};
+use crate::found::FoundEntry;
+use mvt_document::tags::NAME;
+use mvt_document::{Layer, LayerItem, Message, Run};
+use std::marker::Model;
+
+/// The LEN fields of one number in a layer, in order, as its keys or its values, each with its ordinal and its
+/// position. Contracts see those that are left.
+#[derive(Clone, Debug, Drop)]
+pub struct Entries<'a> {
+    items: &'a [LayerItem],
+    number: u64,
+    // A run of features, none of which is an entry.
+    passed: Run,
+    // From where the next is looked for, and its ordinal.
+    position: usize,
+    ordinal: usize,
+}
+
+impl<'a> Model for Entries<'a> {
+    ghost use Rattle.std.specs.Prelude.{ℕ, ◌≤◌, List, length, map};
+    ghost use Rattle.mvt_document.specs.Stands.{layer_item_of};
+    ghost use Rattle.mvt_messages.specs.Found.{found_from};
+    ghost use Rattle.mvt_layers.specs.Pools.{PassesOver, entry_in};
+
+    ghost Value = { List (ℕ × (ℕ × List ℕ)) };
+
+    ghost view = { λ l. found_from (entry_in l.number) l.ordinal l.position (map layer_item_of l.items.now) };
+
+    ghost invariant = { λ l. (l.ordinal ≤ l.position) × (l.position ≤ length l.items.now) × PassesOver l.number l.passed (map layer_item_of l.items.now) };
+}
+
+impl<'a> Entries<'a> {
+    ghost use Rattle.std.specs.Prelude.{◌+◌, ◌<◌, ◌^◌, length};
+    ghost use Rattle.mvt_document.specs.Stands.{layer_of};
+    ghost use Rattle.mvt_messages.specs.Found.{found_from};
+    ghost use Rattle.mvt_layers.specs.Pools.{entry_in, found_entries};
+
+    pub(crate) fn of(layer: &'a Layer, number: u64) -> Entries<'a>
+        ensures items { result ≡ found_entries number (layer_of layer.now).items }
+        ensures bound { length result < 2 ^ 64 }
+    {
+        Entries::beside(layer.items.as_slice(), layer.items.runs().messages, number)
+    }
+
+    fn beside(items: &'a [LayerItem], features: Run, number: u64) -> Entries<'a>
+        requires { IsRunOf (in_layer_of_kind kind.Message) features items.now }
+        ensures items { result ≡ found_entries number (map layer_item_of items.now) }
+        ensures bound { length result < 2 ^ 64 }
+    {
+        Entries {
+            items,
+            number,
+            passed: features,
+            position: 0,
+            ordinal: 0,
+        }
+    }
+
+    /// Those that are not in the run of the first of them.
+    pub(crate) fn behind(items: &'a [LayerItem], entries: Run, number: u64) -> Entries<'a>
+        requires { IsRunOf (is_entry number) entries items.now }
+        ensures items { result ≡ found_from (entry_in number) entries.count entries.until (map layer_item_of items.now) }
+        ensures bound { entries.count + length result < 2 ^ 64 }
+    {
+        Entries {
+            items,
+            number,
+            passed: Run {
+                first: 0,
+                count: 0,
+                until: 0,
+            },
+            position: entries.until,
+            ordinal: entries.count,
+        }
+    }
+}
+
+impl<'a> Iterator for Entries<'a> {
+    ghost use Rattle.std.specs.Iterator.{YieldsFirstBy, item_count};
+
+    type Item = FoundEntry<'a>;
+
+    ghost next_gives = { YieldsFirstBy found_entry_seen (λ left. left) };
+
+    ghost remaining = { item_count (λ left. left) };
+
+    fn next(&mut self) -> Option<FoundEntry<'a>> {
+        let (position, bytes) = first_entry(self.items, self.number, self.position, self.passed)?;
+        let ordinal = self.ordinal;
+        self.position = position + 1;
+        self.ordinal = ordinal + 1;
+        Some(FoundEntry {
+            ordinal,
+            position,
+            bytes,
+        })
+    }
+}
+
+/// The entry of this ordinal, where this is the run of the first of them.
+pub(crate) fn entry(items: &[LayerItem], entries: Run, number: u64, ordinal: usize) -> Option<&[u8]>
+    requires { IsRunOf (is_entry number) entries items.now }
+    ensures { option_copied result ≡ slice_get (contents number (plain_fields (map layer_item_of items.now))) ordinal }
+{
+    if ordinal < entries.count {
+        return entry_in(&items[entries.first + ordinal], number);
+    }
+    let found = Entries::behind(items, entries, number).nth(ordinal - entries.count)?;
+    Some(found.bytes)
+}
+
+/// The entry of this ordinal, which is one of the run, with where it stands.
+fn entry_in_run(
+    items: &[LayerItem],
+    entries: Run,
+    number: u64,
+    ordinal: usize,
+) -> Option<FoundEntry<'_>>
+    requires run { IsRunOf (is_entry number) entries items.now }
+    requires there { ordinal < entries.count }
+    ensures { option_map found_entry_seen result ≡ slice_get (found_entries number (map layer_item_of items.now)) ordinal }
+{
+    let position = entries.first + ordinal;
+    let bytes = entry_in(&items[position], number)?;
+    Some(FoundEntry {
+        ordinal,
+        position,
+        bytes,
+    })
+}
+
+/// The last entry, where this is the run of the first of them.
+fn last_entry(items: &[LayerItem], entries: Run, number: u64) -> Option<FoundEntry<'_>>
+    requires { IsRunOf (is_entry number) entries items.now }
+    ensures { option_map found_entry_seen result ≡ last_or None (found_entries number (map layer_item_of items.now)) }
+{
+    if let Some(found) = Entries::behind(items, entries, number).last() {
+        return Some(found);
+    }
+    if entries.count == 0 {
+        return None;
+    }
+    entry_in_run(items, entries, number, entries.count - 1)
+}
+
+/// The last name of a layer, which is the one that counts, with where it stands.
+pub fn last_name(items: &Message<LayerItem>) -> Option<FoundEntry<'_>>
+    ensures { option_map found_entry_seen result ≡ last_or None (found_entries 1 (map layer_item_of items.now.items)) }
+{
+    last_entry(items.as_slice(), items.runs().names, NAME)
+}
+
+/// How many entries there are, where this is the run of the first of them.
+pub(crate) fn entry_count(items: &[LayerItem], entries: Run, number: u64) -> usize
+    requires { IsRunOf (is_entry number) entries items.now }
+    ensures { result ≡ length (contents number (plain_fields (map layer_item_of items.now))) }
+{
+    entries.count + Entries::behind(items, entries, number).count()
+}
+
+/// The first entry that is these bytes.
+pub(crate) fn first_equal<'a>(entries: Entries<'a>, bytes: &[u8]) -> Option<FoundEntry<'a>>
+    ensures { option_map found_entry_seen result ≡ first_equal bytes.now entries.entry }
+{
+    for found in entries {
+        if found.bytes == bytes {
+            return Some(found);
+        }
+    }
+    None
+}

@@ -1,0 +1,225 @@
+//! What a field holds, and the items of a message that hold something.
+
+ghost use Rattle.std.specs.Prelude.{◌≡◌, ◌+◌, ◌^◌, ◌<◌, ◌≤◌, ◌∷◌, [], ◌++◌, length, map, option_map, slice_get, IfSome, MatchOption};
+ghost use Rattle.std.specs.List.{filter_map, last_or};
+ghost use Rattle.std.specs.Option.{option_copied};
+ghost use Rattle.mvt_document.specs.declared.run.Kind.TheVariants.{Message};
+ghost use Rattle.mvt_document.specs.Kinds.{in_layer_of_kind};
+ghost use Rattle.mvt_document.specs.Runs.{IsRunOf};
+ghost use Rattle.mvt_document.specs.Stands.{feature_of, field_of, layer_item_of, layer_of, tile_item_of};
+ghost use Rattle.mvt_messages.specs.Found.{found_features, found_from, placed_from, with_id};
+ghost use Rattle.mvt_layers.specs.Pools.{PassesOver, entry_in};
+ghost use Rattle.mvt_layers.specs.Seen.{found_feature_seen};
+ghost use Rattle.mvt_messages.specs.Views.{content_in, contents, feature_in, has_id, last_value, layer_in, plain_fields, value_in};
+
+use crate::found::FoundFeature;
+use mvt_document::{BodyRef, Feature, Field, Layer, LayerItem, Run, TileItem, value_in};
+
+/// The content of a LEN field of this number.
+fn content_in(field: &Field, number: u64) -> Option<&[u8]>
+    ensures { option_copied result ≡ content_in number (field_of field.now) }
+{
+    match field.body.get() {
+        BodyRef::Bytes { bytes, .. } if field.tag.number() == number => Some(bytes),
+        _ => None,
+    }
+}
+
+/// The items of a layer before the run of its features and those behind it.
+pub(crate) fn beside_features(layer: &Layer) -> (&[LayerItem], &[LayerItem])
+    ensures items { plain_fields (layer_of layer.now).items ≡ plain_fields (map layer_item_of result.0.now) ++ plain_fields (map layer_item_of result.1.now) }
+    ensures fits { length result.0.now + length result.1.now < 2 ^ 64 }
+{
+    beside_run(layer.items.as_slice(), layer.items.runs().messages)
+}
+
+/// The items before this run of features and those behind it.
+#[tactic(auto, using(crate::proofs::InRun::run_within))]
+fn beside_run(items: &[LayerItem], features: Run) -> (&[LayerItem], &[LayerItem])
+    requires { IsRunOf (in_layer_of_kind Message) features items.now }
+    ensures items { plain_fields (map layer_item_of items.now) ≡ plain_fields (map layer_item_of result.0.now) ++ plain_fields (map layer_item_of result.1.now) }
+    ensures fits { length result.0.now + length result.1.now < 2 ^ 64 }
+{
+    (
+        &items[..features.first],
+        &items[features.first + features.count..],
+    )
+}
+
+/// The same among the fields of a layer.
+pub(crate) fn last_value_in_layer(layer: &Layer, number: u64) -> Option<u64>
+    ensures { result ≡ last_value number (plain_fields (layer_of layer.now).items) }
+{
+    let (front, back) = beside_features(layer);
+    let last = last_value_in_items(None, front, number);
+    last_value_in_items(last, back, number)
+}
+
+/// The same among items of a layer; the one before where there is none.
+fn last_value_in_items(before: Option<u64>, items: &[LayerItem], number: u64) -> Option<u64>
+    ensures { result ≡ last_or before (filter_map (value_in number) (plain_fields (map layer_item_of items.now))) }
+{
+    let mut last = before;
+    for item in items {
+        if let LayerItem::Plain(plain) = item {
+            last = value_in(plain, number).or(last);
+        }
+    }
+    last
+}
+
+/// The first layer from this position on, and its position.
+pub(crate) fn first_layer(items: &[TileItem], start: usize) -> Option<(usize, &Layer)>
+    requires { start ≤ length items.now }
+    ensures found { MatchOption result (placed_from layer_in start (map tile_item_of items.now) ≡ []) (λ found. placed_from layer_in start (map tile_item_of items.now) ≡ (found.0, layer_of found.1.now) ∷ placed_from layer_in (found.0 + 1) (map tile_item_of items.now)) }
+    ensures within { IfSome result (λ found. (start ≤ found.0) × (found.0 < length items.now)) }
+{
+    for position in start..items.len() {
+        if let TileItem::Layer(layer) = &items[position] {
+            return Some((position, layer));
+        }
+    }
+    None
+}
+
+/// The first feature from this position on, and its position.
+pub(crate) fn first_feature(items: &[LayerItem], start: usize) -> Option<(usize, &Feature)>
+    requires { start ≤ length items.now }
+    ensures found { MatchOption result (placed_from feature_in start (map layer_item_of items.now) ≡ []) (λ found. placed_from feature_in start (map layer_item_of items.now) ≡ (found.0, feature_of found.1.now) ∷ placed_from feature_in (found.0 + 1) (map layer_item_of items.now)) }
+    ensures within { IfSome result (λ found. (start ≤ found.0) × (found.0 < length items.now)) }
+{
+    for position in start..items.len() {
+        if let LayerItem::Feature(feature) = &items[position] {
+            return Some((position, feature));
+        }
+    }
+    None
+}
+
+/// The first feature that has this id from this position on, where the first from there on has this ordinal.
+pub(crate) fn first_with_id(
+    items: &[LayerItem],
+    id: u64,
+    start: usize,
+    first: usize,
+) -> Option<FoundFeature<'_>>
+    requires there { start ≤ length items.now }
+    requires before { first ≤ start }
+    ensures found { let all = map layer_item_of items.now in let left = with_id id (found_from feature_in first start all) in
+        MatchOption result (left ≡ []) (λ found. left ≡ found_feature_seen found ∷ with_id id (found_from feature_in (found.ordinal + 1) (found.position + 1) all)) }
+    ensures within { IfSome result (λ found. (found.ordinal ≤ found.position) × (found.position < length items.now)) }
+{
+    let mut ordinal = first;
+    for position in start..items.len() {
+        if let LayerItem::Feature(feature) = &items[position] {
+            if has_id(feature, id) {
+                return Some(FoundFeature {
+                    ordinal,
+                    position,
+                    feature,
+                });
+            }
+            ordinal += 1;
+        }
+    }
+    None
+}
+
+#[inline(always)]
+fn has_id(feature: &Feature, id: u64) -> bool
+    ensures { result ≡ has_id id (feature_of feature.now) }
+{
+    match feature.fields.id() {
+        Some(found) => found == id,
+        None => false,
+    }
+}
+
+/// The feature of this ordinal, which is one of the run.
+pub(crate) fn feature_in_run(
+    items: &[LayerItem],
+    features: Run,
+    ordinal: usize,
+) -> Option<FoundFeature<'_>>
+    requires run { IsRunOf (in_layer_of_kind Message) features items.now }
+    requires there { ordinal < features.count }
+    ensures { option_map found_feature_seen result ≡ slice_get (found_features (map layer_item_of items.now)) ordinal }
+{
+    let position = features.first + ordinal;
+    match &items[position] {
+        LayerItem::Feature(feature) => Some(FoundFeature {
+            ordinal,
+            position,
+            feature,
+        }),
+        LayerItem::Plain(_) => None,
+    }
+}
+
+/// The content of an item that is a LEN field of this number.
+pub(crate) fn entry_in(item: &LayerItem, number: u64) -> Option<&[u8]>
+    ensures { option_copied result ≡ entry_in number (layer_item_of item.now) }
+{
+    match item {
+        LayerItem::Plain(field) => content_in(field, number),
+        LayerItem::Feature(_) => None,
+    }
+}
+
+/// The content of the first LEN field of this number from this position on, and its position. The items of
+/// the run are passed over.
+pub(crate) fn first_entry(
+    items: &[LayerItem],
+    number: u64,
+    start: usize,
+    passed: Run,
+) -> Option<(usize, &[u8])>
+    requires there { start ≤ length items.now }
+    requires passed { PassesOver number passed (map layer_item_of items.now) }
+    ensures found { MatchOption result (placed_from (entry_in number) start (map layer_item_of items.now) ≡ []) (λ found. placed_from (entry_in number) start (map layer_item_of items.now) ≡ (found.0, found.1.now) ∷ placed_from (entry_in number) (found.0 + 1) (map layer_item_of items.now)) }
+    ensures within { IfSome result (λ found. (start ≤ found.0) × (found.0 < length items.now)) }
+{
+    if start >= passed.first {
+        return entry_before(items, number, start, items.len());
+    }
+    match entry_before(items, number, start, passed.first) {
+        Some(found) => Some(found),
+        None => entry_before(items, number, passed.first + passed.count, items.len()),
+    }
+}
+
+/// The same from this position to that one.
+fn entry_before(
+    items: &[LayerItem],
+    number: u64,
+    start: usize,
+    end: usize,
+) -> Option<(usize, &[u8])>
+    requires order { start ≤ end }
+    requires there { end ≤ length items.now }
+    ensures found { MatchOption result (placed_from (entry_in number) start (map layer_item_of items.now) ≡ placed_from (entry_in number) end (map layer_item_of items.now)) (λ found. placed_from (entry_in number) start (map layer_item_of items.now) ≡ (found.0, found.1.now) ∷ placed_from (entry_in number) (found.0 + 1) (map layer_item_of items.now)) }
+    ensures within { IfSome result (λ found. (start ≤ found.0) × (found.0 < end)) }
+{
+    for position in start..end {
+        if let Some(content) = entry_in(&items[position], number) {
+            return Some((position, content));
+        }
+    }
+    None
+}
+
+/// The content of the first LEN field of this number, and the items behind it.
+pub(crate) fn first_content(items: &[LayerItem], number: u64) -> Option<(&[u8], &[LayerItem])>
+    ensures { MatchOption result (contents number (plain_fields (map layer_item_of items.now)) ≡ []) (λ found. contents number (plain_fields (map layer_item_of items.now)) ≡ found.0.now ∷ contents number (plain_fields (map layer_item_of found.1.now))) }
+{
+    let mut rest = items;
+    while let Some((item, behind)) = rest.split_first() {
+        if let LayerItem::Plain(field) = item {
+            if let Some(content) = content_in(field, number) {
+                return Some((content, behind));
+            }
+        }
+        rest = behind;
+    }
+    None
+}

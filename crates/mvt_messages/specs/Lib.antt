@@ -1,0 +1,4 @@
+pub mod Views
+pub mod Found
+pub mod Attributes
+pub mod Tags

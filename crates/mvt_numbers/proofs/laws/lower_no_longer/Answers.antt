@@ -1,5 +1,0 @@
-use Rattle.mvt_numbers.proofs.Redone.{lower_no_longer}
-use Rattle.mvt_numbers.proofs.laws.lower_no_longer.Goals as goal
-
-pub returns : goal.returns
-returns c = lower_no_longer

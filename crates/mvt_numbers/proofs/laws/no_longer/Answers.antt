@@ -1,8 +1,0 @@
-use Rattle.mvt_numbers.proofs.Redone.{field_no_longer, no_longer}
-use Rattle.mvt_numbers.proofs.laws.no_longer.Goals as goal
-
-pub returns-clause-field : goal.returns-clause-field
-returns-clause-field c = field_no_longer
-
-pub returns-clause-all : goal.returns-clause-all
-returns-clause-all c = no_longer

@@ -1,5 +1,0 @@
-use Rattle.mvt_numbers.proofs.Reread.{read_of_fields}
-use Rattle.mvt_numbers.proofs.laws.read_of_fields.Goals as goal
-
-pub returns : goal.returns
-returns c = read_of_fields

@@ -1,9 +1,0 @@
-use Rattle.std.proofs.Common.{◌≤◌, ◌-◌, length}
-use Rattle.mvt_numbers.specs.Deciding.{StaysBefore}
-use Rattle.mvt_numbers.proofs.renumber.first_change.Given as goal
-
-abbrev pub invariant-loop-place : goal.invariant-loop-place
-invariant-loop-place l = record { within : l.place ≤ length l.bytes; stays : StaysBefore l.bytes l.decisions l.place l.left }
-
-abbrev pub decreases-loop-place : goal.decreases-loop-place
-decreases-loop-place l = length l.bytes - l.place

@@ -1,0 +1,151 @@
+-- What is left of a packed field: how its scan and the body made of it answer for the whole field.
+use Rattle.std.proofs.Common.{◌≡◌, Bool, true, ◌||◌, ◌≢◌, ℕ, ◌≤◌, List, [], ◌∷◌, ◌++◌, length, take, drop, Option, Some, None, refl, sym, ap, ◌∙◌, subst, arith}
+use Rattle.std.specs.Option.{unwrap_or}
+use Rattle.std.specs.List.{flat_map, AllByRecursion}
+use Rattle.std.proofs.lemmas.List.{append-nil, append_cancel_left, drop_all, take_all, length-append}
+use Rattle.std.proofs.lemmas.List.Concat.{flat_map-append}
+use Rattle.mvt_document.specs.Plain.{Number, Spelled, Eight, Four, Delimited, Group, Field}
+use Rattle.mvt_document.specs.Wire.{spelling}
+use Rattle.mvt_document.specs.Bodies.{number_of}
+use Rattle.mvt_document.specs.Stands.{field_of}
+use Rattle.mvt_document.specs.Groups.{IsNumber}
+use Rattle.mvt_document.specs.declared.varint.Varint.{Varint}
+use Rattle.mvt_document.specs.declared.document.Field as program
+use Rattle.mvt_document.proofs.EachItem.{all_joined}
+use Rattle.mvt_document.proofs.Spelling.{spelling_some, length-spell}
+use Rattle.mvt_renumber.specs.Renumbering.{renumbered, some_changed, with_left}
+use Rattle.mvt_renumber.specs.Fates.{IsChange, changes, left_of_fate}
+use Rattle.mvt_renumber.specs.Deciding.{packed_numbers, packed_field, with_bytes, StaysBefore, FirstDiffers, AllStayOf, IsLeft}
+use Rattle.mvt_renumber.specs.declared.fate.Fate.{Fate}
+use Rattle.mvt_renumber.specs.declared.fate.Fate.TheVariants.{Stays, Goes, Becomes}
+use Rattle.mvt_renumber.proofs.Decisions.{renumbered-none, renumbered-no_more, packed-spellings}
+
+-- ---- numbers that stay
+
+-- something else is packed
+pub all_stay-bad : (bytes : List ℕ) (decisions : List (Option ℕ)) → packed_numbers bytes ≡ None → AllStayOf bytes decisions decisions
+all_stay-bad bytes decisions e = (
+  ap (λ (found : Option (List Number)). drop (length (unwrap_or found [])) decisions) (sym e),
+  ap (λ (found : Option (List Number)). some_changed decisions (unwrap_or found [])) e,
+  λ numbers f. let apart : None ≡ Some numbers = sym e ∙ f in absurd (cc),
+)
+
+-- all numbers were gone through
+pub all_stay-end : (bytes : List ℕ) (decisions : List (Option ℕ)) (place : ℕ) (left : List (Option ℕ)) → length bytes ≤ place → StaysBefore bytes decisions place left → AllStayOf bytes decisions left
+all_stay-end bytes decisions place left whole s =
+    let found : packed_numbers bytes ≡ Some (s.read ++ []) = s.good [] (ap packed_numbers (drop_all place bytes whole)) in
+    let stay : renumbered decisions (s.read ++ []) ≡ s.read ++ [] = s.stay [] ∙ ap (λ (list : List Number). s.read ++ list) (renumbered-none left) in
+    let spelled : flat_map spelling (s.read ++ []) ≡ bytes = ap (flat_map spelling) (append-nil s.read) ∙ sym s.spelled ∙ take_all place bytes whole in
+    let behind : drop (length (s.read ++ [])) decisions ≡ left = ap (λ (n : ℕ). drop n decisions) (length-append s.read []) ∙ s.behind 0 in (
+      sym (ap (λ (o : Option (List Number)). drop (length (unwrap_or o [])) decisions) found ∙ behind),
+      ap (λ (o : Option (List Number)). some_changed decisions (unwrap_or o [])) found ∙ s.same [],
+      λ numbers e.
+          let same : s.read ++ [] ≡ numbers = cc in
+          subst (λ (list : List Number). (renumbered decisions list ≡ list) × (flat_map spelling list ≡ bytes)) same (stay, spelled),
+    )
+
+-- ---- the first that does not stay
+
+differs_by : (left behind : List (Option ℕ)) (number : Varint) (fate : Fate Varint) → (fate ≡ Stays → ⊥) → IsChange number_of (number_of number) fate
+    → (more : List Number) → renumbered left (number_of number ∷ more) ≡ left_of_fate number_of (number_of number) fate ++ renumbered behind more
+    → renumbered left (number_of number ∷ more) ≢ number_of number ∷ more
+differs_by left behind number Stays not_stays change more e same = not_stays refl
+differs_by left behind number Goes not_stays change more e same =
+    absurd (omega (arith, renumbered-no_more behind more, ap length (sym e ∙ same)))
+differs_by left behind number (Becomes other) not_stays change more e same =
+    let both : number_of other ∷ renumbered behind more ≡ number_of number ∷ more = sym e ∙ same in
+    let head : number_of other ≡ number_of number = cc in
+    change head
+
+changed_by : (fate : Fate Varint) (others : Bool) → (fate ≡ Stays → ⊥) → changes fate || others ≡ true
+changed_by Stays others not_stays = absurd (not_stays refl)
+changed_by Goes others not_stays = refl
+changed_by (Becomes other) others not_stays = refl
+
+pub first_differs : (rest : List ℕ) (left behind : List (Option ℕ)) (number : Varint) (fate : Fate Varint) → (fate ≡ Stays → ⊥) → IsChange number_of (number_of number) fate
+    → ((more : List Number) → renumbered left (number_of number ∷ more) ≡ left_of_fate number_of (number_of number) fate ++ renumbered behind more)
+    → ((more : List Number) → some_changed left (number_of number ∷ more) ≡ changes fate || some_changed behind more)
+    → ((numbers : List Number) → packed_numbers rest ≡ Some numbers → (more : List Number) × (numbers ≡ number_of number ∷ more))
+    → FirstDiffers rest left
+first_differs rest left behind number fate not_stays change decided changed begins numbers e =
+    let more = begins numbers e in
+    subst (λ (list : List Number). (renumbered left list ≢ list) × (some_changed left list ≡ true)) (sym more.1)
+    (differs_by left behind number fate not_stays change more.0 (decided more.0), changed more.0 ∙ changed_by fate (some_changed behind more.0) not_stays)
+
+-- ---- the whole body
+
+-- these bytes are what is left of a packed body that changes, and these decisions are left behind it
+pub record IsChanged (bytes : List ℕ) (decisions : List (Option ℕ)) (made : List ℕ) (left : List (Option ℕ)) : Type 0 where
+  pub numbers : List Number
+  pub good : packed_numbers bytes ≡ Some numbers
+  pub valid : AllByRecursion IsNumber (renumbered decisions numbers)
+  pub spelled : made ≡ flat_map spelling (renumbered decisions numbers)
+  pub differs : renumbered decisions numbers ≢ numbers
+  pub behind : left ≡ drop (length numbers) decisions
+  pub some : some_changed decisions numbers ≡ true
+
+pub whole_changed : (bytes : List ℕ) (decisions : List (Option ℕ)) (place : ℕ) (from : List (Option ℕ)) (made : List ℕ) (left : List (Option ℕ))
+    → StaysBefore bytes decisions place from → FirstDiffers (drop place bytes) from → IsLeft (take place bytes) (drop place bytes) from made left → IsChanged bytes decisions made left
+whole_changed bytes decisions place from made left s differs m =
+    let new : renumbered decisions (s.read ++ m.numbers) ≡ s.read ++ renumbered from m.numbers = s.stay m.numbers in
+    record {
+      numbers = s.read ++ m.numbers;
+      good = s.good m.numbers m.good;
+      valid = subst (AllByRecursion IsNumber) (sym new) (all_joined IsNumber s.read (renumbered from m.numbers) s.valid m.valid);
+      spelled =
+          m.spelled
+          ∙ ap (λ (b : List ℕ). b ++ flat_map spelling (renumbered from m.numbers)) s.spelled
+          ∙ sym (flat_map-append spelling s.read (renumbered from m.numbers))
+          ∙ ap (flat_map spelling) (sym new);
+      differs = λ same. (differs m.numbers m.good).0 (append_cancel_left s.read (renumbered from m.numbers) m.numbers (sym new ∙ same));
+      behind = m.behind ∙ sym (ap (λ (n : ℕ). drop n decisions) (length-append s.read m.numbers) ∙ s.behind (length m.numbers));
+      some = s.same m.numbers ∙ (differs m.numbers m.good).1;
+    }
+
+-- ---- the field
+
+left_packed : (tag : Number) (width : ℕ) (bytes : List ℕ) (decisions : List (Option ℕ)) (numbers new : List Number) (made : List ℕ)
+    → (numbers ≡ [] → ⊥) → AllByRecursion IsNumber new → made ≡ flat_map spelling new → with_bytes tag width made ≡ with_left (packed_field tag width bytes) numbers new
+left_packed tag width bytes decisions [] new made some valid e = absurd (some refl)
+left_packed tag width bytes decisions (number ∷ more) [] made some valid e = ap (with_bytes tag width) e
+left_packed tag width bytes decisions (number ∷ more) (first ∷ others) [] some valid e =
+    absurd (omega (arith, ap length e, length-append (spelling first) (flat_map spelling others), length-spell first.value first.width, spelling_some first.value first.width valid.0))
+left_packed tag width bytes decisions (number ∷ more) (first ∷ others) (byte ∷ rest) some valid e =
+    ap (λ (b : List ℕ). packed_field tag width b ∷ []) e
+
+some_numbers : (decisions : List (Option ℕ)) (numbers : List Number) → renumbered decisions numbers ≢ numbers → numbers ≡ [] → ⊥
+some_numbers decisions [] differs e = differs (renumbered-none decisions)
+some_numbers decisions (number ∷ more) differs e = absurd (cc)
+
+pub changed_left : (tag : Number) (width : ℕ) (bytes : List ℕ) (decisions : List (Option ℕ)) (made : List ℕ) (left : List (Option ℕ)) → IsChanged bytes decisions made left
+    → with_bytes tag width made ≡ with_left (packed_field tag width bytes) (unwrap_or (packed_numbers bytes) []) (renumbered decisions (unwrap_or (packed_numbers bytes) []))
+changed_left tag width bytes decisions made left m =
+    left_packed tag width bytes decisions m.numbers (renumbered decisions m.numbers) made (some_numbers decisions m.numbers m.differs) m.valid m.spelled
+    ∙ ap (λ (o : Option (List Number)). with_left (packed_field tag width bytes) (unwrap_or o []) (renumbered decisions (unwrap_or o []))) (sym m.good)
+
+pub changed_behind : (bytes : List ℕ) (decisions : List (Option ℕ)) (made : List ℕ) (left : List (Option ℕ)) → IsChanged bytes decisions made left → left ≡ drop (length (unwrap_or (packed_numbers bytes) [])) decisions
+changed_behind bytes decisions made left m = m.behind ∙ ap (λ (o : Option (List Number)). drop (length (unwrap_or o [])) decisions) (sym m.good)
+
+pub changed_some : (bytes : List ℕ) (decisions : List (Option ℕ)) (made : List ℕ) (left : List (Option ℕ)) → IsChanged bytes decisions made left → some_changed decisions (unwrap_or (packed_numbers bytes) []) ≡ true
+changed_some bytes decisions made left m = ap (λ (o : Option (List Number)). some_changed decisions (unwrap_or o [])) m.good ∙ m.some
+
+changed_bytes : (bytes : List ℕ) (decisions : List (Option ℕ)) (made : List ℕ) (left : List (Option ℕ)) → IsChanged bytes decisions made left → made ≢ bytes
+changed_bytes bytes decisions made left m same =
+    let read : packed_numbers made ≡ Some (renumbered decisions m.numbers) = ap packed_numbers m.spelled ∙ packed-spellings (renumbered decisions m.numbers) m.valid in
+    let both : Some (renumbered decisions m.numbers) ≡ Some m.numbers = sym read ∙ ap packed_numbers same ∙ m.good in
+    let equal : renumbered decisions m.numbers ≡ m.numbers = cc in
+    m.differs equal
+
+abbrev content_of : Field → List ℕ
+content_of field = elim field.body [ Spelled number ↦ [] | Eight bytes ↦ [] | Four bytes ↦ [] | Delimited width bytes ↦ bytes | Group bytes ↦ [] ]
+
+pub changed_field : (tag : Number) (width : ℕ) (bytes : List ℕ) (decisions : List (Option ℕ)) (made : List ℕ) (left : List (Option ℕ)) (fate : Fate program.Field)
+    → IsChanged bytes decisions made left → left_of_fate field_of (packed_field tag width bytes) fate ≡ with_bytes tag width made → IsChange field_of (packed_field tag width bytes) fate
+changed_field tag width bytes decisions made left Stays m e = tt
+changed_field tag width bytes decisions made left Goes m e = tt
+changed_field tag width bytes decisions [] left (Becomes other) m e = absurd (cc)
+changed_field tag width bytes decisions (byte ∷ rest) left (Becomes other) m e =
+    λ same.
+    let made : field_of other ≡ packed_field tag width (byte ∷ rest) = cc in
+    let equal : byte ∷ rest ≡ bytes = ap content_of (sym made ∙ same) in
+    changed_bytes bytes decisions (byte ∷ rest) left m equal

@@ -1,0 +1,4 @@
+pub mod Renumbering
+pub mod Fates
+pub mod Deciding
+pub mod Laws

@@ -1,0 +1,47 @@
+//! Laws of numbers that are decided on. Each is the contract of a function that does nothing.
+
+ghost use Rattle.mvt_renumber.specs.Laws.{AppendedIsRead, FieldNoLonger, KeptStays, LeftIsRead, LowerNoLonger, NoLonger, OthersStay, ReadOfFields, StaysValid};
+
+/// The numbers that are read of a message are those of its fields, one field after the other.
+pub fn read_of_fields()
+    ensures { ReadOfFields }
+{}
+
+/// What is read of a message whose numbers were decided on are the numbers that are left, each in
+/// its old spelling where it keeps its value, and else in the shortest.
+pub fn left_is_read()
+    ensures { LeftIsRead }
+{}
+
+/// Decisions by which each number keeps its value change no field.
+pub fn kept_stays()
+    ensures { KeptStays }
+{}
+
+/// Where each number keeps its value or goes no field gets longer (`field`), and the fields of a
+/// message together take no more bytes (`all`).
+pub fn no_longer()
+    ensures field { FieldNoLonger }
+    ensures all { NoLonger }
+{}
+
+/// Where each number of valid fields gets no greater value or goes, the fields together take no more
+/// bytes.
+pub fn lower_no_longer()
+    ensures { LowerNoLonger }
+{}
+
+/// Where one number of a packed body gets another value, all bytes before it and behind it stay.
+pub fn others_stay()
+    ensures { OthersStay }
+{}
+
+/// Fields that come at the end of a message add their numbers, behind those that it has.
+pub fn appended_is_read()
+    ensures { AppendedIsRead }
+{}
+
+/// Valid fields stay valid where each value that is decided on is below 2^64.
+pub fn stays_valid()
+    ensures { StaysValid }
+{}

@@ -1,5 +1,0 @@
-use Rattle.mvt_view.proofs.Pairing.{tags_are_pairs}
-use Rattle.mvt_view.proofs.laws.tags_are_pairs.Goals as goal
-
-pub returns : goal.returns
-returns c = tags_are_pairs

@@ -1,7 +1,0 @@
-use Rattle.mvt_document.specs.Stands.{layer_item_of}
-use Rattle.mvt_view.specs.Views.{feature_in}
-use Rattle.mvt_view.proofs.Placing.{found_fit}
-use Rattle.mvt_view.proofs.lists.FeatureViews.of.Goals as goal
-
-pub returns-clause-bound : goal.returns-clause-bound
-returns-clause-bound c = found_fit layer_item_of feature_in c.args.items.now c.well_formed.0.0
