@@ -1,6 +1,6 @@
 """What tileshell should reach, and whether it does."""
 from features import LISTED, LISTED_BY_ID, SET_BY_ID
-from report import divided, exponent, grown, peak, shown, steepness, table, time
+from report import divided, exponent, grown, instructions, peak, shown, steepness, table, time
 
 OURS = "tileshell"
 
@@ -8,6 +8,7 @@ EMPTY = "empty script"
 JOB = "one rename"
 MANY = "1,000 renames and undos"
 KEPT = "one layer kept"
+DROPPED = "one layer dropped"
 IDS = "1,000 ids set"
 ATTRIBUTES = "1,000 attributes set"
 SHIFTS = "1,000 shifts"
@@ -57,28 +58,40 @@ def targets(results, lists, undos):
     fewer, most = ends(results, "common key", EXCLUDED)
     thin, thick = ends(results, "tagged layers", EXCLUDED)
     less, more = [each for each in undos if each.tile.kind == "half-used pools"]
+    counted = [each for each in results if each.tile.kind == "map" and each.job == JOB and not each.tile.is_large][-1]
+    groups = next(each for each in results if each.tile.kind == "flat groups" and each.job == JOB)
+    smaller = [each.tile for each in results if each.tile.kind == "crumbs" and each.job == MANY][-1]
     return [
-        (f"{large.tile.name}, {JOB}: time to protozero's", time_to(large, "protozero"), 0.8),
-        (f"{large.tile.name}, {JOB}: time to protobuf's", time_to(large, "protobuf"), 0.3),
-        (f"{large.tile.name}, {KEPT}: time to protozero's", time_to(of_job(results, large.tile, KEPT), "protozero"), 1.1),
+        (f"{large.tile.name}, {JOB}: time to protozero's", time_to(large, "protozero"), 0.75),
+        (f"{large.tile.name}, {JOB}: time to protobuf's", time_to(large, "protobuf"), 0.35),
+        *((f"{large.tile.name}, {job}: time to protozero's", time_to(of_job(results, large.tile, job), "protozero"), 0.75)
+          for job in (KEPT, DROPPED)),
+        (f"{counted.tile.name}, {JOB}: time to protozero's", time_to(counted, "protozero"), 0.75),
+        (f"{counted.tile.name}, {JOB}: instructions to protozero's",
+         divided(counted.figure(OURS, instructions), counted.figure("protozero", instructions)), 0.6),
+        (f"{smaller.name}, {MANY}: time to that of an {EMPTY}",
+         divided(of_job(results, smaller, MANY).figure(OURS, time), of_job(results, smaller, EMPTY).figure(OURS, time)), 2),
         *((f"{each.tile.name}, {each.job}, and undone: time to that of an empty script", each.ratio, 2.5) for each in undos),
         (f"{less.tile.name} to {more.tile.name}, {more.job}, and undone: exponent of time",
          steepness(less.both, more.both, more.tile.size / less.tile.size), 1 + SLOWER),
         *((f"{each.tile.name}, {each.job}: time of its undo to its own", each.share, 1)
           for each in undos if each.tile == most.tile),
-        (f"{large.tile.name}, in any job but {' or '.join(HOLDING)}: peak memory to the tile", highest_peak(results, large.tile), 3.7),
-        *((f"{result.tile.name}, {MANY}: time to protozero's", time_to(result, "protozero"), 2.5)
+        (f"{large.tile.name}, in any job but {' or '.join(HOLDING)}: peak memory to the tile", highest_peak(results, large.tile), 3.3),
+        (f"{groups.tile.name}, {JOB}: peak memory to the tile", divided(groups.figure(OURS, peak), groups.tile.size), 30),
+        *((f"{result.tile.name}, {MANY}: time to protozero's", time_to(result, "protozero"), 1.2)
           for result in results if result.job == MANY and result.tile in [small.tile, *real(results)]),
-        *((f"{small.tile.name}, {job}: time to protozero's", time_to(of_job(results, small.tile, job), "protozero"), 3)
-          for job in (ATTRIBUTES, SHIFTS)),
+        *((f"{small.tile.name}, {job}: time to protozero's", time_to(of_job(results, small.tile, job), "protozero"), most)
+          for job, most in ((IDS, 1.2), (ATTRIBUTES, 1), (SHIFTS, 1))),
         (f"{small.tile.name} to {large.tile.name}, {JOB}: exponent of time",
          exponent(small, large, OURS, time), 1 + NOISE),
         *((f"{each.tile.name}, its largest layer listed: time to that of reading", each.ratio, 2)
           for each in lists if each.tile == large.tile),
-        (f"{crumbs.name}, in any job but {' or '.join(HOLDING)}: peak memory to the tile", highest_peak(results, crumbs), 31),
+        (f"{crumbs.name}, in any job but {' or '.join(HOLDING)}: peak memory to the tile", highest_peak(results, crumbs), 25),
         (f"{few.tile.name} to {many.tile.name}, {UNTAGGED}: exponent of time", exponent(few, many, OURS, time), 1 + SLOWER),
-        *((f"{large.tile.name}, {job}: time to protozero's", time_to(of_job(results, large.tile, job), "protozero"), 1.2)
+        *((f"{large.tile.name}, {job}: time to protozero's", time_to(of_job(results, large.tile, job), "protozero"), 1)
           for job in (UNTAGGED, EXCLUDED, COMPACTED)),
+        *((f"{each.tile.name}, {each.job}: time to protozero's", time_to(each, "protozero"), 1)
+          for each in results if each.tile.kind in ("tagged layers", "half-used pools")),
         (f"{fewer.tile.name} to {most.tile.name}, {EXCLUDED}: exponent of time", exponent(fewer, most, OURS, time), 1 + NOISE),
         (f"{thin.tile.name} to {thick.tile.name}, {EXCLUDED}: exponent of time", exponent(thin, thick, OURS, time), 1 + SLOWER),
         *((f"{tile.name}, {job}: memory to that of an {EMPTY}",

@@ -7,7 +7,9 @@ ghost use Rattle.mvt_wire.specs.Opens.{IsDocument};
 use crate::broken::{Answer, Broken};
 use crate::given::Given;
 use mvt_history::{Session, StartError};
-use mvt_wire::{Body, Document, Field, Items, Tag, TileItem, read_document, size, write_document};
+use mvt_wire::{
+    Body, BodyRef, Document, Field, FieldBody, Items, Tag, TileItem, read_document, size, write_document,
+};
 use std::alloc::Global;
 
 pub fn answer(alloc: Global, call: &str, given: Given<'_>) -> Answer {
