@@ -1,7 +1,7 @@
 //! The runs of a list: its items of one kind, as far as nothing stands between them. The run of a list
 //! that is joined, parted or spliced is made of those of its parts.
 
-ghost use Rattle.std.specs.Prelude.{◌≡◌, ◌+◌, Bool, List, [], ◌∷◌, ◌++◌, ◌≤◌, length, map, min, take, drop, replicate, IfSome};
+ghost use Rattle.std.specs.Prelude.{◌≡◌, ◌+◌, Bool, List, [], ◌∷◌, ◌++◌, ◌≤◌, length, map, min, take, drop, replicate, IfSome, IsTrue};
 ghost use Rattle.mvt_document.specs.Runs.{IsRun, IsRunOf, AreRunsOf};
 ghost use Rattle.mvt_document.specs.Splicing.{splice};
 
@@ -117,6 +117,21 @@ impl Run {
             count: self.count.saturating_sub(index.saturating_sub(self.first)),
             until: self.until.saturating_sub(index),
         }
+    }
+
+    /// Whether it is that of the list whatever the item at this index was before, which is of the kind or is not now:
+    /// the item is behind all that is known, or it is of the kind just where the run has it.
+    #[inline(always)]
+    pub(crate) fn stays_with(self, index: usize, is_of_kind: bool) -> bool
+        ensures { IsTrue result → (front back : List Bool) (before : Bool) → length front ≡ index → IsRun self (front ++ before ∷ back) → IsRun self (front ++ is_of_kind ∷ back) }
+    {
+        if self.until <= index {
+            return true;
+        }
+        if index < self.first || self.count <= index - self.first {
+            return !is_of_kind;
+        }
+        is_of_kind
     }
 
     /// That of the list once so many items from an index on are exchanged for others, which are so many and
