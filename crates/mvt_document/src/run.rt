@@ -227,8 +227,22 @@ pub(crate) fn runs_of<T: Measured>(items: &[T]) -> Runs
     runs
 }
 
-/// How many items at the front are of the kind, or are not.
+/// How many items at the front are of the kind, or are not: in a loop of its own for each kind.
 fn leading<T: Measured>(items: &[T], kind: Kind, wanted: bool) -> usize
+    ensures within { result ≤ length items.now }
+    ensures items { map (T.of_kind kind) (take result items.now) ≡ replicate result wanted }
+{
+    match kind {
+        Kind::Name => leading_of(items, Kind::Name, wanted),
+        Kind::Message => leading_of(items, Kind::Message, wanted),
+        Kind::Key => leading_of(items, Kind::Key, wanted),
+        Kind::Value => leading_of(items, Kind::Value, wanted),
+    }
+}
+
+/// The same, where the kind is known to the compiler.
+#[inline(always)]
+fn leading_of<T: Measured>(items: &[T], kind: Kind, wanted: bool) -> usize
     ensures within { result ≤ length items.now }
     ensures items { map (T.of_kind kind) (take result items.now) ≡ replicate result wanted }
 {
