@@ -7,7 +7,7 @@
 //!   mark for each: `take_out`.
 //! - What is decided on the numbers of a feature's tags, pair by pair, and how many pairs count; a
 //!   feature whose tags make no pairs is refused: `decide_pairs`. The same where the pairs of the
-//!   keys that are some bytes go, or get another value: `named_keys`, `decide_or_refuse`. Which
+//!   keys that are some bytes go, or get another value: `named_keys`, `name_keys`, `decide_or_refuse`. Which
 //!   fields are tags: `is_tags`. The steps of a feature whose numbers are decided on, and how many
 //!   bytes its fields take then (`size`): `renumber_feature`.
 //! - A run of such items is a step of a feature or of a layer: `Run`.
@@ -32,7 +32,7 @@ mod pairs;
 mod put_last;
 mod steps;
 
-pub use decide::{decide_or_refuse, is_tags, named_keys};
+pub use decide::{decide_or_refuse, is_tags, name_keys, named_keys};
 pub use fates::{Run, carry_out, goes_if, put_once, take_out};
 pub use mvt_numbers::Fate;
 pub use numbered::number_put;
