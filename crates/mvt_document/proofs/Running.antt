@@ -1,7 +1,8 @@
 -- Lists of which one run is true, as far as they are known: joined, parted and spliced.
 use Rattle.std.proofs.Common.{◌≡◌, ℕ, zero, suc, ◌+◌, ◌-◌, ◌<◌, ◌≤◌, Bool, true, false, List, [], ◌∷◌, ◌++◌, length, length-append, length-drop, take, drop, take-append-drop, get_or, map, min, refl, sym, ap, ◌∙◌, subst, append_assoc, arith}
-use Rattle.std.specs.Prelude.{if◌then◌else◌, replicate, slice_set}
-use Rattle.std.proofs.lemmas.List.{append-nil, drop-map, drop-replicate, drop_all, drop_at, drop_more, length-map, length-replicate, length-take-le, map-append, replicate-append-replicate, replicate_more, take-map, take_all, take_at, take_more, take-set, drop-set-lt}
+use Rattle.std.specs.Prelude.{if◌then◌else◌, not, replicate, slice_set, IsTrue}
+use Rattle.std.proofs.Math.Seq.{get_or-append_seam}
+use Rattle.std.proofs.lemmas.List.{get_or-append_right, get_or_append_left, get_or-replicate, append-nil, drop-map, drop-replicate, drop_all, drop_at, drop_more, length-map, length-replicate, length-take-le, map-append, replicate-append-replicate, replicate_more, take-map, take_all, take_at, take_more, take-set, drop-set-lt}
 use Rattle.mvt_document.specs.declared.run.Kind.{Kind}
 use Rattle.mvt_document.specs.declared.run.Kind.TheVariants as kind
 use Rattle.mvt_document.specs.declared.run.Run.{Run}
@@ -273,6 +274,15 @@ run_beside_of f run items index inside h =
     let split = beside_values f items index inside in
     record { between = split.0; is = subst (IsRun run) split.1 h }
 
+-- the values before an item, its own, and those behind it
+pub values_whole : {T : Type 0} (f : T → Bool) (items : List T) (index : ℕ) (x : T) → index < length items → x ≡ get_or items index x → map f (take index items) ++ f x ∷ map f (drop (suc index) items) ≡ map f items
+values_whole f items index x inside is =
+    let next : index + 1 ≡ suc index = omega arith in
+    let whole : items ≡ take index items ++ (x ∷ drop (suc index) items) =
+    sym (take-append-drop index items) ∙ ap (λ t. take index items ++ t) (drop_more items index x inside ∙ ap (λ y. y ∷ drop (index + 1) items) (sym is) ∙ ap (λ n. x ∷ drop n items) next) in
+    sym (map-append f (take index items) (x ∷ drop (suc index) items))
+    ∙ sym (ap (map f) whole)
+
 pub values_again : {T : Type 0} (f : T → Bool) (items : List T) (index : ℕ) (x : T) (between : Bool) → index < length items → x ≡ get_or items index x → splice index 1 (f x ∷ []) (map f (take index items) ++ between ∷ map f (drop (suc index) items)) ≡ map f items
 values_again f items index x between inside is =
     let A = map f (take index items) in
@@ -317,6 +327,61 @@ beside_set of_kind index items x runs h = record {
   keys = run_set (of_kind kind.Key) index items x runs.keys h.keys;
   values = run_set (of_kind kind.Value) index items x runs.values h.values;
 }
+
+-- ---- an item that becomes another
+
+pub not_so : (is : Bool) → IsTrue (not is) → is ≡ false
+not_so true other = absurd (cc)
+not_so false other = refl
+
+-- behind all that is known it may be any
+pub stays_behind : (run : Run) (front back : List Bool) (before is : Bool) → run.until ≤ length front → IsRun run (front ++ before ∷ back) → IsRun run (front ++ is ∷ back)
+stays_behind run front back before is past h =
+    let k = length front in
+    let kept = front_of run run k (front ++ before ∷ back) (omega (arith, past, h.until)) (omega (arith, past, h.until)) (omega (arith, past)) h in
+    run_more run front (is ∷ back) (subst (IsRun run) (take_at front (before ∷ back) k refl) kept)
+
+-- what a value is where all is known
+value_known : (run : Run) (front back : List Bool) (before : Bool) (h : IsRun run (front ++ before ∷ back)) → length front < run.until → before ≡ get_or (one_run run.first run.count h.behind) (length front) false
+value_known run front back before h inside =
+    let known = one_run run.first run.count h.behind in
+    sym (get_or-append_seam front before back false)
+    ∙ ap (λ xs. get_or xs (length front) false) h.is
+    ∙ get_or_append_left known h.rest false (length front) (omega (arith, inside, h.until, run_length run.first run.count h.behind))
+
+value_before : (f c b i : ℕ) → i < f → get_or (one_run f c b) i false ≡ false
+value_before f c b i inside =
+    get_or_append_left (replicate f false) (replicate c true ++ replicate b false) false i (omega (arith, inside, length-replicate f false))
+    ∙ get_or-replicate f i false false inside
+
+value_behind_first : (f c b i : ℕ) → f ≤ i → get_or (one_run f c b) i false ≡ get_or (replicate c true ++ replicate b false) (i - f) false
+value_behind_first f c b i past = get_or-append_right (replicate f false) (replicate c true ++ replicate b false) f i false (length-replicate f false) past
+
+value_in : (f c b i : ℕ) → f ≤ i → i - f < c → get_or (one_run f c b) i false ≡ true
+value_in f c b i past inside =
+    value_behind_first f c b i past
+    ∙ get_or_append_left (replicate c true) (replicate b false) false (i - f) (omega (arith, inside, length-replicate c true))
+    ∙ get_or-replicate c (i - f) true false inside
+
+value_past : (f c b i : ℕ) → f ≤ i → c ≤ i - f → i < f + (c + b) → get_or (one_run f c b) i false ≡ false
+value_past f c b i first past inside =
+    value_behind_first f c b i first
+    ∙ get_or-append_right (replicate c true) (replicate b false) c (i - f) false (length-replicate c true) past
+    ∙ get_or-replicate b (i - f - c) false false (omega (arith, first, past, inside))
+
+-- in the run it stays of the kind
+pub stays_in : (run : Run) (front back : List Bool) (before is : Bool) → length front < run.until → run.first ≤ length front → length front - run.first < run.count → is ≡ true → IsRun run (front ++ before ∷ back) → IsRun run (front ++ is ∷ back)
+stays_in run front back before is known first inside same h =
+    subst (λ x. IsRun run (front ++ x ∷ back)) (value_known run front back before h known ∙ value_in run.first run.count h.behind (length front) first inside ∙ sym same) h
+
+-- and beside the run of none
+pub stays_before : (run : Run) (front back : List Bool) (before is : Bool) → length front < run.until → length front < run.first → is ≡ false → IsRun run (front ++ before ∷ back) → IsRun run (front ++ is ∷ back)
+stays_before run front back before is known inside same h =
+    subst (λ x. IsRun run (front ++ x ∷ back)) (value_known run front back before h known ∙ value_before run.first run.count h.behind (length front) inside ∙ sym same) h
+
+pub stays_past : (run : Run) (front back : List Bool) (before is : Bool) → length front < run.until → run.first ≤ length front → run.count ≤ length front - run.first → is ≡ false → IsRun run (front ++ before ∷ back) → IsRun run (front ++ is ∷ back)
+stays_past run front back before is known first past same h =
+    subst (λ x. IsRun run (front ++ x ∷ back)) (value_known run front back before h known ∙ value_past run.first run.count h.behind (length front) first past (omega (arith, known, h.until)) ∙ sym same) h
 
 -- ---- an item taken out
 

@@ -151,7 +151,11 @@ impl<T: Measured> Message<T> {
         ensures { IsRunOf (T.of_kind kind) result self.now.items }
     {
         let items = self.as_slice();
-        beside.spliced(index, 1, Run::of_one(items[index].is_of(kind)), 1)
+        let is_of_kind = items[index].is_of(kind);
+        if beside.stays_with(index, is_of_kind) {
+            return beside;
+        }
+        beside.spliced(index, 1, Run::of_one(is_of_kind), 1)
     }
 
     /// The same of each kind.
@@ -189,10 +193,12 @@ impl<T: Measured> Message<T> {
         requires runs { AreRunsBeside T.of_kind index runs self.old.items }
         ensures { self.new ≡ self.old }
     {
-        let runs = self.runs_with(index, runs);
         let size = self.size_with(index, beside);
+        if self.kept.has_runs() {
+            let runs = self.runs_with(index, runs);
+            self.kept.set_runs(runs);
+        }
         self.kept.set_size(size);
-        self.kept.set_runs(runs);
     }
 
     /// The item at this index. The size and the runs are no longer known: see `remember`.

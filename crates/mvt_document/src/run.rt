@@ -1,7 +1,7 @@
 //! The runs of a list: its items of one kind, as far as nothing stands between them. The run of a list
 //! that is joined, parted or spliced is made of those of its parts.
 
-ghost use Rattle.std.specs.Prelude.{◌≡◌, ◌+◌, Bool, List, [], ◌∷◌, ◌++◌, ◌≤◌, length, map, min, take, drop, replicate, IfSome};
+ghost use Rattle.std.specs.Prelude.{◌≡◌, ◌+◌, Bool, List, [], ◌∷◌, ◌++◌, ◌≤◌, length, map, min, take, drop, replicate, IfSome, IsTrue};
 ghost use Rattle.mvt_document.specs.Runs.{IsRun, IsRunOf, AreRunsOf};
 ghost use Rattle.mvt_document.specs.Splicing.{splice};
 
@@ -119,6 +119,21 @@ impl Run {
         }
     }
 
+    /// Whether it is that of the list whatever the item at this index was before, which is of the kind or is not now:
+    /// the item is behind all that is known, or it is of the kind just where the run has it.
+    #[inline(always)]
+    pub(crate) fn stays_with(self, index: usize, is_of_kind: bool) -> bool
+        ensures { IsTrue result → (front back : List Bool) (before : Bool) → length front ≡ index → IsRun self (front ++ before ∷ back) → IsRun self (front ++ is_of_kind ∷ back) }
+    {
+        if self.until <= index {
+            return true;
+        }
+        if index < self.first || self.count <= index - self.first {
+            return !is_of_kind;
+        }
+        is_of_kind
+    }
+
     /// That of the list once so many items from an index on are exchanged for others, which are so many and
     /// have a run of their own.
     pub(crate) fn spliced(self, index: usize, taken: usize, put: Run, given: usize) -> Run
@@ -212,8 +227,22 @@ pub(crate) fn runs_of<T: Measured>(items: &[T]) -> Runs
     runs
 }
 
-/// How many items at the front are of the kind, or are not.
+/// How many items at the front are of the kind, or are not: in a loop of its own for each kind.
 fn leading<T: Measured>(items: &[T], kind: Kind, wanted: bool) -> usize
+    ensures within { result ≤ length items.now }
+    ensures items { map (T.of_kind kind) (take result items.now) ≡ replicate result wanted }
+{
+    match kind {
+        Kind::Name => leading_of(items, Kind::Name, wanted),
+        Kind::Message => leading_of(items, Kind::Message, wanted),
+        Kind::Key => leading_of(items, Kind::Key, wanted),
+        Kind::Value => leading_of(items, Kind::Value, wanted),
+    }
+}
+
+/// The same, where the kind is known to the compiler.
+#[inline(always)]
+fn leading_of<T: Measured>(items: &[T], kind: Kind, wanted: bool) -> usize
     ensures within { result ≤ length items.now }
     ensures items { map (T.of_kind kind) (take result items.now) ≡ replicate result wanted }
 {

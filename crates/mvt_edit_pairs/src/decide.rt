@@ -26,10 +26,19 @@ pub fn named_keys(alloc: Global, layer: LayerView<'_>, key: &[u8]) -> Result<Vec
     ensures { IfOk result (λ named. named.items ≡ map (bytes_eq key.now) (keys (layer_seen layer.entry))) }
 {
     let mut named = Vec::new(alloc);
+    name_keys(layer, key, &mut named)?;
+    Ok(named)
+}
+
+/// The same in place of what was in the list before, whose memory is kept.
+pub fn name_keys(layer: LayerView<'_>, key: &[u8], named: &mut Vec<bool>) -> Result<(), AllocError>
+    ensures { IfOk result (λ done. named.new.items ≡ map (bytes_eq key.now) (keys (layer_seen layer.entry))) }
+{
+    named.clear();
     for other in layer.keys() {
         named.push(key == other)?;
     }
-    Ok(named)
+    Ok(())
 }
 
 /// Decides on each number of the tags of a feature, in place of what was decided before: the pairs

@@ -11,14 +11,14 @@ ghost use Rattle.mvt_meaning.specs.declared.refusal.Refusal.TheVariants.{NoMemor
 ghost use Rattle.mvt_layers.specs.Seen.{found_layer_seen};
 ghost use Rattle.mvt_edit_steps.specs.Prepared.{Prepares};
 ghost use Rattle.mvt_edit_pairs.specs.EachFeature.{layer_steps};
-ghost use Rattle.mvt_fates.specs.Decided.{is_any_gone};
 ghost use Rattle.mvt_edit_tags.specs.EachFeature.{pairs_go};
 
 use mvt_change::{Change, Step};
 use mvt_document::tags::TAGS;
 use mvt_document::{Document, Items};
-use mvt_edit_pairs::{decide_or_refuse, named_keys, renumber_feature};
+use mvt_edit_pairs::{decide_or_refuse, name_keys, renumber_feature};
 use mvt_select::{FoundLayer, LayersChoice, Refusal, find_layers};
+use mvt_layers::PoolSizes;
 use std::alloc::Global;
 
 /// Each feature of the layers that are meant loses each pair of the key, whichever of its layer's
@@ -32,10 +32,11 @@ pub fn exclude(
     ensures { Prepares (Exclude (layers_choice_of choice.now) key.now) (document_of document.now) result }
 {
     let layers = find_layers(document, choice)?;
+    let mut named = Vec::new(alloc);
     let mut decisions = Vec::new(alloc);
     let mut steps = Vec::new(alloc);
     for found in layers {
-        exclude_from(alloc, found, key, &mut decisions, &mut steps)?;
+        exclude_from(alloc, found, key, &mut named, &mut decisions, &mut steps)?;
     }
     Ok(Change {
         steps: Items::from_vec(steps),
@@ -48,6 +49,7 @@ fn exclude_from(
     alloc: Global,
     found: FoundLayer<'_>,
     key: &[u8],
+    named: &mut Vec<bool>,
     decisions: &mut Vec<Option<u64>>,
     steps: &mut Vec<Step>,
 ) -> Result<(), Refusal>
@@ -56,10 +58,13 @@ fn exclude_from(
     ensures refused { IfErr result (λ refusal. (refusal ≡ NoMemory) ⊎ (refuse_first (unreadable (found_layer_seen found.entry ∷ [])) ≡ Err refusal)) }
 {
     let layer = found.view();
-    let named = named_keys(alloc, layer, key)?;
-    let sizes = layer.pool_sizes();
+    name_keys(layer, key, named)?;
+    let sizes = PoolSizes {
+        keys: named.len(),
+        values: layer.value_count(),
+    };
     for feature in layer.features() {
-        decide_or_refuse(
+        let lost = decide_or_refuse(
             found.ordinal,
             feature,
             sizes,
@@ -67,7 +72,7 @@ fn exclude_from(
             None,
             decisions,
         )?;
-        if is_any_gone(decisions.as_slice()) {
+        if lost > 0 {
             renumber_feature(
                 alloc,
                 found.position,
@@ -80,11 +85,4 @@ fn exclude_from(
         }
     }
     Ok(())
-}
-
-/// Some number goes. Where none does there is no step, and the tags are not read again.
-fn is_any_gone(decisions: &[Option<u64>]) -> bool
-    ensures { result ≡ is_any_gone decisions.now }
-{
-    decisions.iter().any(Option::is_none)
 }

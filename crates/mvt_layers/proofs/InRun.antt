@@ -241,6 +241,12 @@ pub is_found_entry : (number : ℕ) (item : LayerItem) → is_some (entry_in num
 is_found_entry number (in_layer.Feature feature) = refl
 is_found_entry number (in_layer.Plain field) = entry_is _ field.body
 
+-- how many entries there are, where those of the run are counted
+pub entries_total : (number : ℕ) (run : Run) (items : List LayerItem) → IsRunOf (is_entry number) run items → length (found_in (entry_in number) (map layer_item_of items)) ≡ run.count + length (placed_from (entry_in number) run.until (map layer_item_of items))
+entries_total number run items h =
+    run_total layer_item_of (entry_in number) (is_entry number) (is_found_entry number) run items h
+    ∙ ap (λ n. run.count + n) (numbered_length run.count (placed_from (entry_in number) run.until (map layer_item_of items)))
+
 -- the entries of a number are the contents of that number
 entry_contents : (number : ℕ) (items : List plain.LayerItem) → filter_map (entry_in number) items ≡ contents number (plain_fields items)
 entry_contents number [] = refl

@@ -1,6 +1,10 @@
 -- What is found in a list, one item after the other.
 use Rattle.std.proofs.Common.{◌≡◌, ℕ, ◌+◌, ◌<◌, ◌^◌, Option, Some, None, List, [], ◌∷◌, length, get_or, map, option_map, refl, sym, ap, ◌∙◌, arith}
+use Rattle.std.specs.Prelude.{Bool, true, false, if◌then◌else◌, is_some, ◌≤◌}
+use Rattle.std.specs.Borrow.{Bor}
+use mir.Val.{bool_byte}
 use Rattle.std.specs.List.{cons_option, filter_map, enumerate_from}
+use Rattle.std.specs.Option.{option_copied}
 use Rattle.std.proofs.lemmas.List.{drop_more, length-map, get_or-map}
 use Rattle.mvt_messages.specs.Found.{with_position, placed_from, found_in}
 use Rattle.mvt_layers.proofs.Yielded.{picked_fit}
@@ -14,6 +18,26 @@ placed_from-more {A = A} view pick position items item within read =
     let first : get_or all position (view item) ≡ view item = get_or-map view items position item (view item) within ∙ ap view (sym read) in
     ap (λ (rest : List A). filter_map (with_position pick) (enumerate_from position rest)) (drop_more all position (view item) inside)
     ∙ ap (λ (there : A). cons_option (with_position pick (position, there)) (placed_from pick (position + 1) all)) first
+
+-- how many are found from a position on, by how many are found from the next one on
+pub counted_more : {B : Type 0} (found : Option B) (position : ℕ) (placed : List (ℕ × B)) → length (cons_option (option_map (λ found. (position, found)) found) placed) ≡ (if is_some found then 1 else 0) + length placed
+counted_more None position placed = omega arith
+counted_more (Some x) position placed = omega arith
+
+pub one_at_most : (is : Bool) → (if is then 1 else 0) ≤ 1
+one_at_most true = omega arith
+one_at_most false = omega arith
+
+pub byte_is : (is same : Bool) → is ≡ same → bool_byte is ≡ (if same then 1 else 0)
+byte_is true true e = refl
+byte_is false false e = refl
+byte_is true false e = absurd (cc)
+byte_is false true e = absurd (cc)
+
+-- a copy is there where it is there
+pub copied_is : {A : Type 0} (found : Option (Bor A)) → is_some found ≡ is_some (option_copied found)
+copied_is None = refl
+copied_is (Some x) = refl
 
 -- ---- what is found, without where it stands
 

@@ -1,14 +1,15 @@
 //! The keys and values of a layer with where they stand, as an iterator, the first that is given, and the
 //! last name.
 
-ghost use Rattle.std.specs.Prelude.{◌≡◌, ◌<◌, None, length, map, option_map, slice_get};
+ghost use Rattle.std.specs.Prelude.{◌≡◌, ◌≤◌, ◌<◌, None, length, map, option_map, slice_get};
 ghost use Rattle.std.specs.List.{last_or};
 ghost use Rattle.std.specs.Option.{option_copied};
 ghost use Rattle.mvt_document.specs.declared.run.Kind.TheVariants as kind;
 ghost use Rattle.mvt_document.specs.Kinds.{in_layer_of_kind, is_entry};
 ghost use Rattle.mvt_document.specs.Runs.{IsRunOf};
 ghost use Rattle.mvt_document.specs.Stands.{layer_item_of};
-ghost use Rattle.mvt_layers.specs.Pools.{first_equal, found_entries};
+ghost use Rattle.mvt_messages.specs.Found.{placed_from};
+ghost use Rattle.mvt_layers.specs.Pools.{entry_in as is_entry_in, first_equal, found_entries};
 ghost use Rattle.mvt_layers.specs.Seen.{found_entry_seen};
 ghost use Rattle.mvt_messages.specs.Views.{contents, plain_fields};
 
@@ -171,7 +172,19 @@ pub(crate) fn entry_count(items: &[LayerItem], entries: Run, number: u64) -> usi
     requires { IsRunOf (is_entry number) entries items.now }
     ensures { result ≡ length (contents number (plain_fields (map layer_item_of items.now))) }
 {
-    entries.count + Entries::behind(items, entries, number).count()
+    entries.count + entries_from(items, entries.until, number)
+}
+
+/// How many entries there are from this position on.
+fn entries_from(items: &[LayerItem], start: usize, number: u64) -> usize
+    requires { start ≤ length items.now }
+    ensures { result ≡ length (placed_from (is_entry_in number) start (map layer_item_of items.now)) }
+{
+    let mut count = 0;
+    for position in start..items.len() {
+        count += usize::from(entry_in(&items[position], number).is_some());
+    }
+    count
 }
 
 /// The first entry that is these bytes.

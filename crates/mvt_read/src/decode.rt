@@ -23,8 +23,13 @@ use std::alloc::{AllocError, Global};
 /// How many bytes the shortest field takes: one for its tag, and one for its body.
 const SHORTEST_FIELD: usize = 2;
 
-/// For how many items there is room at first, where the message may have so many.
-const FIRST_ROOM: usize = 4;
+/// For how many fields of a feature there is room at first, where it may have so many: mostly it has an id, tags,
+/// a kind and a geometry.
+const FIRST_FIELDS: usize = 4;
+
+/// The same of the items of a layer, or of a tile: mostly a layer has a name, a version and an extent too beside its
+/// features, keys and values.
+pub(crate) const FIRST_ITEMS: usize = 8;
 
 /// Why an item of a message could not be made.
 #[derive(Debug, Drop)]
@@ -63,15 +68,19 @@ pub(crate) trait Decode: Measured + Drop + Sized {
     ghost same_bytes: { (item : Self) → field_bytes (as_field item) ≡ Self.bytes item };
 }
 
-/// The items whose bytes are the content of a message.
+/// The items whose bytes are the content of a message, with room for so many at first.
 /// The place of a fault is where the first item that is none begins.
-pub(crate) fn decode_all<T: Decode>(alloc: Global, content: &[u8]) -> Result<Vec<T>, ReadError>
+pub(crate) fn decode_all<T: Decode>(
+    alloc: Global,
+    content: &[u8],
+    room: usize,
+) -> Result<Vec<T>, ReadError>
     ensures spelled { IfOk result (λ items. content.now ≡ flat_map (λ i. field_bytes (T.as_field i)) items.items) }
     ensures whole { IfOk result (λ items. AllByRecursion T.is_whole items.items) }
     ensures stops { IfErr result (IsReadError (EndsAt T.as_field T.is_whole T.makes content.now)) }
 {
     let most = content.len() / SHORTEST_FIELD;
-    let mut items = Vec::with_capacity(alloc, most.min(FIRST_ROOM))?;
+    let mut items = Vec::with_capacity(alloc, most.min(room))?;
     let mut place = 0;
     while place < content.len() {
         // Room first, so that an item is made where it stays.
@@ -90,12 +99,12 @@ pub(crate) fn decode_all<T: Decode>(alloc: Global, content: &[u8]) -> Result<Vec
 }
 
 /// The items of a message inside an item.
-fn decode_inside<T: Decode>(alloc: Global, content: &[u8]) -> Result<Vec<T>, Fault>
+fn decode_inside<T: Decode>(alloc: Global, content: &[u8], room: usize) -> Result<Vec<T>, Fault>
     ensures spelled { IfOk result (λ items. content.now ≡ flat_map (λ i. field_bytes (T.as_field i)) items.items) }
     ensures whole { IfOk result (λ items. AllByRecursion T.is_whole items.items) }
     ensures broken { IsErrOf result Fault.Broken → (fields : List PlainField) → AllByRecursion IsWholeField fields → AllByRecursion T.makes fields → content.now ≡ flat_map field_bytes fields → ⊥ }
 {
-    match decode_all(alloc, content) {
+    match decode_all(alloc, content, room) {
         Ok(items) => Ok(items),
         Err(ReadError::NoMemory) => Err(Fault::NoMemory),
         Err(_) => Err(Fault::Broken),
@@ -129,7 +138,7 @@ impl Decode for LayerItem {
                 Ok(LayerItem::Feature(Feature {
                     tag: MessageTag::new(front.tag),
                     width,
-                    fields: Fields::from_vec(decode_inside(alloc, bytes)?),
+                    fields: Fields::from_vec(decode_inside(alloc, bytes, FIRST_FIELDS)?),
                 }))
             }
             _ => Ok(LayerItem::Plain(front.to_field(alloc)?)),
@@ -152,7 +161,7 @@ impl Decode for TileItem {
                 Ok(TileItem::Layer(Layer {
                     tag: MessageTag::new(front.tag),
                     width,
-                    items: Message::of_size(decode_inside(alloc, bytes)?, bytes.len()),
+                    items: Message::of_size(decode_inside(alloc, bytes, FIRST_ITEMS)?, bytes.len()),
                 }))
             }
             _ => Ok(TileItem::Plain(front.to_field(alloc)?)),

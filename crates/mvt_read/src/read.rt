@@ -6,7 +6,7 @@ ghost use Rattle.mvt_document.specs.Plain.{Document as PlainDocument};
 ghost use Rattle.mvt_document.specs.Opens.{OpensAs, OpensAsNothing, IsPlace};
 ghost use Rattle.mvt_document.specs.Stands.{document_of};
 
-use crate::decode::decode_all;
+use crate::decode::{FIRST_ITEMS, decode_all};
 use crate::faults::ReadError;
 use mvt_document::{Document, MAX_FILE, Message};
 use std::alloc::Global;
@@ -23,7 +23,7 @@ pub fn read_document(alloc: Global, file: &[u8]) -> Result<Document, ReadError>
     if file.len() > MAX_FILE {
         return Err(ReadError::FileTooLarge);
     }
-    let items = decode_all(alloc, file)?;
+    let items = decode_all(alloc, file, FIRST_ITEMS)?;
     Ok(Document {
         items: Message::of_size(items, file.len()),
     })

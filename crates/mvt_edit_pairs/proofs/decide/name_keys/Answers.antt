@@ -1,6 +1,6 @@
 use Rattle.std.proofs.Common.{◌∷◌, ◌++◌, map, [], append_assoc, sym, ap, ◌∙◌}
 use Rattle.std.specs.Str.{bytes_eq}
-use Rattle.mvt_edit_pairs.proofs.decide.named_keys.Goals as goal
+use Rattle.mvt_edit_pairs.proofs.decide.name_keys.Goals as goal
 
 pub loop-other-preserved : goal.loop-other-preserved
 loop-other-preserved c =

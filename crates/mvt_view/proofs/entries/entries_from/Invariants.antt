@@ -1,0 +1,11 @@
+use Rattle.std.proofs.Common.{◌≡◌, ◌+◌, ◌≤◌, length, map}
+use Rattle.mvt_document.specs.Stands.{layer_item_of}
+use Rattle.mvt_view.specs.Found.{placed_from}
+use Rattle.mvt_view.specs.Pools.{entry_in}
+use Rattle.mvt_view.proofs.entries.entries_from.Given as goal
+
+abbrev pub invariant-loop-position : goal.invariant-loop-position
+invariant-loop-position l = record {
+  few : l.count ≤ l.position;
+  rest : l.count + length (placed_from (entry_in l.number) l.position (map layer_item_of l.items)) ≡ length (placed_from (entry_in l.number) l.start (map layer_item_of l.items));
+}
