@@ -13,7 +13,7 @@ use Rattle.mvt_command.specs.Requests.{HistoryRequest, Edit}
 use Rattle.mvt_history_steps.specs.Requests.{SetsOther, LeavesOpen, asked, asked_all, then_times}
 use Rattle.mvt_history_steps.specs.Reached.{all_taken_by, all_put_by, step_allowance}
 use Rattle.mvt_history_steps.specs.Standing.{Standing, changes_in, closed_document}
-use Rattle.mvt_history.specs.Session.{StandsFor, StopsAt, StopsWithin}
+use Rattle.mvt_history_steps.specs.Session.{StandsFor, StopsAt, StopsWithin}
 
 -- a history is sound when it begins, at a depth of at least 1, and stays sound under each request
 abbrev pub StaysSound : Type 0

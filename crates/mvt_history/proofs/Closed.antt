@@ -6,7 +6,7 @@ use Rattle.mvt_change.specs.Changes.{Change}
 use Rattle.mvt_history_steps.specs.History.{History, after_all, present_document, standing_document, commands_in}
 use Rattle.mvt_history_steps.specs.Reached.{LeadOut}
 use Rattle.mvt_history_steps.specs.Standing.{Standing}
-use Rattle.mvt_history.specs.Session.{StandsFor}
+use Rattle.mvt_history_steps.specs.Session.{StandsFor}
 
 none_open : (group : Option (List Command)) (document : Document) (pending : Option (List Change)) → pending ≡ None → LeadOut group document pending → group ≡ None
 none_open None document pending closed out = refl

@@ -15,7 +15,7 @@ use Rattle.mvt_history_steps.specs.History.{History, IsWithin, after_all, after_
 use Rattle.mvt_history_steps.specs.Reached.{LeadsBack, LeadBack, LeadOn, LeadOut}
 use Rattle.mvt_history_steps.specs.Standing.{Standing, IsReady, changes_in, closed_document}
 use Rattle.mvt_history_steps.specs.Held.{IsReached, IsHeld}
-use Rattle.mvt_history.specs.Session.{StandsFor}
+use Rattle.mvt_history_steps.specs.Session.{StandsFor}
 use Rattle.mvt_history_steps.proofs.MarkOrder.{all_passed, order_filtered, length_filtered}
 use Rattle.mvt_history_steps.proofs.Counting.{counted_twice, counted_length, counted_between, all_from_counted, in_order_from_counted}
 use Rattle.mvt_history_steps.proofs.Sound.{length-with_step, sound_with_step, sound_with_group}

@@ -24,7 +24,7 @@ use Rattle.mvt_history_error.specs.declared.HistoryError.TheVariants.{NoMemory}
 use Rattle.mvt_history_steps.specs.Reached.{LeadsBack, LeadOut}
 use Rattle.mvt_history_steps.specs.Standing.{Standing, changes_in, closed_document}
 use Rattle.mvt_history_steps.specs.Held.{mark_of, from_last, standing_of, IsHeld}
-use Rattle.mvt_history.specs.Session.{StandsFor, AnswersWithMemory, StopsWithin}
+use Rattle.mvt_history_steps.specs.Session.{StandsFor, AnswersWithMemory, StopsWithin}
 use Rattle.mvt_history_steps.proofs.Stepping.{length_from_last}
 use Rattle.mvt_history.proofs.Closed.{is_closed, stands_present}
 use Rattle.mvt_history_steps.proofs.Joined.{after_accepted, lead_out_more, lead_out_stopped, between_commands, lead_out_along, lead_out_joined}

@@ -9,7 +9,7 @@ use Rattle.mvt_history_steps.specs.History.{History, at_point, with_marks, marke
 use Rattle.mvt_history_steps.specs.Moves.{walk_in, moved_along, LeadsAlong}
 use Rattle.mvt_history_steps.specs.Standing.{Standing, IsReady}
 use Rattle.mvt_history_steps.specs.Held.{IsReached, IsHeld}
-use Rattle.mvt_history.specs.Session.{StandsFor, Answers, IsOnTheWay, StopsAt, AnswersBack}
+use Rattle.mvt_history_steps.specs.Session.{StandsFor, Answers, IsOnTheWay, StopsAt, AnswersBack}
 use Rattle.mvt_history_steps.specs.declared.TheConstants.{MAX_MARKS}
 use Rattle.mvt_history_steps.specs.declared.steps.Direction.{Direction}
 use Rattle.mvt_history_steps.specs.declared.steps.Direction.TheVariants.{Undo, Redo}

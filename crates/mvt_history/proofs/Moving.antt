@@ -23,7 +23,7 @@ use Rattle.mvt_history_steps.specs.Held.{from_last, IsReached, IsHeld}
 use Rattle.mvt_history_steps.specs.declared.TheConstants.{MAX_DEPTH}
 use Rattle.mvt_history_error.specs.declared.HistoryError.{HistoryError}
 use Rattle.mvt_history_error.specs.declared.HistoryError.TheVariants.{GroupOpen, NoMemory}
-use Rattle.mvt_history.specs.Session.{StandsFor, AnswersWithMemory}
+use Rattle.mvt_history_steps.specs.Session.{StandsFor, AnswersWithMemory}
 use Rattle.mvt_history_steps.proofs.Sound.{begins_sound, sound_at_point, sound_with_group}
 use Rattle.mvt_history_steps.proofs.Following.{next_document}
 use Rattle.mvt_history_steps.proofs.Stepping.{walk_of, length_from_last}

@@ -1,2 +1,2 @@
+pub use Rattle.mvt_history_steps.specs.Session
 pub mod Inside
-pub mod Session

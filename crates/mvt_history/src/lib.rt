@@ -22,10 +22,8 @@
 //!   1 to 10,000 (`Session::start`).
 #![tactic(auto)]
 
-mod error;
 mod session;
 
-pub use error::StartError;
 pub use mvt_history_error::HistoryError;
-pub use mvt_history_steps::{MAX_DEPTH, MAX_MARKS};
+pub use mvt_history_steps::{MAX_DEPTH, MAX_MARKS, StartError};
 pub use session::Session;

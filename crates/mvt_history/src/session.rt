@@ -10,16 +10,15 @@ ghost use Rattle.mvt_history_steps.specs.declared.TheConstants.{MAX_DEPTH};
 ghost use Rattle.mvt_history_steps.specs.Marks.{point_of};
 ghost use Rattle.mvt_history_steps.specs.History.{History, begun, closed, marked, opened, redone, standing_document, undone, unmarked};
 ghost use Rattle.mvt_history_steps.specs.Moves.{gone, moved_along, walk_in};
-ghost use Rattle.mvt_history.specs.Session.{Answers, AnswersBack, AnswersCancel, AnswersCommand, AnswersWithMemory, IsStop, NotStarted, SeesMark, StandsFor};
+ghost use Rattle.mvt_history_steps.specs.Session.{Answers, AnswersBack, AnswersCancel, AnswersCommand, AnswersWithMemory, IsStop, NotStarted, SeesMark, StandsFor};
 
-use crate::error::StartError;
 use circular_buffer::HeapCircularBuffer;
 use mvt_change::{Change, flip, join};
 use mvt_document::Document;
 use mvt_edit::{Command, Refusal, prepare};
 use mvt_history_error::HistoryError;
 use mvt_history_steps::{
-    Direction, MAX_MARKS, Mark, bind, find_point, keep, take_back, unbind, walk, way,
+    Direction, MAX_MARKS, Mark, StartError, bind, find_point, keep, take_back, unbind, walk, way,
 };
 use mvt_write::size;
 use std::alloc::{AllocError, Global};

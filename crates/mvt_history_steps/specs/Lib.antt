@@ -5,3 +5,4 @@ pub mod Standing
 pub mod Held
 pub mod Moves
 pub mod Reached
+pub mod Session

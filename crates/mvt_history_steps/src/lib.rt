@@ -2,8 +2,8 @@
 //! and redo.
 //!
 //! - A history is a definition (`History`): the steps of commands, how many of them stand, the marks,
-//!   and what each request makes of these. So is where the changes of a session lead (`Reached`). No
-//!   command is carried out here.
+//!   and what each request makes of these. So is where the changes of a session lead (`Reached`), and
+//!   what a session answers (`Session`). No command is carried out here.
 //! - Marks stand in the order of the bytes of their names. The point that a name marks is looked up,
 //!   set and taken away: `find_point`, `bind`, `unbind`. Memory is taken for a new name alone
 //!   (`no_memory`), and an `Err` changes nothing.
@@ -18,9 +18,11 @@
 //!   `take_back`); there is one for each step, and the other list has room for them (`walk`).
 #![tactic(auto)]
 
+mod error;
 mod marks;
 mod steps;
 
+pub use error::StartError;
 pub use marks::{Mark, bind, find_point, unbind};
 pub use steps::{Direction, keep, take_back, walk, way};
 

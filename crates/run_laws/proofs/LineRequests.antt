@@ -14,10 +14,10 @@ use Rattle.tile_lines.specs.Lines.{lines_of}
 use Rattle.tile_listing.specs.Listing.{listed}
 use Rattle.tile_reply.specs.declared.refused.Refused.{Refused}
 use Rattle.tile_reply.specs.declared.refused.Refused.TheVariants as refused
-use Rattle.tile_answer.specs.Answering.{told_by, told_by_look, mark_lines, history_lines, size_line, carried_out}
-use Rattle.tile_run.specs.Run.{Progress, at_first, ran, settled_by, answered_by, after_line, is_over, after_lines}
+use Rattle.tile_told.specs.Answering.{told_by, told_by_look, mark_lines, history_lines, size_line, carried_out}
+use Rattle.tile_course.specs.Run.{Progress, at_first, ran, settled_by, answered_by, after_line, is_over, after_lines}
 use Rattle.run_laws.specs.RunLaws.{asked_of, asked_in, requests_of, LinesAreRequests}
-use Rattle.tile_run.specs.declared.outcome.Options.{Options}
+use Rattle.tile_course.specs.declared.outcome.Options.{Options}
 
 -- ---- requests
 

@@ -12,10 +12,10 @@ use Rattle.tile_lines.proofs.LineCuts.{none_of_none}
 use Rattle.tile_lines.proofs.LineLaws.{lines_only}
 use Rattle.tile_listing.specs.Told.{MayBeTold, AreLinesToTell}
 use Rattle.tile_listing.proofs.Telling.{uncut-append, decimal_uncut}
-use Rattle.tile_answer.specs.Answering.{Told, carried_out}
-use Rattle.tile_answer.proofs.AnswerLaws.{requests_tell_lines, no_request_is_out_of_memory}
+use Rattle.tile_told.specs.Answering.{Told, carried_out}
+use Rattle.tile_told.proofs.AnswerLaws.{requests_tell_lines, no_request_is_out_of_memory}
 use Rattle.tile_reply.specs.Replies.{accepted_reply, refused_front, refused_reply, refusal_number, refusal_name, place_told, behind_name, IsOutOfMemory, NoneIsOutOfMemory}
-use Rattle.tile_run.specs.Run.{Progress, at_first, ran, settled_by, answered_by, after_line, is_over, after_lines}
+use Rattle.tile_course.specs.Run.{Progress, at_first, ran, settled_by, answered_by, after_line, is_over, after_lines}
 use Rattle.run_laws.specs.RunLaws.{NoRunIsOutOfMemory}
 use Rattle.mvt_meaning.specs.declared.refusal.Refusal.TheVariants as edit
 use Rattle.mvt_history_error.specs.declared.HistoryError.TheVariants as history
@@ -25,8 +25,8 @@ use Rattle.tile_reply.specs.declared.refused.Refused.{Refused}
 use Rattle.tile_reply.specs.declared.refused.Refused.TheVariants as refused
 use Rattle.mvt_command.proofs.Others.{Other}
 use Rattle.tile_script.proofs.ParseRefusals.{answer_other}
-use Rattle.tile_run.proofs.Fronts.{first_lines}
-use Rattle.tile_run.proofs.ReplyEnds.{ends-append, before_name, refused_text, refused_ends, runs_out, runs_out_not, other_is_not_out_of_memory}
+use Rattle.tile_course.proofs.Fronts.{first_lines}
+use Rattle.tile_course.proofs.ReplyEnds.{ends-append, before_name, refused_text, refused_ends, runs_out, runs_out_not, other_is_not_out_of_memory}
 
 -- ---- lines that are not out of memory
 

@@ -18,7 +18,7 @@ use Rattle.mvt_history_error.specs.declared.HistoryError.{HistoryError}
 use Rattle.mvt_history_error.specs.declared.HistoryError.TheVariants.{NothingToUndo, NothingToRedo, NoMark, TooManyMarks, NoGroup}
 use Rattle.mvt_history_steps.proofs.Joined.{after_accepted}
 use Rattle.tile_lines.specs.Lines.{lines_of}
-use Rattle.tile_run.specs.Run.{at_first, ran}
+use Rattle.tile_course.specs.Run.{at_first, ran}
 use Rattle.run_laws.specs.RunLaws.{Makes, standing_commands, IsHistoryOf, StandingCommands}
 use Rattle.run_laws.proofs.LineRequests.{kept_by_lines, sound_ran}
 

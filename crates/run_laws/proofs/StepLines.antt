@@ -11,7 +11,7 @@ use Rattle.history_laws.proofs.HistoryLaws.{stays_sound}
 use Rattle.mvt_command.specs.Requests.{Begin, End, Cancel, Undo, SetMark, GoBack}
 use Rattle.tile_request.specs.Request.{Request, OnHistory}
 use Rattle.tile_script.specs.Line.{answer_to}
-use Rattle.tile_run.specs.Run.{Progress, after_lines}
+use Rattle.tile_course.specs.Run.{Progress, after_lines}
 use Rattle.run_laws.specs.RunLaws.{asked_of, asked_in, requests_of, CancelInARun, StepUndoneInARun, BackInARun}
 use Rattle.run_laws.proofs.LineRequests.{asked_joined, lines_are_requests}
 

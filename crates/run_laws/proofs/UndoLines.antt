@@ -8,11 +8,11 @@ use Rattle.tile_script.specs.Line.{answer_to}
 use Rattle.tile_lines.specs.Lines.{lines_of, HasNoLineFeed, with_feed, EndsWithALine}
 use Rattle.mvt_history_steps.specs.History.{History, with_command, edited_to, edited}
 use Rattle.tile_reply.specs.declared.refused.Refused.TheVariants as refused
-use Rattle.tile_answer.specs.Answering.{Told, told_by, carried_out}
-use Rattle.tile_run.specs.Run.{Progress, accepted, answered_by, settled_by, after_line, is_over, after_lines, ran, tile_of}
+use Rattle.tile_told.specs.Answering.{Told, told_by, carried_out}
+use Rattle.tile_course.specs.Run.{Progress, accepted, answered_by, settled_by, after_line, is_over, after_lines, ran, tile_of}
 use Rattle.run_laws.specs.RunLaws.{UndoInARun, UndoInAScript}
-use Rattle.tile_run.specs.declared.outcome.Options.{Options}
-use Rattle.tile_run.proofs.Fronts.{fronts_stand}
+use Rattle.tile_course.specs.declared.outcome.Options.{Options}
+use Rattle.tile_course.proofs.Fronts.{fronts_stand}
 use Rattle.history_laws.proofs.HistoryLaws.{undo_at_once}
 use Rattle.tile_lines.proofs.LineLaws.{lines_only}
 use Rattle.run_laws.proofs.LineRequests.{sound_ran}

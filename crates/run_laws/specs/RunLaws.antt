@@ -11,10 +11,10 @@ use Rattle.tile_lines.specs.Lines.{lines_of, HasNoLineFeed, with_feed, EndsWithA
 use Rattle.mvt_history_steps.specs.History.{History, IsSound, commands_in, standing_document, marked, gone_back}
 use Rattle.mvt_history_steps.specs.Requests.{SetsOther, LeavesOpen, asked_all}
 use Rattle.tile_words.specs.declared.parse_error.ParseError.{ParseError}
-use Rattle.tile_answer.specs.Laws.{Looks}
+use Rattle.tile_told.specs.Laws.{Looks}
 use Rattle.tile_reply.specs.Replies.{accepted_reply, refused_reply, NoneIsOutOfMemory}
-use Rattle.tile_run.specs.Run.{Progress, after_line, after_lines, is_over, ran, tile_of, Walk}
-use Rattle.tile_run.specs.declared.outcome.Options.{Options}
+use Rattle.tile_course.specs.Run.{Progress, after_line, after_lines, is_over, ran, tile_of, Walk}
+use Rattle.tile_course.specs.declared.outcome.Options.{Options}
 use Rattle.tile_reply.specs.declared.refused.Refused.{Refused}
 
 -- ---- fronts

@@ -2,8 +2,8 @@
 //! and of what requests tell are passed on.
 #![tactic(auto)]
 
-ghost use Rattle.tile_run.specs.DeviceLaws.{FailedDevicesAreNamed, WornOutRunsNameADevice, DevicesAreNamedForCause};
-ghost use Rattle.tile_run.specs.RunLaws.{FrontsHaveFirstLines, FrontsStand, WalksNeverOutOfMemoryAreRuns};
+ghost use Rattle.tile_course.specs.DeviceLaws.{FailedDevicesAreNamed, WornOutRunsNameADevice, DevicesAreNamedForCause};
+ghost use Rattle.tile_course.specs.RunLaws.{FrontsHaveFirstLines, FrontsStand, WalksNeverOutOfMemoryAreRuns};
 ghost use Rattle.run_laws.specs.RunLaws.{RepliesStand, RefusedLinesChangeNothing, SilentLinesChangeNothing, StrictRunsStop, AcceptedRunsAreAlike, StandingCommands, LinesAreRequests, UndoInARun, UndoInAScript, CancelInARun, StepUndoneInARun, BackInARun, RunsAreWalks, NoRunIsOutOfMemory, LookingChangesNothing};
 
 pub use history_laws::{

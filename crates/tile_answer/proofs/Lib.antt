@@ -1,3 +1,2 @@
-pub mod AnswerLaws
 pub mod Stopping
 pub mod Telling

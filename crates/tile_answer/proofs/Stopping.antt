@@ -1,14 +1,14 @@
 -- Requests that are refused, or stopped halfway.
 use Rattle.std.proofs.Common.{ℕ, List, Err, ap, inl, inr}
 use Rattle.mvt_history_steps.specs.History.{History}
-use Rattle.mvt_history.specs.Session.{AnswersBack, AnswersCancel}
+use Rattle.mvt_history_steps.specs.Session.{AnswersBack, AnswersCancel}
 use Rattle.mvt_history_steps.specs.Standing.{Standing}
 use Rattle.mvt_history_error.specs.declared.HistoryError.{HistoryError}
 use Rattle.mvt_command.specs.Requests.{GoBack, Cancel}
 use Rattle.tile_request.specs.Request.{OnHistory}
 use Rattle.tile_reply.specs.declared.refused.Refused.TheVariants as refused
-use Rattle.tile_answer.specs.Answering.{told_by}
-use Rattle.tile_answer.specs.Answers.{IsAnswered}
+use Rattle.tile_told.specs.Answering.{told_by}
+use Rattle.tile_told.specs.Answers.{IsAnswered}
 
 pub back_refused : (name : List ℕ) (history : History) (error : HistoryError) (new : Standing) → AnswersBack name history (Err error) new → IsAnswered (OnHistory (GoBack name)) history (Err (refused.History error)) new
 back_refused name history error new (inl answers) = inl (inr (ap (told_by refused.History) answers.0), answers.1)

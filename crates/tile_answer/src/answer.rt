@@ -2,10 +2,10 @@
 
 ghost use Rattle.std.specs.Prelude.{◌≡◌, ◌⊎◌, [], IfErr};
 ghost use Rattle.mvt_history_steps.specs.History.{History};
-ghost use Rattle.mvt_history.specs.Session.{StandsFor};
+ghost use Rattle.mvt_history_steps.specs.Session.{StandsFor};
 ghost use Rattle.tile_request.specs.RequestStands.{request_of};
 ghost use Rattle.tile_reply.specs.Replies.{refusal_number};
-ghost use Rattle.tile_answer.specs.Answers.{IsAnswered};
+ghost use Rattle.tile_told.specs.Answers.{IsAnswered};
 
 use crate::told::{history_lines, mark_lines, size_line};
 use mvt_document::Items;

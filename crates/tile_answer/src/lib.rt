@@ -8,7 +8,7 @@
 #![tactic(auto)]
 
 mod answer;
-pub mod laws;
 mod told;
 
 pub use answer::carry_out;
+pub use tile_told::laws;

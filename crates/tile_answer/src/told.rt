@@ -3,9 +3,9 @@
 ghost use Rattle.std.specs.Prelude.{◌≡◌, ◌++◌, IfOk, IfErr, OnOk};
 ghost use Rattle.mvt_document.specs.Stands.{document_of};
 ghost use Rattle.mvt_history_steps.specs.History.{History};
-ghost use Rattle.mvt_history.specs.Session.{StandsFor};
+ghost use Rattle.mvt_history_steps.specs.Session.{StandsFor};
 ghost use Rattle.mvt_meaning.specs.declared.refusal.Refusal.TheVariants.{NoMemory};
-ghost use Rattle.tile_answer.specs.Answering.{history_lines, mark_lines, offset_line, open_line, reach_line, size_line};
+ghost use Rattle.tile_told.specs.Answering.{history_lines, mark_lines, offset_line, open_line, reach_line, size_line};
 
 use mvt_document::{Document, Items};
 use mvt_history::Session;

@@ -10,23 +10,23 @@ use Rattle.mvt_document.specs.Settle.{settle}
 use Rattle.tile_device.specs.Seen.{Seen, Intake, Output, Reads, Writes, nothing_read, written}
 use Rattle.tile_device.proofs.Sending.{receives_nothing}
 use Rattle.tile_device.proofs.Supplying.{supplies_nothing}
-use Rattle.tile_run.specs.Course.{Course, Ends, IsEdited, IsWritten, OpensAgain, RepliesToAll, StopsAtTile, start_of}
-use Rattle.tile_run.specs.Headline.{Devices, Runs}
+use Rattle.tile_course.specs.Course.{Course, Ends, IsEdited, IsWritten, OpensAgain, RepliesToAll, StopsAtTile, start_of}
+use Rattle.tile_course.specs.Headline.{Devices, Runs}
 use Rattle.mvt_history_steps.specs.History.{History, standing_document}
-use Rattle.tile_run.specs.Outcomes.{edited_outcome, opening_outcome, script_outcome, writing_outcome}
-use Rattle.mvt_history.specs.Session.{StandsFor}
+use Rattle.tile_course.specs.Outcomes.{edited_outcome, opening_outcome, script_outcome, writing_outcome}
+use Rattle.mvt_history_steps.specs.Session.{StandsFor}
 use Rattle.tile_run.specs.Steps.{Moment, OpensTile, CarriesOutScript, WritesTile}
 use Rattle.tile_run.specs.declared.editor.Editor.{Editor}
-use Rattle.tile_run.specs.declared.outcome.Options.{Options}
-use Rattle.tile_run.specs.declared.outcome.Outcome.{Outcome}
-use Rattle.tile_run.specs.declared.outcome.Outcome.TheVariants as outcomes
-use Rattle.tile_run.specs.declared.outcome.ScriptStop.{ScriptStop}
-use Rattle.tile_run.specs.declared.outcome.ScriptStop.TheVariants as script_stops
-use Rattle.tile_run.specs.declared.outcome.Unopened.{Unopened}
-use Rattle.tile_run.specs.declared.outcome.Unopened.TheVariants as unopened
-use Rattle.tile_run.specs.declared.outcome.Unwritten.{Unwritten}
-use Rattle.tile_run.specs.declared.outcome.Unwritten.TheVariants as unwritten
-use Rattle.tile_run.specs.declared.runs.TheConstants.{MAX_RETRIES}
+use Rattle.tile_course.specs.declared.outcome.Options.{Options}
+use Rattle.tile_course.specs.declared.outcome.Outcome.{Outcome}
+use Rattle.tile_course.specs.declared.outcome.Outcome.TheVariants as outcomes
+use Rattle.tile_course.specs.declared.outcome.ScriptStop.{ScriptStop}
+use Rattle.tile_course.specs.declared.outcome.ScriptStop.TheVariants as script_stops
+use Rattle.tile_course.specs.declared.outcome.Unopened.{Unopened}
+use Rattle.tile_course.specs.declared.outcome.Unopened.TheVariants as unopened
+use Rattle.tile_course.specs.declared.outcome.Unwritten.{Unwritten}
+use Rattle.tile_course.specs.declared.outcome.Unwritten.TheVariants as unwritten
+use Rattle.tile_course.specs.declared.limits.TheConstants.{MAX_RETRIES}
 use Rattle.tile_run.proofs.Reading.{all_replies}
 
 abbrev seen : Seen → Seen → Seen → Seen → Devices

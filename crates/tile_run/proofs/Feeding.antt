@@ -5,11 +5,11 @@ use Rattle.std.proofs.lemmas.List.{take_more}
 use Rattle.tile_lines.specs.Cutting.{Cut, Holding, after_pushes, complete_line, cut_of, nothing_held, pushed}
 use Rattle.tile_lines.specs.Lines.{whole_lines}
 use Rattle.tile_lines.proofs.Cutting.{after_pushes-snoc, line_completed, none_completed, whole_lines-front}
-use Rattle.tile_run.specs.Run.{Progress}
+use Rattle.tile_course.specs.Run.{Progress}
 use Rattle.tile_run.specs.Steps.{Moment, AnswersLine, CarriesOutLines, ComesTo, WasGiven}
 use Rattle.tile_run.specs.declared.editor.Editor.{Editor}
-use Rattle.tile_run.specs.declared.outcome.LineStop.{LineStop}
-use Rattle.tile_run.specs.declared.outcome.LineStop.TheVariants as line_stops
+use Rattle.tile_course.specs.declared.outcome.LineStop.{LineStop}
+use Rattle.tile_course.specs.declared.outcome.LineStop.TheVariants as line_stops
 use Rattle.tile_run.proofs.Running.{comes_more, over_behind, cut_short}
 
 grown : (before bytes : List ℕ) (i : ℕ) → i < length bytes → before ++ take (i + 1) bytes ≡ (before ++ take i bytes) ++ get_or bytes i 0 ∷ []

@@ -7,14 +7,14 @@ use Rattle.tile_device.proofs.Supplying.{supplies_nothing}
 use Rattle.tile_lines.specs.Cutting.{Cut, Holding, cut_of, rest_of}
 use Rattle.tile_lines.specs.Lines.{lines_of, whole_lines}
 use Rattle.tile_lines.proofs.Cutting.{rest_is_last, no_rest}
-use Rattle.tile_run.specs.Run.{Progress}
+use Rattle.tile_course.specs.Run.{Progress}
 use Rattle.tile_run.specs.Steps.{Moment, AnswersLine, Advances, ComesTo, CarriesOutScript, ReadsWhole}
 use Rattle.tile_run.specs.declared.editor.Editor.{Editor}
-use Rattle.tile_run.specs.declared.outcome.LineStop.{LineStop}
-use Rattle.tile_run.specs.declared.outcome.LineStop.TheVariants as line_stops
-use Rattle.tile_run.specs.declared.outcome.ScriptStop.{ScriptStop}
-use Rattle.tile_run.specs.declared.outcome.ScriptStop.TheVariants as script_stops
-use Rattle.tile_run.specs.Outcomes.{script_stop_of}
+use Rattle.tile_course.specs.declared.outcome.LineStop.{LineStop}
+use Rattle.tile_course.specs.declared.outcome.LineStop.TheVariants as line_stops
+use Rattle.tile_course.specs.declared.outcome.ScriptStop.{ScriptStop}
+use Rattle.tile_course.specs.declared.outcome.ScriptStop.TheVariants as script_stops
+use Rattle.tile_course.specs.Outcomes.{script_stop_of}
 use Rattle.tile_run.proofs.Running.{comes_more, comes_to_more, cut_short}
 use Rattle.tile_run.proofs.Reading.{all_replies}
 

@@ -1,12 +1,6 @@
-pub mod Overs
-pub mod Fronts
-pub mod ReplyEnds
-pub mod Replying
 pub mod Walks
 pub mod Running
 pub mod Feeding
 pub mod Reading
 pub mod Finishing
 pub mod Courses
-pub mod Headlines
-pub mod DeviceLaws

@@ -13,16 +13,16 @@ use Rattle.tile_device.proofs.Sending.{sends_nothing}
 use Rattle.tile_device.proofs.Supplying.{part, supplies_nothing, supplies_more}
 use Rattle.tile_lines.specs.Cutting.{Holding, nothing_held}
 use Rattle.tile_lines.specs.Lines.{whole_lines}
-use Rattle.tile_run.specs.Course.{IsCutShort, IsWritten}
-use Rattle.tile_run.specs.Run.{Progress, at_first, Walk}
+use Rattle.tile_course.specs.Course.{IsCutShort, IsWritten}
+use Rattle.tile_course.specs.Run.{Progress, at_first, Walk}
 use Rattle.tile_run.specs.Steps.{Moment, IsAt, ComesTo, CarriesOutLines, CarriesOutPieces, CarriesOutScript, ReadsWhole, WasGiven}
 use Rattle.tile_run.specs.declared.editor.Editor.{Editor}
-use Rattle.tile_run.specs.declared.outcome.LineStop.{LineStop}
-use Rattle.tile_run.specs.declared.outcome.LineStop.TheVariants as line_stops
-use Rattle.tile_run.specs.declared.outcome.ScriptStop.{ScriptStop}
-use Rattle.tile_run.specs.declared.outcome.ScriptStop.TheVariants as script_stops
-use Rattle.tile_run.specs.Outcomes.{script_stop_of}
-use Rattle.tile_run.specs.declared.runs.TheConstants.{MAX_SCRIPT}
+use Rattle.tile_course.specs.declared.outcome.LineStop.{LineStop}
+use Rattle.tile_course.specs.declared.outcome.LineStop.TheVariants as line_stops
+use Rattle.tile_course.specs.declared.outcome.ScriptStop.{ScriptStop}
+use Rattle.tile_course.specs.declared.outcome.ScriptStop.TheVariants as script_stops
+use Rattle.tile_course.specs.Outcomes.{script_stop_of}
+use Rattle.tile_course.specs.declared.limits.TheConstants.{MAX_SCRIPT}
 
 -- So much of the script was read, and its whole lines were carried out. What reading took of the retries was not
 -- allowed for the replies.

@@ -8,15 +8,15 @@ use Rattle.tile_device.specs.Seen.{Output, Writes}
 use Rattle.tile_device.specs.declared.device.Trouble.{Trouble}
 use Rattle.mvt_history_steps.specs.History.{History}
 use Rattle.tile_reply.specs.Replies.{reply_to}
-use Rattle.tile_run.specs.Run.{Progress, is_over, MayFollow, Walk}
-use Rattle.mvt_history.specs.Session.{StandsFor}
-use Rattle.tile_run.specs.Course.{IsCutShort}
+use Rattle.tile_course.specs.Run.{Progress, is_over, MayFollow, Walk}
+use Rattle.mvt_history_steps.specs.Session.{StandsFor}
+use Rattle.tile_course.specs.Course.{IsCutShort}
 use Rattle.tile_run.specs.Steps.{Moment, Replies, answered, told_in, CarriesOut, IsAt, Advances, Falters, Comes, ComesTo}
 use Rattle.tile_run.specs.declared.editor.Editor.{Editor}
 use Rattle.tile_reply.specs.declared.refused.Refused.{Refused}
 use Rattle.mvt_history.specs.declared.session.Session.{Session}
 use Rattle.tile_device.proofs.Sending.{sends_more, sends_nothing, writes_more}
-use Rattle.tile_run.proofs.Overs.{walk-append, walk_over_any}
+use Rattle.tile_course.proofs.Overs.{walk-append, walk_over_any}
 
 -- ---- one line
 

@@ -5,17 +5,17 @@ use Rattle.mvt_document.specs.Held.{Held}
 use Rattle.tile_request.specs.Request.{Request}
 use Rattle.tile_words.specs.Answers.{Refuses}
 use Rattle.tile_script.specs.Line.{answer_to, TakesMemory}
-use Rattle.tile_answer.specs.Answers.{IsAnswered}
+use Rattle.tile_told.specs.Answers.{IsAnswered}
 use Rattle.tile_reply.specs.Replies.{refusal_number}
-use Rattle.tile_run.specs.Run.{Progress, refused_for, settled_by, answered_by, without_memory}
-use Rattle.mvt_history.specs.Session.{StandsFor}
+use Rattle.tile_course.specs.Run.{Progress, refused_for, settled_by, answered_by, without_memory}
+use Rattle.mvt_history_steps.specs.Session.{StandsFor}
 use Rattle.tile_run.specs.Steps.{CarriesOut, answered}
 use Rattle.tile_words.specs.declared.parse_error.ParseError.{ParseError}
 use Rattle.tile_words.specs.declared.parse_error.ParseError.TheVariants as parse
 use Rattle.tile_reply.specs.declared.refused.Refused.{Refused}
 use Rattle.tile_reply.specs.declared.refused.Refused.TheVariants as refused
 use Rattle.mvt_history.specs.declared.session.Session.{Session}
-use Rattle.tile_run.proofs.ReplyEnds.{out_of_memory_reply}
+use Rattle.tile_course.proofs.ReplyEnds.{out_of_memory_reply}
 
 -- a line that asks for nothing
 pub carries_nothing : (session : Session) (line : List ℕ) (p : Progress) → answer_to line ≡ Ok None → StandsFor session p.history → CarriesOut session line None p

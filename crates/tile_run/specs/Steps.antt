@@ -10,21 +10,21 @@ use Rattle.tile_device.specs.declared.device.Trouble.TheVariants.{Interrupted}
 use Rattle.tile_lines.specs.Cutting.{Holding, after_pushes, nothing_held}
 use Rattle.tile_lines.specs.Lines.{whole_lines}
 use Rattle.tile_run.specs.declared.editor.Editor.{Editor}
-use Rattle.tile_run.specs.declared.outcome.LineStop.{LineStop}
-use Rattle.tile_run.specs.declared.outcome.LineStop.TheVariants as line_stops
-use Rattle.tile_run.specs.declared.outcome.ScriptStop.{ScriptStop}
-use Rattle.tile_run.specs.declared.outcome.ScriptStop.TheVariants as script_stops
-use Rattle.tile_run.specs.declared.outcome.Unopened.{Unopened}
-use Rattle.tile_run.specs.declared.outcome.Unopened.TheVariants as unopened
-use Rattle.tile_run.specs.declared.outcome.Unwritten.{Unwritten}
-use Rattle.tile_run.specs.declared.outcome.Unwritten.TheVariants as unwritten
+use Rattle.tile_course.specs.declared.outcome.LineStop.{LineStop}
+use Rattle.tile_course.specs.declared.outcome.LineStop.TheVariants as line_stops
+use Rattle.tile_course.specs.declared.outcome.ScriptStop.{ScriptStop}
+use Rattle.tile_course.specs.declared.outcome.ScriptStop.TheVariants as script_stops
+use Rattle.tile_course.specs.declared.outcome.Unopened.{Unopened}
+use Rattle.tile_course.specs.declared.outcome.Unopened.TheVariants as unopened
+use Rattle.tile_course.specs.declared.outcome.Unwritten.{Unwritten}
+use Rattle.tile_course.specs.declared.outcome.Unwritten.TheVariants as unwritten
 use Rattle.tile_reply.specs.declared.refused.Refused.{Refused}
-use Rattle.tile_run.specs.declared.runs.TheConstants.{MAX_SCRIPT}
+use Rattle.tile_course.specs.declared.limits.TheConstants.{MAX_SCRIPT}
 use Rattle.mvt_history.specs.declared.session.Session.{Session}
-use Rattle.tile_run.specs.Course.{IsOpened, IsFaulty, IsWritten, CarriesThrough, StopsStrictly, StopsAtScript, StopsAtReplies, IsCutShort}
+use Rattle.tile_course.specs.Course.{IsOpened, IsFaulty, IsWritten, CarriesThrough, StopsStrictly, StopsAtScript, StopsAtReplies, IsCutShort}
 use Rattle.mvt_history_steps.specs.History.{History}
-use Rattle.tile_run.specs.Run.{Progress, silent, accepted, refused_for, is_over, MayFollow, Walk}
-use Rattle.mvt_history.specs.Session.{StandsFor}
+use Rattle.tile_course.specs.Run.{Progress, silent, accepted, refused_for, is_over, MayFollow, Walk}
+use Rattle.mvt_history_steps.specs.Session.{StandsFor}
 
 -- ---- the tile
 

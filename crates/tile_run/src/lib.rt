@@ -9,8 +9,7 @@
 #![tactic(auto)]
 
 mod editor;
-mod outcome;
 mod runs;
 
-pub use outcome::{DeviceName, Options, Outcome, TileFault};
-pub use runs::{Ended, MAX_RETRIES, MAX_SCRIPT, run, run_and_hold};
+pub use runs::{Ended, run, run_and_hold};
+pub use tile_course::{DeviceName, MAX_RETRIES, MAX_SCRIPT, Options, Outcome, TileFault};

@@ -7,23 +7,17 @@ ghost use Rattle.mvt_document.specs.Stands.{document_of};
 ghost use Rattle.mvt_document.specs.Wire.{bytes_of};
 ghost use Rattle.mvt_history_steps.specs.declared.TheConstants.{MAX_DEPTH};
 ghost use Rattle.tile_device.specs.Seen.{Intake, Output, Reads, Writes, source_at, sink_at};
-ghost use Rattle.tile_run.specs.Headline.{Headline, RefusesTile, Runs, WritesATile, LeavesOut, LeavesReplies, devices_at};
+ghost use Rattle.tile_course.specs.Headline.{Headline, RefusesTile, Runs, WritesATile, LeavesOut, LeavesReplies, devices_at};
 ghost use Rattle.tile_run.specs.Steps.{OpensTile, WritesTile, document_in};
 
 use crate::editor::Editor;
-use crate::outcome::{Options, Outcome, TileFault, Unopened, Unwritten};
 use mvt_document::{Document, MAX_FILE};
 use mvt_read::{ReadError, read_document};
 use mvt_write::write_document_into;
 use std::alloc::Global;
 use std::mem;
+use tile_course::{MAX_RETRIES, Options, Outcome, TileFault, Unopened, Unwritten};
 use tile_device::{Retries, Sink, Source, read_to_limit, write_and_flush};
-
-/// The longest script in bytes.
-pub const MAX_SCRIPT: usize = 16_777_216;
-
-/// How many interrupted calls are made again in a run, over all devices.
-pub const MAX_RETRIES: u32 = 1000;
 
 /// A run that is over: how it ended, and what it still holds, which is freed with this.
 #[derive(Drop)]

@@ -7,21 +7,21 @@ use Rattle.std.proofs.lemmas.List.{drop_at}
 use Rattle.mvt_document.specs.Opens.{OpensAs, OpensAsNothing}
 use Rattle.mvt_document.specs.Plain.{Document}
 use Rattle.tile_device.specs.Seen.{Seen, Intake, Supplies}
-use Rattle.tile_run.specs.Course.{IsFaultOf}
-use Rattle.tile_run.specs.DeviceLaws.{GivesUp, HasCause, HaveLowCounts}
-use Rattle.tile_run.specs.Headline.{Devices, AllServe, IsRunOf, Runs, outcome_of, tile_written}
+use Rattle.tile_course.specs.Course.{IsFaultOf}
+use Rattle.tile_course.specs.DeviceLaws.{GivesUp, HasCause, HaveLowCounts}
+use Rattle.tile_course.specs.Headline.{Devices, AllServe, IsRunOf, Runs, outcome_of, tile_written}
 use Rattle.tileshell.specs.InMemory.{handed_out, bytes_in, tile_given, IsEditOf, EditsTile, RefusesFile, IsReadOf, IsRunInMemory, NamesLongScript}
 use Rattle.tile_reply.specs.Replies.{NoneIsOutOfMemory}
-use Rattle.tile_run.specs.Run.{Progress, is_over, ran, tile_of}
-use Rattle.tile_run.specs.declared.outcome.DeviceName.{DeviceName}
-use Rattle.tile_run.specs.declared.outcome.DeviceName.TheVariants as devices
-use Rattle.tile_run.specs.declared.outcome.Options.{Options}
-use Rattle.tile_run.specs.declared.outcome.Outcome.{Outcome}
-use Rattle.tile_run.specs.declared.outcome.Outcome.TheVariants as outcomes
-use Rattle.tile_run.specs.declared.outcome.TileFault.{TileFault}
-use Rattle.tile_run.specs.declared.runs.TheConstants.{MAX_SCRIPT}
-use Rattle.tile_run.proofs.DeviceLaws.{failed_is_named, named_for_cause}
-use Rattle.tile_run.proofs.Headlines.{headline, none_counted, refuses_tile}
+use Rattle.tile_course.specs.Run.{Progress, is_over, ran, tile_of}
+use Rattle.tile_course.specs.declared.outcome.DeviceName.{DeviceName}
+use Rattle.tile_course.specs.declared.outcome.DeviceName.TheVariants as devices
+use Rattle.tile_course.specs.declared.outcome.Options.{Options}
+use Rattle.tile_course.specs.declared.outcome.Outcome.{Outcome}
+use Rattle.tile_course.specs.declared.outcome.Outcome.TheVariants as outcomes
+use Rattle.tile_course.specs.declared.outcome.TileFault.{TileFault}
+use Rattle.tile_course.specs.declared.limits.TheConstants.{MAX_SCRIPT}
+use Rattle.tile_course.proofs.DeviceLaws.{failed_is_named, named_for_cause}
+use Rattle.tile_course.proofs.Headlines.{headline, none_counted, refuses_tile}
 
 -- a device in memory with these bytes, of which so many calls failed
 abbrev pub held : List ℕ → ℕ → Seen

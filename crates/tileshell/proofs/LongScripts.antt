@@ -14,21 +14,21 @@ use Rattle.tile_device.specs.declared.device.Trouble.{Trouble}
 use Rattle.tile_device.specs.declared.device.Trouble.TheVariants.{Interrupted, Failed}
 use Rattle.tile_lines.specs.Lines.{whole_lines}
 use Rattle.tile_lines.proofs.WholeLines.{whole_lines-front}
-use Rattle.tile_run.specs.Course.{start_of, lines_in, IsFaulty, IsOpened, IsWritten, CarriesThrough}
+use Rattle.tile_course.specs.Course.{start_of, lines_in, IsFaulty, IsOpened, IsWritten, CarriesThrough}
 use Rattle.tileshell.specs.InMemory.{handed_out, ran_cut, IsCutOff, CutsLongScript}
 use Rattle.tile_reply.specs.Replies.{NoneIsOutOfMemory}
-use Rattle.tile_run.specs.Run.{Progress, after_lines, is_over, Walk}
-use Rattle.tile_run.specs.declared.outcome.DeviceName.TheVariants as devices
-use Rattle.tile_run.specs.declared.outcome.Options.{Options}
-use Rattle.tile_run.specs.declared.outcome.Outcome.{Outcome}
-use Rattle.tile_run.specs.declared.outcome.Outcome.TheVariants as outcomes
-use Rattle.tile_run.specs.declared.outcome.TileFault.{TileFault}
-use Rattle.tile_run.specs.declared.outcome.TileFault.TheVariants as faults
-use Rattle.tile_run.specs.declared.runs.TheConstants.{MAX_SCRIPT}
+use Rattle.tile_course.specs.Run.{Progress, after_lines, is_over, Walk}
+use Rattle.tile_course.specs.declared.outcome.DeviceName.TheVariants as devices
+use Rattle.tile_course.specs.declared.outcome.Options.{Options}
+use Rattle.tile_course.specs.declared.outcome.Outcome.{Outcome}
+use Rattle.tile_course.specs.declared.outcome.Outcome.TheVariants as outcomes
+use Rattle.tile_course.specs.declared.outcome.TileFault.{TileFault}
+use Rattle.tile_course.specs.declared.outcome.TileFault.TheVariants as faults
+use Rattle.tile_course.specs.declared.limits.TheConstants.{MAX_SCRIPT}
 use Rattle.tileshell.proofs.InMemory.{held, RunsInMemory}
-use Rattle.tile_run.proofs.Fronts.{after_lines-append}
-use Rattle.tile_run.proofs.Overs.{over_stays}
-use Rattle.tile_run.proofs.Replying.{walks_are_runs}
+use Rattle.tile_course.proofs.Fronts.{after_lines-append}
+use Rattle.tile_course.proofs.Overs.{over_stays}
+use Rattle.tile_course.proofs.Replying.{walks_are_runs}
 
 -- ---- what a source in memory gives
 

@@ -7,18 +7,18 @@ use Rattle.mvt_document.specs.Opens.{OpensAs, OpensAsNothing}
 use Rattle.mvt_document.specs.Plain.{Document}
 use Rattle.tile_lines.specs.Lines.{whole_lines}
 use Rattle.tile_device.specs.Seen.{Intake}
-use Rattle.tile_run.specs.Course.{Course, Ends, IsFaultOf}
-use Rattle.tile_run.specs.Headline.{outcome_of}
+use Rattle.tile_course.specs.Course.{Course, Ends, IsFaultOf}
+use Rattle.tile_course.specs.Headline.{outcome_of}
 use Rattle.tile_reply.specs.Replies.{NoneIsOutOfMemory}
-use Rattle.tile_run.specs.Run.{Progress, after_lines, at_first, is_over, ran, tile_of}
+use Rattle.tile_course.specs.Run.{Progress, after_lines, at_first, is_over, ran, tile_of}
 use Rattle.tileshell.specs.declared.in_memory.Edited.{Edited}
-use Rattle.tile_run.specs.declared.outcome.DeviceName.{DeviceName}
-use Rattle.tile_run.specs.declared.outcome.DeviceName.TheVariants as devices
-use Rattle.tile_run.specs.declared.outcome.Options.{Options}
-use Rattle.tile_run.specs.declared.outcome.Outcome.{Outcome}
-use Rattle.tile_run.specs.declared.outcome.Outcome.TheVariants as outcomes
-use Rattle.tile_run.specs.declared.outcome.TileFault.{TileFault}
-use Rattle.tile_run.specs.declared.runs.TheConstants.{MAX_SCRIPT}
+use Rattle.tile_course.specs.declared.outcome.DeviceName.{DeviceName}
+use Rattle.tile_course.specs.declared.outcome.DeviceName.TheVariants as devices
+use Rattle.tile_course.specs.declared.outcome.Options.{Options}
+use Rattle.tile_course.specs.declared.outcome.Outcome.{Outcome}
+use Rattle.tile_course.specs.declared.outcome.Outcome.TheVariants as outcomes
+use Rattle.tile_course.specs.declared.outcome.TileFault.{TileFault}
+use Rattle.tile_course.specs.declared.limits.TheConstants.{MAX_SCRIPT}
 
 -- what is handed out where the run ended with this outcome: the tile where it was written; a sink in memory fails only
 -- where memory runs out, so its fault becomes `NoMemory`

@@ -1,4 +1,4 @@
-use Rattle.tile_run.proofs.DeviceLaws.{named_for_cause}
+use Rattle.tile_course.proofs.DeviceLaws.{named_for_cause}
 use Rattle.run_laws.proofs.devices_are_named_for_cause.Goals as goal
 
 pub returns : goal.returns

@@ -1,4 +1,4 @@
-use Rattle.tile_run.proofs.DeviceLaws.{failed_is_named, worn_out_names}
+use Rattle.tile_course.proofs.DeviceLaws.{failed_is_named, worn_out_names}
 use Rattle.run_laws.proofs.failed_devices_are_named.Goals as goal
 
 pub returns-clause-failed : goal.returns-clause-failed

@@ -1,4 +1,4 @@
-use Rattle.tile_run.proofs.Fronts.{first_lines, fronts_stand}
+use Rattle.tile_course.proofs.Fronts.{first_lines, fronts_stand}
 use Rattle.run_laws.proofs.LineLaws.{replies_stand}
 use Rattle.run_laws.proofs.prefixes_stand.Goals as goal
 

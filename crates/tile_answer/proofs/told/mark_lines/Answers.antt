@@ -1,5 +1,5 @@
 use Rattle.std.proofs.Common.{rules, ◌≡◌, ◌++◌, ◌∙◌, sym, refl, length, arith}
-use Rattle.tile_answer.specs.Answering.{offset_line}
+use Rattle.tile_told.specs.Answering.{offset_line}
 use Rattle.tile_answer.proofs.Telling.{told_there, none_behind, lines_of_marks, all_told}
 use Rattle.tile_answer.proofs.told.mark_lines.Goals as goal
 use Rattle.tile_answer.proofs.told.mark_lines.Goals.{else-loop-index-test, then-loop-index-test+in_default}

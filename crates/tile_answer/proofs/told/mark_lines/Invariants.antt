@@ -1,6 +1,6 @@
 use Rattle.std.proofs.Common.{◌≡◌, length, take}
 use Rattle.std.specs.List.{flat_map}
-use Rattle.tile_answer.specs.Answering.{mark_line}
+use Rattle.tile_told.specs.Answering.{mark_line}
 use Rattle.tile_answer.proofs.told.mark_lines.Given as goal
 
 abbrev pub invariant-loop-index : goal.invariant-loop-index

@@ -1,4 +1,4 @@
-use Rattle.tile_run.proofs.Headlines.{headline, refuses_tile, writes_a_tile}
+use Rattle.tile_course.proofs.Headlines.{headline, refuses_tile, writes_a_tile}
 use Rattle.tile_run.proofs.runs.run.Goals as goal
 
 pub returns-clause-headline : goal.returns-clause-headline

@@ -1,6 +1,6 @@
 use Rattle.std.proofs.Common.{◌∙◌, sym, subst}
 use Rattle.mvt_document.specs.Stands.{document_of}
-use Rattle.tile_run.specs.Headline.{Runs}
+use Rattle.tile_course.specs.Headline.{Runs}
 use Rattle.tile_run.proofs.Courses.{runs_to_tile, runs_to_start, runs_to_script, runs_to_out, runs_through}
 use Rattle.tile_run.proofs.runs.run_and_hold.Goals as goal
 

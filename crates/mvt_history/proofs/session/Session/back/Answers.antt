@@ -4,7 +4,7 @@ use Rattle.mvt_history_steps.specs.Moves.{LeadsAlong}
 use Rattle.mvt_history_steps.specs.Held.{mark_of}
 use Rattle.mvt_history_steps.specs.Standing.{IsReady}
 use Rattle.mvt_history.specs.Inside.{seen_in}
-use Rattle.mvt_history.specs.Session.{StandsFor}
+use Rattle.mvt_history_steps.specs.Session.{StandsFor}
 use Rattle.mvt_history_steps.proofs.Stepping.{length_from_last}
 use Rattle.mvt_history.proofs.Moving.{seen_closed}
 use Rattle.mvt_history.proofs.Marking.{back_refused, way_to_mark, back_answers, stopped_from}

@@ -1,6 +1,6 @@
 use Rattle.std.proofs.Common.{subst, sym}
 use Rattle.mvt_history.specs.Inside.{seen_in}
-use Rattle.mvt_history.specs.Session.{StandsFor}
+use Rattle.mvt_history_steps.specs.Session.{StandsFor}
 use Rattle.mvt_history.proofs.Moving.{seen_closed, opened_answers}
 use Rattle.mvt_history.proofs.session.Session.begin.Goals as goal
 

@@ -3,7 +3,7 @@ use Rattle.mvt_document.specs.Stands.{document_of}
 use Rattle.mvt_change.specs.Joining.{go_along}
 use Rattle.mvt_history_steps.specs.Held.{from_last}
 use Rattle.mvt_history.specs.Inside.{seen_in}
-use Rattle.mvt_history.specs.Session.{StandsFor}
+use Rattle.mvt_history_steps.specs.Session.{StandsFor}
 use Rattle.mvt_history_steps.proofs.Stepping.{length_from_last}
 use Rattle.mvt_history.proofs.KeepingCommands.{all_taken, seen_open, stopped_held, cancelled_held, step_stopped, step_cancelled}
 use Rattle.mvt_history.proofs.session.Session.cancel.Goals as goal

@@ -7,7 +7,7 @@ use Rattle.mvt_change.specs.Changes.{turn}
 use Rattle.mvt_command.specs.CommandStands.{command_of}
 use Rattle.mvt_history_steps.specs.Held.{from_last, standing_of}
 use Rattle.mvt_history.specs.Inside.{seen_in}
-use Rattle.mvt_history.specs.Session.{StandsFor}
+use Rattle.mvt_history_steps.specs.Session.{StandsFor}
 use Rattle.mvt_history.proofs.Keeping.{IsKept}
 use Rattle.mvt_history_steps.proofs.Stepping.{from_last_push}
 use Rattle.mvt_history.proofs.KeepingCommands.{is_kept, seen_open, seen_none, command_alone_held, command_alone, command_within_held, command_within}

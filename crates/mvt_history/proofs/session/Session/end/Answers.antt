@@ -6,7 +6,7 @@ use Rattle.mvt_change.specs.Joining.{joined}
 use Rattle.mvt_history_steps.specs.History.{closed}
 use Rattle.mvt_history_steps.specs.Held.{IsHeld, from_last, standing_of}
 use Rattle.mvt_history.specs.Inside.{seen_in}
-use Rattle.mvt_history.specs.Session.{StandsFor}
+use Rattle.mvt_history_steps.specs.Session.{StandsFor}
 use Rattle.mvt_history.proofs.Keeping.{IsKept, with_open}
 use Rattle.mvt_history_steps.proofs.Stepping.{length_from_last}
 use Rattle.mvt_history.proofs.KeepingCommands.{is_kept, joined_from, same_from_last, no_items, some_items, seen_open, ran_out_of_memory, on_error, empty_ended, end_accepted, ended_held, step_ended}

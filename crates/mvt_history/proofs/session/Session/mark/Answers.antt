@@ -4,7 +4,7 @@ use Rattle.mvt_history_steps.specs.Marks.{bound, point_of}
 use Rattle.mvt_history_steps.specs.History.{History, marked}
 use Rattle.mvt_history_steps.specs.Held.{IsHeld, mark_of}
 use Rattle.mvt_history.specs.Inside.{seen_in}
-use Rattle.mvt_history.specs.Session.{StandsFor}
+use Rattle.mvt_history_steps.specs.Session.{StandsFor}
 use Rattle.mvt_history_steps.specs.declared.TheConstants.{MAX_MARKS}
 use Rattle.mvt_history_steps.proofs.Stepping.{length_from_last}
 use Rattle.mvt_history.proofs.Moving.{seen_closed}

@@ -1,7 +1,7 @@
 use Rattle.std.proofs.Common.{◌+◌, ◌≤◌, ◌++◌, ℕ, Bool, List, take}
 use Rattle.tile_device.specs.Seen.{Seen}
 use Rattle.tile_lines.specs.Lines.{whole_lines}
-use Rattle.tile_run.specs.Run.{Progress}
+use Rattle.tile_course.specs.Run.{Progress}
 use Rattle.tile_run.specs.Steps.{ComesTo, Moment, WasGiven, moment_at}
 use Rattle.tile_run.proofs.editor.Editor.carry_out_lines.Given as goal
 

@@ -1,7 +1,7 @@
 use Rattle.std.proofs.Common.{rules, ◌∙◌, ◌<◌, ◌≤◌, ◌+◌, ap, Err, ℕ, length, refl, arith}
 use Rattle.std.proofs.lemmas.List.{length-take}
 use Rattle.std.proofs.lemmas.Result.{err_from_is_err_and}
-use Rattle.tile_run.specs.Run.{at_first}
+use Rattle.tile_course.specs.Run.{at_first}
 use Rattle.tile_run.proofs.Reading.{so_far_none, got_piece, passed_on, so_far_more, stops_reading, stops_too_long, stops_at_line, stops_as, ends_reading}
 use Rattle.tile_run.proofs.editor.Editor.carry_out_pieces.Goals as goal
 

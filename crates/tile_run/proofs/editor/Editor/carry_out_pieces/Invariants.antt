@@ -1,9 +1,9 @@
 use Rattle.std.proofs.Common.{ℕ, ◌+◌, ◌≤◌, Bool}
 use Rattle.mvt_document.specs.Plain.{Document}
 use Rattle.tile_device.specs.Seen.{source_at}
-use Rattle.tile_run.specs.Run.{at_first}
+use Rattle.tile_course.specs.Run.{at_first}
 use Rattle.tile_run.specs.Steps.{IsAt, moment_at}
-use Rattle.tile_run.specs.declared.runs.TheConstants.{MAX_SCRIPT}
+use Rattle.tile_course.specs.declared.limits.TheConstants.{MAX_SCRIPT}
 use Rattle.tile_run.proofs.Reading.{SoFar}
 use Rattle.tile_run.proofs.editor.Editor.carry_out_pieces.Given as goal
 

@@ -1,6 +1,6 @@
 use Rattle.std.proofs.Common.{◌∙◌, ap, Err}
 use Rattle.std.proofs.lemmas.Result.{err_from_is_err_and}
-use Rattle.tile_run.specs.Run.{at_first}
+use Rattle.tile_course.specs.Run.{at_first}
 use Rattle.tile_run.proofs.Finishing.{no_memory, ends_with_feed, last_line_in, ends_with_line, stops_at_last_line, script_ends_as}
 use Rattle.tile_run.proofs.editor.Editor.carry_out_script.Goals as goal
 

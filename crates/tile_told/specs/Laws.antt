@@ -5,7 +5,7 @@ use Rattle.tile_listing.specs.Told.{AreLinesToTell}
 use Rattle.mvt_history_steps.specs.History.{History}
 use Rattle.tile_reply.specs.Replies.{IsOutOfMemory}
 use Rattle.tile_reply.specs.declared.refused.Refused.{Refused}
-use Rattle.tile_answer.specs.Answering.{Told, carried_out}
+use Rattle.tile_told.specs.Answering.{Told, carried_out}
 
 -- what a request prints is whole lines, and none of them looks like a refusal
 abbrev pub RequestsTellLines : Type 0

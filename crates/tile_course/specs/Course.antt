@@ -7,15 +7,15 @@ use Rattle.mvt_document.specs.Settle.{settle}
 use Rattle.tile_device.specs.Seen.{Intake, Output, nothing_read, IsFront}
 use Rattle.tile_device.specs.declared.device.Trouble.TheVariants.{Interrupted}
 use Rattle.tile_lines.specs.Lines.{lines_of, whole_lines}
-use Rattle.tile_run.specs.declared.runs.TheConstants.{MAX_RETRIES, MAX_SCRIPT}
-use Rattle.tile_run.specs.declared.outcome.Options.{Options}
-use Rattle.tile_run.specs.declared.outcome.Outcome.{Outcome}
-use Rattle.tile_run.specs.declared.outcome.Outcome.TheVariants as outcomes
-use Rattle.tile_run.specs.declared.outcome.DeviceName.TheVariants as devices
-use Rattle.tile_run.specs.declared.outcome.TileFault.{TileFault}
-use Rattle.tile_run.specs.declared.outcome.TileFault.TheVariants as faults
+use Rattle.tile_course.specs.declared.limits.TheConstants.{MAX_RETRIES, MAX_SCRIPT}
+use Rattle.tile_course.specs.declared.outcome.Options.{Options}
+use Rattle.tile_course.specs.declared.outcome.Outcome.{Outcome}
+use Rattle.tile_course.specs.declared.outcome.Outcome.TheVariants as outcomes
+use Rattle.tile_course.specs.declared.outcome.DeviceName.TheVariants as devices
+use Rattle.tile_course.specs.declared.outcome.TileFault.{TileFault}
+use Rattle.tile_course.specs.declared.outcome.TileFault.TheVariants as faults
 use Rattle.mvt_history_steps.specs.History.{standing_document}
-use Rattle.tile_run.specs.Run.{Progress, at_first, is_over, MayFollow, Walk, tile_of}
+use Rattle.tile_course.specs.Run.{Progress, at_first, is_over, MayFollow, Walk, tile_of}
 
 -- what was read of the tile and of the script, and written to the replies and to `out`
 pub record Course : Type 0 where

@@ -1,13 +1,13 @@
 -- Laws on the devices of a run: what their troubles have to do with its outcome.
 use Rattle.std.specs.Prelude.{◌≡◌, ◌≢◌, ◌⊎◌, ℕ, ◌<◌, List, length, IsTrue, Some}
-use Rattle.tile_run.specs.declared.runs.TheConstants.{MAX_RETRIES, MAX_SCRIPT}
-use Rattle.tile_run.specs.declared.outcome.Options.{Options}
-use Rattle.tile_run.specs.declared.outcome.Outcome.{Outcome}
-use Rattle.tile_run.specs.declared.outcome.Outcome.TheVariants as outcomes
-use Rattle.tile_run.specs.declared.outcome.DeviceName.{DeviceName}
-use Rattle.tile_run.specs.declared.outcome.DeviceName.TheVariants as devices
+use Rattle.tile_course.specs.declared.limits.TheConstants.{MAX_RETRIES, MAX_SCRIPT}
+use Rattle.tile_course.specs.declared.outcome.Options.{Options}
+use Rattle.tile_course.specs.declared.outcome.Outcome.{Outcome}
+use Rattle.tile_course.specs.declared.outcome.Outcome.TheVariants as outcomes
+use Rattle.tile_course.specs.declared.outcome.DeviceName.{DeviceName}
+use Rattle.tile_course.specs.declared.outcome.DeviceName.TheVariants as devices
 use Rattle.tile_device.specs.Seen.{Seen}
-use Rattle.tile_run.specs.Headline.{Devices, HasLowCounts, Runs, all_interruptions}
+use Rattle.tile_course.specs.Headline.{Devices, HasLowCounts, Runs, all_interruptions}
 
 -- a call of the device failed: its count of failures is another
 abbrev pub HasFailed : Seen → Seen → Type 0

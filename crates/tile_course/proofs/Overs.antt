@@ -1,7 +1,7 @@
 -- Where a strict run is over, and walks that go on from one another.
 use Rattle.std.proofs.Common.{◌≡◌, ℕ, Bool, true, false, List, [], ◌∷◌, ◌++◌, refl, subst, ◌∙◌, inl, inr}
 use Rattle.std.proofs.lemmas.Bool.{cases_Bool, MatchBool-at_true, MatchBool-at_false}
-use Rattle.tile_run.specs.Run.{Progress, after_line, is_over, after_lines, MayFollow, Walk}
+use Rattle.tile_course.specs.Run.{Progress, after_line, is_over, after_lines, MayFollow, Walk}
 
 pub over_stays : (strict : Bool) (p : Progress) (lines : List (List ℕ)) → is_over strict p ≡ true → after_lines strict p lines ≡ p
 over_stays strict p [] over = refl

@@ -4,10 +4,10 @@ use Rattle.std.specs.List.{slice_split, onto_first}
 use Rattle.std.proofs.lemmas.Bool.{cases_Bool}
 use Rattle.std.proofs.lemmas.List.Splits.{length-slice_split}
 use Rattle.tile_lines.specs.Lines.{is_line_feed, without_empty_end, lines_of}
-use Rattle.tile_run.specs.Run.{Progress, at_first, after_line, is_over, after_lines}
-use Rattle.tile_run.specs.RunLaws.{FrontsHaveFirstLines, FrontsStand}
+use Rattle.tile_course.specs.Run.{Progress, at_first, after_line, is_over, after_lines}
+use Rattle.tile_course.specs.RunLaws.{FrontsHaveFirstLines, FrontsStand}
 use Rattle.tile_lines.proofs.LineCuts.{first_stays, none_of_none}
-use Rattle.tile_run.proofs.Overs.{over_stays}
+use Rattle.tile_course.proofs.Overs.{over_stays}
 
 onto-append : (b : ℕ) (parts more : List (List ℕ)) → 0 < length parts → onto_first b (parts ++ more) ≡ onto_first b parts ++ more
 onto-append b [] more some = absurd (omega arith)

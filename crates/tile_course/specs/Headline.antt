@@ -6,19 +6,19 @@ use Rattle.std.specs.Io.KnownBytes.{Appends}
 use Rattle.mvt_document.specs.declared.TheConstants.{MAX_FILE}
 use Rattle.mvt_document.specs.Plain.{Document}
 use Rattle.mvt_document.specs.Opens.{OpensAs, OpensAsNothing}
-use Rattle.tile_run.specs.declared.runs.TheConstants.{MAX_RETRIES, MAX_SCRIPT}
-use Rattle.tile_run.specs.declared.outcome.Options.{Options}
+use Rattle.tile_course.specs.declared.limits.TheConstants.{MAX_RETRIES, MAX_SCRIPT}
+use Rattle.tile_course.specs.declared.outcome.Options.{Options}
 use Rattle.tile_device.specs.declared.device.Source.{Ghosts as SourceMembers}
 use Rattle.tile_device.specs.declared.device.Sink.{Ghosts as SinkMembers}
-use Rattle.tile_run.specs.declared.outcome.Outcome.{Outcome}
-use Rattle.tile_run.specs.declared.outcome.Outcome.TheVariants as outcomes
-use Rattle.tile_run.specs.declared.outcome.DeviceName.TheVariants as devices
-use Rattle.tile_run.specs.declared.outcome.TileFault.{TileFault}
-use Rattle.tile_run.specs.Course.{Course, Ends, IsPatient, OpensAgain, IsFaultOf}
-use Rattle.tile_run.specs.Outcomes.{edited_outcome}
+use Rattle.tile_course.specs.declared.outcome.Outcome.{Outcome}
+use Rattle.tile_course.specs.declared.outcome.Outcome.TheVariants as outcomes
+use Rattle.tile_course.specs.declared.outcome.DeviceName.TheVariants as devices
+use Rattle.tile_course.specs.declared.outcome.TileFault.{TileFault}
+use Rattle.tile_course.specs.Course.{Course, Ends, IsPatient, OpensAgain, IsFaultOf}
+use Rattle.tile_course.specs.Outcomes.{edited_outcome}
 use Rattle.tile_reply.specs.Replies.{NoneIsOutOfMemory}
 use Rattle.tile_lines.specs.Lines.{lines_of}
-use Rattle.tile_run.specs.Run.{Progress, after_lines, is_over, ran, tile_of}
+use Rattle.tile_course.specs.Run.{Progress, after_lines, is_over, ran, tile_of}
 use Rattle.tile_device.specs.Seen.{Seen, source_at, sink_at, Supplies, Receives}
 
 -- the four devices of a run at one moment

@@ -13,9 +13,9 @@ use Rattle.mvt_document.specs.declared.document.Document as held
 use Rattle.mvt_document.specs.Stands.{document_of}
 use Rattle.std.specs.Borrow.{Bor}
 use Rattle.mvt_history_error.specs.declared.HistoryError.{HistoryError}
-use Rattle.mvt_history.specs.declared.error.StartError.{StartError}
-use Rattle.mvt_history.specs.declared.error.StartError.TheVariants as start
-use Rattle.mvt_history.specs.declared.error.StartError.TheVariants.{TooLarge}
+use Rattle.mvt_history_steps.specs.declared.error.StartError.{StartError}
+use Rattle.mvt_history_steps.specs.declared.error.StartError.TheVariants as start
+use Rattle.mvt_history_steps.specs.declared.error.StartError.TheVariants.{TooLarge}
 use Rattle.mvt_history_error.specs.declared.HistoryError.TheVariants.{Stopped, NoMemory}
 
 -- ---- which history a session holds

@@ -4,13 +4,13 @@ use Rattle.mvt_document.specs.Held.{Held}
 use Rattle.mvt_command.specs.Requests.{Edit, TakeMark, GoBack, Begin, Cancel}
 use Rattle.tile_request.specs.Request.{Request, OnHistory, Lists}
 use Rattle.mvt_history_steps.specs.History.{History}
-use Rattle.mvt_history.specs.Session.{StandsFor, StopsAt, StopsWithin}
+use Rattle.mvt_history_steps.specs.Session.{StandsFor, StopsAt, StopsWithin}
 use Rattle.mvt_history_steps.specs.Standing.{Standing}
 use Rattle.mvt_history_error.specs.declared.HistoryError.TheVariants.{Stopped}
 use Rattle.tile_reply.specs.Replies.{refusal_number}
 use Rattle.tile_reply.specs.declared.refused.Refused.{Refused}
 use Rattle.tile_reply.specs.declared.refused.Refused.TheVariants as refused
-use Rattle.tile_answer.specs.Answering.{carried_out}
+use Rattle.tile_told.specs.Answering.{carried_out}
 
 -- the request may be refused with 60, out of memory: not those that take no memory (to take a mark away, to open a
 -- step), nor those that are stopped instead (to go back, to cancel); each other, but for a command and a listing, only

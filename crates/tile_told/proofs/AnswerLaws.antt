@@ -29,8 +29,8 @@ use Rattle.mvt_history_error.specs.declared.HistoryError.TheVariants as history_
 use Rattle.tile_reply.specs.Replies.{IsOutOfMemory}
 use Rattle.tile_reply.specs.declared.refused.Refused.{Refused}
 use Rattle.tile_reply.specs.declared.refused.Refused.TheVariants as refused
-use Rattle.tile_answer.specs.Answering.{Told, told_by, told_by_look, mark_line, mark_lines, reach_line, open_line, history_lines, size_line}
-use Rattle.tile_answer.specs.Laws.{RequestsTellLines, NoRequestIsOutOfMemory, LooksLeaveHistory}
+use Rattle.tile_told.specs.Answering.{Told, told_by, told_by_look, mark_line, mark_lines, reach_line, open_line, history_lines, size_line}
+use Rattle.tile_told.specs.Laws.{RequestsTellLines, NoRequestIsOutOfMemory, LooksLeaveHistory}
 
 -- ---- lines
 

@@ -3,8 +3,8 @@ use Rattle.std.specs.Prelude.{◌≡◌, ℕ, Bool, List, ◌++◌}
 use Rattle.mvt_document.specs.Plain.{Document}
 use Rattle.tile_lines.specs.Lines.{lines_of, EndsWithALine}
 use Rattle.tile_reply.specs.Replies.{NoneIsOutOfMemory}
-use Rattle.tile_run.specs.Run.{Progress, after_lines, ran, Walk}
-use Rattle.tile_run.specs.declared.outcome.Options.{Options}
+use Rattle.tile_course.specs.Run.{Progress, after_lines, ran, Walk}
+use Rattle.tile_course.specs.declared.outcome.Options.{Options}
 
 -- the lines of a prefix that is empty or ends with a line feed are the first lines of the script
 abbrev pub FrontsHaveFirstLines : Type 0

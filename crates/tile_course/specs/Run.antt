@@ -8,9 +8,9 @@ use Rattle.tile_lines.specs.Lines.{lines_of}
 use Rattle.mvt_history_steps.specs.History.{History, begun, standing_document}
 use Rattle.mvt_history_error.specs.declared.HistoryError.TheVariants.{Stopped}
 use Rattle.tile_reply.specs.Replies.{accepted_reply, refused_reply}
-use Rattle.tile_answer.specs.Answering.{Told, carried_out}
-use Rattle.tile_answer.specs.Answers.{MayStop, NeedsMemory}
-use Rattle.tile_run.specs.declared.outcome.Options.{Options}
+use Rattle.tile_told.specs.Answering.{Told, carried_out}
+use Rattle.tile_told.specs.Answers.{MayStop, NeedsMemory}
+use Rattle.tile_course.specs.declared.outcome.Options.{Options}
 use Rattle.tile_words.specs.declared.parse_error.ParseError.{ParseError}
 use Rattle.tile_words.specs.declared.parse_error.ParseError.TheVariants as parse
 use Rattle.tile_reply.specs.declared.refused.Refused.{Refused}

@@ -12,22 +12,22 @@ use Rattle.tile_device.specs.Seen.{Seen, Intake, Output, Meets, Supplies, Receiv
 use Rattle.tile_device.specs.declared.device.Trouble.{Trouble}
 use Rattle.tile_device.specs.declared.device.Trouble.TheVariants.{Interrupted, Failed}
 use Rattle.tile_lines.specs.Lines.{lines_of, whole_lines}
-use Rattle.tile_run.specs.Course.{Course, OpensAgain, retries_in, start_of, IsOpened, IsEdited, IsWritten, CarriesThrough, StopsBetween, StopsStrictly, IsFaultOf, IsFaulty, lines_in}
-use Rattle.tile_run.specs.DeviceLaws.{HaveLowCounts}
-use Rattle.tile_run.specs.Headline.{Devices, HasLowCounts, Serves, AllServe, interruptions_between, all_interruptions, WritesNoneOutOfMemory, outcome_of, tile_written, IsRunOf, Premises, Headline, RefusesTile, Runs, WritesATile}
+use Rattle.tile_course.specs.Course.{Course, OpensAgain, retries_in, start_of, IsOpened, IsEdited, IsWritten, CarriesThrough, StopsBetween, StopsStrictly, IsFaultOf, IsFaulty, lines_in}
+use Rattle.tile_course.specs.DeviceLaws.{HaveLowCounts}
+use Rattle.tile_course.specs.Headline.{Devices, HasLowCounts, Serves, AllServe, interruptions_between, all_interruptions, WritesNoneOutOfMemory, outcome_of, tile_written, IsRunOf, Premises, Headline, RefusesTile, Runs, WritesATile}
 use Rattle.tile_reply.specs.Replies.{NoneIsOutOfMemory}
-use Rattle.tile_run.specs.Run.{Progress, after_lines, is_over, ran, tile_of, Walk}
-use Rattle.tile_run.specs.declared.runs.TheConstants.{MAX_RETRIES, MAX_SCRIPT}
-use Rattle.tile_run.specs.declared.outcome.Options.{Options}
-use Rattle.tile_run.specs.declared.outcome.Outcome.{Outcome}
-use Rattle.tile_run.specs.declared.outcome.Outcome.TheVariants as outcomes
-use Rattle.tile_run.specs.declared.outcome.DeviceName.TheVariants as devices
-use Rattle.tile_run.specs.declared.outcome.TileFault.{TileFault}
-use Rattle.tile_run.specs.declared.outcome.TileFault.TheVariants as faults
+use Rattle.tile_course.specs.Run.{Progress, after_lines, is_over, ran, tile_of, Walk}
+use Rattle.tile_course.specs.declared.limits.TheConstants.{MAX_RETRIES, MAX_SCRIPT}
+use Rattle.tile_course.specs.declared.outcome.Options.{Options}
+use Rattle.tile_course.specs.declared.outcome.Outcome.{Outcome}
+use Rattle.tile_course.specs.declared.outcome.Outcome.TheVariants as outcomes
+use Rattle.tile_course.specs.declared.outcome.DeviceName.TheVariants as devices
+use Rattle.tile_course.specs.declared.outcome.TileFault.{TileFault}
+use Rattle.tile_course.specs.declared.outcome.TileFault.TheVariants as faults
 use Rattle.tile_lines.proofs.Cutting.{lines-front}
-use Rattle.tile_run.proofs.Fronts.{after_lines-append, fronts_stand}
-use Rattle.tile_run.proofs.Overs.{over_stays}
-use Rattle.tile_run.proofs.Replying.{walks_are_runs}
+use Rattle.tile_course.proofs.Fronts.{after_lines-append, fronts_stand}
+use Rattle.tile_course.proofs.Overs.{over_stays}
+use Rattle.tile_course.proofs.Replying.{walks_are_runs}
 
 -- ---- what the counts tell
 

@@ -6,15 +6,15 @@ use Rattle.tile_device.specs.Device.{interruptions_in, failures_in}
 use Rattle.tile_device.specs.Seen.{Seen, Intake, nothing_read, Meets, Supplies}
 use Rattle.tile_device.specs.declared.device.Trouble.{Trouble}
 use Rattle.tile_device.specs.declared.device.Trouble.TheVariants.{Interrupted, Failed}
-use Rattle.tile_run.specs.Course.{Course, Ends, retries_in, IsEdited, StopsForMemory}
-use Rattle.tile_run.specs.DeviceLaws.{HasFailed, HaveLowCounts, AreWornOut, FailedDevicesAreNamed, WornOutRunsNameADevice, GivesUp, IsTooLong, HasCause, DevicesAreNamedForCause}
-use Rattle.tile_run.specs.Headline.{Devices, HasLowCounts, Runs}
-use Rattle.tile_run.specs.declared.runs.TheConstants.{MAX_RETRIES, MAX_SCRIPT}
-use Rattle.tile_run.specs.declared.outcome.Options.{Options}
-use Rattle.tile_run.specs.declared.outcome.Outcome.{Outcome}
-use Rattle.tile_run.specs.declared.outcome.Outcome.TheVariants as outcomes
-use Rattle.tile_run.specs.declared.outcome.DeviceName.TheVariants as devices
-use Rattle.tile_run.proofs.Headlines.{given_within, all_interruptions_are, last_interruptions, IsUntroubled}
+use Rattle.tile_course.specs.Course.{Course, Ends, retries_in, IsEdited, StopsForMemory}
+use Rattle.tile_course.specs.DeviceLaws.{HasFailed, HaveLowCounts, AreWornOut, FailedDevicesAreNamed, WornOutRunsNameADevice, GivesUp, IsTooLong, HasCause, DevicesAreNamedForCause}
+use Rattle.tile_course.specs.Headline.{Devices, HasLowCounts, Runs}
+use Rattle.tile_course.specs.declared.limits.TheConstants.{MAX_RETRIES, MAX_SCRIPT}
+use Rattle.tile_course.specs.declared.outcome.Options.{Options}
+use Rattle.tile_course.specs.declared.outcome.Outcome.{Outcome}
+use Rattle.tile_course.specs.declared.outcome.Outcome.TheVariants as outcomes
+use Rattle.tile_course.specs.declared.outcome.DeviceName.TheVariants as devices
+use Rattle.tile_course.proofs.Headlines.{given_within, all_interruptions_are, last_interruptions, IsUntroubled}
 
 -- ---- which devices met trouble
 

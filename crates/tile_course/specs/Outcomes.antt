@@ -2,17 +2,17 @@
 use Rattle.std.specs.Prelude.{Bool, if◌then◌else◌}
 use Rattle.tile_device.specs.declared.transfer.ReadFault.{ReadFault}
 use Rattle.tile_device.specs.declared.transfer.ReadFault.TheVariants as read_faults
-use Rattle.tile_run.specs.declared.outcome.DeviceName.TheVariants as devices
-use Rattle.tile_run.specs.declared.outcome.Outcome.{Outcome}
-use Rattle.tile_run.specs.declared.outcome.Outcome.TheVariants as outcomes
-use Rattle.tile_run.specs.declared.outcome.Unopened.{Unopened}
-use Rattle.tile_run.specs.declared.outcome.Unopened.TheVariants as unopened
-use Rattle.tile_run.specs.declared.outcome.LineStop.{LineStop}
-use Rattle.tile_run.specs.declared.outcome.LineStop.TheVariants as line_stops
-use Rattle.tile_run.specs.declared.outcome.ScriptStop.{ScriptStop}
-use Rattle.tile_run.specs.declared.outcome.ScriptStop.TheVariants as script_stops
-use Rattle.tile_run.specs.declared.outcome.Unwritten.{Unwritten}
-use Rattle.tile_run.specs.declared.outcome.Unwritten.TheVariants as unwritten
+use Rattle.tile_course.specs.declared.outcome.DeviceName.TheVariants as devices
+use Rattle.tile_course.specs.declared.outcome.Outcome.{Outcome}
+use Rattle.tile_course.specs.declared.outcome.Outcome.TheVariants as outcomes
+use Rattle.tile_course.specs.declared.outcome.Unopened.{Unopened}
+use Rattle.tile_course.specs.declared.outcome.Unopened.TheVariants as unopened
+use Rattle.tile_course.specs.declared.outcome.LineStop.{LineStop}
+use Rattle.tile_course.specs.declared.outcome.LineStop.TheVariants as line_stops
+use Rattle.tile_course.specs.declared.outcome.ScriptStop.{ScriptStop}
+use Rattle.tile_course.specs.declared.outcome.ScriptStop.TheVariants as script_stops
+use Rattle.tile_course.specs.declared.outcome.Unwritten.{Unwritten}
+use Rattle.tile_course.specs.declared.outcome.Unwritten.TheVariants as unwritten
 
 -- how opening a tile stops for a fault of its reading
 abbrev pub fault_of : ReadFault → Unopened

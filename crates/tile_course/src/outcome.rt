@@ -1,8 +1,8 @@
 //! How a run is asked for and how it ends; how each step of it may stop.
 
 ghost use Rattle.std.specs.Prelude.{◌≡◌};
-ghost use Rattle.tile_run.specs.declared.outcome.ScriptStop.TheVariants as script_stops;
-ghost use Rattle.tile_run.specs.Outcomes.{fault_of, script_stop_of, edited_outcome, opening_outcome, script_outcome, writing_outcome};
+ghost use Rattle.tile_course.specs.declared.outcome.ScriptStop.TheVariants as script_stops;
+ghost use Rattle.tile_course.specs.Outcomes.{fault_of, script_stop_of, edited_outcome, opening_outcome, script_outcome, writing_outcome};
 
 use std::alloc::AllocError;
 use thiserror::Error;
@@ -61,7 +61,7 @@ pub enum Outcome {
 
 impl Outcome {
     /// How a run ends once the edited tile is written.
-    pub(crate) fn edited(any_refused: bool) -> Self
+    pub fn edited(any_refused: bool) -> Self
         ensures { result ≡ edited_outcome any_refused }
     {
         if any_refused {
@@ -74,7 +74,7 @@ impl Outcome {
 
 /// Why the tile was not opened.
 #[derive(Clone, Copy, Debug, PartialEq, Eq)]
-pub(crate) enum Unopened {
+pub enum Unopened {
     Device,
     Refused(TileFault),
     NoMemory,
@@ -105,7 +105,7 @@ impl From<Unopened> for Outcome {
 
 /// How a line ends the run.
 #[derive(Clone, Copy, Debug, PartialEq, Eq)]
-pub(crate) enum LineStop {
+pub enum LineStop {
     /// The reply to it met trouble.
     Replies,
     /// It was refused, and the run is strict.
@@ -114,7 +114,7 @@ pub(crate) enum LineStop {
 
 /// How the run ends before all lines of the script are carried out.
 #[derive(Clone, Copy, Debug, PartialEq, Eq)]
-pub(crate) enum ScriptStop {
+pub enum ScriptStop {
     /// The script met trouble, or is too long.
     Script,
     Replies,
@@ -156,7 +156,7 @@ impl From<ScriptStop> for Outcome {
 
 /// Why the edited tile was not written.
 #[derive(Clone, Copy, Debug, PartialEq, Eq)]
-pub(crate) enum Unwritten {
+pub enum Unwritten {
     Device,
     NoMemory,
 }

@@ -1,6 +1,6 @@
 //! Laws of what requests tell. Each function does nothing: its contract is the law.
 
-ghost use Rattle.tile_answer.specs.Laws.{RequestsTellLines, NoRequestIsOutOfMemory, LooksLeaveHistory};
+ghost use Rattle.tile_told.specs.Laws.{RequestsTellLines, NoRequestIsOutOfMemory, LooksLeaveHistory};
 
 /// What a request prints before `ok` is whole lines, and none of them begins as a refusal does.
 pub fn requests_tell_lines()

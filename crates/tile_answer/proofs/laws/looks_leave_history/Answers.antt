@@ -1,5 +1,0 @@
-use Rattle.tile_answer.proofs.AnswerLaws.{looks_leave_history}
-use Rattle.tile_answer.proofs.laws.looks_leave_history.Goals as goal
-
-pub returns : goal.returns
-returns c = looks_leave_history
