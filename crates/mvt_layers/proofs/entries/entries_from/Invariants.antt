@@ -1,8 +1,8 @@
 use Rattle.std.proofs.Common.{◌≡◌, ◌+◌, ◌≤◌, length, map}
 use Rattle.mvt_document.specs.Stands.{layer_item_of}
-use Rattle.mvt_view.specs.Found.{placed_from}
-use Rattle.mvt_view.specs.Pools.{entry_in}
-use Rattle.mvt_view.proofs.entries.entries_from.Given as goal
+use Rattle.mvt_messages.specs.Found.{placed_from}
+use Rattle.mvt_layers.specs.Pools.{entry_in}
+use Rattle.mvt_layers.proofs.entries.entries_from.Given as goal
 
 abbrev pub invariant-loop-position : goal.invariant-loop-position
 invariant-loop-position l = record {

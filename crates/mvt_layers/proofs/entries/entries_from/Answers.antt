@@ -1,10 +1,10 @@
 use Rattle.std.proofs.Common.{◌+◌, length, map, ap, ◌∙◌, arith}
 use Rattle.std.specs.Prelude.{is_some}
 use Rattle.mvt_document.specs.Stands.{layer_item_of}
-use Rattle.mvt_view.specs.Found.{placed_from}
-use Rattle.mvt_view.specs.Pools.{entry_in}
-use Rattle.mvt_view.proofs.Placing.{byte_is, copied_is, counted_more, one_at_most, placed_from-more}
-use Rattle.mvt_view.proofs.entries.entries_from.Goals as goal
+use Rattle.mvt_messages.specs.Found.{placed_from}
+use Rattle.mvt_layers.specs.Pools.{entry_in}
+use Rattle.mvt_layers.proofs.Placing.{byte_is, copied_is, counted_more, one_at_most, placed_from-more}
+use Rattle.mvt_layers.proofs.entries.entries_from.Goals as goal
 
 pub loop-position-preserved : goal.loop-position-preserved
 loop-position-preserved c =
