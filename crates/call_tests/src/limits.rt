@@ -8,7 +8,8 @@ use crate::broken::{Answer, Broken};
 use crate::given::Given;
 use mvt_history::{Session, StartError};
 use mvt_wire::{
-    Body, BodyRef, Document, Field, FieldBody, Items, Tag, TileItem, read_document, size, write_document,
+    Body, BodyRef, Document, Field, FieldBody, Items, Tag, TileItem, read_document, size,
+    write_document,
 };
 use std::alloc::Global;
 

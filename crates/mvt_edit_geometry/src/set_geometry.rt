@@ -98,7 +98,8 @@ fn and_others(bytes: usize, fields: &[Field]) -> Option<usize>
 fn is_geometry(field: &Field) -> bool
     ensures { result ≡ is_geometry_field (field_of field.now) }
 {
-    field.tag.number() == GEOMETRY && matches!(field.body.get(), BodyRef::Number(_) | BodyRef::Bytes { .. })
+    field.tag.number() == GEOMETRY
+        && matches!(field.body.get(), BodyRef::Number(_) | BodyRef::Bytes { .. })
 }
 
 /// The change of the run of the kind and, behind it, of this geometry in place of the others, on

@@ -17,8 +17,8 @@ use mvt_change::{Change, Step};
 use mvt_document::tags::TAGS;
 use mvt_document::{Document, Items};
 use mvt_edit_pairs::{decide_or_refuse, name_keys, renumber_feature};
-use mvt_select::{FoundLayer, LayersChoice, Refusal, find_layers};
 use mvt_layers::PoolSizes;
+use mvt_select::{FoundLayer, LayersChoice, Refusal, find_layers};
 use std::alloc::Global;
 
 /// Each feature of the layers that are meant loses each pair of the key, whichever of its layer's
