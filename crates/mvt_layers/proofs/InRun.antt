@@ -3,7 +3,7 @@ use Rattle.std.proofs.Common.{◌≡◌, ℕ, zero, suc, ◌+◌, ◌-◌, ◌<�
 use Rattle.std.specs.Prelude.{if◌then◌else◌, is_some, replicate, slice_get, MatchOption}
 use Rattle.std.specs.List.{cons_option, filter_map, enumerate_from, last_or}
 use Rattle.std.specs.Option.{option_and_then}
-use Rattle.std.proofs.lemmas.List.{drop-drop, drop-map, drop_all, drop_at, length-map, length-replicate, length-take-le, map-append, take-map, take_all, take_at}
+use Rattle.std.proofs.lemmas.List.{append-nil, drop-drop, drop-map, drop_all, drop_at, length-map, length-replicate, length-take-le, map-append, take-map, take_all, take_at}
 use Rattle.std.proofs.lemmas.List.Elements.{filter_map-append}
 use Rattle.mvt_document.specs.declared.body.Body.TheVariants as in_body
 use Rattle.mvt_document.specs.declared.document.LayerItem.{LayerItem}
@@ -178,6 +178,38 @@ module _ {X A B : Type 0} (view : X → A) (pick : A → Option B) (f : X → Bo
             ∙ ap (λ n. enumerate_from 0 front ++ enumerate_from n back) ordinal,
         numbered_length 0 front ∙ count,
       )
+
+  none_picked : (n position : ℕ) (items : List X) → map f items ≡ replicate n false → filter_map (with_position pick) (enumerate_from position (map view items)) ≡ []
+  none_picked n position [] e = refl
+  none_picked zero position (x ∷ items) e = absurd (cc)
+  none_picked (suc n) position (x ∷ items) e =
+      let other : f x ≡ false = cc in
+      let rest = filter_map (with_position pick) (enumerate_from (position + 1) (map view items)) in
+      ap (λ o. cons_option (option_map (λ found. (position, found)) o) rest) (picked_none (pick (view x)) (agrees x ∙ other))
+      ∙ none_picked n (position + 1) items (ap (drop 1) e)
+
+  -- where all is known, all is found up to the end of the run
+  pub run_to_end : (run : Run) (items : List X) → IsRunOf f run items → run.until ≡ length items → found_in pick (map view (take (run.first + run.count) items)) ≡ found_in pick (map view items)
+  run_to_end run items h all =
+      let end = run.first + run.count in
+      let front = take end items in
+      let back = drop end items in
+      let F = replicate run.first false in
+      let C = replicate run.count true in
+      let B' = replicate h.behind false in
+      let known = one_run run.first run.count h.behind in
+      let nothing : h.rest ≡ [] = none_left h.rest (omega (arith, length-map items f, ap length h.is, length-append known h.rest, run_length run.first run.count h.behind, h.until, all)) in
+      let long : length (F ++ C) ≡ end = omega (arith, length-append F C, length-replicate run.first false, length-replicate run.count true) in
+      let values : map f back ≡ B' =
+      sym (drop-map f end items) ∙ ap (drop end) (h.is ∙ ap (λ rest. known ++ rest) nothing ∙ append-nil known ∙ sym (append_assoc F C B')) ∙ drop_at (F ++ C) B' end long in
+      let at = 0 + length (map view front) in
+      let first = filter_map (with_position pick) (enumerate_from 0 (map view front)) in
+      sym (ap (λ xs. found_in pick (map view xs)) (sym (take-append-drop end items))
+      ∙ ap (found_in pick) (map-append view front back)
+      ∙ ap (λ xs. enumerate_from 0 (filter_map (with_position pick) xs)) (numbered_joined 0 (map view front) (map view back))
+      ∙ ap (enumerate_from 0) (filter_map-append (with_position pick) (enumerate_from 0 (map view front)) (enumerate_from at (map view back))
+      ∙ ap (λ xs. first ++ xs) (none_picked h.behind at back values)
+      ∙ append-nil first))
 
   -- the item of an ordinal stands as far behind the first
   pub run_there : (run : Run) (items : List X) (k : ℕ) → IsRunOf f run items → k < run.count → slice_get (found_in pick (map view items)) k ≡ there k (run.first + k) (slice_get items (run.first + k))

@@ -96,6 +96,18 @@ pub(crate) fn first_feature(items: &[LayerItem], start: usize) -> Option<(usize,
     None
 }
 
+/// The items up to the last feature, where it is known which that is; else all.
+#[tactic(auto, using(crate::proofs::InRun::run_within))]
+pub(crate) fn up_to_features(items: &[LayerItem], features: Run) -> &[LayerItem]
+    requires { IsRunOf (in_layer_of_kind Message) features items.now }
+    ensures { found_features (map layer_item_of result.now) ≡ found_features (map layer_item_of items.now) }
+{
+    if features.until < items.len() {
+        return items;
+    }
+    &items[..features.first + features.count]
+}
+
 /// The first feature that has this id from this position on, where the first from there on has this ordinal.
 pub(crate) fn first_with_id(
     items: &[LayerItem],

@@ -11,7 +11,7 @@ ghost use Rattle.mvt_layers.specs.Seen.{feature_seen, found_entry_seen, found_fe
 ghost use Rattle.mvt_messages.specs.Tags.{tag_pairs};
 
 use crate::entries::{Entries, entry, entry_count, first_equal, last_name};
-use crate::fields::{feature_in_run, last_value_in_layer};
+use crate::fields::{feature_in_run, last_value_in_layer, up_to_features};
 use crate::found::{FoundEntry, FoundFeature};
 use crate::lists::{Contents, FeatureViews};
 use crate::tag_pairs::{PoolSizes, TagPairs};
@@ -66,7 +66,8 @@ impl<'a> LayerView<'a> {
         ensures items { result ≡ found_features (layer_seen self.entry).items }
         ensures bound { length result < 2 ^ 64 }
     {
-        FeatureViews::of(self.layer.items.as_slice())
+        let items = self.layer.items.as_slice();
+        FeatureViews::of(up_to_features(items, self.layer.items.runs().messages))
     }
 
     /// The keys, in order.
