@@ -40,8 +40,9 @@ fn decide_all<D: Fn(Pair) -> (Option<u64>, Option<u64>, bool)>(
     for tags in feature.tag_pairs(sizes) {
         let pair = tags?.pair;
         let (key, value, counts) = decide(pair);
-        decisions.push(key)?;
-        decisions.push(value)?;
+        decisions.reserve(2)?;
+        decisions.push_reserved(key);
+        decisions.push_reserved(value);
         count += usize::from(counts);
     }
     Ok(count)

@@ -33,7 +33,7 @@ loop-tags-preserved g c =
     let made = c.decide-key.result in
     let read : c.loop-tags.tags-iterator ≡ Ok (pair, (placed_of found.key, placed_of found.value)) ∷ c.next.new.self = rw c.in_ok-pair.was at c.in-Some.ensures.steps in
     let step : plain_pairs c.loop-tags.tags-iterator ≡ and_more pair rest = ap plain_pairs read ∙ plain_more (pair, (placed_of found.key, placed_of found.value)) c.next.new.self in
-    let pushed : c.push-in-loop-tags.new.self.items ≡ front ++ made.0 ∷ made.1 ∷ [] = c.in_ok-push-2.ensures.items ∙ ap (λ list. list ++ made.1 ∷ []) c.in_ok-push.ensures.items ∙ append_assoc front (made.0 ∷ []) (made.1 ∷ []) in
+    let pushed : c.push_reserved-in-loop-tags.new.self.items ≡ front ++ made.0 ∷ made.1 ∷ [] = c.push_reserved-in-loop-tags.ensures.items ∙ ap (λ list. list ++ made.1 ∷ []) (c.push_reserved.ensures.items ∙ ap (λ list. list ++ made.0 ∷ []) c.reserve.ensures.items) ∙ append_assoc front (made.0 ∷ []) (made.1 ∷ []) in
     let counted : c.from.result ≡ cond made.2 1 0 =
     elim (cases_Bool made.2) [
       | inl counts ↦ (let one : c.from.result ≡ 1 = rw counts at c.from.ensures in rw counts one)
