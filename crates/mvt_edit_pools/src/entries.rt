@@ -51,7 +51,7 @@ fn gone(
     let mut values_left = values;
     for index in 0..items.len() {
         let (goes, keys_behind, values_behind) = item_goes(&items[index], keys_left, values_left);
-        gone.push(goes)?;
+        gone.push_reserved(goes);
         keys_left = keys_behind;
         values_left = values_behind;
     }

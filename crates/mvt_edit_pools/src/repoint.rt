@@ -75,8 +75,9 @@ fn decide(
     let mut changed = 0_usize;
     for pair in pairs {
         let (key, value, changes) = repointed(*pair, key_ordinals, value_ordinals);
-        decisions.push(key)?;
-        decisions.push(value)?;
+        decisions.reserve(2)?;
+        decisions.push_reserved(key);
+        decisions.push_reserved(value);
         changed += usize::from(changes);
     }
     Ok(changed)

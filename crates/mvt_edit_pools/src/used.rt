@@ -124,7 +124,7 @@ pub(crate) fn number(alloc: Global, marks: &[bool]) -> Result<Vec<u64>, AllocErr
     let mut ordinals = Vec::with_capacity(alloc, marks.len())?;
     let mut next = 0_u64;
     for stays in marks {
-        ordinals.push(next)?;
+        ordinals.push_reserved(next);
         next += u64::from(*stays);
     }
     Ok(ordinals)

@@ -15,10 +15,14 @@ loop-index-preserved c =
     let here : drop index items ≡ item ∷ drop (index + 1) items = drop_more items index item (omega arith) ∙ ap (λ x. x ∷ drop (index + 1) items) (sym c.index-items-index.is) in
     let step : gone_by c.loop-index.keys_left.now c.loop-index.values_left.now (map layer_item_of (drop index items)) ≡ told.0 ∷ gone_by told.1.now told.2.now rest =
     ap (λ list. gone_by c.loop-index.keys_left.now c.loop-index.values_left.now (map layer_item_of list)) here ∙ c.item_goes-goes.ensures rest in
-    ap (λ list. list ++ gone_by told.1.now told.2.now rest) c.in_ok-push.ensures.items
-    ∙ append_assoc front (told.0 ∷ []) (gone_by told.1.now told.2.now rest)
-    ∙ ap (λ list. front ++ list) (sym step)
-    ∙ c.loop-index.invariant
+    record {
+      told = ap (λ list. list ++ gone_by told.1.now told.2.now rest) c.push_reserved.ensures.items
+          ∙ append_assoc front (told.0 ∷ []) (gone_by told.1.now told.2.now rest)
+          ∙ ap (λ list. front ++ list) (sym step)
+          ∙ c.loop-index.invariant.told;
+      put = omega (arith, c.loop-index.invariant.put, c.push_reserved.ensures.len);
+      room = omega (arith, c.loop-index.invariant.room, c.push_reserved.ensures.capacity);
+    }
 
 pub returns : goal.returns
 returns c =
@@ -27,4 +31,4 @@ returns c =
     let front = c.loop-index.gone.items in
     sym (append-nil front)
     ∙ ap (λ list. front ++ gone_by c.loop-index.keys_left.now c.loop-index.values_left.now (map layer_item_of list)) (sym (drop_all c.loop-index.index items all))
-    ∙ c.loop-index.invariant
+    ∙ c.loop-index.invariant.told
