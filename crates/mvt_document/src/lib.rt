@@ -3,11 +3,14 @@
 //!
 //! - A number is read in the width in which it is spelled, and nothing is found only where there is
 //!   none: `read_varint`. It is written in the width that is asked for, at the end of a room that
-//!   has as many bytes, or behind the bytes of a vector: `put_number`, `Varint::put`. The shortest spelling of a number is the least width in which
-//!   it fits: `Varint::minimal`. A signed number has one ZigZag, and each ZigZag is that of one:
-//!   `to_zigzag`, `from_zigzag`.
+//!   has as many bytes, or behind the bytes of a vector: `put_number`, `Varint::put`. The shortest
+//!   spelling of a number is the least width in which it fits: `Varint::minimal`. A signed number has
+//!   one ZigZag, and each ZigZag is that of one: `to_zigzag`, `from_zigzag`.
 //! - The tag of a field is a number below 2^32, in half the memory of a number, and gives that number
 //!   back: `Tag`. That of a layer or of a feature is below 2^8, and takes two bytes: `MessageTag`.
+//! - A field holds its body in four words, and up to 29 bytes that were read in these; it gives the body with
+//!   its bytes where they lie, and is made of a body with a list, or with bytes that are copied:
+//!   `FieldBody::get`, `new`, `copied`.
 //! - The value of a VARINT field of a number, and that of the last one in a list, are those of the definitions:
 //!   `value_in`, `last_value`. The id of a feature is kept beside its fields, and is the right one after every
 //!   change, which their type keeps: `Fields::id`.
