@@ -8,17 +8,19 @@ from pathlib import Path
 
 import peers
 import plots
+from commands import LINES, commanded, commands
 from features import features, walked
 from figures import WholeRun, keep
 from generate import LAYERS
 from measure import (COUNTED_MILLISECONDS, RUNS, RUNS_OF_LARGE, Program, costliest, count_instructions, measure,
                      measure_alone, run_once, script_of)
+from phases import phased, phases
 from report import (Listed, Result, Undone, comparison, endings, growth, instructions, memory, put_section, shown, table,
                     time)
 from sessions import sessions, stepped
-from targets import (ATTRIBUTES, COMPACTED, EMPTY, EXCLUDED, IDS, JOB, KEPT, MANY, OURS, SHIFTS, UNTAGGED, session_targets, targets,
-                     verdicts, walk_targets)
-from tiles import LARGE, MEBIBYTE, alternating_layers, generated_tiles, points, real_tiles, smallest_map, smallest_maps
+from targets import (ATTRIBUTES, COMPACTED, EMPTY, EXCLUDED, IDS, JOB, KEPT, MANY, OURS, SHIFTS, UNTAGGED, command_targets,
+                     session_targets, targets, verdicts, walk_targets)
+from tiles import LARGE, MEBIBYTE, alternating_layers, generated_tiles, largest_map, points, real_tiles, smallest_map, smallest_maps
 
 RESULTS = peers.HERE / "RESULTS.md"
 
@@ -68,6 +70,10 @@ READING = "undo\n"
 LISTING = 'list "{layer}"\n' + READING
 
 FEATURES_WALKED = "A line for each of many features: wall time in milliseconds, one run each"
+
+COMMANDS_TOLD = f"{LINES:,} lines of one command: wall time of a line in microseconds, tileshell alone"
+
+PHASES_TOLD = "Where the time of one rename goes, tileshell alone"
 
 SESSIONS = "Renames, and undos and redos over them, tileshell alone"
 
@@ -146,6 +152,11 @@ def counted_maps(tiles):
     return sorted((tile for tile in tiles if tile.kind == "map" and not tile.is_large), key=lambda tile: tile.size)
 
 
+def largest(tiles):
+    """The largest map."""
+    return max((tile for tile in tiles if tile.kind == "map"), key=lambda tile: tile.size)
+
+
 def costs(tileshell, tile):
     """What takes most of the instructions."""
     rows = [(f"`{name}`", share) for name, share in costliest(tileshell, tile, script_of(JOBS[JOB], tile))]
@@ -208,7 +219,7 @@ def section(whole, pictures):
     without_floor = [name for name in names if name != "cat"]
     parts = [
         ("Targets", verdicts([*targets(results, whole.lists, whole.undos), *session_targets(whole.steps),
-                               *walk_targets(whole.walks)])),
+                               *walk_targets(whole.walks), *command_targets(whole.commands)])),
         *([("Plots", pictures)] if pictures else []),
         (f"Wall time in milliseconds, {RUNS_MEASURED}", comparison(results, names, time, 1)),
         ("Peak memory, as a multiple of the tile", memory(results, names)),
@@ -217,6 +228,8 @@ def section(whole, pictures):
         ("One layer listed: wall time in milliseconds, tileshell alone", listing(whole.lists)),
         ("Done and undone: wall time in milliseconds, tileshell alone", undoing(whole.undos)),
         (FEATURES_WALKED, features(whole.walks)),
+        (COMMANDS_TOLD, commands(whole.commands)),
+        (PHASES_TOLD, phases(largest(result.tile for result in results), whole.phases)),
         (SESSIONS, sessions(whole.steps)),
         ("Not done", endings(results)),
     ]
@@ -240,7 +253,9 @@ def all_jobs(run, title):
     undos = undone(run[0], [alternating_layers(), *(tile for tile in tiles if tile.kind in UNDONE)])
     steps = stepped(run[0], counted_maps(tiles)[:2])
     walks = walked(run[0], points(), "gdal-bin" not in missing)
-    whole = WholeRun(title, [program.name for program in run], results, lists, undos, steps, walks)
+    lines = commanded(run[0], [counted_maps(tiles)[0], largest(tiles)])
+    run_parts = phased(run[0], largest(tiles), JOBS[JOB])
+    whole = WholeRun(title, [program.name for program in run], results, lists, undos, steps, walks, lines, run_parts)
     keep(whole)
     pictures = "" if plots.PACKAGE in missing else plots.pictures(whole, plots.drawn(whole))
     parts = [conditions(load_before, missing), section(whole, pictures)]
@@ -264,8 +279,19 @@ def features_alone(run):
     return f"### Targets\n\n{verdicts(walk_targets(walks))}\n\n### {FEATURES_WALKED}\n\n{features(walks)}"
 
 
+def commands_alone(run):
+    found = commanded(run[0], [smallest_map(), largest_map()])
+    return f"### Targets\n\n{verdicts(command_targets(found))}\n\n### {COMMANDS_TOLD}\n\n{commands(found)}"
+
+
+def phases_alone(run):
+    tile = largest_map()
+    return f"### {PHASES_TOLD}\n\n{phases(tile, phased(run[0], tile, JOBS[JOB]))}"
+
+
 # The jobs that can be measured alone, of the first program.
-ALONE = {"long-script": long_script_alone, "sessions": sessions_alone, "features": features_alone}
+ALONE = {"long-script": long_script_alone, "sessions": sessions_alone, "features": features_alone, "commands": commands_alone,
+         "phases": phases_alone}
 
 
 def one_job(run, job):

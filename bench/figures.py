@@ -6,7 +6,7 @@ from pathlib import Path
 
 from measure import Figures
 from peers import BUILD
-from report import Listed, Result, Stepped, Undone, Walked
+from report import Commanded, Listed, Phase, Result, Stepped, Undone, Walked
 from tiles import Tile
 
 FIGURES = BUILD / "figures.json"
@@ -23,9 +23,11 @@ class WholeRun:
     undos: list
     steps: list
     walks: list
+    commands: list
+    phases: list
 
 
-KEPT = [WholeRun, Result, Listed, Undone, Stepped, Walked, Figures, Tile]
+KEPT = [WholeRun, Result, Listed, Undone, Stepped, Walked, Commanded, Phase, Figures, Tile]
 
 
 def keep(run, path=FIGURES):

@@ -62,6 +62,7 @@ def missing_optional():
 def build_measure():
     BUILD.mkdir(exist_ok=True)
     compile_program("measure")
+    subprocess.run([*COMPILE, "-shared", "-fPIC", "-o", BUILD / "phases.so", HERE / "phases.cpp", "-ldl"], check=True)
 
 
 def build():

@@ -111,6 +111,36 @@ class Stepped:
         return divided(self.move_time, self.rename_time)
 
 
+@dataclass(frozen=True)
+class Commanded:
+    """What an empty script took on a tile, and one of many lines of one command."""
+    tile: Tile
+    command: str
+    lines: int
+    # The figures of each; none where a run did not do its job.
+    empty: object
+    done: object
+
+    @property
+    def microseconds(self):
+        """Of one line."""
+        return None if None in (self.empty, self.done) else 1000 * (time(self.done) - time(self.empty)) / self.lines
+
+
+@dataclass(frozen=True)
+class Phase:
+    """What a part of a run took: milliseconds of the clock, of the program and of the system, and page faults."""
+    name: str
+    milliseconds: float
+    user: float
+    system: float
+    faults: float
+
+    @property
+    def parts(self):
+        return [self.milliseconds, self.user, self.system, self.faults]
+
+
 def time(figures):
     return figures.milliseconds
 

@@ -39,6 +39,13 @@ def session_targets(steps):
     ]
 
 
+def command_targets(commands):
+    """The same of a line by a name or an ordinal: on the large map at most three times what it takes on the small one."""
+    small, large = (list(group) for group in (commands[:len(commands) // 2], commands[len(commands) // 2:]))
+    return [(f"{one.tile.name} to {other.tile.name}, {one.command}: time of a line", divided(other.microseconds, one.microseconds), 3)
+            for one, other in zip(small, large)]
+
+
 def walk_targets(walks):
     """The same of lines that go over many features: by ordinal as GDAL, which goes over them once, and by id in so many seconds."""
     found = {each.job: each for each in walks}

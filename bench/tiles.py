@@ -65,6 +65,10 @@ def smallest_map():
     return generated("map", SIZES[0], "roads")
 
 
+def largest_map():
+    return generated("map", SIZES[-1], "roads")
+
+
 def smallest_maps():
     """The two of them."""
     return [generated("map", size, "roads") for size in SIZES[:2]]
