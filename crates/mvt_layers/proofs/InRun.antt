@@ -188,6 +188,56 @@ module _ {X A B : Type 0} (view : X → A) (pick : A → Option B) (f : X → Bo
       ap (λ o. cons_option (option_map (λ found. (position, found)) o) rest) (picked_none (pick (view x)) (agrees x ∙ other))
       ∙ none_picked n (position + 1) items (ap (drop 1) e)
 
+  none_over : (n position : ℕ) (part back : List X) → map f part ≡ replicate n false → filter_map (with_position pick) (enumerate_from position (map view (part ++ back))) ≡ filter_map (with_position pick) (enumerate_from (position + n) (map view back))
+  none_over zero position [] back e =
+      let same : position ≡ position + 0 = omega arith in
+      ap (λ p. filter_map (with_position pick) (enumerate_from p (map view back))) same
+  none_over (suc n) position [] back e = absurd (cc)
+  none_over zero position (x ∷ part) back e = absurd (cc)
+  none_over (suc n) position (x ∷ part) back e =
+      let other : f x ≡ false = cc in
+      let next : position + 1 + n ≡ position + suc n = omega arith in
+      let rest = filter_map (with_position pick) (enumerate_from (position + 1) (map view (part ++ back))) in
+      ap (λ o. cons_option (option_map (λ found. (position, found)) o) rest) (picked_none (pick (view x)) (agrees x ∙ other))
+      ∙ none_over n (position + 1) part back (ap (drop 1) e)
+      ∙ ap (λ p. filter_map (with_position pick) (enumerate_from p (map view back))) next
+
+  none_passed : (start n : ℕ) (items : List X) → map f (take n (drop start items)) ≡ replicate n false → placed_from pick start (map view items) ≡ placed_from pick (start + n) (map view items)
+  none_passed start n items e =
+      let rest = drop start items in
+      let part = take n rest in
+      let back = drop (start + n) items in
+      ap (λ xs. filter_map (with_position pick) (enumerate_from start xs)) (drop-map view start items ∙ ap (map view) (sym (take-append-drop n rest) ∙ ap (λ xs. part ++ xs) (drop-drop n start items)))
+      ∙ none_over n start part back e
+      ∙ ap (λ xs. filter_map (with_position pick) (enumerate_from (start + n) xs)) (sym (drop-map view (start + n) items))
+
+  -- nothing is found before the run
+  pub none_before : (run : Run) (items : List X) → IsRunOf f run items → placed_from pick 0 (map view items) ≡ placed_from pick run.first (map view items)
+  none_before run items h =
+      let F = replicate run.first false in
+      let C = replicate run.count true in
+      let B' = replicate h.behind false in
+      let same : 0 + run.first ≡ run.first = omega arith in
+      let values : map f (take run.first items) ≡ F =
+      sym (take-map f run.first items) ∙ ap (take run.first) (h.is ∙ append_assoc F (C ++ B') h.rest) ∙ take_at F ((C ++ B') ++ h.rest) run.first (length-replicate run.first false) in
+      none_passed 0 run.first items values ∙ ap (λ n. placed_from pick n (map view items)) same
+
+  -- nor between its end and the end of what is known
+  pub none_behind : (run : Run) (items : List X) → IsRunOf f run items → placed_from pick (run.first + run.count) (map view items) ≡ placed_from pick run.until (map view items)
+  none_behind run items h =
+      let end = run.first + run.count in
+      let F = replicate run.first false in
+      let C = replicate run.count true in
+      let B' = replicate h.behind false in
+      let long : length (F ++ C) ≡ end = omega (arith, length-append F C, length-replicate run.first false, length-replicate run.count true) in
+      let until : end + h.behind ≡ run.until = omega (arith, h.until) in
+      let parted : map f items ≡ (F ++ C) ++ (B' ++ h.rest) = h.is ∙ ap (λ t. t ++ h.rest) (sym (append_assoc F C B')) ∙ append_assoc (F ++ C) B' h.rest in
+      let values : map f (take h.behind (drop end items)) ≡ B' =
+      sym (take-map f h.behind (drop end items))
+      ∙ ap (take h.behind) (sym (drop-map f end items) ∙ ap (drop end) parted ∙ drop_at (F ++ C) (B' ++ h.rest) end long)
+      ∙ take_at B' h.rest h.behind (length-replicate h.behind false) in
+      none_passed end h.behind items values ∙ ap (λ n. placed_from pick n (map view items)) until
+
   -- where all is known, all is found up to the end of the run
   pub run_to_end : (run : Run) (items : List X) → IsRunOf f run items → run.until ≡ length items → found_in pick (map view (take (run.first + run.count) items)) ≡ found_in pick (map view items)
   run_to_end run items h all =
@@ -287,6 +337,13 @@ entry_contents number (plain.PlainInLayer field ∷ items) = ap (cons_option (co
 
 pub found_contents : (number : ℕ) (items : List plain.LayerItem) → map (λ (found : ℕ × (ℕ × List ℕ)). found.1.1) (found_in (entry_in number) items) ≡ contents number (plain_fields items)
 found_contents number items = found_items (entry_in number) items ∙ entry_contents number items
+
+-- as many are placed as there are
+pub placed_contents : (number : ℕ) (items : List plain.LayerItem) → length (placed_from (entry_in number) 0 items) ≡ length (contents number (plain_fields items))
+placed_contents number items =
+    sym (numbered_length 0 (placed_from (entry_in number) 0 items))
+    ∙ sym (length-map (found_in (entry_in number) items) (λ (found : ℕ × (ℕ × List ℕ)). found.1.1))
+    ∙ ap length (found_contents number items)
 
 -- the last entry of a number is the last content of that number
 pub last_content : (number : ℕ) (items : List plain.LayerItem) → option_map (λ (found : ℕ × (ℕ × List ℕ)). found.1.1) (last_or None (found_in (entry_in number) items)) ≡ last_or None (contents number (plain_fields items))

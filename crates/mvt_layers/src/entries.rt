@@ -1,15 +1,16 @@
 //! The keys and values of a layer with where they stand, as an iterator, the first that is given, and the
 //! last name.
 
-ghost use Rattle.std.specs.Prelude.{◌≡◌, ◌≤◌, ◌<◌, None, length, map, option_map, slice_get};
+ghost use Rattle.std.specs.Prelude.{◌≡◌, ◌+◌, ◌≤◌, ◌<◌, None, Some, IfErr, IfOk, length, map, option_map, slice_get};
 ghost use Rattle.std.specs.List.{last_or};
 ghost use Rattle.std.specs.Option.{option_copied};
+ghost use Rattle.std.specs.Result.{result_ok};
 ghost use Rattle.mvt_document.specs.declared.run.Kind.TheVariants as kind;
 ghost use Rattle.mvt_document.specs.Kinds.{in_layer_of_kind, is_entry};
 ghost use Rattle.mvt_document.specs.Runs.{IsRunOf};
 ghost use Rattle.mvt_document.specs.Stands.{layer_item_of};
-ghost use Rattle.mvt_messages.specs.Found.{placed_from};
-ghost use Rattle.mvt_layers.specs.Pools.{entry_in as is_entry_in, first_equal, found_entries};
+ghost use Rattle.mvt_messages.specs.Found.{found_from, placed_from};
+ghost use Rattle.mvt_layers.specs.Pools.{PassesOver, entry_in as is_entry_in, first_equal, found_entries};
 ghost use Rattle.mvt_layers.specs.Seen.{found_entry_seen};
 ghost use Rattle.mvt_messages.specs.Views.{contents, plain_fields};
 
@@ -187,14 +188,84 @@ fn entries_from(items: &[LayerItem], start: usize, number: u64) -> usize
     count
 }
 
-/// The first entry that is these bytes.
-pub(crate) fn first_equal<'a>(entries: Entries<'a>, bytes: &[u8]) -> Option<FoundEntry<'a>>
-    ensures { option_map found_entry_seen result ≡ first_equal bytes.now entries.entry }
+/// The first entry that is these bytes, or how many entries there are, where these are the run of the first of
+/// them and that of the features.
+pub(crate) fn first_equal<'a>(
+    items: &'a [LayerItem],
+    entries: Run,
+    features: Run,
+    number: u64,
+    bytes: &[u8],
+) -> Result<FoundEntry<'a>, usize>
+    requires entries { IsRunOf (is_entry number) entries items.now }
+    requires features { IsRunOf (in_layer_of_kind kind.Message) features items.now }
+    ensures found { option_map found_entry_seen (result_ok result) ≡ first_equal bytes.now (found_entries number (map layer_item_of items.now)) }
+    ensures count { IfErr result (λ count. count ≡ length (contents number (plain_fields (map layer_item_of items.now)))) }
 {
-    for found in entries {
-        if found.bytes == bytes {
-            return Some(found);
+    let end = entries.first + entries.count;
+    match equal_before(items, number, bytes, entries.first, 0, end) {
+        Ok(found) => Ok(found),
+        Err(count) => equal_beside(items, features, number, bytes, entries.until, count),
+    }
+}
+
+/// The same from this position on, where the first from there on has this ordinal. The items of the run of
+/// features are passed over.
+fn equal_beside<'a>(
+    items: &'a [LayerItem],
+    features: Run,
+    number: u64,
+    bytes: &[u8],
+    start: usize,
+    first: usize,
+) -> Result<FoundEntry<'a>, usize>
+    requires there { start ≤ length items.now }
+    requires before { first ≤ start }
+    requires passed { PassesOver number features (map layer_item_of items.now) }
+    ensures found { option_map found_entry_seen (result_ok result) ≡ first_equal bytes.now (found_from (is_entry_in number) first start (map layer_item_of items.now)) }
+    ensures count { IfErr result (λ count. count ≡ first + length (placed_from (is_entry_in number) start (map layer_item_of items.now))) }
+{
+    if start >= features.first {
+        return equal_before(items, number, bytes, start, first, items.len());
+    }
+    match equal_before(items, number, bytes, start, first, features.first) {
+        Ok(found) => Ok(found),
+        Err(next) => {
+            let behind = features.first + features.count;
+            equal_before(items, number, bytes, behind, next, items.len())
         }
     }
-    None
+}
+
+/// The same from this position to that one; where there is none, the ordinal that the first from that one on has.
+fn equal_before<'a>(
+    items: &'a [LayerItem],
+    number: u64,
+    bytes: &[u8],
+    start: usize,
+    first: usize,
+    end: usize,
+) -> Result<FoundEntry<'a>, usize>
+    requires order { start ≤ end }
+    requires there { end ≤ length items.now }
+    requires before { first ≤ start }
+    ensures found { IfOk result (λ found. first_equal bytes.now (found_from (is_entry_in number) first start (map layer_item_of items.now)) ≡ Some (found_entry_seen found)) }
+    ensures none { IfErr result (λ next. first_equal bytes.now (found_from (is_entry_in number) first start (map layer_item_of items.now)) ≡ first_equal bytes.now (found_from (is_entry_in number) next end (map layer_item_of items.now))) }
+    ensures count { IfErr result (λ next. first + length (placed_from (is_entry_in number) start (map layer_item_of items.now)) ≡ next + length (placed_from (is_entry_in number) end (map layer_item_of items.now))) }
+    ensures within { IfErr result (λ next. next ≤ end) }
+{
+    let mut ordinal = first;
+    for position in start..end {
+        if let Some(content) = entry_in(&items[position], number) {
+            if content == bytes {
+                return Ok(FoundEntry {
+                    ordinal,
+                    position,
+                    bytes: content,
+                });
+            }
+            ordinal += 1;
+        }
+    }
+    Err(ordinal)
 }

@@ -4,8 +4,9 @@
 //!   definitions, in order, by ordinal (none past the last), and counted: `layers`, `layer`,
 //!   `layer_count`, and the calls of `LayerView`.
 //! - The keys and the values of a layer with their ordinals and positions, and the first that is
-//!   these bytes: `LayerView::key_entries`, `value_entries`, `first_key`, `first_value`. The last name
-//!   of a layer with its position: `last_name`.
+//!   these bytes: `LayerView::key_entries`, `value_entries`, `first_key`, `first_value`; or how many
+//!   there are, where none is: `find_key`, `find_value`. The last name of a layer with its position:
+//!   `last_name`.
 //! - The name, version and extent of a layer, and the id and kind of a feature, are those of the
 //!   last field of the number and wire type, or the default: the calls of `LayerView` and
 //!   `FeatureView`.

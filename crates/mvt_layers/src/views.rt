@@ -1,7 +1,8 @@
 //! A layer and a feature, as they are seen.
 
-ghost use Rattle.std.specs.Prelude.{◌≡◌, ◌<◌, ◌^◌, length, option_map, slice_get};
+ghost use Rattle.std.specs.Prelude.{◌≡◌, ◌<◌, ◌^◌, IfErr, length, option_map, slice_get};
 ghost use Rattle.std.specs.Option.{option_copied};
+ghost use Rattle.std.specs.Result.{result_ok};
 ghost use Rattle.mvt_document.specs.Stands.{feature_of, layer_of};
 ghost use Rattle.mvt_numbers.specs.Numbers.{numbers};
 ghost use Rattle.mvt_messages.specs.Views.{extent_of, features, id_of, keys, kind_of, name_of, values, version_of};
@@ -106,14 +107,34 @@ impl<'a> LayerView<'a> {
     pub fn first_key(self, key: &[u8]) -> Option<FoundEntry<'a>>
         ensures { option_map found_entry_seen result ≡ first_equal key.now (found_keys (layer_seen self.entry)) }
     {
-        first_equal(self.key_entries(), key)
+        self.find_key(key).ok()
     }
 
     /// The first value that is these bytes.
     pub fn first_value(self, value: &[u8]) -> Option<FoundEntry<'a>>
         ensures { option_map found_entry_seen result ≡ first_equal value.now (found_values (layer_seen self.entry)) }
     {
-        first_equal(self.value_entries(), value)
+        self.find_value(value).ok()
+    }
+
+    /// The first key that is these bytes, or how many keys there are.
+    pub fn find_key(self, key: &[u8]) -> Result<FoundEntry<'a>, usize>
+        ensures found { option_map found_entry_seen (result_ok result) ≡ first_equal key.now (found_keys (layer_seen self.entry)) }
+        ensures count { IfErr result (λ count. count ≡ length (keys (layer_seen self.entry))) }
+    {
+        let items = self.layer.items.as_slice();
+        let runs = self.layer.items.runs();
+        first_equal(items, runs.keys, runs.messages, KEYS, key)
+    }
+
+    /// The first value that is these bytes, or how many values there are.
+    pub fn find_value(self, value: &[u8]) -> Result<FoundEntry<'a>, usize>
+        ensures found { option_map found_entry_seen (result_ok result) ≡ first_equal value.now (found_values (layer_seen self.entry)) }
+        ensures count { IfErr result (λ count. count ≡ length (values (layer_seen self.entry))) }
+    {
+        let items = self.layer.items.as_slice();
+        let runs = self.layer.items.runs();
+        first_equal(items, runs.values, runs.messages, VALUES, value)
     }
 
     pub fn feature_count(self) -> usize
