@@ -143,8 +143,8 @@ attributed_at key value before item items = change_at (in_feature (with_attribut
 -- the entries that are put are those that the layer lacks
 pub entries_lacked : (key value : List ℕ) (layer : Layer) (ordinals : Ordinals) → AreFound key value layer ordinals → entries_for key value ordinals ≡ missing_entries key value layer.items
 entries_lacked key value layer ordinals are =
-    ap (λ there. entry_unless there 26 key ++ entry_unless ordinals.has_value 34 value) are.key_there
-    ∙ ap (λ there. missing_entry 26 key (contents key_field (plain_fields layer.items)) ++ entry_unless there 34 value) are.value_there
+    ap (λ there. entry_unless there 26 key ++ entry_unless ordinals.value.is_there 34 value) are.key_so.there
+    ∙ ap (λ there. missing_entry 26 key (contents key_field (plain_fields layer.items)) ++ entry_unless there 34 value) are.value_so.there
 
 -- what comes first of two checks and of what follows
 first_check : {A : Type 0} (first second : Result (Unit {0}) Refusal) (last : Result A Refusal) (refusal : Refusal) → (first >>= λ ok. second) ≡ Err refusal → (first >>= λ ok. (second >>= λ ok. last)) ≡ Err refusal

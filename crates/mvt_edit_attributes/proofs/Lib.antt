@@ -1,4 +1,5 @@
 mod EntryOrdinals
+mod KeysNamed
 mod OneDiffers
 mod PairPut
 mod AttributeGiven

@@ -12,7 +12,7 @@ use Rattle.mvt_change.specs.Changes.{Change, LayerStep}
 use Rattle.mvt_messages.specs.Views.{keys, values}
 use Rattle.mvt_meaning.specs.Fields.{new_content}
 use Rattle.mvt_meaning.specs.Meaning.{◌>>=◌, refuse_if}
-use Rattle.mvt_meaning.specs.Tagging.{is_packed_last, key_ordinal, is_tags, missing_entries, pairs_among, pairs_with, value_ordinal, with_attribute, with_more_tags}
+use Rattle.mvt_meaning.specs.Tagging.{entry_ordinal, is_packed_last, is_tags, missing_entries, pairs_among, pairs_with, with_attribute, with_more_tags}
 use Rattle.mvt_meaning.specs.Weights.{set_puts, set_takes, weigh, weigh_last}
 use Rattle.mvt_meaning.specs.declared.refusal.Refusal.{Refusal}
 use Rattle.mvt_meaning.specs.declared.refusal.Refusal.TheVariants.{BadTags, RepeatedKey}
@@ -20,6 +20,7 @@ use Rattle.mvt_fates.specs.Fates.{Splice}
 use Rattle.mvt_renumber.specs.declared.fate.Fate.{Fate}
 use Rattle.mvt_renumber.specs.declared.fate.Fate.TheVariants.{Stays, Goes, Becomes}
 use Rattle.mvt_edit_attributes.specs.declared.pools.Ordinals.{Ordinals}
+use Rattle.mvt_edit_attributes.specs.declared.pools.Sought.{Sought}
 
 -- ---- a run of fields, where they change
 
@@ -70,12 +71,17 @@ attribute_checked key ordinal feature items fields =
 
 -- ---- the entries of a layer
 
--- the ordinals of the key and of the value are told, and whether the layer has them (tiles 4.1, 4.4)
+-- of these bytes the ordinal among entries is told, or the one that they get as a further entry; whether they are there;
+-- and how many entries there are (tiles 4.1, 4.4)
+pub record IsSought (bytes : List ℕ) (entries : List (List ℕ)) (sought : Sought) : Type 0 where
+  pub at : sought.ordinal ≡ entry_ordinal bytes entries
+  pub there : sought.is_there ≡ list_any (bytes_eq bytes) entries
+  pub count : sought.count ≡ length entries
+
+-- the key and the value were looked for in the layer (tiles 4.1, 4.4)
 pub record AreFound (key value : List ℕ) (layer : Layer) (ordinals : Ordinals) : Type 0 where
-  pub key_at : ordinals.key ≡ key_ordinal key layer.items
-  pub key_there : ordinals.has_key ≡ list_any (bytes_eq key) (keys layer)
-  pub value_at : ordinals.value ≡ value_ordinal value layer.items
-  pub value_there : ordinals.has_value ≡ list_any (bytes_eq value) (values layer)
+  pub key_so : IsSought key (keys layer) ordinals.key
+  pub value_so : IsSought value (values layer) ordinals.value
 
 -- a new entry of these bytes, behind this tag, unless there is one (tiles 4.1)
 abbrev pub entry_unless : Bool → ℕ → List ℕ → List LayerItem
@@ -83,7 +89,7 @@ entry_unless there tag bytes = if there then [] else PlainInLayer (new_content t
 
 -- the entries of the key and of the value that the layer lacks, as it is told (tiles 4.1)
 abbrev pub entries_for : List ℕ → List ℕ → Ordinals → List LayerItem
-entries_for key value ordinals = entry_unless ordinals.has_key 26 key ++ entry_unless ordinals.has_value 34 value
+entries_for key value ordinals = entry_unless ordinals.key.is_there 26 key ++ entry_unless ordinals.value.is_there 34 value
 
 -- the step that puts these items, where there are any, behind all items of the layer at this position of the tile
 abbrev pub behind_all : ℕ → List LayerItem → List LayerItem → Change

@@ -1,59 +1,117 @@
 //! Where a key and a value stand among the keys and the values of a layer, and the entries that it
 //! lacks of them.
 
-ghost use Rattle.std.specs.Prelude.{◌≡◌, IfOk, length, map};
-ghost use Rattle.std.specs.Option.{option_map_or};
+ghost use Rattle.std.specs.Prelude.{◌≡◌, IfOk, map};
+ghost use Rattle.std.specs.Str.{bytes_eq};
 ghost use Rattle.mvt_document.specs.Plain.{PlainInLayer};
 ghost use Rattle.mvt_document.specs.Shape.{IsTag};
 ghost use Rattle.mvt_document.specs.Stands.{layer_item_of};
 ghost use Rattle.mvt_meaning.specs.Fields.{new_content};
 ghost use Rattle.mvt_layers.specs.Seen.{layer_seen};
 ghost use Rattle.mvt_messages.specs.Views.{keys, values};
-ghost use Rattle.mvt_edit_attributes.specs.Attribute.{AreFound, entries_for};
+ghost use Rattle.mvt_edit_attributes.specs.Attribute.{AreFound, IsSought, entries_for};
 
 use mvt_document::tags::{KEYS, LEN, VALUES};
 use mvt_document::{Body, Field, FieldBody, Items, LayerItem, Tag};
-use mvt_layers::{FoundEntry, LayerView, PoolSizes};
+use mvt_edit_pairs::named_keys;
+use mvt_layers::{FoundEntry, LayerView};
 use std::alloc::{AllocError, Global};
 
 const KEY_TAG: u64 = 8 * KEYS + LEN;
 
 const VALUE_TAG: u64 = 8 * VALUES + LEN;
 
-/// The ordinals of a key and of a value in a layer, those that further entries have where it lacks
-/// them, and whether it has them.
+/// The ordinal of the first entry that is some bytes, or that of a further one where there is none; whether
+/// there is one; and how many entries there are.
+#[derive(Clone, Copy, Debug)]
+pub(crate) struct Sought {
+    pub(crate) ordinal: u64,
+    pub(crate) is_there: bool,
+    pub(crate) count: usize,
+}
+
+/// A key and a value that were looked for in a layer.
 #[derive(Clone, Copy, Debug)]
 pub(crate) struct Ordinals {
-    pub(crate) key: u64,
-    pub(crate) has_key: bool,
-    pub(crate) value: u64,
-    pub(crate) has_value: bool,
+    pub(crate) key: Sought,
+    pub(crate) value: Sought,
+}
+
+impl Sought {
+    ghost use Rattle.std.specs.Prelude.{◌≡◌, true, false};
+
+    /// That of an entry that is there, among so many.
+    fn there(found: FoundEntry<'_>, count: usize) -> Sought
+        ensures { result ≡ record { ordinal = found.entry.ordinal; is_there = true; count = count } }
+    {
+        Sought {
+            ordinal: found.ordinal as u64,
+            is_there: true,
+            count,
+        }
+    }
+
+    /// That of a further entry behind so many.
+    fn further(count: usize) -> Sought
+        ensures { result ≡ record { ordinal = count; is_there = false; count = count } }
+    {
+        Sought {
+            ordinal: count as u64,
+            is_there: false,
+            count,
+        }
+    }
 }
 
 /// Looks for the first entries that are this key and this value.
-pub(crate) fn look_for(layer: LayerView<'_>, sizes: PoolSizes, key: &[u8], value: &[u8]) -> Ordinals
-    requires keys { sizes.keys ≡ length (keys (layer_seen layer)) }
-    requires values { sizes.values ≡ length (values (layer_seen layer)) }
+pub(crate) fn look_for(layer: LayerView<'_>, key: &[u8], value: &[u8]) -> Ordinals
     ensures { AreFound key.now value.now (layer_seen layer.entry) result }
 {
-    let first_key = layer.first_key(key);
-    let first_value = layer.first_value(value);
     Ordinals {
-        key: ordinal_of(first_key, sizes.keys),
-        has_key: first_key.is_some(),
-        value: ordinal_of(first_value, sizes.values),
-        has_value: first_value.is_some(),
+        key: look_for_key(layer, key),
+        value: look_for_value(layer, value),
     }
 }
 
-/// The ordinal of the entry, or that of a further one behind so many.
-fn ordinal_of(entry: Option<FoundEntry<'_>>, count: usize) -> u64
-    ensures { result ≡ option_map_or (λ entry. entry.ordinal) entry.entry count }
+fn look_for_key(layer: LayerView<'_>, key: &[u8]) -> Sought
+    ensures { IsSought key.now (keys (layer_seen layer.entry)) result }
 {
-    match entry {
-        Some(found) => found.ordinal as u64,
-        None => count as u64,
+    match layer.find_key(key) {
+        Ok(found) => Sought::there(found, layer.key_count()),
+        Err(count) => Sought::further(count),
     }
+}
+
+fn look_for_value(layer: LayerView<'_>, value: &[u8]) -> Sought
+    ensures { IsSought value.now (values (layer_seen layer.entry)) result }
+{
+    match layer.find_value(value) {
+        Ok(found) => Sought::there(found, layer.value_count()),
+        Err(count) => Sought::further(count),
+    }
+}
+
+/// For each key of the layer, in order, whether it is these bytes. Where none is, or the last alone, the keys
+/// are not gone through again.
+pub(crate) fn keys_that_are(
+    alloc: Global,
+    layer: LayerView<'_>,
+    key: &[u8],
+    sought: Sought,
+) -> Result<Vec<bool>, AllocError>
+    requires { IsSought key.now (keys (layer_seen layer)) sought }
+    ensures { IfOk result (λ named. named.items ≡ map (bytes_eq key.now) (keys (layer_seen layer.entry))) }
+{
+    let first = sought.ordinal as usize;
+    if sought.count.saturating_sub(first) > 1 {
+        return named_keys(alloc, layer, key);
+    }
+    let mut named = Vec::with_capacity(alloc, sought.count)?;
+    named.resize(first, false)?;
+    if sought.is_there {
+        named.push(true)?;
+    }
+    Ok(named)
 }
 
 /// The entries of the key and of the value, those of them that the layer lacks.
@@ -66,11 +124,11 @@ pub(crate) fn missing_entries(
     ensures { IfOk result (λ entries. map layer_item_of entries.items ≡ entries_for key.now value.items ordinals) }
 {
     let mut entries = Vec::new(alloc);
-    if !ordinals.has_key {
+    if !ordinals.key.is_there {
         let key = Items::from_vec(Vec::from_slice(alloc, key)?);
         entries.push(entry(KEY_TAG, key))?;
     }
-    if !ordinals.has_value {
+    if !ordinals.value.is_there {
         entries.push(entry(VALUE_TAG, value))?;
     }
     Ok(entries)

@@ -12,13 +12,13 @@ ghost use Rattle.mvt_messages.specs.Views.{keys, values};
 ghost use Rattle.mvt_meaning.specs.declared.refusal.Refusal.TheVariants.{NoMemory};
 ghost use Rattle.mvt_fates.specs.Fates.{seen, splice_of};
 ghost use Rattle.mvt_edit_steps.specs.Prepared.{Prepares};
-ghost use Rattle.mvt_edit_attributes.specs.Attribute.{AreFound, GivesAttribute, attribute_checked, behind_all};
+ghost use Rattle.mvt_edit_attributes.specs.Attribute.{AreFound, GivesAttribute, IsSought, attribute_checked, behind_all};
 
-use crate::pools::{Ordinals, look_for, missing_entries};
+use crate::pools::{Ordinals, keys_that_are, look_for, missing_entries};
 use crate::tags_run::{and_pair, first_renumbered, size_with};
 use mvt_change::{Change, Step, fits_with_items, size_with_fields};
 use mvt_document::{Document, Field, Items, LayerItem, MAX_FILE, size_of_all};
-use mvt_edit_pairs::{decide_or_refuse, named_keys};
+use mvt_edit_pairs::decide_or_refuse;
 use mvt_fates::Run;
 use mvt_layers::PoolSizes;
 use mvt_select::{
@@ -42,9 +42,8 @@ pub fn set_attribute(
     let holder = find_layer(document, choice)?;
     let found = find_feature(holder.layer, feature)?;
     let value = encode_value(alloc, value)?;
-    let sizes = holder.view().pool_sizes();
-    let ordinals = look_for(holder.view(), sizes, key, value.as_slice());
-    let run = run_of_tags(alloc, holder, found, key, sizes, ordinals)?;
+    let ordinals = look_for(holder.view(), key, value.as_slice());
+    let run = run_of_tags(alloc, holder, found, key, ordinals)?;
     let entries = missing_entries(alloc, ordinals, key, value)?;
     let fields = size_with(found.feature.fields.as_slice(), &run);
     let behind = size_of_all(entries.as_slice(), MAX_FILE);
@@ -62,30 +61,33 @@ fn run_of_tags(
     holder: FoundLayer<'_>,
     found: FoundFeature<'_>,
     key: &[u8],
-    sizes: PoolSizes,
     ordinals: Ordinals,
 ) -> Result<Option<Run<Field>>, Refusal>
-    requires keys { sizes.keys ≡ length (keys (layer_of holder.layer.now)) }
-    requires values { sizes.values ≡ length (values (layer_of holder.layer.now)) }
+    requires key { IsSought key.now (keys (layer_of holder.layer.now)) ordinals.key }
+    requires values { ordinals.value.count ≡ length (values (layer_of holder.layer.now)) }
     ensures gives { (value : List ℕ) → AreFound key.now value (layer_of holder.entry.layer.now) ordinals →
         IfOk result (λ run. GivesAttribute key.now value (layer_of holder.entry.layer.now).items (feature_of found.entry.feature.now).fields (option_map (λ run. seen field_of (splice_of run)) run)) }
     ensures checked { IfOk result (λ run. attribute_checked key.now holder.entry.ordinal found.entry.ordinal (layer_of holder.entry.layer.now).items (feature_of found.entry.feature.now).fields ≡ Ok tt) }
     ensures refused { IfErr result (λ refusal. (refusal ≡ NoMemory)
         ⊎ (attribute_checked key.now holder.entry.ordinal found.entry.ordinal (layer_of holder.entry.layer.now).items (feature_of found.entry.feature.now).fields ≡ Err refusal)) }
 {
-    let named = named_keys(alloc, holder.view(), key)?;
+    let sizes = PoolSizes {
+        keys: ordinals.key.count,
+        values: ordinals.value.count,
+    };
+    let named = keys_that_are(alloc, holder.view(), key, ordinals.key)?;
     let mut decisions = Vec::new(alloc);
     let count = decide_or_refuse(
         holder.ordinal,
         found,
         sizes,
         named.as_slice(),
-        Some(ordinals.value),
+        Some(ordinals.value.ordinal),
         &mut decisions,
     )?;
     let fields = found.feature.fields.as_slice();
     match count {
-        0 => Ok(Some(and_pair(alloc, fields, ordinals.key, ordinals.value)?)),
+        0 => Ok(Some(and_pair(alloc, fields, ordinals.key.ordinal, ordinals.value.ordinal)?)),
         1 => Ok(first_renumbered(alloc, fields, decisions.as_slice())?),
         _ => Err(Refusal::RepeatedKey {
             layer: holder.ordinal,
