@@ -19,8 +19,11 @@ use mvt_document::{BodyRef, Feature, Field, Layer, LayerItem, Run, TileItem, val
 fn content_in(field: &Field, number: u64) -> Option<&[u8]>
     ensures { option_copied result ≡ content_in number (field_of field.now) }
 {
+    if field.tag.number() != number {
+        return None;
+    }
     match field.body.get() {
-        BodyRef::Bytes { bytes, .. } if field.tag.number() == number => Some(bytes),
+        BodyRef::Bytes { bytes, .. } => Some(bytes),
         _ => None,
     }
 }
