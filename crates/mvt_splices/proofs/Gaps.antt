@@ -1,25 +1,22 @@
--- A list in two pieces, the second of them in reverse.
-use Rattle.std.proofs.Common.{◌≡◌, ℕ, suc, ◌+◌, ◌-◌, ◌≤◌, List, [], ◌∷◌, ◌++◌, length, length-drop, take, drop, reverse, take-append-drop, refl, sym, ap, ◌∙◌, arith}
-use Rattle.std.proofs.lemmas.List.{length-reverse, reverse-append, reverse-reverse, take_at, drop_at, drop-drop}
-use Rattle.mvt_document.specs.Splicing.{part}
-
-pieces_back : {A : Type 0} (left : ℕ) (xs : List A) → reverse (drop left xs) ++ reverse (take left xs) ≡ reverse xs
-pieces_back left xs = sym (reverse-append (take left xs) (drop left xs)) ∙ ap reverse (take-append-drop left xs)
-
--- what stands last stands first in reverse
-pub last_of : {A : Type 0} (left count : ℕ) (xs : List A) → left + count ≡ length xs → reverse (drop left xs) ≡ take count (reverse xs)
-last_of left count xs all =
-    let long : length (reverse (drop left xs)) ≡ count = length-reverse (drop left xs) ∙ omega (arith, length-drop left xs) in
-    sym (take_at (reverse (drop left xs)) (reverse (take left xs)) count long) ∙ ap (take count) (pieces_back left xs)
-
-pub first_of : {A : Type 0} (left count : ℕ) (xs : List A) → left + count ≡ length xs → take left xs ≡ reverse (drop count (reverse xs))
-first_of left count xs all =
-    let long : length (reverse (drop left xs)) ≡ count = length-reverse (drop left xs) ∙ omega (arith, length-drop left xs) in
-    sym (reverse-reverse (take left xs)) ∙ ap reverse (sym (drop_at (reverse (drop left xs)) (reverse (take left xs)) count long) ∙ ap (drop count) (pieces_back left xs))
+-- A list in a ring, which begins behind a gap and ends before it.
+use Rattle.std.proofs.Common.{◌≡◌, ℕ, zero, suc, ◌+◌, ◌-◌, ◌≤◌, List, [], ◌∷◌, ◌++◌, length, length-drop, take, drop, append_assoc, take-append-drop, refl, sym, ap, ◌∙◌, arith}
+use Rattle.std.proofs.lemmas.List.{drop-append-le, drop-drop, drop_at, length-take-le, take_all, take-append-le, take-take}
 
 -- ---- the gap goes to an index
 
--- .. behind it: so much of the back goes to the front
+-- a list, of which so many items come first that stand behind the gap
+abbrev pub unrolled : {A : Type 0} → ℕ → List A → List A
+unrolled behind ring = drop behind ring ++ take behind ring
+
+take_sum : {A : Type 0} (n m : ℕ) (xs : List A) → take (n + m) xs ≡ take n xs ++ take m (drop n xs)
+take_sum zero m xs = ap (λ k. take k xs) (omega arith)
+take_sum (suc n) m [] =
+    let more : suc n + m ≡ suc (n + m) = omega arith in
+    ap (λ k. take k []) more ∙ sym (take_all m [] (omega arith))
+take_sum (suc n) m (x ∷ xs) =
+    let more : suc n + m ≡ suc (n + m) = omega arith in
+    ap (λ k. take k (x ∷ xs)) more ∙ ap (λ rest. x ∷ rest) (take_sum n m xs)
+
 take_past : {A : Type 0} (n : ℕ) (xs ys : List A) → take (length xs + n) (xs ++ ys) ≡ xs ++ take n ys
 take_past n [] ys = ap (λ k. take k ys) (omega arith)
 take_past n (x ∷ xs) ys =
@@ -29,29 +26,42 @@ take_past n (x ∷ xs) ys =
 drop_past : {A : Type 0} (n : ℕ) (xs ys : List A) → drop (length xs + n) (xs ++ ys) ≡ drop n ys
 drop_past n xs ys = sym (drop-drop n (length xs) (xs ++ ys)) ∙ ap (drop n) (drop_at xs ys (length xs) refl)
 
-pub on_front : {A : Type 0} (index left : ℕ) (front back : List A) → length front ≤ index → index ≤ length front + length back → left ≡ length back - (index - length front) → front ++ reverse (drop left back) ≡ take index (front ++ reverse back)
-on_front index left front back past within is =
-    let count = index - length front in
-    let sum : length front + count ≡ index = omega arith in
-    ap (λ y. front ++ y) (last_of left count back (omega arith)) ∙ sym (take_past count front (reverse back)) ∙ ap (λ n. take n (front ++ reverse back)) sum
+-- .. that is before it
+pub turned_back : {A : Type 0} (behind index : ℕ) (ring : List A) → behind + index ≤ length ring → drop (behind + index) ring ++ take (behind + index) ring ≡ drop index (unrolled behind ring) ++ take index (unrolled behind ring)
+turned_back behind index ring within =
+    let front = drop behind ring in
+    let back = take behind ring in
+    let there : index ≤ length front = omega (arith, length-drop behind ring) in
+    ap (λ rest. drop (behind + index) ring ++ rest) (take_sum behind index ring)
+    ∙ sym (append_assoc (drop (behind + index) ring) back (take index front))
+    ∙ ap (λ rest. (rest ++ back) ++ take index front) (sym (drop-drop index behind ring))
+    ∙ ap (λ rest. rest ++ take index front) (sym (drop-append-le index front back there))
+    ∙ ap (λ rest. drop index (front ++ back) ++ rest) (sym (take-append-le index front back there))
 
-pub on_back : {A : Type 0} (index left : ℕ) (front back : List A) → length front ≤ index → index ≤ length front + length back → left ≡ length back - (index - length front) → take left back ≡ reverse (drop index (front ++ reverse back))
-on_back index left front back past within is =
-    let count = index - length front in
-    let sum : length front + count ≡ index = omega arith in
-    first_of left count back (omega arith) ∙ ap reverse (sym (drop_past count front (reverse back)) ∙ ap (λ n. drop n (front ++ reverse back)) sum)
+-- .. that is behind it
+pub turned_on : {A : Type 0} (behind count index : ℕ) (ring : List A) → behind ≤ length ring → count ≤ behind → index + behind ≡ length ring + count → drop count ring ++ take count ring ≡ drop index (unrolled behind ring) ++ take index (unrolled behind ring)
+turned_on behind count index ring within few is =
+    let front = drop behind ring in
+    let back = take behind ring in
+    let sum : length front + count ≡ index = omega (arith, length-drop behind ring) in
+    let there : count ≤ length back = omega (arith, length-take-le behind ring within) in
+    ap (λ items. drop count items ++ take count ring) (sym (take-append-drop behind ring))
+    ∙ ap (λ rest. rest ++ take count ring) (drop-append-le count back front there)
+    ∙ append_assoc (drop count back) front (take count ring)
+    ∙ ap (λ rest. drop count back ++ (front ++ rest)) (sym (take-take count behind ring few))
+    ∙ ap (λ rest. rest ++ (front ++ take count back)) (sym (drop_past count front back))
+    ∙ ap (λ rest. drop (length front + count) (front ++ back) ++ rest) (sym (take_past count front back))
+    ∙ ap (λ n. drop n (front ++ back) ++ take n (front ++ back)) sum
 
--- ---- a part behind the gap is taken
+-- ---- the first items of a ring change places with others
 
-pub length-behind : {A : Type 0} (index : ℕ) (items : List A) → length (reverse (drop index items)) ≡ length items - index
-length-behind index items = length-reverse (drop index items) ∙ length-drop index items
-
-pub taken_back : {A : Type 0} (index taken left : ℕ) (items : List A) → index + taken ≤ length items → left + taken ≡ length items - index → take left (reverse (drop index items)) ≡ reverse (drop (index + taken) items)
-taken_back index taken left items within all =
-    first_of left taken (reverse (drop index items)) (all ∙ sym (length-behind index items))
-    ∙ ap reverse (ap (drop taken) (reverse-reverse (drop index items)) ∙ drop-drop taken index items)
-
-pub taken_put : {A : Type 0} (index taken left : ℕ) (items : List A) → index + taken ≤ length items → left + taken ≡ length items - index → [] ++ reverse (drop left (reverse (drop index items))) ≡ part index taken items
-taken_put index taken left items within all =
-    last_of left taken (reverse (drop index items)) (all ∙ sym (length-behind index items))
-    ∙ ap (take taken) (reverse-reverse (drop index items))
+pub put_traded : {A : Type 0} (given taken common : ℕ) (ring put : List A) → length put ≡ given → taken ≤ length ring → common ≤ given → common ≤ taken → drop (given - common) ((drop common put ++ take common ring) ++ take (taken - common) (drop common ring ++ take common put)) ≡ take taken ring
+put_traded given taken common ring put all there few also =
+    let rest = take (taken - common) (drop common ring ++ take common put) in
+    let left : length (drop common put) ≡ given - common = omega (arith, length-drop common put) in
+    let sum : common + (taken - common) ≡ taken = omega arith in
+    ap (drop (given - common)) (append_assoc (drop common put) (take common ring) rest)
+    ∙ drop_at (drop common put) (take common ring ++ rest) (given - common) left
+    ∙ ap (λ items. take common ring ++ items) (take-append-le (taken - common) (drop common ring) (take common put) (omega (arith, length-drop common ring)))
+    ∙ sym (take_sum common (taken - common) ring)
+    ∙ ap (λ n. take n ring) sum

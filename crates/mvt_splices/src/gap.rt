@@ -1,44 +1,46 @@
-//! A list that is open at a gap: what stands before it, and in reverse order what stands behind it.
+//! A list that is open at a gap: a ring that begins behind the gap and ends before it.
 
-ghost use Rattle.std.specs.Prelude.{◌≡◌, ◌+◌, ◌-◌, ◌≤◌, [], ◌++◌, length, take, drop, reverse, vec_len, vec_capacity, OnOk, OnErr, IfOk};
+ghost use Rattle.std.specs.Prelude.{◌≡◌, ◌+◌, ◌≤◌, [], ◌++◌, length, take, drop, vec_len, vec_capacity, OnOk, OnErr, IfOk};
+ghost use Rattle.std.specs.VecDeque.{deque_len, deque_capacity};
 ghost use Rattle.mvt_document.specs.Splicing.{part, splice};
 ghost use Rattle.mvt_document.specs.Lending.{held_in};
 
 use std::alloc::{AllocError, Global};
+use std::collections::VecDeque;
 use std::marker::Model;
 use std::mem;
 
-/// A list that is open at a gap: what stands before it, and in reverse what stands behind it. The
+/// A list that is open at a gap, in a ring: what stands behind the gap, and then what stands before it. The
 /// gap goes to where a part is exchanged, so exchanges in order of their indexes, up or down, move
-/// each item once. Contracts see the whole list, and beside it the room for more.
+/// each item once, and in the list's own memory. Contracts see the whole list, and beside it the room for more.
 pub struct Gap<T> {
-    front: Vec<T>,
-    back: Vec<T>,
+    ring: VecDeque<T>,
+    behind: usize,
 }
 
 impl<T> Model for Gap<T> {
-    ghost use Rattle.std.specs.Prelude.{◌+◌, ◌-◌, ◌≤◌, ◌++◌, reverse, vec_len, vec_capacity};
+    ghost use Rattle.std.specs.Prelude.{◌-◌, ◌≤◌, ◌++◌, take, drop};
+    ghost use Rattle.std.specs.VecDeque.{deque_len, deque_capacity};
     ghost use Rattle.mvt_document.specs.Held.{Held};
 
     ghost Value = { Held T };
 
-    ghost view = { λ g. record { items = g.front.items ++ reverse g.back.items; room = vec_capacity g.back - (vec_len g.front + vec_len g.back) } };
+    ghost view = { λ g. record { items = drop g.behind g.ring.items ++ take g.behind g.ring.items; room = deque_capacity g.ring - deque_len g.ring } };
 
-    ghost invariant = { λ g. (vec_len g.front + vec_len g.back ≤ vec_capacity g.back) × (vec_capacity g.back ≤ vec_capacity g.front) };
+    ghost invariant = { λ g. (g.behind ≤ deque_len g.ring) × (deque_len g.ring ≤ deque_capacity g.ring) };
 }
 
 impl<T> Gap<T> {
-    /// Opens the list of a vector, which is empty until the gap is closed. What stands behind the
-    /// gap needs memory; an `Err` leaves the vector as it was.
+    /// Opens the list of a vector, which is empty until the gap is closed. It stays in the vector's memory.
     pub fn open(alloc: Global, list: &mut Vec<T>) -> Result<Gap<T>, AllocError>
         ensures ok { IfOk result (λ gap. gap ≡ held_in list.old) }
         ensures empty { OnOk result (list.new.items ≡ []) }
         ensures err { OnErr result (list.new ≡ list.old) }
     {
-        let back = Vec::with_capacity(alloc, list.capacity())?;
+        let list = mem::replace(list, Vec::new(alloc));
         Ok(Gap {
-            front: mem::replace(list, Vec::new(alloc)),
-            back,
+            ring: VecDeque::from_vec(list),
+            behind: 0,
         })
     }
 
@@ -52,7 +54,10 @@ impl<T> Gap<T> {
         ensures room { length self.new.items + self.new.room ≡ length self.old.items + self.old.room }
         ensures put_room { vec_capacity put.new ≡ vec_capacity put.old }
     {
-        exchange(&mut self.front, &mut self.back, index, taken, put);
+        let behind = self.ring.len() - index - taken;
+        move_gap(&mut self.ring, self.behind, index);
+        exchange_first(&mut self.ring, taken, put);
+        self.behind = behind;
     }
 
     /// Closes the gap: the vector has the list again.
@@ -61,66 +66,135 @@ impl<T> Gap<T> {
         ensures items { list.new.items ≡ self.items }
         ensures room { self.room ≤ (held_in list.new).room }
     {
-        let Gap {
-            mut front,
-            mut back,
-        } = self;
-        turn_over(&mut back, &mut front, 0);
-        back.destroy_empty();
-        mem::replace(list, front).destroy_empty();
+        let Gap { mut ring, behind } = self;
+        ring.rotate_left(behind);
+        mem::replace(list, ring.into_vec()).destroy_empty();
     }
 }
 
-/// Exchanges a part of a list, of which so much stands before a gap, and the rest in reverse behind
-/// it. There is room for what comes.
-fn exchange<T>(front: &mut Vec<T>, back: &mut Vec<T>, index: usize, taken: usize, put: &mut Vec<T>)
-    requires there { index + taken ≤ vec_len front.old + vec_len back.old }
-    requires back_room { vec_len front.old + vec_len back.old ≤ vec_capacity back.old }
-    requires front_room { vec_capacity back.old ≤ vec_capacity front.old }
-    requires more { vec_len front.old + vec_len back.old + vec_len put.old ≤ vec_capacity back.old + taken }
+/// The gap of a list of which so many items stand behind it goes to an index: those behind it come first.
+fn move_gap<T>(ring: &mut VecDeque<T>, behind: usize, index: usize)
+    requires behind { behind ≤ deque_len ring.old }
+    requires there { index ≤ deque_len ring.old }
+    ensures items { let items = drop behind ring.old.items ++ take behind ring.old.items in ring.new.items ≡ drop index items ++ take index items }
+    ensures length { deque_len ring.new ≡ deque_len ring.old }
+    ensures room { deque_capacity ring.new ≡ deque_capacity ring.old }
+{
+    let before = ring.len() - behind;
+    let count = if index <= before {
+        behind + index
+    } else {
+        index - before
+    };
+    ring.rotate_left(count);
+}
+
+/// So many of the first items change places with the ones to put, which come last.
+fn exchange_first<T>(ring: &mut VecDeque<T>, taken: usize, put: &mut Vec<T>)
+    requires there { taken ≤ deque_len ring.old }
+    requires room { deque_len ring.old + vec_len put.old ≤ deque_capacity ring.old + taken }
     requires put_room { taken ≤ vec_capacity put.old }
-    ensures front { front.new.items ≡ take index (front.old.items ++ reverse back.old.items) ++ put.old.items }
-    ensures back { back.new.items ≡ reverse (drop (index + taken) (front.old.items ++ reverse back.old.items)) }
-    ensures put { put.new.items ≡ part index taken (front.old.items ++ reverse back.old.items) }
-    ensures front_room { vec_capacity front.old ≤ vec_capacity front.new }
-    ensures back_room { vec_capacity back.new ≡ vec_capacity back.old }
+    ensures ring { ring.new.items ≡ drop taken ring.old.items ++ put.old.items }
+    ensures put { put.new.items ≡ take taken ring.old.items }
+    ensures length { deque_len ring.new + taken ≡ deque_len ring.old + vec_len put.old }
+    ensures ring_room { deque_capacity ring.new ≡ deque_capacity ring.old }
     ensures put_room { vec_capacity put.new ≡ vec_capacity put.old }
 {
-    move_gap(front, back, index);
-    let _ = front.append(put);
-    let left = back.len() - taken;
-    turn_over(back, put, left);
+    if put.is_empty() {
+        return take_first(ring, taken, put);
+    }
+    if taken == 0 {
+        return put_last(ring, put);
+    }
+    let none = Vec::new(*put.allocator());
+    let mut queue = VecDeque::from_vec(mem::replace(put, none));
+    let given = queue.len();
+    let common = given.min(taken);
+    trade(ring, &mut queue, common);
+    pass_on(ring, &mut queue, taken - common);
+    pass_on(&mut queue, ring, given - common);
+    mem::replace(put, queue.into_vec()).destroy_empty();
 }
 
-/// The gap goes to an index: so many items stand before it.
-fn move_gap<T>(front: &mut Vec<T>, back: &mut Vec<T>, index: usize)
-    requires there { index ≤ vec_len front.old + vec_len back.old }
-    requires back_room { vec_len front.old + vec_len back.old ≤ vec_capacity back.old }
-    requires front_room { vec_capacity back.old ≤ vec_capacity front.old }
-    ensures front { front.new.items ≡ take index (front.old.items ++ reverse back.old.items) }
-    ensures back { back.new.items ≡ reverse (drop index (front.old.items ++ reverse back.old.items)) }
-    ensures front_room { vec_capacity front.new ≡ vec_capacity front.old }
-    ensures back_room { vec_capacity back.new ≡ vec_capacity back.old }
+/// So many of the first items go behind those of a vector, which has room for them.
+fn take_first<T>(ring: &mut VecDeque<T>, count: usize, to: &mut Vec<T>)
+    requires there { count ≤ deque_len ring.old }
+    requires room { vec_len to.old + count ≤ vec_capacity to.old }
+    ensures ring { ring.new.items ≡ drop count ring.old.items }
+    ensures to { to.new.items ≡ to.old.items ++ take count ring.old.items }
+    ensures length { deque_len ring.new + count ≡ deque_len ring.old }
+    ensures ring_room { deque_capacity ring.new ≡ deque_capacity ring.old }
+    ensures to_room { vec_capacity to.new ≡ vec_capacity to.old }
 {
-    let before = front.len();
-    if index <= before {
-        turn_over(front, back, index);
-    } else {
-        let left = back.len() - (index - before);
-        turn_over(back, front, left);
+    let mut left = count;
+    while 0 < left {
+        let Some(item) = ring.pop_front() else {
+            unreachable!()
+        };
+        to.push_reserved(item);
+        left -= 1;
     }
 }
 
-/// The items behind so many go to another list, the last first. It has room for them.
-fn turn_over<T>(from: &mut Vec<T>, to: &mut Vec<T>, left: usize)
-    requires there { left ≤ vec_len from.old }
-    requires room { vec_len to.old + (vec_len from.old - left) ≤ vec_capacity to.old }
-    ensures from { from.new.items ≡ take left from.old.items }
-    ensures to { to.new.items ≡ to.old.items ++ reverse (drop left from.old.items) }
-    ensures from_room { vec_capacity from.new ≡ vec_capacity from.old }
-    ensures to_room { vec_capacity to.new ≡ vec_capacity to.old }
+/// The items to put come last.
+fn put_last<T>(ring: &mut VecDeque<T>, put: &mut Vec<T>)
+    requires { deque_len ring.old + vec_len put.old ≤ deque_capacity ring.old }
+    ensures ring { ring.new.items ≡ ring.old.items ++ put.old.items }
+    ensures put { put.new.items ≡ [] }
+    ensures length { deque_len ring.new ≡ deque_len ring.old + vec_len put.old }
+    ensures ring_room { deque_capacity ring.new ≡ deque_capacity ring.old }
+    ensures put_room { vec_capacity put.new ≡ vec_capacity put.old }
 {
-    while left < from.len() {
-        to.push_reserved(from.take_last());
+    put.reverse();
+    while !put.is_empty() {
+        ring.push_back_reserved(put.take_last());
+    }
+}
+
+/// So many of the first items go behind those of another ring, which has room for them.
+fn pass_on<T>(ring: &mut VecDeque<T>, to: &mut VecDeque<T>, count: usize)
+    requires there { count ≤ deque_len ring.old }
+    requires room { deque_len to.old + count ≤ deque_capacity to.old }
+    ensures ring { ring.new.items ≡ drop count ring.old.items }
+    ensures to { to.new.items ≡ to.old.items ++ take count ring.old.items }
+    ensures length { deque_len ring.new + count ≡ deque_len ring.old }
+    ensures to_length { deque_len to.new ≡ deque_len to.old + count }
+    ensures ring_room { deque_capacity ring.new ≡ deque_capacity ring.old }
+    ensures to_room { deque_capacity to.new ≡ deque_capacity to.old }
+{
+    let mut left = count;
+    while 0 < left {
+        let Some(item) = ring.pop_front() else {
+            unreachable!()
+        };
+        to.push_back_reserved(item);
+        left -= 1;
+    }
+}
+
+/// So many of the first items of either ring go behind those of the other.
+fn trade<T>(ring: &mut VecDeque<T>, other: &mut VecDeque<T>, count: usize)
+    requires there { count ≤ deque_len ring.old }
+    requires here { count ≤ deque_len other.old }
+    requires room { deque_len ring.old ≤ deque_capacity ring.old }
+    requires other_room { deque_len other.old ≤ deque_capacity other.old }
+    ensures ring { ring.new.items ≡ drop count ring.old.items ++ take count other.old.items }
+    ensures other { other.new.items ≡ drop count other.old.items ++ take count ring.old.items }
+    ensures length { deque_len ring.new ≡ deque_len ring.old }
+    ensures other_length { deque_len other.new ≡ deque_len other.old }
+    ensures ring_room { deque_capacity ring.new ≡ deque_capacity ring.old }
+    ensures other_room { deque_capacity other.new ≡ deque_capacity other.old }
+{
+    let mut left = count;
+    while 0 < left {
+        let Some(item) = ring.pop_front() else {
+            unreachable!()
+        };
+        let Some(new) = other.pop_front() else {
+            unreachable!()
+        };
+        ring.push_back_reserved(new);
+        other.push_back_reserved(item);
+        left -= 1;
     }
 }

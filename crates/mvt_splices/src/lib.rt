@@ -1,6 +1,6 @@
 //! Many splices of one list, carried out in one pass.
 //!
-//! - A list that is open at a gap has what it had (`Gap::open`, which needs memory), exchanges a
+//! - A list that is open at a gap has what it had (`Gap::open`), exchanges a
 //!   part as the definition says (`Gap::exchange`), and is closed as what it is then
 //!   (`Gap::close`).
 //! - Steps on one list, each on what the ones before it made, are carried out (`items`), and each

@@ -1,11 +1,12 @@
-use Rattle.std.proofs.Common.{◌∙◌, arith}
-use Rattle.mvt_splices.proofs.Gaps.{on_front, on_back}
+use Rattle.std.proofs.Common.{◌++◌, take, drop, ap, ◌∙◌, arith}
+use Rattle.mvt_splices.proofs.Gaps.{turned_back, turned_on}
 use Rattle.mvt_splices.proofs.gap.move_gap.Goals as goal
+use Rattle.mvt_splices.proofs.gap.move_gap.Goals.{then-index-before, else-index-before}
 
-pub returns-else-index-before-clause-front : goal.returns-else-index-before-clause-front
-returns-else-index-before-clause-front g c =
-    c.turn_over-else-index-before.ensures.to ∙ on_front c.args.index _ c.args.front.now.items c.args.back.now.items (omega arith) (omega arith) (omega arith)
-
-pub returns-else-index-before-clause-back : goal.returns-else-index-before-clause-back
-returns-else-index-before-clause-back g c =
-    c.turn_over-else-index-before.ensures.from ∙ on_back c.args.index _ c.args.front.now.items c.args.back.now.items (omega arith) (omega arith) (omega arith)
+pub returns-clause-items : goal.returns-clause-items
+returns-clause-items g c =
+    let ring = c.args.ring.now.items in
+    c.rotate_left.ensures.items ∙ elim c.if-index-before.branch [
+      | then-index-before w ↦ ap (λ n. drop n ring ++ take n ring) w.count-is ∙ turned_back c.args.behind c.args.index ring (omega arith)
+      | else-index-before w ↦ ap (λ n. drop n ring ++ take n ring) w.count-is ∙ turned_on c.args.behind _ c.args.index ring (omega arith) (omega arith) (omega arith)
+    ]
