@@ -31,6 +31,9 @@ const FIRST_FIELDS: usize = 4;
 /// features, keys and values.
 pub(crate) const FIRST_ITEMS: usize = 8;
 
+/// A list of so many items is long.
+const LONG_LIST: usize = 1024;
+
 /// Why an item of a message could not be made.
 #[derive(Debug, Drop)]
 pub(crate) enum Fault {
@@ -95,7 +98,17 @@ pub(crate) fn decode_all<T: Decode>(
         }
         place += length;
     }
+    give_back(&mut items);
     Ok(items)
+}
+
+/// Gives the room of a long list back that is left, so that splices of it stay in the memory that its items fill.
+fn give_back<T>(items: &mut Vec<T>)
+    ensures { items.new.items ≡ items.old.items }
+{
+    if items.len() >= LONG_LIST {
+        items.shrink_to_fit();
+    }
 }
 
 /// The items of a message inside an item.
