@@ -7,5 +7,4 @@ pub mod EachLayer
 pub mod StepsPassed
 pub mod Unreadable
 pub mod Deciding
-pub mod Apart
 pub mod NamedKeys
