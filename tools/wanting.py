@@ -8,10 +8,14 @@ from walks import State, plain_walk, replies_of, walk
 # Each line is answered as if no growth were refused: a list that asks for room ahead can do without it.
 PLAIN = "plain"
 
-# What a refused growth does to a script: a line is refused or stops, or the run ends and writes no tile.
+# What a refused growth does to a script: a line is refused, or the run ends and writes no tile. Of a line that goes back or
+# on over steps this is said by itself.
 LINE = "line"
-STOPPED = "stopped"
+GOING_BACK = "going back"
 RUN = "run"
+
+# The lines that go over steps and have no other words, for which memory could be wanted.
+OVER_STEPS = ["undo", "redo", "cancel"]
 
 
 @dataclass
@@ -42,11 +46,13 @@ def judged_script(told):
         raise Wrong(f"more than one line wants memory: {told.replies}")
     if not odd:
         return PLAIN
-    return LINE if odd[0].taken is None else stopped(odd[0].taken)
+    return GOING_BACK if goes_over_steps(told, odd[0]) else LINE
 
 
-def stopped(taken):
-    return f"{STOPPED} {taken}"
+def goes_over_steps(told, answer):
+    """Returns whether memory was refused for a step: to a line that has no other words, or to one that was stopped on its way."""
+    line = int(answer.reply.split()[1])
+    return answer.taken is not None or told.script[line - 1].strip() in OVER_STEPS
 
 
 @cache

@@ -141,7 +141,7 @@ redo
 cancel
 ";
 
-/// Each step takes memory to be taken back.
+/// What each step took is put back.
 pub const BACK_OVER_STEPS: &str = "\
 mark \"m\"
 begin
@@ -161,7 +161,7 @@ back \"m\"
 history
 ";
 
-/// Each step takes memory to stand again.
+/// What each step takes is taken again.
 pub const ON_OVER_STEPS: &str = "\
 keep \"a\" \"c\" \"e\" \"g\"
 begin
@@ -175,7 +175,7 @@ back \"m\"
 history
 ";
 
-/// Each command of the open step takes memory to be taken back.
+/// What each command of the open step took is put back.
 pub const CANCELLED_KEEPS: &str = "\
 begin
 keep \"a\" \"c\" \"e\" \"g\"
