@@ -86,6 +86,8 @@ def script_of(lines, tile):
 
 
 def run_once(program, tile, script, seconds):
+    # to empty the file of the run before would take a third of the time of a large tile: what is still to go to the disk is waited for
+    program.out.unlink(missing_ok=True)
     words = [BUILD / "measure", seconds, script, program.replies, *program.command(tile.path)]
     result = subprocess.run([str(word) for word in words], capture_output=True, text=True, check=True)
     nanoseconds, kibibytes, status = map(int, result.stdout.split())

@@ -24,6 +24,7 @@ def phased(program, tile, lines):
 
 def phases_of(program, tile, script):
     """What each phase of one run took: milliseconds of the clock, of the program and of the system, and page faults."""
+    program.out.unlink(missing_ok=True)
     surroundings = {**os.environ, "LD_PRELOAD": str(BUILD / "phases.so"), "PHASES": str(NOTES)}
     with open(script, "rb") as given, open(program.replies, "wb") as replies:
         start = time.monotonic_ns()
