@@ -5,6 +5,7 @@ VERSION := $(shell sed -n 's/^const VERSION: &str = "\(.*\)";/\1/p' crates/tile_
 RELEASE := tileshell-$(VERSION)-$(shell uname -sm | tr 'A-Z ' 'a-z-')
 
 .PHONY: all help quick crate rows pages fuzz check bench bench-hostile compare install uninstall deb tar clean toolchain
+.PHONY: check-random-runs check-types check-refused-growths check-failing-calls
 
 ## make              proves the program, and leaves it as build/tileshell
 all: toolchain
@@ -51,14 +52,22 @@ fuzz:
 check: toolchain
 	tools/lint
 	tools/pages --check
-	tools/wrong-bodies --self-test
 	tools/wrong-bodies --with-proofs
 	mkdir -p build
 	cp crates/tileshell_program/out/tileshell_program build/tileshell
 	tools/transcripts
+	$(MAKE) --jobs --output-sync=target check-random-runs check-types check-refused-growths check-failing-calls
+
+check-random-runs:
 	python3 tools/fuzz --seconds 60
+
+check-types:
 	tools/types
+
+check-refused-growths:
 	tools/refused-growths
+
+check-failing-calls:
 	tools/failing-calls --self-test
 	tools/failing-calls
 
