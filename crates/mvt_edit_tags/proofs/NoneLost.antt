@@ -1,12 +1,18 @@
 -- A feature that loses no pair has no steps.
-use Rattle.std.proofs.Common.{◌≡◌, ℕ, Bool, false, Option, Some, None, List, [], ◌∷◌, map, option_map, refl, sym, ap, ◌∙◌, inl, inr, arith}
+use Rattle.std.proofs.Common.{Result, Ok, Err, ◌≡◌, ℕ, zero, suc, Bool, false, Option, Some, None, List, [], ◌∷◌, ◌++◌, map, option_map, slice_get, refl, sym, ap, ◌∙◌, inl, inr, arith}
 use Rattle.std.proofs.lemmas.Bool.{cases_Bool}
-use Rattle.mvt_document.specs.Plain.{Feature, LayerItem}
+use Rattle.std.specs.Prelude.{IfOk}
+use Rattle.std.specs.List.{flat_map, list_any}
+use Rattle.std.specs.Option.{option_map_or}
+use Rattle.std.specs.Str.{bytes_eq}
+use Rattle.mvt_document.specs.Plain.{Feature, Layer, LayerItem}
+use Rattle.mvt_messages.specs.Found.{found_features}
+use Rattle.mvt_messages.specs.Views.{keys}
 use Rattle.mvt_meaning.specs.Ordinals.{count}
-use Rattle.mvt_meaning.specs.Tagging.{removals, without_pairs}
+use Rattle.mvt_meaning.specs.Tagging.{is_key_at, pairs_among, removals, without_pairs}
 use Rattle.mvt_meaning.proofs.Removals.{none_new}
 use Rattle.mvt_fates.specs.Decided.{is_any_gone}
-use Rattle.mvt_edit_pairs.specs.EachFeature.{feature_steps}
+use Rattle.mvt_edit_pairs.specs.EachFeature.{feature_steps, layer_steps}
 use Rattle.mvt_fates.proofs.Carrying.{in_feature_at}
 use Rattle.mvt_edit_pairs.proofs.StepsPassed.{no_splices}
 use Rattle.mvt_edit_tags.specs.EachFeature.{pairs_go}
@@ -31,3 +37,42 @@ none_counted goes (Some pairs) decisions n decided counted none =
     let same : without_pairs goes pairs ≡ decisions = cc in
     let few : count (λ pair. goes pair.0) pairs ≡ n = cc in
     ap is_any_gone (sym same) ∙ none_goes goes pairs (few ∙ none)
+
+-- ---- a layer of whose keys none is these bytes
+
+none_at : (key : List ℕ) (keys : List (List ℕ)) → list_any (λ is. is) (map (bytes_eq key) keys) ≡ false → (ordinal : ℕ) → option_map_or (bytes_eq key) (slice_get keys ordinal) false ≡ false
+none_at key [] none zero = refl
+none_at key [] none (suc ordinal) = refl
+none_at key (first ∷ keys) none zero =
+    elim (cases_Bool (bytes_eq key first)) [
+      | inl is ↦ absurd (let some = rw is at none in cc)
+      | inr other ↦ other
+    ]
+none_at key (first ∷ keys) none (suc ordinal) =
+    elim (cases_Bool (bytes_eq key first)) [
+      | inl is ↦ absurd (let some = rw is at none in cc)
+      | inr other ↦ (let rest = rw other at none in none_at key keys rest ordinal)
+    ]
+
+none_without : (goes : ℕ → Bool) → ((ordinal : ℕ) → goes ordinal ≡ false) → (pairs : List (ℕ × ℕ)) → is_any_gone (without_pairs goes pairs) ≡ false
+none_without goes none [] = refl
+none_without goes none (pair ∷ pairs) = let stays = none pair.0 in rw stays (none_without goes none pairs)
+
+none_removed : (goes : ℕ → Bool) → ((ordinal : ℕ) → goes ordinal ≡ false) → (found : Option (List (ℕ × ℕ))) → is_any_gone (option_map_or (without_pairs goes) found []) ≡ false
+none_removed goes none None = refl
+none_removed goes none (Some pairs) = none_without goes none pairs
+
+none_in : (key : List ℕ) (layer : Layer) (position : ℕ) → list_any (λ is. is) (map (bytes_eq key) (keys layer)) ≡ false → (found : List (ℕ × (ℕ × Feature))) → flat_map (feature_steps (pairs_go key layer.items) position) found ≡ []
+none_in key layer position none [] = refl
+none_in key layer position none (first ∷ found) =
+    ap (λ steps. steps ++ flat_map (feature_steps (pairs_go key layer.items) position) found) (no_steps key layer.items position first (none_removed (is_key_at layer.items key) (none_at key (keys layer) none) (pairs_among layer.items first.1.1.fields)))
+    ∙ none_in key layer position none found
+
+-- .. of which no feature has steps
+pub none_named : (key : List ℕ) (at : ℕ × (ℕ × Layer)) → list_any (λ is. is) (map (bytes_eq key) (keys at.1.1)) ≡ false → layer_steps (pairs_go key) at ≡ []
+none_named key at none = none_in key at.1.1 at.1.0 none (found_features at.1.1.items)
+
+-- what holds holds of each value
+pub of_any : {T E P : Type 0} → P → (r : Result T E) → IfOk r (λ value. P)
+of_any holds (Ok value) = holds
+of_any holds (Err error) = tt

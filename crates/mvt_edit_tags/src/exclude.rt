@@ -1,23 +1,27 @@
 //! The attributes of one key go.
 
-ghost use Rattle.std.specs.Prelude.{◌≡◌, ◌⊎◌, ◌++◌, [], ◌∷◌, Err, IfErr, IfOk, map};
-ghost use Rattle.mvt_document.specs.Stands.{document_of};
+ghost use Rattle.std.specs.Prelude.{◌≡◌, ◌⊎◌, ◌++◌, [], ◌∷◌, is_some, length, Err, IfErr, IfOk, map};
+ghost use Rattle.mvt_document.specs.Stands.{document_of, layer_of};
+ghost use Rattle.mvt_numbers.specs.Numbers.{numbers};
 ghost use Rattle.mvt_change.specs.ChangeStands.{step_of};
 ghost use Rattle.mvt_command.specs.Command.{Exclude};
 ghost use Rattle.mvt_command.specs.CommandStands.{layers_choice_of};
 ghost use Rattle.mvt_meaning.specs.Meaning.{refuse_first};
 ghost use Rattle.mvt_meaning.specs.Tagging.{unreadable};
 ghost use Rattle.mvt_meaning.specs.declared.refusal.Refusal.TheVariants.{NoMemory};
-ghost use Rattle.mvt_layers.specs.Seen.{found_layer_seen};
+ghost use Rattle.mvt_layers.specs.Seen.{feature_seen, found_layer_seen};
+ghost use Rattle.mvt_messages.specs.Tags.{plain_pairs, tag_pairs};
+ghost use Rattle.mvt_messages.specs.Views.{keys, values};
 ghost use Rattle.mvt_edit_steps.specs.Prepared.{Prepares};
 ghost use Rattle.mvt_edit_pairs.specs.EachFeature.{layer_steps};
 ghost use Rattle.mvt_edit_tags.specs.EachFeature.{pairs_go};
 
+use crate::unset::is_any;
 use mvt_change::{Change, Step};
 use mvt_document::tags::TAGS;
 use mvt_document::{Document, Items};
 use mvt_edit_pairs::{decide_or_refuse, name_keys, renumber_feature};
-use mvt_layers::PoolSizes;
+use mvt_layers::{FeatureView, PoolSizes};
 use mvt_select::{FoundLayer, LayersChoice, Refusal, find_layers};
 use std::alloc::Global;
 
@@ -63,6 +67,9 @@ fn exclude_from(
         keys: named.len(),
         values: layer.value_count(),
     };
+    if !is_any(named.as_slice()) {
+        return see_layer(found, sizes);
+    }
     for feature in layer.features() {
         let lost = decide_or_refuse(
             found.ordinal,
@@ -85,4 +92,34 @@ fn exclude_from(
         }
     }
     Ok(())
+}
+
+/// Refuses the first feature of the layer whose tags make no pairs.
+fn see_layer(found: FoundLayer<'_>, sizes: PoolSizes) -> Result<(), Refusal>
+    requires keys { sizes.keys ≡ length (keys (layer_of found.layer.now)) }
+    requires values { sizes.values ≡ length (values (layer_of found.layer.now)) }
+    ensures readable { IfOk result (λ done. unreadable (found_layer_seen found.entry ∷ []) ≡ []) }
+    ensures refused { IfErr result (λ refusal. refuse_first (unreadable (found_layer_seen found.entry ∷ [])) ≡ Err refusal) }
+{
+    for feature in found.view().features() {
+        if !makes_pairs(feature.view(), sizes) {
+            return Err(Refusal::BadTags {
+                layer: found.ordinal,
+                feature: feature.ordinal,
+            });
+        }
+    }
+    Ok(())
+}
+
+/// Whether the tags of the feature make pairs.
+fn makes_pairs(feature: FeatureView<'_>, sizes: PoolSizes) -> bool
+    ensures { result ≡ is_some (plain_pairs (tag_pairs sizes.keys sizes.values (numbers 2 (feature_seen feature.entry).fields))) }
+{
+    for tags in feature.tag_pairs(sizes) {
+        if tags.is_err() {
+            return false;
+        }
+    }
+    true
 }

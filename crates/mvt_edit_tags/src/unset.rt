@@ -56,7 +56,7 @@ pub fn unset(
 }
 
 /// Some key is named.
-fn is_any(named: &[bool]) -> bool
+pub(crate) fn is_any(named: &[bool]) -> bool
     ensures { result ≡ list_any (λ is. is) named.now }
 {
     named.iter().any(|is| *is)

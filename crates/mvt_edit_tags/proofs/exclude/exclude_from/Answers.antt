@@ -1,13 +1,13 @@
-use Rattle.std.proofs.Common.{◌≡◌, ◌++◌, inl, inr, false, length, map, slice_get, sym, ap, ◌∙◌, arith}
+use Rattle.std.proofs.Common.{◌≡◌, ◌++◌, append-nil, inl, inr, false, length, map, slice_get, sym, ap, ◌∙◌, arith}
 use Rattle.std.proofs.lemmas.List.{length-map}
 use Rattle.std.proofs.lemmas.Result.{err_from_is_err_and}
-use Rattle.std.specs.List.{flat_map}
+use Rattle.std.specs.List.{flat_map, list_any}
 use Rattle.std.specs.Option.{unwrap_or}
 use Rattle.std.specs.Str.{bytes_eq}
 use Rattle.mvt_document.specs.Stands.{layer_of}
 use Rattle.mvt_change.specs.ChangeStands.{step_of}
 use Rattle.mvt_numbers.specs.Numbers.{numbers}
-use Rattle.mvt_layers.specs.Seen.{found_feature_seen, layer_seen}
+use Rattle.mvt_layers.specs.Seen.{found_feature_seen, found_layer_seen, layer_seen}
 use Rattle.mvt_messages.specs.Tags.{plain_pairs, tag_pairs}
 use Rattle.mvt_messages.specs.Views.{keys, values}
 use Rattle.mvt_fates.specs.Decided.{field_fates, is_any_gone}
@@ -16,7 +16,7 @@ use Rattle.mvt_edit_tags.specs.EachFeature.{pairs_go}
 use Rattle.mvt_edit_pairs.proofs.Deciding.{no_pairs}
 use Rattle.mvt_edit_tags.proofs.Deciding.{on_pairs}
 use Rattle.mvt_edit_pairs.proofs.StepsPassed.{none_more, steps_more}
-use Rattle.mvt_edit_tags.proofs.NoneLost.{no_steps, none_counted}
+use Rattle.mvt_edit_tags.proofs.NoneLost.{no_steps, none_counted, none_named, of_any}
 use Rattle.mvt_edit_pairs.proofs.Unreadable.{bad_among, feature_refused, readable_more, unreadable_in}
 use Rattle.mvt_edit_tags.proofs.exclude.exclude_from.Goals as goal
 
@@ -45,7 +45,7 @@ loop-feature-preserved-in_ok-renumber_feature c =
     let value_count = c.value_count.ensures ∙ ap (λ seen. length (values seen)) c.view-layer.ensures in
     let steps = feature_steps (pairs_go key layer.items) c.args.found.position in
     let front = map step_of c.loop-feature.steps.items in
-    let on = on_pairs key layer found.1.1 c.len.result c.value_count.result _ _ (c.as_slice.ensures.value ∙ c.in_ok-name_keys.ensures ∙ ap (λ seen. map (bytes_eq key) (keys seen)) c.view-layer.ensures)
+    let on = on_pairs key layer found.1.1 c.len.result c.value_count.result _ _ (c.as_slice-in-loop-feature.ensures.value ∙ c.in_ok-name_keys.ensures ∙ ap (λ seen. map (bytes_eq key) (keys seen)) c.view-layer.ensures)
     key_count value_count c.in_ok-lost.ensures.decided in
     record {
       steps = steps_more steps front _ _ found c.next.new.self
@@ -63,9 +63,9 @@ loop-feature-preserved c =
     let value_count = c.value_count.ensures ∙ ap (λ seen. length (values seen)) c.view-layer.ensures in
     let steps = feature_steps (pairs_go key layer.items) c.args.found.position in
     let front = map step_of c.loop-feature.steps.items in
-    let on = on_pairs key layer found.1.1 c.len.result c.value_count.result _ _ (c.as_slice.ensures.value ∙ c.in_ok-name_keys.ensures ∙ ap (λ seen. map (bytes_eq key) (keys seen)) c.view-layer.ensures)
+    let on = on_pairs key layer found.1.1 c.len.result c.value_count.result _ _ (c.as_slice-in-loop-feature.ensures.value ∙ c.in_ok-name_keys.ensures ∙ ap (λ seen. map (bytes_eq key) (keys seen)) c.view-layer.ensures)
     key_count value_count c.in_ok-lost.ensures.decided in
-    let none = ap is_any_gone (sym on.decided) ∙ none_counted (λ key. unwrap_or (slice_get c.as_slice.result.now key) false) (plain_pairs (tag_pairs c.len.result c.value_count.result (numbers 2 found.1.1.fields))) _ _ c.in_ok-lost.ensures.decided c.in_ok-lost.ensures.counted (omega (arith, c.if-lost-gt0.false)) in
+    let none = ap is_any_gone (sym on.decided) ∙ none_counted (λ key. unwrap_or (slice_get c.as_slice-in-loop-feature.result.now key) false) (plain_pairs (tag_pairs c.len.result c.value_count.result (numbers 2 found.1.1.fields))) _ _ c.in_ok-lost.ensures.decided c.in_ok-lost.ensures.counted (omega (arith, c.if-lost-gt0.false)) in
     record {
       steps = steps_more steps front _ _ found c.next.new.self
           (none_more steps front found (no_steps key layer.items c.args.found.position found none))
@@ -77,3 +77,12 @@ pub returns-clause-readable : goal.returns-clause-readable
 returns-clause-readable c =
     let layer = layer_of c.args.found.layer.now in
     unreadable_in c.args.found.ordinal c.args.found.position layer ∙ sym c.loop-feature.invariant.readable ∙ ap (bad_among layer c.args.found.ordinal) c.in-None.ensures.steps.0
+
+pub returns-then-not-is_any-clause-steps : goal.returns-then-not-is_any-clause-steps
+returns-then-not-is_any-clause-steps c =
+    let key = c.args.key.now in
+    let layer = layer_of c.args.found.layer.now in
+    let named = c.as_slice.ensures.value ∙ c.in_ok-name_keys.ensures ∙ ap (λ seen. map (bytes_eq key) (keys seen)) c.view-layer.ensures in
+    let none : list_any (λ is. is) (map (bytes_eq key) (keys layer)) ≡ false = ap (list_any (λ is. is)) (sym named) ∙ sym c.is_any.ensures ∙ c.if-not-is_any.true in
+    let all = sym (append-nil (map step_of c.args.steps.now.items)) ∙ ap (λ steps. map step_of c.args.steps.now.items ++ steps) (sym (none_named key (found_layer_seen c.args.found) none)) in
+    of_any all c.see_layer.result
