@@ -104,5 +104,7 @@ def path_of(file):
 def functions_of(folder):
     """Returns the functions of the crate in the folder."""
     texts = {path.relative_to(folder): path.read_text() for path in sorted(Path(folder, "src").rglob("*.rt"))}
-    homes = {name: path_of(file) for file, text in texts.items() for name in TYPE.findall(text)}
-    return [it for file, text in texts.items() for it in functions_in(text, str(file), path_of(file), homes)]
+    homes = {file: {name: path_of(file) for name in TYPE.findall(text)} for file, text in texts.items()}
+    all_homes = {name: path for of in homes.values() for name, path in of.items()}
+    # two files may have types of one name: a method is mostly of the one in its own
+    return [it for file, text in texts.items() for it in functions_in(text, str(file), path_of(file), all_homes | homes[file])]

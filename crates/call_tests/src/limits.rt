@@ -8,7 +8,7 @@ use crate::broken::{Answer, Broken};
 use crate::given::Given;
 use mvt_history::{Session, StartError};
 use mvt_wire::{
-    Body, BodyRef, Document, Field, FieldBody, Items, Tag, TileItem, read_document, size,
+    Body, BodyRef, Document, Field, FieldParts, Items, Tag, TileItem, read_document, size,
     write_document,
 };
 use std::alloc::Global;
@@ -27,8 +27,9 @@ fn tile_and_zeros(alloc: Global, tile: &[u8], count: usize) -> Result<Document, 
     let mut document = read_document(alloc, tile)?;
     let bytes = Items::from_vec(vec![in alloc; 0u8; count]?);
     let tag = Tag::minimal(130);
-    let body = FieldBody::new(Body::Bytes { width: 4, bytes });
-    document.items.push(TileItem::Plain(Field { tag, body }))?;
+    let body = Body::Bytes { width: 4, bytes };
+    let field = Field::new(FieldParts { tag, body });
+    document.items.push(TileItem::Plain(field))?;
     Ok(document)
 }
 
@@ -51,7 +52,7 @@ fn zeros_handed_back(error: &StartError) -> Option<usize> {
         return None;
     };
     match document.items.as_slice() {
-        [TileItem::Layer(_), TileItem::Plain(field)] => match field.body.get() {
+        [TileItem::Layer(_), TileItem::Plain(field)] => match field.body() {
             BodyRef::Bytes { bytes, .. } => Some(bytes.len()),
             _ => None,
         },

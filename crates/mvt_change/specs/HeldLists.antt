@@ -3,7 +3,7 @@ use Rattle.std.specs.Prelude.{Option, Some}
 use Rattle.mvt_document.specs.Held.{Held}
 use Rattle.mvt_document.specs.Stands.{field_of, layer_item_of, tile_item_of}
 use Rattle.mvt_document.specs.HeldPlaces.{held_items_at, held_fields_at, change_held_tile, change_held_items, change_held_fields}
-use Rattle.mvt_document.specs.declared.document.Field.{Field}
+use Rattle.mvt_document.specs.declared.field.FieldParts.{FieldParts as Field}
 use Rattle.mvt_document.specs.declared.document.LayerItem.{LayerItem}
 use Rattle.mvt_document.specs.declared.document.TileItem.{TileItem}
 use Rattle.mvt_document.specs.declared.document.Document.{Document}

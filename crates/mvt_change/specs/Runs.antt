@@ -5,7 +5,7 @@ use Rattle.std.specs.Option.{IsSomeAnd}
 use Rattle.mvt_document.specs.Held.{Held}
 use Rattle.mvt_document.specs.Splicing.{part}
 use Rattle.mvt_splices.specs.Splices.{Splice, turned_all}
-use Rattle.mvt_document.specs.declared.document.Field.{Field}
+use Rattle.mvt_document.specs.declared.field.FieldParts.{FieldParts as Field}
 use Rattle.mvt_document.specs.declared.document.LayerItem.{LayerItem}
 use Rattle.mvt_document.specs.declared.document.TileItem.{TileItem}
 use Rattle.mvt_change.specs.declared.change.Step.{Step}

@@ -116,7 +116,7 @@ fn tile_with_fields(
     ensures { IsFileSize result (length (bytes_of (change_fields (splice index taken (map field_of put.now)) layer item (document_of document.now)))) }
 {
     let holder = layer_at(document, layer);
-    let fields = feature_at(holder, item).fields.as_slice();
+    let fields = feature_at(holder, item).fields();
     let beside = size_beside_part(fields, index, taken, MAX_FILE);
     let items = items_size(holder, item, size_and(beside, put));
     tile_size(document, layer, items)
@@ -149,7 +149,7 @@ fn items_size(layer: &Layer, item: usize, fields: Option<usize>) -> Option<usize
         IsFileSize result (length (flat_map layer_item_bytes (change_at (in_feature change) item (layer_of layer.now).items))) }
 {
     let holder = feature_at(layer, item);
-    let size = message_size(holder.tag.to_tag(), holder.width, fields?, MAX_FILE)?;
+    let size = message_size(holder.tag(), holder.width(), fields?, MAX_FILE)?;
     size_with(&layer.items, item, size)
 }
 

@@ -6,14 +6,15 @@ use mathlib.Core.HLevel.{is_prop→PathP}
 use Rattle.std.specs.Fn.{Once}
 use Rattle.std.specs.Borrow.{MutBor}
 use Rattle.mvt_document.specs.Held.{Held}
-use Rattle.mvt_document.specs.Shape.{IsWidth}
-use Rattle.mvt_document.specs.declared.document.Feature.{Feature}
+use Rattle.mvt_document.specs.Shape.{IsSpelling, IsWidth}
 use Rattle.mvt_document.specs.declared.document.Layer.{Layer}
 use Rattle.mvt_document.specs.declared.document.LayerItem.{LayerItem}
 use Rattle.mvt_document.specs.declared.document.TileItem.{TileItem}
 use Rattle.mvt_document.specs.declared.document.TileItem.TheVariants as in_tile
 use Rattle.mvt_document.specs.declared.document.Document.{Document}
-use Rattle.mvt_document.specs.declared.document.Field.{Field}
+use Rattle.mvt_document.specs.declared.feature.FeatureParts.{FeatureParts as Feature}
+use Rattle.mvt_document.specs.declared.field.FieldParts.{FieldParts as Field}
+use Rattle.mvt_document.specs.declared.varint.Varint.{Varint}
 use Rattle.mvt_document.specs.Lists.{change_at}
 use Rattle.mvt_document.specs.HeldPlaces.{held_items_in, held_items_at, held_fields_in_at, held_fields_at, in_held_layer, in_held_feature, change_held_at, change_held_items, change_held_fields}
 use Rattle.mvt_document.proofs.Options.{some_each}
@@ -28,6 +29,13 @@ same_layer a b tag width items = λ i. record {
   items = items i;
   is_layer = is_prop→PathP (λ j. (tag j).value ≡ 26) (λ j. hlevel props) a.is_layer b.is_layer i;
   is_width = is_prop→PathP (λ j. IsWidth (width j)) (λ j. hlevel props) a.is_width b.is_width i;
+}
+
+pub same_varint : (a b : Varint) → a.value ≡ b.value → a.width ≡ b.width → a ≡ b
+same_varint a b value width = λ i. record {
+  value = value i;
+  width = width i;
+  spelled = is_prop→PathP (λ j. IsSpelling (value j) (width j)) (λ j. hlevel props) a.spelled b.spelled i;
 }
 
 pub same_feature : (a b : Feature) → a.tag ≡ b.tag → a.width ≡ b.width → a.fields ≡ b.fields → a ≡ b

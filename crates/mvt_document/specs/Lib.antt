@@ -7,7 +7,8 @@ pub mod Shape
 pub mod Groups
 pub mod Opens
 pub mod Bodies
-pub mod BodyForms
+pub mod FieldForms
+pub mod FieldStands
 pub mod BodyShape
 pub mod Lending
 pub mod Kept

@@ -1,19 +1,15 @@
 -- Which plain value a value of the program stands for.
 use Rattle.std.specs.Prelude.{map}
 use Rattle.mvt_document.specs.Plain as plain
-use Rattle.mvt_document.specs.Bodies.{number_of, body_of}
-use Rattle.mvt_document.specs.declared.document.Field.{Field}
-use Rattle.mvt_document.specs.declared.document.Feature.{Feature}
+use Rattle.mvt_document.specs.Bodies.{number_of}
+pub use Rattle.mvt_document.specs.FieldStands.{field_of}
+use Rattle.mvt_document.specs.declared.feature.FeatureParts.{FeatureParts as Feature}
 use Rattle.mvt_document.specs.declared.document.LayerItem.{LayerItem}
 use Rattle.mvt_document.specs.declared.document.LayerItem.TheVariants as in_layer
 use Rattle.mvt_document.specs.declared.document.Layer.{Layer}
 use Rattle.mvt_document.specs.declared.document.TileItem.{TileItem}
 use Rattle.mvt_document.specs.declared.document.TileItem.TheVariants as in_tile
 use Rattle.mvt_document.specs.declared.document.Document.{Document}
-
--- the plain field that a field of the program stands for
-abbrev pub field_of : Field → plain.Field
-field_of f = record { tag = number_of f.tag; body = body_of f.body }
 
 -- the plain feature that a feature of the program stands for
 abbrev pub feature_of : Feature → plain.Feature

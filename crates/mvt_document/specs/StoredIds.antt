@@ -1,8 +1,12 @@
--- What the word stands for in which the id of a feature is kept.
-use Rattle.std.specs.Prelude.{ℕ, ◌==◌, if◌then◌else◌, Option, Some, None}
-use Rattle.mvt_document.specs.declared.fields.TheConstants.{NO_ID, UNKNOWN}
-use Rattle.mvt_document.specs.declared.fields.StoredId.{StoredId}
+-- What the number stands for in which the id of a feature is kept.
+use Rattle.std.specs.Prelude.{ℕ, ◌+◌, ◌*◌, ◌==◌, if◌then◌else◌, Option, Some, None}
+use Rattle.mvt_document.specs.declared.feature.TheConstants.{FOUR_BYTES, NO_ID, UNKNOWN}
+use Rattle.mvt_document.specs.declared.feature.StoredId.{StoredId}
+
+-- the number in five bytes
+abbrev pub stored_number : StoredId → ℕ
+stored_number id = id.high * FOUR_BYTES + id.low
 
 -- the id, or that there is none, where that is known
 abbrev pub known_id : StoredId → Option (Option ℕ)
-known_id id = if id.word == UNKNOWN then None else if id.word == NO_ID then Some None else Some (Some id.word)
+known_id id = if stored_number id == UNKNOWN then None else if stored_number id == NO_ID then Some None else Some (Some (stored_number id))

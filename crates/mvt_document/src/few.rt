@@ -4,10 +4,10 @@ ghost use Rattle.std.specs.Prelude.{◌≡◌, ◌<◌, length, MatchOption};
 
 use std::marker::Model;
 
-/// How many bytes are few: as many as leave a body at four words, with its form and its width beside them.
-const MOST: usize = 29;
+/// How many bytes are few: as many as leave a field at four words, with its form, its tag and its width beside them.
+const MOST: usize = 23;
 
-/// At most 29 bytes, with no memory of their own. Contracts see the list of them.
+/// At most 23 bytes, with no memory of their own. Contracts see the list of them.
 #[derive(Debug, Drop)]
 pub(crate) struct Few {
     count: u8,
@@ -21,14 +21,14 @@ impl Model for Few {
 
     ghost view = { λ f. take f.count f.room };
 
-    ghost invariant = { λ f. f.count ≤ 29 };
+    ghost invariant = { λ f. f.count ≤ 23 };
 }
 
 impl Few {
     /// These bytes, where they are few.
     #[inline(always)]
     pub(crate) fn new(bytes: &[u8]) -> Option<Few>
-        ensures { MatchOption result (29 < length bytes.now) (λ few. few ≡ bytes.now) }
+        ensures { MatchOption result (23 < length bytes.now) (λ few. few ≡ bytes.now) }
     {
         let count = bytes.len();
         if count > MOST {

@@ -3,19 +3,20 @@
 
 ghost use Rattle.std.specs.Prelude.{◌≡◌, false};
 ghost use Rattle.mvt_document.specs.Wire.{body_bytes, field_bytes, feature_bytes, layer_item_bytes, layer_bytes, tile_item_bytes};
-ghost use Rattle.mvt_document.specs.Bodies.{body_of};
+ghost use Rattle.mvt_document.specs.Bodies.{body_seen};
 ghost use Rattle.mvt_document.specs.Stands.{field_of, feature_of, layer_item_of, layer_of, tile_item_of};
 ghost use Rattle.mvt_document.specs.Kinds.{in_layer_of_kind, in_tile_of_kind, is_delimited_field};
 
 use crate::body::BodyRef;
-use crate::document::{Feature, Field, Layer, LayerItem, TileItem};
-use crate::field_body::FieldBody;
+use crate::document::{Layer, LayerItem, TileItem};
+use crate::feature::Feature;
+use crate::field::Field;
 use crate::measure::{Measured, delimited_size, message_size, size_of_all, sum_within};
 use crate::run::Kind;
 use crate::tags::{KEYS, NAME, VALUES};
 
-impl Measured for FieldBody {
-    ghost bytes = { λ b. body_bytes (body_of b) };
+impl Measured for BodyRef<'_> {
+    ghost bytes = { λ b. body_bytes (body_seen b) };
 
     ghost of_kind = { λ _ _. false };
 
@@ -24,11 +25,11 @@ impl Measured for FieldBody {
     }
 
     fn size_within(&self, limit: usize) -> Option<usize> {
-        match self.get() {
+        match self {
             BodyRef::Number(number) => number.size_within(limit),
             BodyRef::Eight(bytes) => sum_within(bytes[..].len(), 0, limit),
             BodyRef::Four(bytes) => sum_within(bytes[..].len(), 0, limit),
-            BodyRef::Bytes { width, bytes } => delimited_size(width, bytes.len(), limit),
+            BodyRef::Bytes { width, bytes } => delimited_size(*width, bytes.len(), limit),
             BodyRef::Group(bytes) => sum_within(bytes.len(), 0, limit),
         }
     }
@@ -45,8 +46,8 @@ impl Measured for Field {
 
     fn size_within(&self, limit: usize) -> Option<usize> {
         sum_within(
-            self.tag.to_varint().size_within(limit)?,
-            self.body.size_within(limit)?,
+            self.tag().to_varint().size_within(limit)?,
+            self.body().size_within(limit)?,
             limit,
         )
     }
@@ -63,9 +64,9 @@ impl Measured for Feature {
 
     fn size_within(&self, limit: usize) -> Option<usize> {
         message_size(
-            self.tag.to_tag(),
-            self.width,
-            size_of_all(self.fields.as_slice(), limit)?,
+            self.tag(),
+            self.width(),
+            size_of_all(self.fields(), limit)?,
             limit,
         )
     }
@@ -136,8 +137,8 @@ impl Measured for TileItem {
 fn is_delimited_field(field: &Field, number: u64) -> bool
     ensures { result ≡ is_delimited_field number field.now }
 {
-    match field.body.get() {
-        BodyRef::Bytes { .. } => field.tag.number() == number,
+    match field.body() {
+        BodyRef::Bytes { .. } => field.number() == number,
         _ => false,
     }
 }

@@ -8,12 +8,12 @@
 //!   one ZigZag, and each ZigZag is that of one: `to_zigzag`, `from_zigzag`.
 //! - The tag of a field is a number below 2^32, in half the memory of a number, and gives that number
 //!   back: `Tag`. That of a layer or of a feature is below 2^8, and takes two bytes: `MessageTag`.
-//! - A field holds its body in four words, and up to 29 bytes that were read in these; it gives the body with
-//!   its bytes where they lie, and is made of a body with a list, or with bytes that are copied:
-//!   `FieldBody::get`, `new`, `copied`.
+//! - A field holds its tag and its body in four words, and up to 23 bytes that were read in these; it gives both,
+//!   the body with its bytes where they lie, and is made of a body with a list, or with bytes that are copied:
+//!   `Field::tag`, `body`, `new`, `copied`.
 //! - The value of a VARINT field of a number, and that of the last one in a list, are those of the definitions:
 //!   `value_in`, `last_value`. The id of a feature is kept beside its fields, and is the right one after every
-//!   change, which their type keeps: `Fields::id`.
+//!   change, which their type keeps: `Feature::id`.
 //! - How many bytes a value takes, where a file may have as many, or where they are within any
 //!   limit: `Measured::size` and `size_within`, those of `Message`, and `size_of_all`. So are those
 //!   beside a part of a list (`size_beside_part`), and those of a message with a content of a given
@@ -42,15 +42,16 @@
 //!   `change_fields`); a part and both positions are within the list (`exchange`, `move_item`,
 //!   `size_beside_part`); a size that is given is that of the items (`Message::of_size`,
 //!   `know_size`); a width is at least 1, and the room has as many bytes (`put_number`); a number that
-//!   becomes a tag is below 2^32 (`Tag::new`, `Tag::minimal`), or below 2^8 (`MessageTag::new`).
+//!   becomes a tag is below 2^32 (`Tag::new`, `Tag::minimal`), or below 2^8 (`MessageTag::new`); a tag and a
+//!   body that are copied are those of a field (`Field::copied`).
 #![tactic(auto)]
 
 mod body;
 mod document;
 mod exchange;
+mod feature;
 mod few;
-mod field_body;
-mod fields;
+mod field;
 mod items;
 mod kept;
 pub mod laws;
@@ -67,9 +68,9 @@ mod varint;
 mod zigzag;
 
 pub use body::{Body, BodyRef};
-pub use document::{Document, Feature, Field, Layer, LayerItem, TileItem};
-pub use field_body::FieldBody;
-pub use fields::Fields;
+pub use document::{Document, Layer, LayerItem, TileItem};
+pub use feature::{Feature, FeatureParts};
+pub use field::{Field, FieldParts};
 pub use items::Items;
 pub use measure::{Measured, message_size, size_beside_part, size_of_all, sum_within};
 pub use message::Message;

@@ -5,7 +5,8 @@ ghost use Rattle.std.specs.Option.{IsSomeAnd, option_and_then};
 ghost use Rattle.mvt_document.specs.Made.{MakesThere, TakesList};
 ghost use Rattle.mvt_document.specs.HeldPlaces.{change_held_at, change_held_fields, change_held_items, held_fields_at, held_fields_in, held_fields_in_at, held_items_at, held_items_in, in_held_feature, in_held_layer};
 
-use crate::document::{Document, Field, LayerItem, TileItem};
+use crate::document::{Document, LayerItem, TileItem};
+use crate::field::Field;
 use crate::items::Items;
 use crate::message::Message;
 
@@ -78,7 +79,7 @@ fn change_in_feature<W, R, F: FnOnce(&mut Items<Field>, &mut [W]) -> R>(
     ensures { MakesThere F.FnOnce change (held_fields_in item.old) beside.old result beside.new (λ made. item.new ≡ in_held_feature (λ _. made) item.old) }
 {
     match item {
-        LayerItem::Feature(feature) => feature.fields.change(beside, change),
+        LayerItem::Feature(feature) => feature.change(beside, change),
         LayerItem::Plain(_) => unreachable!(),
     }
 }

@@ -48,6 +48,14 @@ impl Tag {
         Tag::new(Varint::minimal(value))
     }
 
+    /// Its value in 32 bits.
+    #[inline(always)]
+    pub(crate) fn to_u32(self) -> u32
+        ensures { result ≡ self.value }
+    {
+        self.value
+    }
+
     /// The number that the tag is.
     #[inline(always)]
     pub fn to_varint(self) -> Varint

@@ -5,14 +5,14 @@ ghost use Rattle.mvt_document.specs.Stands.{field_of};
 ghost use Rattle.mvt_document.specs.Values.{last_value, value_in};
 
 use crate::body::BodyRef;
-use crate::document::Field;
+use crate::field::Field;
 
 /// The value of a VARINT field of this number.
 pub fn value_in(field: &Field, number: u64) -> Option<u64>
     ensures { result ≡ value_in number (field_of field.now) }
 {
-    match field.body.get() {
-        BodyRef::Number(value) if field.tag.number() == number => Some(value.value),
+    match field.body() {
+        BodyRef::Number(value) if field.number() == number => Some(value.value),
         _ => None,
     }
 }

@@ -12,7 +12,7 @@ ghost use Rattle.mvt_messages.specs.Views.{keys, values};
 ghost use Rattle.mvt_edit_attributes.specs.Attribute.{AreFound, IsSought, entries_for};
 
 use mvt_document::tags::{KEYS, LEN, VALUES};
-use mvt_document::{Body, Field, FieldBody, Items, LayerItem, Tag};
+use mvt_document::{Body, Field, FieldParts, Items, LayerItem, Tag};
 use mvt_edit_pairs::named_keys;
 use mvt_layers::{FoundEntry, LayerView};
 use std::alloc::{AllocError, Global};
@@ -139,8 +139,8 @@ fn entry(tag: u64, bytes: Items<u8>) -> LayerItem
     requires { IsTag tag 2 }
     ensures { layer_item_of result ≡ PlainInLayer (new_content tag bytes.items) }
 {
-    LayerItem::Plain(Field {
+    LayerItem::Plain(Field::new(FieldParts {
         tag: Tag::minimal(tag),
-        body: FieldBody::new(Body::Bytes { width: 1, bytes }),
-    })
+        body: Body::Bytes { width: 1, bytes },
+    }))
 }

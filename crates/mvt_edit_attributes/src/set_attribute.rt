@@ -45,7 +45,7 @@ pub fn set_attribute(
     let ordinals = look_for(holder.view(), key, value.as_slice());
     let run = run_of_tags(alloc, holder, found, key, ordinals)?;
     let entries = missing_entries(alloc, ordinals, key, value)?;
-    let fields = size_with(found.feature.fields.as_slice(), &run);
+    let fields = size_with(found.feature.fields(), &run);
     let behind = size_of_all(entries.as_slice(), MAX_FILE);
     let items = size_with_fields(holder.layer, found.position, fields, behind);
     if !fits_with_items(document, holder.position, items) {
@@ -85,7 +85,7 @@ fn run_of_tags(
         Some(ordinals.value.ordinal),
         &mut decisions,
     )?;
-    let fields = found.feature.fields.as_slice();
+    let fields = found.feature.fields();
     match count {
         0 => Ok(Some(and_pair(alloc, fields, ordinals.key.ordinal, ordinals.value.ordinal)?)),
         1 => Ok(first_renumbered(alloc, fields, decisions.as_slice())?),

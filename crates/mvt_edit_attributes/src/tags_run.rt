@@ -19,7 +19,7 @@ ghost use Rattle.mvt_edit_attributes.specs.Attribute.{PutsPair, fields_with, run
 
 use mvt_document::tags::{LEN, TAGS};
 use mvt_document::{
-    Body, BodyRef, Field, FieldBody, Items, MAX_FILE, Tag, Varint, size_beside_part, size_of_all,
+    Body, BodyRef, Field, FieldParts, Items, MAX_FILE, Tag, Varint, size_beside_part, size_of_all,
     sum_within,
 };
 use mvt_edit_pairs::is_tags;
@@ -66,7 +66,7 @@ fn last_packed(fields: &[Field]) -> Option<usize>
 fn is_packed(field: &Field) -> bool
     ensures { result ≡ is_some (content_in 2 (field_of field.now)) }
 {
-    field.tag.number() == TAGS && matches!(field.body.get(), BodyRef::Bytes { .. })
+    field.number() == TAGS && matches!(field.body(), BodyRef::Bytes { .. })
 }
 
 /// The position of the last tags field.
@@ -95,19 +95,19 @@ fn longer_tags(
     ensures valid { IfOk result (λ field. IsField (field_of field)) }
 {
     if let Some(field) = old {
-        if let BodyRef::Bytes { width, bytes } = field.body.get() {
+        if let BodyRef::Bytes { width, bytes } = field.body() {
             let bytes = and_numbers(alloc, bytes, key, value)?;
-            return Ok(Field {
-                tag: field.tag,
-                body: FieldBody::new(Body::Bytes { width, bytes }),
-            });
+            return Ok(Field::new(FieldParts {
+                tag: field.tag(),
+                body: Body::Bytes { width, bytes },
+            }));
         }
     }
     let bytes = and_numbers(alloc, &[], key, value)?;
-    Ok(Field {
+    Ok(Field::new(FieldParts {
         tag: Tag::minimal(TAGS_TAG),
-        body: FieldBody::new(Body::Bytes { width: 1, bytes }),
-    })
+        body: Body::Bytes { width: 1, bytes },
+    }))
 }
 
 /// The bytes with both numbers behind them, each in its shortest spelling.

@@ -11,7 +11,7 @@ use Rattle.mvt_document.specs.Plain as plain
 use Rattle.mvt_document.specs.Splicing.{splice}
 use Rattle.mvt_document.specs.Stands.{field_of}
 use Rattle.mvt_document.specs.Wire.{field_bytes}
-use Rattle.mvt_document.specs.declared.document.Field.{Field}
+use Rattle.mvt_document.specs.declared.field.FieldParts.{FieldParts as Field}
 use Rattle.mvt_geometry.specs.Integers.{encoded}
 use Rattle.mvt_geometry.specs.Shapes.{Geometry, kind_number}
 use Rattle.mvt_change.specs.FileSizes.{IsFileSize}

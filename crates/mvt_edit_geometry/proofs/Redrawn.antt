@@ -13,7 +13,7 @@ use Rattle.mvt_document.specs.Wire.{field_bytes, minimal_width, spell}
 use Rattle.mvt_document.specs.declared.Body.{Body}
 use Rattle.mvt_document.specs.declared.Body.TheVariants as body
 use Rattle.mvt_document.specs.declared.Varint.{Varint}
-use Rattle.mvt_document.specs.declared.document.Field.{Field}
+use Rattle.mvt_document.specs.declared.field.FieldParts.{FieldParts as Field}
 use Rattle.mvt_document.proofs.Spelling.{minimal_spelling}
 use Rattle.mvt_meaning.specs.Fields.{new_content, new_number, with_field_value}
 use Rattle.mvt_meaning.specs.Geometries.{is_geometry_field, is_kind, with_kind}

@@ -21,7 +21,7 @@ ghost use Rattle.mvt_edit_steps.specs.Prepared.{Prepares};
 use mvt_change::{Change, fits_with_items, size_with_fields};
 use mvt_document::tags::{GEOMETRY, GEOMETRY_TAG, KIND_TAG};
 use mvt_document::{
-    Body, BodyRef, Document, Field, FieldBody, Items, MAX_FILE, Measured, Tag, sum_within,
+    Body, BodyRef, Document, Field, FieldParts, Items, MAX_FILE, Measured, Tag, sum_within,
 };
 use mvt_edit_steps::number_put;
 use mvt_fates::{Run, put_once};
@@ -43,7 +43,7 @@ pub fn set_geometry(
     let holder = find_layer(document, choice)?;
     let found = find_feature(holder.layer, feature)?;
     let drawing = geometry_field(alloc, geometry)?;
-    let fields = found.feature.fields.as_slice();
+    let fields = found.feature.fields();
     let kind = number_put(alloc, fields, KIND_TAG, geometry.kind().number())?;
     let size = size_drawn(fields, &kind, &drawing);
     let items = size_with_fields(holder.layer, found.position, size, Some(0));
@@ -59,13 +59,13 @@ fn geometry_field(alloc: Global, geometry: &Geometry) -> Result<Field, EncodeErr
     ensures in_range { OnOk result (IsInRange geometry.now) }
     ensures out_of_range { IsErrOf result EncodeError.OutOfRange → ¬ IsInRange geometry.now }
 {
-    Ok(Field {
+    Ok(Field::new(FieldParts {
         tag: Tag::minimal(GEOMETRY_TAG),
-        body: FieldBody::new(Body::Bytes {
+        body: Body::Bytes {
             width: 1,
             bytes: encode_geometry(alloc, geometry)?,
-        }),
-    })
+        },
+    }))
 }
 
 /// How many bytes the fields take once the run of the kind is carried out and they have this
@@ -98,8 +98,8 @@ fn and_others(bytes: usize, fields: &[Field]) -> Option<usize>
 fn is_geometry(field: &Field) -> bool
     ensures { result ≡ is_geometry_field (field_of field.now) }
 {
-    field.tag.number() == GEOMETRY
-        && matches!(field.body.get(), BodyRef::Number(_) | BodyRef::Bytes { .. })
+    field.number() == GEOMETRY
+        && matches!(field.body(), BodyRef::Number(_) | BodyRef::Bytes { .. })
 }
 
 /// The change of the run of the kind and, behind it, of this geometry in place of the others, on
@@ -116,7 +116,7 @@ fn steps_of(
         ∷ map (λ s. FeatureStep layer found.entry.position s.index s.taken s.put) (once_splices (map is_geometry_field (feature_of found.entry.feature.now).fields) (field_of drawing) (length (feature_of found.entry.feature.now).fields - kind.take + 1))) }
 {
     let item = found.position;
-    let fields = found.feature.fields.as_slice();
+    let fields = found.feature.fields();
     let end = fields.len() - kind.take + 1;
     let mut steps = Vec::new(alloc);
     steps.push(kind.in_feature(layer, item))?;

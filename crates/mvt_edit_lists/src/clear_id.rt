@@ -29,7 +29,7 @@ pub fn clear_id(
     let mut steps = Vec::new(alloc);
     carry_out(
         alloc,
-        found.feature.fields.as_slice(),
+        found.feature.fields(),
         |field| Ok(goes_if(is_id(field))),
         |run| run.in_feature(layer, item),
         &mut steps,
@@ -42,5 +42,5 @@ pub fn clear_id(
 fn is_id(field: &Field) -> bool
     ensures { result ≡ is_id (field_of field.now) }
 {
-    field.tag.number() == ID && matches!(field.body.get(), BodyRef::Number(_))
+    field.number() == ID && matches!(field.body(), BodyRef::Number(_))
 }

@@ -15,7 +15,8 @@ ghost use Rattle.mvt_edit_steps.specs.Prepared.{Prepares};
 use mvt_change::{Change, Step};
 use mvt_document::tags::{FEATURE_TAG, GEOMETRY_TAG, KIND_TAG};
 use mvt_document::{
-    Body, Document, Feature, Field, FieldBody, Fields, Items, LayerItem, MessageTag, Tag, Varint,
+    Body, Document, Feature, FeatureParts, Field, FieldParts, Items, LayerItem, MessageTag, Tag,
+    Varint,
 };
 use mvt_edit_steps::{one_item, one_step_within_limit};
 use mvt_geometry::{EncodeError, Geometry, Kind, encode_geometry};
@@ -81,25 +82,25 @@ fn new_feature(alloc: Global, geometry: &Geometry) -> Result<LayerItem, EncodeEr
     ensures out_of_range { IsErrOf result EncodeError.OutOfRange → ¬ IsInRange geometry.now }
 {
     let bytes = encode_geometry(alloc, geometry)?;
-    Ok(LayerItem::Feature(Feature {
+    Ok(LayerItem::Feature(Feature::new(FeatureParts {
         tag: MessageTag::new(Varint::minimal(FEATURE_TAG)),
         width: 1,
         fields: fields_of(alloc, geometry.kind(), bytes)?,
-    }))
+    })))
 }
 
 /// The fields of a feature of this kind, whose geometry has these bytes.
-fn fields_of(alloc: Global, kind: Kind, bytes: Items<u8>) -> Result<Fields, AllocError>
+fn fields_of(alloc: Global, kind: Kind, bytes: Items<u8>) -> Result<Items<Field>, AllocError>
     ensures { IfOk result (λ fields. map field_of fields.items
         ≡ new_number 24 (kind_number kind) ∷ new_content 34 bytes.items ∷ []) }
 {
-    let kind = Field {
+    let kind = Field::new(FieldParts {
         tag: Tag::minimal(KIND_TAG),
-        body: FieldBody::new(Body::Number(Varint::minimal(kind.number()))),
-    };
-    let geometry = Field {
+        body: Body::Number(Varint::minimal(kind.number())),
+    });
+    let geometry = Field::new(FieldParts {
         tag: Tag::minimal(GEOMETRY_TAG),
-        body: FieldBody::new(Body::Bytes { width: 1, bytes }),
-    };
-    Ok(Fields::from_vec(vec![in alloc; kind, geometry]?))
+        body: Body::Bytes { width: 1, bytes },
+    });
+    Ok(Items::from_vec(vec![in alloc; kind, geometry]?))
 }

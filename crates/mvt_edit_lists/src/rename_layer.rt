@@ -17,7 +17,7 @@ ghost use Rattle.mvt_edit_steps.specs.PutsLast.{PutsLast};
 
 use mvt_change::{Change, Step};
 use mvt_document::tags::NAME_TAG;
-use mvt_document::{Body, BodyRef, Document, Field, FieldBody, Items, Layer, LayerItem, Tag};
+use mvt_document::{Body, BodyRef, Document, Field, FieldParts, Items, Layer, LayerItem, Tag};
 use mvt_edit_steps::{Spot, one_item, one_step_within_limit};
 use mvt_select::{FoundLayer, LayerChoice, Refusal, find_and_taken, last_name};
 use std::alloc::{AllocError, Global};
@@ -79,15 +79,15 @@ fn name_item(alloc: Global, old: Option<&LayerItem>, name: &[u8]) -> Result<Laye
 {
     let bytes = Items::from_vec(Vec::from_slice(alloc, name)?);
     if let Some(LayerItem::Plain(field)) = old {
-        if let BodyRef::Bytes { width, .. } = field.body.get() {
-            return Ok(LayerItem::Plain(Field {
-                tag: field.tag,
-                body: FieldBody::new(Body::Bytes { width, bytes }),
-            }));
+        if let BodyRef::Bytes { width, .. } = field.body() {
+            return Ok(LayerItem::Plain(Field::new(FieldParts {
+                tag: field.tag(),
+                body: Body::Bytes { width, bytes },
+            })));
         }
     }
-    Ok(LayerItem::Plain(Field {
+    Ok(LayerItem::Plain(Field::new(FieldParts {
         tag: Tag::minimal(NAME_TAG),
-        body: FieldBody::new(Body::Bytes { width: 1, bytes }),
-    }))
+        body: Body::Bytes { width: 1, bytes },
+    })))
 }

@@ -46,6 +46,6 @@ fn identifying(
     ensures { IfOk result (λ step. PutsLast IsField field_bytes is_id (FeatureStep layer item)
         (feature_of feature.now).fields (identified id (feature_of feature.now).fields) (step_of step)) }
 {
-    let run = number_put(alloc, feature.fields.as_slice(), ID_TAG, id)?;
+    let run = number_put(alloc, feature.fields(), ID_TAG, id)?;
     Ok(run.in_feature(layer, item))
 }

@@ -15,7 +15,7 @@ use Rattle.mvt_document.specs.Wire.{field_bytes, spell}
 use Rattle.mvt_document.specs.declared.Body.{Body}
 use Rattle.mvt_document.specs.declared.Body.TheVariants as body
 use Rattle.mvt_document.specs.declared.Varint.{Varint}
-use Rattle.mvt_document.specs.declared.document.Field.{Field}
+use Rattle.mvt_document.specs.declared.field.FieldParts.{FieldParts as Field}
 use Rattle.mvt_document.proofs.EachItem.{all_dropped, all_taken}
 use Rattle.mvt_renumber.specs.Fates.{changes, fate_left, field_fate, left_of_fate}
 use Rattle.mvt_renumber.specs.declared.fate.Fate.{Fate}

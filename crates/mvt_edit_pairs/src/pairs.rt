@@ -90,7 +90,7 @@ pub fn renumber_feature(
     let item = found.position;
     renumber_fields(
         alloc,
-        found.feature.fields.as_slice(),
+        found.feature.fields(),
         number,
         decisions,
         |run| run.in_feature(layer, item),

@@ -11,7 +11,7 @@ use Rattle.mvt_document.specs.declared.Body.{Body}
 use Rattle.mvt_document.specs.declared.Body.TheVariants as body
 use Rattle.mvt_document.specs.declared.Varint.{Varint}
 use Rattle.mvt_document.specs.declared.document.Document.{Document}
-use Rattle.mvt_document.specs.declared.document.Field.{Field}
+use Rattle.mvt_document.specs.declared.field.FieldParts.{FieldParts as Field}
 use Rattle.mvt_document.specs.declared.document.LayerItem.{LayerItem}
 use Rattle.mvt_document.specs.declared.document.LayerItem.TheVariants as in_layer
 use Rattle.mvt_document.specs.declared.document.TileItem.{TileItem}

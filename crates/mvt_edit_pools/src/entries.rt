@@ -82,7 +82,7 @@ fn is_entry(item: &LayerItem, number: u64) -> bool
 {
     match item {
         LayerItem::Plain(field) => {
-            field.tag.number() == number && matches!(field.body.get(), BodyRef::Bytes { .. })
+            field.number() == number && matches!(field.body(), BodyRef::Bytes { .. })
         }
         LayerItem::Feature(_) => false,
     }

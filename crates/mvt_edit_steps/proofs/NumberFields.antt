@@ -5,7 +5,7 @@ use Rattle.std.specs.Borrow.{Bor}
 use Rattle.std.specs.Option.{IfSome, option_map_or}
 use Rattle.mvt_document.specs.Plain as plain
 use Rattle.mvt_document.specs.Stands.{field_of}
-use Rattle.mvt_document.specs.declared.document.Field.{Field}
+use Rattle.mvt_document.specs.declared.field.FieldParts.{FieldParts as Field}
 use Rattle.mvt_meaning.specs.Fields.{new_number, with_field_value}
 use Rattle.mvt_meaning.proofs.Given.{value_given}
 use Rattle.mvt_edit_steps.specs.NumberPut.{is_numbered}

@@ -14,7 +14,7 @@ ghost use Rattle.mvt_edit_steps.specs.NumberPut.{is_numbered, with_last_number};
 ghost use Rattle.mvt_edit_steps.specs.PutsLast.{ReplacesLast};
 
 use crate::put_last::Spot;
-use mvt_document::{Body, BodyRef, Field, FieldBody, Tag, Varint};
+use mvt_document::{Body, BodyRef, Field, FieldParts, Tag, Varint};
 use mvt_fates::Run;
 use std::alloc::{AllocError, Global};
 
@@ -56,7 +56,7 @@ fn last_number(fields: &[Field], tag: u64) -> Option<usize>
 fn is_numbered(field: &Field, tag: u64) -> bool
     ensures { result ≡ is_numbered tag (field_of field.now) }
 {
-    field.tag.number() == tag / 8 && matches!(field.body.get(), BodyRef::Number(_))
+    field.number() == tag / 8 && matches!(field.body(), BodyRef::Number(_))
 }
 
 /// A field of the number of this tag: the old one, if it has the value, or one with its tag, or one
@@ -68,17 +68,17 @@ fn number_field(old: Option<&Field>, tag: u64, value: u64) -> Field
     ensures valid { IsField (field_of result) }
 {
     if let Some(field) = old {
-        if let BodyRef::Number(number) = field.body.get() {
-            return Field {
-                tag: field.tag,
-                body: FieldBody::new(Body::Number(with_value(number, value))),
-            };
+        if let BodyRef::Number(number) = field.body() {
+            return Field::new(FieldParts {
+                tag: field.tag(),
+                body: Body::Number(with_value(number, value)),
+            });
         }
     }
-    Field {
+    Field::new(FieldParts {
         tag: Tag::minimal(tag),
-        body: FieldBody::new(Body::Number(Varint::minimal(value))),
-    }
+        body: Body::Number(Varint::minimal(value)),
+    })
 }
 
 /// The number, in its old spelling if it was that number before.

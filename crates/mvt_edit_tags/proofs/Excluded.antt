@@ -5,7 +5,7 @@ use Rattle.mvt_document.specs.Plain as plain
 use Rattle.mvt_document.specs.Stands.{document_of, field_of, layer_item_of, tile_item_of}
 use Rattle.mvt_document.specs.Wire.{field_bytes}
 use Rattle.mvt_document.specs.declared.document.Document.{Document}
-use Rattle.mvt_document.specs.declared.document.Field.{Field}
+use Rattle.mvt_document.specs.declared.field.FieldParts.{FieldParts as Field}
 use Rattle.mvt_document.specs.declared.document.LayerItem.{LayerItem}
 use Rattle.mvt_document.specs.declared.document.LayerItem.TheVariants as in_layer
 use Rattle.mvt_document.specs.declared.document.TileItem.{TileItem}

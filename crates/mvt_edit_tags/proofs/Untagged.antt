@@ -11,7 +11,7 @@ use Rattle.mvt_document.proofs.Spelling.{length-spell, minimal_width_some}
 use Rattle.mvt_document.specs.declared.body.Body.{Body}
 use Rattle.mvt_document.specs.declared.body.Body.TheVariants.{Number, Eight, Four, Bytes, Group}
 use Rattle.mvt_document.specs.declared.document.Document.{Document}
-use Rattle.mvt_document.specs.declared.document.Field.{Field}
+use Rattle.mvt_document.specs.declared.field.FieldParts.{FieldParts as Field}
 use Rattle.mvt_document.specs.declared.document.LayerItem.{LayerItem}
 use Rattle.mvt_document.specs.declared.document.LayerItem.TheVariants as in_layer
 use Rattle.mvt_document.specs.declared.document.TileItem.{TileItem}

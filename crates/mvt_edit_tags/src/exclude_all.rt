@@ -49,7 +49,7 @@ fn tagged_count(layers: SelectedLayers<'_>) -> usize {
 }
 
 fn has_tags(feature: &Feature) -> bool {
-    feature.fields.as_slice().iter().any(|field| is_tags(field))
+    feature.fields().iter().any(|field| is_tags(field))
 }
 
 /// Puts the steps by which each feature of the layer loses its tags fields behind the others.
@@ -79,7 +79,7 @@ fn untag(
     let item = found.position;
     carry_out(
         alloc,
-        found.feature.fields.as_slice(),
+        found.feature.fields(),
         |field| Ok(goes_if(is_tags(field))),
         |run| run.in_feature(layer, item),
         steps,

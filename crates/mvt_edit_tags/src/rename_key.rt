@@ -20,7 +20,7 @@ ghost use Rattle.mvt_edit_tags.specs.KeyFates.{TellsOfKeys, key_fate};
 use mvt_change::{Change, fits_with_items};
 use mvt_document::tags::KEYS;
 use mvt_document::{
-    Body, BodyRef, Document, Field, FieldBody, Items, LayerItem, MAX_FILE, Measured, Tag,
+    Body, BodyRef, Document, Field, FieldParts, Items, LayerItem, MAX_FILE, Measured, Tag,
     message_size, sum_within,
 };
 use mvt_fates::{Fate, carry_out};
@@ -119,9 +119,9 @@ fn key_field(item: &LayerItem, key: &[u8]) -> Option<(Tag, u8)>
     let LayerItem::Plain(field) = item else {
         return None;
     };
-    match field.body.get() {
-        BodyRef::Bytes { width, bytes } if field.tag.number() == KEYS && bytes == key => {
-            Some((field.tag, width))
+    match field.body() {
+        BodyRef::Bytes { width, bytes } if field.number() == KEYS && bytes == key => {
+            Some((field.tag(), width))
         }
         _ => None,
     }
@@ -160,13 +160,13 @@ fn fate_of(
     ensures { IfOk result (λ fate. fate_seen layer_item_of fate ≡ key_fate old.now new.now (layer_item_of item.now)) }
 {
     Ok(match key_field(item, old) {
-        Some((tag, width)) => Fate::Becomes(LayerItem::Plain(Field {
+        Some((tag, width)) => Fate::Becomes(LayerItem::Plain(Field::new(FieldParts {
             tag,
-            body: FieldBody::new(Body::Bytes {
+            body: Body::Bytes {
                 width,
                 bytes: Items::from_vec(Vec::from_slice(alloc, new)?),
-            }),
-        })),
+            },
+        }))),
         None => Fate::Stays,
     })
 }

@@ -6,7 +6,7 @@ use Rattle.std.specs.List.{flat_map}
 use Rattle.mvt_document.specs.Plain as plain
 use Rattle.mvt_document.specs.Stands.{field_of}
 use Rattle.mvt_document.specs.Wire.{field_bytes}
-use Rattle.mvt_document.specs.declared.document.Field.{Field}
+use Rattle.mvt_document.specs.declared.field.FieldParts.{FieldParts as Field}
 use Rattle.mvt_renumber.specs.Fates.{fate_seen, field_fate}
 use Rattle.mvt_renumber.specs.Renumbering.{field_numbers, renumber, renumbered_field}
 use Rattle.mvt_renumber.specs.declared.fate.Fate.{Fate}

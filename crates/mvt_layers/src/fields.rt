@@ -19,10 +19,10 @@ use mvt_document::{BodyRef, Feature, Field, Layer, LayerItem, Run, TileItem, val
 fn content_in(field: &Field, number: u64) -> Option<&[u8]>
     ensures { option_copied result ≡ content_in number (field_of field.now) }
 {
-    if field.tag.number() != number {
+    if field.number() != number {
         return None;
     }
-    match field.body.get() {
+    match field.body() {
         BodyRef::Bytes { bytes, .. } => Some(bytes),
         _ => None,
     }
@@ -144,7 +144,7 @@ pub(crate) fn first_with_id(
 fn has_id(feature: &Feature, id: u64) -> bool
     ensures { result ≡ has_id id (feature_of feature.now) }
 {
-    match feature.fields.id() {
+    match feature.id() {
         Some(found) => found == id,
         None => false,
     }

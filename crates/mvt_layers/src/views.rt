@@ -216,21 +216,21 @@ impl<'a> FeatureView<'a> {
     pub fn id(self) -> Option<u64>
         ensures { result ≡ id_of (feature_seen self.entry) }
     {
-        self.feature.fields.id()
+        self.feature.id()
     }
 
     /// The last kind is the one that counts.
     pub fn kind(self) -> u64
         ensures { result ≡ kind_of (feature_seen self.entry) }
     {
-        last_value(self.feature.fields.as_slice(), KIND).unwrap_or(DEFAULT_KIND)
+        last_value(self.feature.fields(), KIND).unwrap_or(DEFAULT_KIND)
     }
 
     /// The tags, in order: keys and values in turn, by their ordinals.
     pub fn tags(self) -> Numbers<'a>
         ensures { result ≡ numbers 2 (feature_seen self.entry).fields }
     {
-        Numbers::of(self.feature.fields.as_slice(), TAGS)
+        Numbers::of(self.feature.fields(), TAGS)
     }
 
     /// The tags in pairs, in order, where the layer has so many keys and values.
@@ -244,6 +244,6 @@ impl<'a> FeatureView<'a> {
     pub fn geometry_numbers(self) -> Numbers<'a>
         ensures { result ≡ numbers 4 (feature_seen self.entry).fields }
     {
-        Numbers::of(self.feature.fields.as_slice(), GEOMETRY)
+        Numbers::of(self.feature.fields(), GEOMETRY)
     }
 }

@@ -22,10 +22,10 @@ fn elements_in(field: &Field, number: u64) -> Option<Elements<'_>>
     ensures numbers { (position : ℕ) → MatchOption result (numbers_in number (position, field_of field.now) ≡ []) (λ found. numbers_in number (position, field_of field.now) ≡ elements_seen position found) }
     ensures some { IfSome result HasNumbers }
 {
-    if field.tag.number() != number {
+    if field.number() != number {
         return None;
     }
-    match field.body.get() {
+    match field.body() {
         BodyRef::Number(varint) => Some(Elements::One(varint)),
         BodyRef::Bytes { bytes, .. } if bytes.len() > 0 => Some(Elements::Packed(bytes)),
         _ => None,

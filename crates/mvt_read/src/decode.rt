@@ -16,7 +16,8 @@ use crate::faults::ReadError;
 use crate::front::{FieldRef, field_at_front};
 use mvt_document::tags::{FEATURE_TAG, LAYER_TAG};
 use mvt_document::{
-    BodyRef, Feature, Field, Fields, Layer, LayerItem, Measured, Message, MessageTag, TileItem,
+    BodyRef, Feature, FeatureParts, Field, Items, Layer, LayerItem, Measured, Message, MessageTag,
+    TileItem,
 };
 use std::alloc::{AllocError, Global};
 
@@ -148,11 +149,11 @@ impl Decode for LayerItem {
     fn decode(alloc: Global, front: FieldRef<'_>) -> Result<Self, Fault> {
         match front.body {
             BodyRef::Bytes { width, bytes } if front.tag.value == FEATURE_TAG => {
-                Ok(LayerItem::Feature(Feature {
+                Ok(LayerItem::Feature(Feature::new(FeatureParts {
                     tag: MessageTag::new(front.tag),
                     width,
-                    fields: Fields::from_vec(decode_inside(alloc, bytes, FIRST_FIELDS)?),
-                }))
+                    fields: Items::from_vec(decode_inside(alloc, bytes, FIRST_FIELDS)?),
+                })))
             }
             _ => Ok(LayerItem::Plain(front.to_field(alloc)?)),
         }

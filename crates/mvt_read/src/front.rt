@@ -12,7 +12,7 @@ ghost use Rattle.mvt_read.specs.Fronts.{front_of};
 
 use crate::groups::group_at_front;
 use mvt_document::tags::{I32, I64, LEN, SGROUP, VARINT};
-use mvt_document::{BodyRef, Field, FieldBody, Tag, Varint, read_varint};
+use mvt_document::{BodyRef, Field, Tag, Varint, read_varint};
 use std::alloc::{AllocError, Global};
 
 /// A field whose bytes lie in the message that it was read from.
@@ -125,9 +125,6 @@ impl FieldRef<'_> {
         requires { IsField (front_of self) }
         ensures { IfOk result (λ field. field_of field ≡ front_of self.entry) }
     {
-        Ok(Field {
-            tag: Tag::new(self.tag),
-            body: FieldBody::copied(alloc, self.body)?,
-        })
+        Field::copied(alloc, Tag::new(self.tag), self.body)
     }
 }

@@ -10,7 +10,7 @@ use Rattle.mvt_document.specs.Bodies.{number_of}
 use Rattle.mvt_document.specs.Stands.{field_of}
 use Rattle.mvt_document.specs.Groups.{IsNumber}
 use Rattle.mvt_document.specs.declared.varint.Varint.{Varint}
-use Rattle.mvt_document.specs.declared.document.Field as program
+use Rattle.mvt_document.specs.declared.field.FieldParts as program
 use Rattle.mvt_document.proofs.EachItem.{all_joined}
 use Rattle.mvt_document.proofs.Spelling.{spelling_some, length-spell}
 use Rattle.mvt_renumber.specs.Renumbering.{renumbered, some_changed, with_left}
@@ -139,7 +139,7 @@ changed_bytes bytes decisions made left m same =
 abbrev content_of : Field → List ℕ
 content_of field = elim field.body [ Spelled number ↦ [] | Eight bytes ↦ [] | Four bytes ↦ [] | Delimited width bytes ↦ bytes | Group bytes ↦ [] ]
 
-pub changed_field : (tag : Number) (width : ℕ) (bytes : List ℕ) (decisions : List (Option ℕ)) (made : List ℕ) (left : List (Option ℕ)) (fate : Fate program.Field)
+pub changed_field : (tag : Number) (width : ℕ) (bytes : List ℕ) (decisions : List (Option ℕ)) (made : List ℕ) (left : List (Option ℕ)) (fate : Fate program.FieldParts)
     → IsChanged bytes decisions made left → left_of_fate field_of (packed_field tag width bytes) fate ≡ with_bytes tag width made → IsChange field_of (packed_field tag width bytes) fate
 changed_field tag width bytes decisions made left Stays m e = tt
 changed_field tag width bytes decisions made left Goes m e = tt

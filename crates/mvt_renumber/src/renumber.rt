@@ -13,7 +13,7 @@ ghost use Rattle.mvt_renumber.specs.Fates.{IsChange, changes, left_of_fate};
 ghost use Rattle.mvt_renumber.specs.Renumbering.{field_numbers, renumbered, renumbered_field, some_changed, with_left};
 
 use crate::fate::Fate;
-use mvt_document::{Body, BodyRef, Field, FieldBody, Items, Tag, Varint, read_varint};
+use mvt_document::{Body, BodyRef, Field, FieldParts, Items, Tag, Varint, read_varint};
 use std::alloc::{AllocError, Global};
 
 /// What becomes of a field, by a decision for each number in the fields of its number, in order:
@@ -32,13 +32,13 @@ pub fn renumber_field<'a>(
     ensures changes { IfOk result (λ made. changes made.0 ≡ some_changed decisions.now (field_numbers number (field_of field.now))) }
     ensures left { IfOk result (λ made. made.1.now ≡ drop (length (field_numbers number (field_of field.now))) decisions.now) }
 {
-    if field.tag.number() != number {
+    if field.number() != number {
         return Ok((Fate::Stays, decisions));
     }
-    match field.body.get() {
-        BodyRef::Number(old) => Ok(renumber_unpacked(field.tag, old, decisions)),
+    match field.body() {
+        BodyRef::Number(old) => Ok(renumber_unpacked(field.tag(), old, decisions)),
         BodyRef::Bytes { width, bytes } => {
-            renumber_packed(alloc, field.tag, width, bytes, decisions)
+            renumber_packed(alloc, field.tag(), width, bytes, decisions)
         }
         _ => Ok((Fate::Stays, decisions)),
     }
@@ -61,10 +61,10 @@ fn renumber_unpacked<'a>(
     let fate = match fate {
         Fate::Stays => Fate::Stays,
         Fate::Goes => Fate::Goes,
-        Fate::Becomes(number) => Fate::Becomes(Field {
+        Fate::Becomes(number) => Fate::Becomes(Field::new(FieldParts {
             tag,
-            body: FieldBody::new(Body::Number(number)),
-        }),
+            body: Body::Number(number),
+        })),
     };
     (fate, left)
 }
@@ -110,10 +110,10 @@ fn packed_fate(tag: Tag, width: u8, left: Vec<u8>) -> Fate<Field>
         return Fate::Goes;
     }
     let bytes = Items::from_vec(left);
-    Fate::Becomes(Field {
+    Fate::Becomes(Field::new(FieldParts {
         tag,
-        body: FieldBody::new(Body::Bytes { width, bytes }),
-    })
+        body: Body::Bytes { width, bytes },
+    }))
 }
 
 /// What was found of a packed body by decisions on its numbers.

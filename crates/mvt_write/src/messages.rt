@@ -1,17 +1,17 @@
 //! The bytes of the messages of a tile.
 
 use crate::encode::{Encode, put_bytes, put_length, put_message};
-use mvt_document::{BodyRef, Feature, Field, FieldBody, Layer, LayerItem, TileItem};
+use mvt_document::{BodyRef, Feature, Field, Layer, LayerItem, TileItem};
 
-impl Encode for FieldBody {
+impl Encode for BodyRef<'_> {
     fn fill(&self, room: &mut [u8]) -> usize {
-        match self.get() {
+        match self {
             BodyRef::Number(number) => number.fill(room),
-            BodyRef::Eight(bytes) => put_bytes(&bytes, room),
-            BodyRef::Four(bytes) => put_bytes(&bytes, room),
+            BodyRef::Eight(bytes) => put_bytes(bytes, room),
+            BodyRef::Four(bytes) => put_bytes(bytes, room),
             BodyRef::Bytes { width, bytes } => {
                 let left = put_bytes(bytes, room);
-                put_length(width, bytes.len(), &mut room[..left])
+                put_length(*width, bytes.len(), &mut room[..left])
             }
             BodyRef::Group(bytes) => put_bytes(bytes, room),
         }
@@ -20,14 +20,14 @@ impl Encode for FieldBody {
 
 impl Encode for Field {
     fn fill(&self, room: &mut [u8]) -> usize {
-        let left = self.body.fill(room);
-        self.tag.to_varint().fill(&mut room[..left])
+        let left = self.body().fill(room);
+        self.tag().to_varint().fill(&mut room[..left])
     }
 }
 
 impl Encode for Feature {
     fn fill(&self, room: &mut [u8]) -> usize {
-        put_message(self.tag.to_tag(), self.width, self.fields.as_slice(), room)
+        put_message(self.tag(), self.width(), self.fields(), room)
     }
 }
 

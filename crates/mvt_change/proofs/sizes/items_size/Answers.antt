@@ -28,7 +28,7 @@ returns-in_err-size c = λ change takes.
     let feature = feature_of c.feature_at-holder.result.now in
     let told = of_fields_there c.args.item (layer_of c.args.layer.now).items feature (λ old. IsFileSize c.args.fields (length (flat_map field_bytes (change old)))) c.feature_at-holder.ensures takes in
     let some = rw c.in_ok-fields.was at told in
-    let none = rw c.to_tag.ensures at c.in_err-size.ensures in
+    let none = rw (c.tag.ensures, c.width.ensures) at c.in_err-size.ensures in
     rw c.from_residual-in_err-size.ensures (λ within. none (omega (arith, within, items_resized layer_item_of change c.args.item c.args.layer.now.items.items feature c.in_ok-fields.field-0 c.feature_at-holder.ensures some.1)))
 
 pub returns : goal.returns
@@ -37,5 +37,5 @@ returns c = λ change takes.
     let told = of_fields_there c.args.item (layer_of c.args.layer.now).items feature (λ old. IsFileSize c.args.fields (length (flat_map field_bytes (change old)))) c.feature_at-holder.ensures takes in
     let some = rw c.in_ok-fields.was at told in
     let whole = items_resized layer_item_of change c.args.item c.args.layer.now.items.items feature c.in_ok-fields.field-0 c.feature_at-holder.ensures some.1 in
-    let size = rw c.to_tag.ensures at c.in_ok-size.ensures.1 in
+    let size = rw (c.tag.ensures, c.width.ensures) at c.in_ok-size.ensures.1 in
     told_so MAX_FILE c.size_with.result _ _ (omega (arith, whole, size)) c.size_with.ensures

@@ -30,7 +30,7 @@ returns c =
     let put = c.args.put.now in
     let change = splice c.args.index c.args.taken (map field_of put) in
     let inside = change_at (in_feature change) c.args.item in
-    let size = c.size_and.ensures _ (rw c.as_slice-fields.ensures at c.size_beside_part-beside.ensures) in
+    let size = c.size_and.ensures _ (rw c.fields-fields.ensures at c.size_beside_part-beside.ensures) in
     let told = told_so MAX_FILE c.size_and.result _ _ (exchanged_size field_bytes field_of c.args.index c.args.taken put feature.fields.items) size in
     let items = c.items_size-items.ensures change (fields_there c.args.item (layer_of holder).items (feature_of feature) (λ old. IsFileSize c.size_and.result (length (flat_map field_bytes (change old)))) c.feature_at.ensures told) in
     c.tile_size.ensures inside (items_there c.args.layer (document_of c.args.document.now) (layer_of holder) (λ old. IsFileSize c.items_size-items.result (length (flat_map layer_item_bytes (inside old)))) c.layer_at-holder.ensures items)

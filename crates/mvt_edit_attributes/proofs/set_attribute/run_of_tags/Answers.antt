@@ -21,7 +21,7 @@ returns-in-0-clause-gives c = λ value found.
     let named : c.as_slice.result.now ≡ map (bytes_eq key) (keys layer) = c.as_slice.ensures.value ∙ c.in_ok-named.ensures ∙ ap (λ l. map (bytes_eq key) (keys l)) c.view.ensures in
     let on = on_values key layer feature c.args.ordinals.key.count c.args.ordinals.value.count c.as_slice.result.now c.args.ordinals.value.ordinal c.decide_or_refuse.new.decisions.items c.in_ok-count.count named c.requires.key.count c.requires.values c.in_ok-count.ensures.decided c.in_ok-count.ensures.counted in
     let more = ap (λ ordinal. shortest ordinal ++ shortest c.args.ordinals.value.ordinal) found.key_so.at ∙ ap (λ ordinal. shortest (key_ordinal key layer.items) ++ shortest ordinal) found.value_so.at in
-    gives_pair key value layer.items feature.fields _ (shortest c.args.ordinals.key.ordinal ++ shortest c.args.ordinals.value.ordinal) (omega (arith, on.all)) more (rw c.as_slice-fields.ensures at c.in_ok-and_pair-in-0.ensures)
+    gives_pair key value layer.items feature.fields _ (shortest c.args.ordinals.key.ordinal ++ shortest c.args.ordinals.value.ordinal) (omega (arith, on.all)) more (rw c.fields-fields.ensures at c.in_ok-and_pair-in-0.ensures)
 
 pub returns-in-0-clause-checked : goal.returns-in-0-clause-checked
 returns-in-0-clause-checked c =
@@ -39,7 +39,7 @@ first_renumbered-requires c =
     let feature = feature_of c.args.found.feature.now in
     let named : c.as_slice.result.now ≡ map (bytes_eq key) (keys layer) = c.as_slice.ensures.value ∙ c.in_ok-named.ensures ∙ ap (λ l. map (bytes_eq key) (keys l)) c.view.ensures in
     let on = on_values key layer feature c.args.ordinals.key.count c.args.ordinals.value.count c.as_slice.result.now c.args.ordinals.value.ordinal c.decide_or_refuse.new.decisions.items c.in_ok-count.count named c.requires.key.count c.requires.values c.in_ok-count.ensures.decided c.in_ok-count.ensures.counted in
-    rw (c.as_slice-in-1.ensures.value, on.decided, c.as_slice-fields.ensures) (one_differs _ c.args.ordinals.value.ordinal (length (keys layer)) (length (values layer)) feature.fields on.pairs on.read (omega (arith, on.counted)))
+    rw (c.as_slice-in-1.ensures.value, on.decided, c.fields-fields.ensures) (one_differs _ c.args.ordinals.value.ordinal (length (keys layer)) (length (values layer)) feature.fields on.pairs on.read (omega (arith, on.counted)))
 
 pub returns-in-1-clause-gives : goal.returns-in-1-clause-gives
 returns-in-1-clause-gives c = λ value found.
@@ -50,7 +50,7 @@ returns-in-1-clause-gives c = λ value found.
     let on = on_values key layer feature c.args.ordinals.key.count c.args.ordinals.value.count c.as_slice.result.now c.args.ordinals.value.ordinal c.decide_or_refuse.new.decisions.items c.in_ok-count.count named c.requires.key.count c.requires.values c.in_ok-count.ensures.decided c.in_ok-count.ensures.counted in
     let decided = c.as_slice-in-1.ensures.value ∙ on.decided ∙ ap (λ ordinal. revalued (is_key_at layer.items key) ordinal on.pairs) found.value_so.at ∙ ap (λ pairs. option_map_or (revalued (is_key_at layer.items key) (value_ordinal value layer.items)) pairs []) (sym on.read) in
     let left = fields_left 2 (replacements key value layer.items feature.fields) c.args.found.feature.now.fields.items (replacements_short key value layer.items feature.fields (omega (arith, found.value_so.at))) in
-    gives_value key value layer.items feature.fields _ (omega (arith, on.all)) (rw (decided, c.as_slice-fields.ensures) at c.in_ok-first_renumbered-in-1.ensures) left
+    gives_value key value layer.items feature.fields _ (omega (arith, on.all)) (rw (decided, c.fields-fields.ensures) at c.in_ok-first_renumbered-in-1.ensures) left
 
 pub returns-in-1-clause-checked : goal.returns-in-1-clause-checked
 returns-in-1-clause-checked c =

@@ -58,8 +58,8 @@ returns-then-not-fits_with_items c =
     let are : AreFound key bytes layer c.look_for-ordinals.result = subst (λ l. AreFound key bytes l c.look_for-ordinals.result) c.view.ensures (subst (λ b. AreFound key b (layer_seen c.view.result) c.look_for-ordinals.result) (c.as_slice.ensures ∙ c.in_ok-value.ensures.bytes) c.look_for-ordinals.ensures) in
     let gives = c.in_ok-run.ensures.gives bytes are in
     let entries = c.in_ok-entries.ensures ∙ ap (λ b. entries_for key b c.look_for-ordinals.result) c.in_ok-value.ensures.bytes ∙ entries_lacked key bytes layer c.look_for-ordinals.result are in
-    let fields = subst (λ list. IsFileSize c.size_with-fields.result (length (flat_map field_bytes list))) (ap (λ list. fields_with (map field_of list) (option_map (λ run. seen field_of (splice_of run)) c.in_ok-run.run')) c.as_slice-2.ensures ∙ gives.makes) c.size_with-fields.ensures in
-    let behind = told_so MAX_FILE c.size_of_all-behind.result _ _ (ap (λ list. length (flat_map (λ item. layer_item_bytes (layer_item_of item)) list)) c.as_slice-3.ensures.value ∙ ap length (sym (flat_map-map layer_item_bytes layer_item_of c.in_ok-entries.entries.items)) ∙ ap (λ list. length (flat_map layer_item_bytes list)) entries) c.size_of_all-behind.ensures in
+    let fields = subst (λ list. IsFileSize c.size_with-fields.result (length (flat_map field_bytes list))) (ap (λ list. fields_with (map field_of list) (option_map (λ run. seen field_of (splice_of run)) c.in_ok-run.run')) c.fields.ensures ∙ gives.makes) c.size_with-fields.ensures in
+    let behind = told_so MAX_FILE c.size_of_all-behind.result _ _ (ap (λ list. length (flat_map (λ item. layer_item_bytes (layer_item_of item)) list)) c.as_slice-2.ensures.value ∙ ap length (sym (flat_map-map layer_item_bytes layer_item_of c.in_ok-entries.entries.items)) ∙ ap (λ list. length (flat_map layer_item_bytes list)) entries) c.size_of_all-behind.ensures in
     let items = c.size_with_fields-items.ensures (with_attribute key bytes layer.items) (missing_entries key bytes layer.items) (fields_there found.position layer.items feature (λ old. IsFileSize c.size_with-fields.result (length (flat_map field_bytes (with_attribute key bytes layer.items old)))) here.there fields) behind in
     let told = c.fits_with_items.ensures (attributed_at key bytes layer.items found.position) (items_there holder.position document layer (λ old. IsFileSize c.size_with_fields-items.result (length (flat_map layer_item_bytes (attributed_at key bytes layer.items found.position old)))) is.there items) in
     inr (set_too_large choice key value document holder.ordinal holder.position layer is.meant is.placed is.there (feature_choice_of c.args.feature.now) found.ordinal found.position feature here.meant here.placed here.there c.in_ok-run.ensures.checked (not_false (nat_lt MAX_FILE (length (bytes_of (change_items (attributed_at key bytes layer.items found.position) holder.position document)))) (sym told ∙ c.if-not-fits_with_items.true)))
@@ -80,8 +80,8 @@ returns c =
     let are : AreFound key bytes layer c.look_for-ordinals.result = subst (λ l. AreFound key bytes l c.look_for-ordinals.result) c.view.ensures (subst (λ b. AreFound key b (layer_seen c.view.result) c.look_for-ordinals.result) (c.as_slice.ensures ∙ c.in_ok-value.ensures.bytes) c.look_for-ordinals.ensures) in
     let gives = c.in_ok-run.ensures.gives bytes are in
     let entries = c.in_ok-entries.ensures ∙ ap (λ b. entries_for key b c.look_for-ordinals.result) c.in_ok-value.ensures.bytes ∙ entries_lacked key bytes layer c.look_for-ordinals.result are in
-    let fields = subst (λ list. IsFileSize c.size_with-fields.result (length (flat_map field_bytes list))) (ap (λ list. fields_with (map field_of list) (option_map (λ run. seen field_of (splice_of run)) c.in_ok-run.run')) c.as_slice-2.ensures ∙ gives.makes) c.size_with-fields.ensures in
-    let behind = told_so MAX_FILE c.size_of_all-behind.result _ _ (ap (λ list. length (flat_map (λ item. layer_item_bytes (layer_item_of item)) list)) c.as_slice-3.ensures.value ∙ ap length (sym (flat_map-map layer_item_bytes layer_item_of c.in_ok-entries.entries.items)) ∙ ap (λ list. length (flat_map layer_item_bytes list)) entries) c.size_of_all-behind.ensures in
+    let fields = subst (λ list. IsFileSize c.size_with-fields.result (length (flat_map field_bytes list))) (ap (λ list. fields_with (map field_of list) (option_map (λ run. seen field_of (splice_of run)) c.in_ok-run.run')) c.fields.ensures ∙ gives.makes) c.size_with-fields.ensures in
+    let behind = told_so MAX_FILE c.size_of_all-behind.result _ _ (ap (λ list. length (flat_map (λ item. layer_item_bytes (layer_item_of item)) list)) c.as_slice-2.ensures.value ∙ ap length (sym (flat_map-map layer_item_bytes layer_item_of c.in_ok-entries.entries.items)) ∙ ap (λ list. length (flat_map layer_item_bytes list)) entries) c.size_of_all-behind.ensures in
     let items = c.size_with_fields-items.ensures (with_attribute key bytes layer.items) (missing_entries key bytes layer.items) (fields_there found.position layer.items feature (λ old. IsFileSize c.size_with-fields.result (length (flat_map field_bytes (with_attribute key bytes layer.items old)))) here.there fields) behind in
     let told = c.fits_with_items.ensures (attributed_at key bytes layer.items found.position) (items_there holder.position document layer (λ old. IsFileSize c.size_with_fields-items.result (length (flat_map layer_item_bytes (attributed_at key bytes layer.items found.position old)))) is.there items) in
     attribute_set choice key value document holder.ordinal holder.position layer is.meant is.placed is.there (feature_choice_of c.args.feature.now) found.ordinal found.position feature here.meant here.placed here.there c.in_ok-run.ensures.checked

@@ -39,10 +39,10 @@ returns-in_err-drawing c =
     rw (passed.1, passed.2) (drawing_refused (layer_choice_of c.args.choice.now) c.args.geometry.now (document_of c.args.document.now) holder.ordinal holder.position (layer_of holder.layer.now) is.meant is.placed is.there (feature_choice_of c.args.feature.now) found.ordinal found.position (feature_of found.feature.now) here.meant here.placed here.there c.in_err-drawing.field-0.0 (λ same. c.in_err-drawing.ensures.out_of_range (ap (λ error. Err error) same)))
 
 pub size_drawn-size-requires : goal.size_drawn-size-requires
-size_drawn-size-requires c = let within = c.in_ok-kind.ensures.puts.can.within in omega (arith, within, length-map c.as_slice-fields.result.now field_of)
+size_drawn-size-requires c = let within = c.in_ok-kind.ensures.puts.can.within in omega (arith, within, length-map c.fields-fields.result.now field_of)
 
 pub steps_of-requires : goal.steps_of-requires
-steps_of-requires c = let within = c.in_ok-kind.ensures.puts.can.within in rw (← c.as_slice-fields.ensures) (omega (arith, within))
+steps_of-requires c = let within = c.in_ok-kind.ensures.puts.can.within in rw (← c.fields-fields.ensures) (omega (arith, within))
 
 pub returns-then-not-fits_with_items : goal.returns-then-not-fits_with_items
 returns-then-not-fits_with_items c =
@@ -56,7 +56,7 @@ returns-then-not-fits_with_items c =
     let feature = feature_of found.feature.now in
     let kind = c.in_ok-kind.kind in
     let puts = c.in_ok-kind.ensures.puts in
-    let fields = drawn_size geometry feature.fields (map field_of c.as_slice-fields.result.now) kind.index kind.take (map field_of kind.put.items) (field_of c.in_ok-drawing.drawing) c.number.result c.size_drawn-size.result (ap (map field_of) c.as_slice-fields.ensures) (c.number.ensures ∙ ap kind_number c.kind.ensures) puts.makes c.in_ok-drawing.ensures.field c.size_drawn-size.ensures in
+    let fields = drawn_size geometry feature.fields (map field_of c.fields-fields.result.now) kind.index kind.take (map field_of kind.put.items) (field_of c.in_ok-drawing.drawing) c.number.result c.size_drawn-size.result (ap (map field_of) c.fields-fields.ensures) (c.number.ensures ∙ ap kind_number c.kind.ensures) puts.makes c.in_ok-drawing.ensures.field c.size_drawn-size.ensures in
     let told = told_by_fields document holder.position found.position layer feature is.there here.there (with_geometry geometry) c.size_drawn-size.result c.size_with_fields-items.result c.fits_with_items.result fields c.size_with_fields-items.ensures c.fits_with_items.ensures in
     inr (drawn_too_large (layer_choice_of c.args.choice.now) geometry document holder.ordinal holder.position layer is.meant is.placed is.there (feature_choice_of c.args.feature.now) found.ordinal found.position feature here.meant here.placed here.there c.in_ok-drawing.ensures.in_range
     (not-false (nat_lt MAX_FILE (length (bytes_of (change_fields (with_geometry geometry) holder.position found.position document)))) (sym told ∙ c.if-not-fits_with_items.true)))
@@ -74,9 +74,9 @@ returns c =
     let kind = c.in_ok-kind.kind in
     let puts = c.in_ok-kind.ensures.puts in
     let number = c.number.ensures ∙ ap kind_number c.kind.ensures in
-    let seen = ap (map field_of) c.as_slice-fields.ensures in
+    let seen = ap (map field_of) c.fields-fields.ensures in
     let drawing = c.in_ok-drawing.ensures.field in
-    let fields = drawn_size geometry feature.fields (map field_of c.as_slice-fields.result.now) kind.index kind.take (map field_of kind.put.items) (field_of c.in_ok-drawing.drawing) c.number.result c.size_drawn-size.result seen number puts.makes drawing c.size_drawn-size.ensures in
+    let fields = drawn_size geometry feature.fields (map field_of c.fields-fields.result.now) kind.index kind.take (map field_of kind.put.items) (field_of c.in_ok-drawing.drawing) c.number.result c.size_drawn-size.result seen number puts.makes drawing c.size_drawn-size.ensures in
     let told = told_by_fields document holder.position found.position layer feature is.there here.there (with_geometry geometry) c.size_drawn-size.result c.size_with_fields-items.result c.fits_with_items.result fields c.size_with_fields-items.ensures c.fits_with_items.ensures in
     let replaces = subst (λ n. ReplacesLast IsField field_bytes is_kind feature.fields (with_kind n feature.fields) kind.index kind.take (map field_of kind.put.items)) number
     (subst (λ list. ReplacesLast IsField field_bytes is_kind list (with_kind c.number.result list) kind.index kind.take (map field_of kind.put.items)) seen puts) in

@@ -19,7 +19,7 @@ returns c =
     let drawing = field_of c.args.drawing in
     let kind = FeatureStep layer item c.args.kind.index c.args.kind.take (map field_of c.args.kind.put.items) in
     let at = in_feature_at layer item in
-    let seen_fields = c.as_slice-fields.result.now in
+    let seen_fields = c.fields-fields.result.now in
     let done = c.in_ok-put_once.ensures (λ s. at (seen field_of s)) (λ run made says. search rules) in
     let first = ap (map step_of) (c.in_ok-push.ensures.items ∙ ap (λ list. list ++ c.in_feature.result ∷ []) c.new-steps.ensures.items) ∙ ap (λ step. step ∷ []) c.in_feature.ensures in
     let told = picked_seen field_of is_geometry_field _ (λ field is says. search rules) seen_fields done.0 done.1 in
@@ -32,6 +32,6 @@ returns c =
     sym (map-map at (seen field_of) splices)
     ∙ ap (map at) (once_splices_seen field_of done.0 c.args.drawing end_seen)
     ∙ ap (λ picked. map at (once_splices picked drawing end_seen)) told
-    ∙ ap (λ list. map at (once_splices (map is_geometry_field (map field_of list)) drawing (length list - c.args.kind.take + 1))) c.as_slice-fields.ensures
+    ∙ ap (λ list. map at (once_splices (map is_geometry_field (map field_of list)) drawing (length list - c.args.kind.take + 1))) c.fields-fields.ensures
     ∙ ap (λ n. map at (once_splices (map is_geometry_field (map field_of fields)) drawing (n - c.args.kind.take + 1))) (sym (length-map fields field_of))
     )

@@ -30,8 +30,8 @@ returns c =
     (ap (map step_of) c.from_vec.ensures.items
     ∙ alone step_of c.new-steps.result.items _ _ c.new-steps.ensures.items done.2.behind
     ∙ sym (map-map (in_feature_at layer item) (seen field_of) (splices_of done.0))
-    ∙ ap (map (in_feature_at layer item)) (out_seen field_of is_id _ (λ field fate says. search rules) c.as_slice.result.now done.0 done.1)
-    ∙ ap (λ list. map (in_feature_at layer item) (out is_id (map field_of list))) c.as_slice.ensures)
+    ∙ ap (map (in_feature_at layer item)) (out_seen field_of is_id _ (λ field fate says. search rules) c.fields.result.now done.0 done.1)
+    ∙ ap (λ list. map (in_feature_at layer item) (out is_id (map field_of list))) c.fields.ensures)
 
 pub returns-in_err-found : goal.returns-in_err-found
 returns-in_err-found c =

@@ -13,5 +13,5 @@ returns-clause-steps c =
     let layer = c.args.layer in
     let item = c.args.found.position in
     IfOk-weaker c.renumber_fields.result _ _
-    (λ size made. made ∙ ap (λ list. map step_of c.args.steps.now.items ++ map (in_feature_at layer item) (splices_of (field_fates c.args.number c.args.decisions.now (map field_of list)))) c.as_slice.ensures)
+    (λ size made. made ∙ ap (λ list. map step_of c.args.steps.now.items ++ map (in_feature_at layer item) (splices_of (field_fates c.args.number c.args.decisions.now (map field_of list)))) c.fields.ensures)
     (c.renumber_fields.ensures.steps (λ s. FeatureStep layer item s.index s.taken s.put) (λ run made says. search rules))

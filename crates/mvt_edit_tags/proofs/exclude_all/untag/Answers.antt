@@ -17,5 +17,5 @@ returns c =
     done.2.behind
     ∙ ap (λ more. map step_of c.args.steps.now.items ++ more) (
     sym (map-map (in_feature_at layer item) (seen field_of) (splices_of done.0))
-    ∙ ap (map (in_feature_at layer item)) (out_seen field_of is_tags _ (λ field fate says. search rules) c.as_slice.result.now done.0 done.1)
-    ∙ ap (λ list. map (in_feature_at layer item) (out is_tags (map field_of list))) c.as_slice.ensures)
+    ∙ ap (map (in_feature_at layer item)) (out_seen field_of is_tags _ (λ field fate says. search rules) c.fields.result.now done.0 done.1)
+    ∙ ap (λ list. map (in_feature_at layer item) (out is_tags (map field_of list))) c.fields.ensures)

@@ -2,7 +2,7 @@ use Rattle.std.proofs.Common.{◌≤◌, [], ◌++◌, length, map, refl, sym, s
 use Rattle.std.proofs.lemmas.List.{take_all}
 use Rattle.std.proofs.lemmas.Simd.{map-map}
 use Rattle.mvt_document.specs.Stands.{field_of}
-use Rattle.mvt_document.specs.declared.document.Field.{Field}
+use Rattle.mvt_document.specs.declared.field.FieldParts.{FieldParts as Field}
 use Rattle.mvt_change.specs.ChangeStands.{step_of}
 use Rattle.mvt_renumber.proofs.FieldFate.{field_fate-seen}
 use Rattle.mvt_fates.specs.Fates.{Splice, seen, splices_of}

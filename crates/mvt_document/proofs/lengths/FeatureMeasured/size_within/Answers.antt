@@ -4,7 +4,7 @@ use Rattle.mvt_document.proofs.Sizes.{length-message}
 use Rattle.mvt_document.proofs.lengths.FeatureMeasured.size_within.Goals as goal
 
 pub returns-in_err-size_of_all : goal.returns-in_err-size_of_all
-returns-in_err-size_of_all c = rw (c.from_residual.ensures, flat_map-map, length-message, ← c.as_slice.ensures) (λ h. c.in_err-size_of_all.ensures (omega arith))
+returns-in_err-size_of_all c = rw (c.from_residual.ensures, flat_map-map, length-message, ← c.fields.ensures) (λ h. c.in_err-size_of_all.ensures (omega arith))
 
 pub returns : goal.returns
-returns c = rw (flat_map-map, length-message, ← c.to_tag.ensures, ← c.as_slice.ensures, ← c.in_ok-size_of_all.ensures.1) c.message_size.ensures
+returns c = rw (flat_map-map, length-message, ← c.tag.ensures, ← c.width.ensures, ← c.fields.ensures, ← c.in_ok-size_of_all.ensures.1) c.message_size.ensures
