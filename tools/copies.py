@@ -83,24 +83,28 @@ class Turned:
 class Copy:
     """A copy of a crate in a folder, with edits: `turned` has what each comes to there, by its name."""
 
-    def __init__(self, crate, room, parts, edits, beside, is_lean):
-        self.crate, self.room, self.is_lean, self.turned = crate, room, is_lean, {}
+    def __init__(self, crate, room, parts, beside, in_place, is_lean):
+        self.crate, self.room, self.is_lean, self.turned, self.files, self.put = crate, room, is_lean, {}, {}, []
         for part in parts:
             if Path(crate.folder, part).is_dir():
                 shutil.copytree(Path(crate.folder, part), Path(room, part))
-        self.files = {}
-        names = self.put_beside(edits) if beside else self.put_in_place(edits)
-        for file, lines in self.files.items():
-            Path(room, file).write_text("\n".join(lines))
-        # in the place of what it turns an edit moves no line, and may end one as the layout does not
-        self.functions = functions_of(room if beside else crate.folder)
+        names = self.put_beside(beside)
+        self.write()
+        # in the place of what it turns an edit may end a line as the layout does not
+        self.functions = functions_of(room)
         by_name = {it.name: it for it in self.functions}
-        for edit in edits:
-            functions = [by_name[it] for it in names[edit.name]]
-            moved = functions[0].first - edit.functions[0].first if beside else 0
-            self.turned[edit.name] = Turned(functions, {(file, at + moved) for file, at in edit.lines})
+        for edit in beside:
+            function = by_name[names[edit.name]]
+            self.turned[edit.name] = Turned([function], {(file, at + function.first - edit.functions[0].first) for file, at in edit.lines})
+        for edit in in_place:
+            self.turned[edit.name] = Turned([by_name[it.name] for it in edit.functions], self.put_in_place(edit))
+        self.write()
         if is_lean:
             self.leave_out_proofs()
+
+    def write(self):
+        for file, lines in self.files.items():
+            Path(self.room, file).write_text("\n".join(lines))
 
     def leave_out_proofs(self):
         """Leaves the functions that no edit turns without a proof, where nothing else needs it."""
@@ -117,11 +121,12 @@ class Copy:
     def lines(self, file):
         return self.files.setdefault(file, lines_of(self.crate.folder, file))
 
-    def put_in_place(self, edits):
-        for edit in edits:
-            for (file, at), new in edit.lines.items():
-                self.lines(file)[at - 1] = new
-        return {edit.name: [it.name for it in edit.functions] for edit in edits}
+    def put_in_place(self, edit):
+        """Puts an edit into the place of what it turns, and returns where its lines are, below those that were put in before them."""
+        placed = {(file, at + sum(count for of, last, count in self.put if of == file and last < at)): new for (file, at), new in edit.lines.items()}
+        for (file, at), new in placed.items():
+            self.lines(file)[at - 1] = new
+        return set(placed)
 
     def put_beside(self, edits):
         """Puts a function for each edit behind the one that it turns, the last of a file first, and returns their names."""
@@ -132,9 +137,11 @@ class Copy:
             body = "\n".join(edit.lines.get((of.file, at), lines[at - 1]) for at in range(of.first, of.last + 1))
             *above, word = of.name.split("::")
             name = f"{word}_wrong_{number}"
-            lines[of.last:of.last] = ["", *re.sub(rf"\bfn {word}\b", f"fn {name}", body, count=1).split("\n")]
+            new = ["", *re.sub(rf"\bfn {word}\b", f"fn {name}", body, count=1).split("\n")]
+            lines[of.last:of.last] = new
+            self.put.append((of.file, of.last, len(new)))
             self.copy_proof([*above, word], [*above, name])
-            names[edit.name] = ["::".join([*above, name])]
+            names[edit.name] = "::".join([*above, name])
         return names
 
     def copy_proof(self, of, to):
