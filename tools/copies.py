@@ -1,9 +1,12 @@
 """Copies of a crate with wrong bodies in them, and what the prover says of such a copy.
 
 A wrong body is put into the place of what it turns, or beside it: behind the function that it turns comes a further one, which has
-the same contract and the same proof files under a name of its own.
+the same contract and the same proof files under a name of its own. What a function has to prove goes by the contracts of those that
+it calls, and not by their proofs. So a copy can be lean: the other functions have no proof there, and the prover spends no time on
+one. Whether a goal of a turned function is proved is the same in it, but whether the function is proved, it cannot tell.
 """
 import contextlib
+import functools
 import re
 import resource
 import shutil
@@ -30,12 +33,29 @@ def is_of_an_impl(lines, function):
     return header.startswith("impl") and " for " not in header
 
 
-def is_known_outside(folder, function):
-    """Returns whether a lemma or the proof of another function names more of this one than that it meets its contract."""
+@functools.cache
+def texts_of(folder):
+    """Returns the texts in which a crate names proofs, by their paths: its proof files and its code, this with the dots of a proof file."""
+    proofs = {it: it.read_text() for it in Path(folder, "proofs").rglob("*.antt")}
+    return proofs | {it: it.read_text().replace("::", ".") for it in Path(folder, "src").rglob("*.rt")}
+
+
+def is_known_outside(folder, function, but=r"(?!Met\b)"):
+    """Returns whether a lemma or the proof of another function names more of this one than that it meets its contract, or with no `but` that too."""
     path = function.name.split("::")
-    known = re.compile(rf"proofs\.{re.escape('.'.join(path))}\.(?!Met\b)")
-    proofs = Path(folder, "proofs")
-    return any(known.search(it.read_text()) for it in proofs.rglob("*.antt") if it.parent != proofs.joinpath(*path))
+    known = re.compile(rf"proofs\.{re.escape('.'.join(path))}\.{but}")
+    return any(known.search(text) for it, text in texts_of(folder).items() if it.parent != Path(folder, "proofs", *path))
+
+
+def is_of_no_trait(lines, function):
+    return not lines[function.last - 1].startswith(" ") or is_of_an_impl(lines, function)
+
+
+def can_go_unproved(folder, function):
+    """Returns whether nothing else of the crate names the proof of a function, which is of no trait and in no cycle of calls."""
+    lines = lines_of(folder, function.file)
+    is_in_a_cycle = any("#[cycle" in it for it in lines[function.first - 1:function.last])
+    return is_of_no_trait(lines, function) and not is_in_a_cycle and not is_known_outside(folder, function, but="")
 
 
 def can_stand_beside(folder, edit):
@@ -48,10 +68,9 @@ def can_stand_beside(folder, edit):
     of = edit.functions[0]
     lines = lines_of(folder, of.file)
     is_within = all(file == of.file and of.first <= at <= of.last for file, at in edit.lines)
-    is_free = not lines[of.last - 1].startswith(" ")
     word = of.name.split("::")[-1]
     calls_itself = len(re.findall(rf"\b{word}\(", "\n".join(lines[of.first - 1:of.last]))) > 1
-    return is_within and not calls_itself and not is_known_outside(folder, of) and (is_free or is_of_an_impl(lines, of))
+    return is_within and not calls_itself and not is_known_outside(folder, of) and is_of_no_trait(lines, of)
 
 
 @dataclass
@@ -64,31 +83,50 @@ class Turned:
 class Copy:
     """A copy of a crate in a folder, with edits: `turned` has what each comes to there, by its name."""
 
-    def __init__(self, crate, room, parts, edits, beside):
-        self.crate, self.room, self.turned = crate, room, {}
+    def __init__(self, crate, room, parts, beside, in_place, is_lean):
+        self.crate, self.room, self.is_lean, self.turned, self.files, self.put = crate, room, is_lean, {}, {}, []
         for part in parts:
             if Path(crate.folder, part).is_dir():
                 shutil.copytree(Path(crate.folder, part), Path(room, part))
-        self.files = {}
-        names = self.put_beside(edits) if beside else self.put_in_place(edits)
-        for file, lines in self.files.items():
-            Path(room, file).write_text("\n".join(lines))
-        # in the place of what it turns an edit moves no line, and may end one as the layout does not
-        self.functions = functions_of(room if beside else crate.folder)
+        names = self.put_beside(beside)
+        self.write()
+        # in the place of what it turns an edit may end a line as the layout does not
+        self.functions = functions_of(room)
         by_name = {it.name: it for it in self.functions}
-        for edit in edits:
-            functions = [by_name[it] for it in names[edit.name]]
-            moved = functions[0].first - edit.functions[0].first if beside else 0
-            self.turned[edit.name] = Turned(functions, {(file, at + moved) for file, at in edit.lines})
+        for edit in beside:
+            function = by_name[names[edit.name]]
+            self.turned[edit.name] = Turned([function], {(file, at + function.first - edit.functions[0].first) for file, at in edit.lines})
+        for edit in in_place:
+            self.turned[edit.name] = Turned([by_name[it.name] for it in edit.functions], self.put_in_place(edit))
+        self.write()
+        if is_lean:
+            self.leave_out_proofs()
+
+    def write(self):
+        for file, lines in self.files.items():
+            Path(self.room, file).write_text("\n".join(lines))
+
+    def leave_out_proofs(self):
+        """Leaves the functions that no edit turns without a proof, where nothing else needs it."""
+        turned = {it.name for of in self.turned.values() for it in of.functions}
+        for of in functions_of(self.crate.folder):
+            if of.name not in turned and can_go_unproved(self.crate.folder, of):
+                proof = Path(self.room, "proofs", *of.name.split("::"))
+                for file in proof.glob("*.antt"):
+                    file.unlink()
+                proof.mkdir(parents=True, exist_ok=True)
+                # the prover makes no proof of its own where there is this file
+                proof.joinpath("Proof.antt").write_text("-- left out\n")
 
     def lines(self, file):
         return self.files.setdefault(file, lines_of(self.crate.folder, file))
 
-    def put_in_place(self, edits):
-        for edit in edits:
-            for (file, at), new in edit.lines.items():
-                self.lines(file)[at - 1] = new
-        return {edit.name: [it.name for it in edit.functions] for edit in edits}
+    def put_in_place(self, edit):
+        """Puts an edit into the place of what it turns, and returns where its lines are, below those that were put in before them."""
+        placed = {(file, at + sum(count for of, last, count in self.put if of == file and last < at)): new for (file, at), new in edit.lines.items()}
+        for (file, at), new in placed.items():
+            self.lines(file)[at - 1] = new
+        return set(placed)
 
     def put_beside(self, edits):
         """Puts a function for each edit behind the one that it turns, the last of a file first, and returns their names."""
@@ -99,9 +137,11 @@ class Copy:
             body = "\n".join(edit.lines.get((of.file, at), lines[at - 1]) for at in range(of.first, of.last + 1))
             *above, word = of.name.split("::")
             name = f"{word}_wrong_{number}"
-            lines[of.last:of.last] = ["", *re.sub(rf"\bfn {word}\b", f"fn {name}", body, count=1).split("\n")]
+            new = ["", *re.sub(rf"\bfn {word}\b", f"fn {name}", body, count=1).split("\n")]
+            lines[of.last:of.last] = new
+            self.put.append((of.file, of.last, len(new)))
             self.copy_proof([*above, word], [*above, name])
-            names[edit.name] = ["::".join([*above, name])]
+            names[edit.name] = "::".join([*above, name])
         return names
 
     def copy_proof(self, of, to):
