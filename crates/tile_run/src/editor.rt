@@ -208,7 +208,11 @@ fn carry_out_line(
 {
     match parse_cut(alloc, cut) {
         Ok(None) => None,
-        Ok(Some(request)) => Some(carry_out(alloc, session, &request)),
+        Ok(Some(request)) => {
+            let answer = carry_out(alloc, session, &request);
+            drop(request);
+            Some(answer)
+        }
         Err(error) => Some(Err(Refused::Parse(error))),
     }
 }
