@@ -25,17 +25,11 @@ use Rattle.clap.specs.declared.builder.value_parser.ValueParser.{ValueParser}
 use Rattle.clap.specs.declared.parser.matches.ArgMatches.{ArgMatches}
 use Rattle.clap.specs.declared.parser.matches.Found.{Found}
 use Rattle.clap.specs.declared.parser.matches.MatchedArg.{MatchedArg}
-use Rattle.tile_command_line.specs.Defaulted.{IsDefaulted}
+use Rattle.tile_command_line.specs.Defaulted.{Awaits, IsDefaulted}
 use Rattle.clap.proofs.CallerLemmas.{added_plain, default_present, entry_by_id, same_rules_by_id}
 use Rattle.clap.proofs.BuiltLemmas.{plain_same}
 
 -- ---- a command on its way to an option
-
--- nothing in it excludes anything, none of its arguments is global, and none has this id
-pub record Awaits (id : List ℕ) (command : Command) : Type 0 where
-  pub plain : IsPlain command
-  pub local : (out-Command command).has_globals ≡ false
-  pub free : All (λ (a : Arg). a.id.now ≡ id → ⊥) (args_of command)
 
 pub awaits_begun : (id : List ℕ) (command : Command) → args_of command ≡ [] → groups_of command ≡ [] → (out-Command command).has_globals ≡ false → Awaits id command
 awaits_begun id command args groups local = record {

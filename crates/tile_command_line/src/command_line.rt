@@ -4,12 +4,12 @@ ghost use Rattle.std.specs.Prelude.{◌≡◌, ◌≤◌, IfOk, codes, pos};
 ghost use Rattle.clap.specs.declared.builder.value_parser.ValueParser.TheVariants.{Signed};
 ghost use Rattle.mvt_history_steps.specs.declared.TheConstants.{MAX_DEPTH};
 ghost use Rattle.tile_command_line.specs.Depth.{HasDepth, TellsDepth};
-ghost use Rattle.tile_command_line.specs.Defaulted.{IsDefaulted};
+ghost use Rattle.tile_command_line.specs.Defaulted.{Awaits, IsDefaulted, IsOrdinary};
 
 use crate::help::SCRIPT_HELP;
 use clap::{Arg, ArgAction, ArgMatches, Command, value_parser};
 use mvt_history_steps::MAX_DEPTH;
-use std::alloc::Global;
+use std::alloc::{AllocError, Global};
 
 /// What `--version` tells behind the name of the program.
 const VERSION: &str = "0.1.0";
@@ -23,31 +23,69 @@ const USAGE: &str = "tileshell [OPTIONS] <TILE> <OUT> < SCRIPT
 pub fn matched<'a>(alloc: Global, words: &'a [&'a str]) -> Result<ArgMatches<'a>, clap::Error>
     ensures { IfOk result HasDepth }
 {
-    let tile = Arg::new(alloc, "TILE")
-        .required(true)
-        .help("The tile to edit, uncompressed");
-    let out = Arg::new(alloc, "OUT")
-        .required(true)
-        .help("The file that the edited tile is written to");
-    let script = Arg::new(alloc, "script")
-        .long("script")
-        .value_name("FILE")
-        .help("The script, in place of standard input");
-    let strict = Arg::new(alloc, "strict")
-        .long("strict")
-        .action(ArgAction::SetTrue)
-        .help("Stop at the first refused line");
+    described(alloc)?
+        .arg(depth_option(alloc))?
+        .try_get_matches_from(words)
+}
+
+/// The command line but for `--depth`.
+fn described<'a>(alloc: Global) -> Result<Command<'a>, AllocError>
+    ensures { IfOk result (Awaits (codes "depth")) }
+{
+    named(alloc)
+        .arg(tile_argument(alloc))?
+        .arg(out_argument(alloc))?
+        .arg(script_option(alloc))?
+        .arg(strict_option(alloc))
+}
+
+/// A command line with no arguments.
+fn named<'a>(alloc: Global) -> Command<'a>
+    ensures { Awaits (codes "depth") result }
+{
     Command::new(alloc, "tileshell")
         .version(VERSION)
         .about("Edits a vector tile by the lines of a script")
         .override_usage(USAGE)
         .after_long_help(SCRIPT_HELP)
-        .arg(tile)?
-        .arg(out)?
-        .arg(script)?
-        .arg(strict)?
-        .arg(depth_option(alloc))?
-        .try_get_matches_from(words)
+}
+
+/// The argument `TILE`.
+fn tile_argument<'a>(alloc: Global) -> Arg<'a>
+    ensures { IsOrdinary result (codes "TILE") }
+{
+    Arg::new(alloc, "TILE")
+        .required(true)
+        .help("The tile to edit, uncompressed")
+}
+
+/// The argument `OUT`.
+fn out_argument<'a>(alloc: Global) -> Arg<'a>
+    ensures { IsOrdinary result (codes "OUT") }
+{
+    Arg::new(alloc, "OUT")
+        .required(true)
+        .help("The file that the edited tile is written to")
+}
+
+/// The option `--script`.
+fn script_option<'a>(alloc: Global) -> Arg<'a>
+    ensures { IsOrdinary result (codes "script") }
+{
+    Arg::new(alloc, "script")
+        .long("script")
+        .value_name("FILE")
+        .help("The script, in place of standard input")
+}
+
+/// The option `--strict`.
+fn strict_option<'a>(alloc: Global) -> Arg<'a>
+    ensures { IsOrdinary result (codes "strict") }
+{
+    Arg::new(alloc, "strict")
+        .long("strict")
+        .action(ArgAction::SetTrue)
+        .help("Stop at the first refused line")
 }
 
 /// The option `--depth`.
