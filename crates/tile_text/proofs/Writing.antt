@@ -4,8 +4,9 @@ use Rattle.std.specs.Prelude.{slice_index, codes}
 use Rattle.std.specs.Char.{is_ascii_control}
 use Rattle.std.specs.List.{flat_map, position_or_len}
 use Rattle.std.proofs.lemmas.List.Sums.{prefix_len_stops}
-use Rattle.std.proofs.lemmas.List.{append-nil, nil_from_length, take_all, length-drop, get_or-drop}
+use Rattle.std.proofs.lemmas.List.{append-nil, nil_from_length, take_all, take_more, length-drop, get_or-drop, flat_map_more}
 use Rattle.std.proofs.lemmas.List.Concat.{flat_map-append}
+use Rattle.std.proofs.lemmas.List.Folds.{flat_map-map}
 use Rattle.hex.specs.Hex.{encode_with, encode_lower, lower_digits}
 use Rattle.tile_text.specs.Extends.{Extends}
 use Rattle.tile_text.specs.Texts.{is_mark, is_escaped, quoted_byte, raw_form, point_form, part_words}
@@ -40,6 +41,24 @@ piece_written form joins line new rest piece after all e written so_far =
 pub all_written : (form : List ℕ → List ℕ) → form [] ≡ [] → (line rest all : List ℕ) → length rest ≡ 0 → line ++ form rest ≡ all → line ≡ all
 all_written form none line rest all e so_far =
     sym (append-nil line) ∙ ap (λ (xs : List ℕ). line ++ xs) (sym none) ∙ ap (λ (xs : List ℕ). line ++ form xs) (sym (nil_from_length rest e)) ∙ so_far
+
+-- ---- items
+
+-- behind what is written of the first items, what is written of one more
+pub one_more : {X : Type 0} (form : X → List ℕ) (line so_far new : List ℕ) (items : List X) (i : ℕ) (d : X) → i < length items
+    → so_far ≡ line ++ flat_map form (take i items) → new ≡ so_far ++ form (get_or items i d) → new ≡ line ++ flat_map form (take (i + 1) items)
+one_more form line so_far new items i d low written added =
+    added ∙ ap (λ (xs : List ℕ). xs ++ form (get_or items i d)) written ∙ flat_map_more form line (take i items) (get_or items i d) ∙ ap (λ xs. line ++ flat_map form xs) (sym (take_more items i d low))
+
+-- the same of points, each behind a space
+pub one_more_point : (line so_far spaced new : List ℕ) (points : List Point) (i : ℕ) (d : Point) → i < length points
+    → so_far ≡ line ++ with_leading_spaces (map point_form (take i points)) → spaced ≡ so_far ++ codes " " → new ≡ spaced ++ point_form (get_or points i d)
+    → new ≡ line ++ with_leading_spaces (map point_form (take (i + 1) points))
+one_more_point line so_far spaced new points i d low written space added =
+    one_more (λ (point : Point). codes " " ++ point_form point) line so_far new points i d low
+    (written ∙ ap (λ (xs : List ℕ). line ++ xs) (flat_map-map (λ (word : List ℕ). codes " " ++ word) point_form (take i points)))
+    (added ∙ ap (λ (xs : List ℕ). xs ++ point_form (get_or points i d)) space ∙ append_assoc so_far (codes " ") (point_form (get_or points i d)))
+    ∙ ap (λ (xs : List ℕ). line ++ xs) (sym (flat_map-map (λ (word : List ℕ). codes " " ++ word) point_form (take (i + 1) points)))
 
 -- ---- bytes that stand for themselves
 

@@ -10,3 +10,6 @@ loop-chunk-preserved c = record {
 
 pub returns-clause-ok : goal.returns-clause-ok
 returns-clause-ok c = all_written encode_lower (encode_with-nil lower_digits) c.loop-chunk.line.items _ _ c.in-None.ensures.steps.1.0 c.loop-chunk.invariant.whole
+
+pub returns-in_err-put_hex_chunk-clause-kept : goal.returns-in_err-put_hex_chunk-clause-kept
+returns-in_err-put_hex_chunk-clause-kept c = extends_more _ _ _ c.loop-chunk.invariant.kept c.in_err-put_hex_chunk.ensures.kept

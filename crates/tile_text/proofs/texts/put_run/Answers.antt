@@ -1,5 +1,6 @@
 use Rattle.std.proofs.Common.{◌∙◌}
-use Rattle.tile_text.proofs.Writing.{front_written, first_is_escaped, first_written}
+use Rattle.tile_text.specs.Extends.{Extends}
+use Rattle.tile_text.proofs.Writing.{extends_more, front_written, first_is_escaped, first_written}
 use Rattle.tile_text.proofs.texts.put_run.Goals as goal
 
 pub returns-in-empty-clause-ok : goal.returns-in-empty-clause-ok
@@ -15,3 +16,13 @@ returns-in_ok-put_escaped-in-len1-up-clause-ok c =
     let behind = c.split_at.result.1.now in
     first_written c.extend_from_slice.new.self.items _ behind c.in-len1-up.len_at_least c.in_ok-put_escaped-in-len1-up.ensures.ok
     ∙ front_written c.args.line.now.items _ c.args.bytes.now _ behind c.plain_len.result c.plain_len.ensures.place c.split_at.ensures.front c.split_at.ensures.back c.in_ok-extend_from_slice.ensures.items
+
+pub returns-in_err-put_escaped-in-len1-up-clause-kept : goal.returns-in_err-put_escaped-in-len1-up-clause-kept
+returns-in_err-put_escaped-in-len1-up-clause-kept c =
+    let front : Extends c.args.line.now.items c.extend_from_slice.new.self.items = record { added = _; whole = c.in_ok-extend_from_slice.ensures.items } in
+    extends_more _ _ _ front c.in_err-put_escaped-in-len1-up.ensures.kept
+
+pub returns-in_ok-put_escaped-in-len1-up-clause-kept : goal.returns-in_ok-put_escaped-in-len1-up-clause-kept
+returns-in_ok-put_escaped-in-len1-up-clause-kept c =
+    let front : Extends c.args.line.now.items c.extend_from_slice.new.self.items = record { added = _; whole = c.in_ok-extend_from_slice.ensures.items } in
+    extends_more _ _ _ front c.in_ok-put_escaped-in-len1-up.ensures.kept

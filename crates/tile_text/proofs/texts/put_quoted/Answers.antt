@@ -1,0 +1,18 @@
+use Rattle.std.proofs.Common.{◌∙◌}
+use Rattle.tile_text.specs.Extends.{Extends}
+use Rattle.tile_text.proofs.Writing.{extends_more}
+use Rattle.tile_text.proofs.texts.put_quoted.Goals as goal
+
+pub returns-in_err-rest-clause-kept : goal.returns-in_err-rest-clause-kept
+returns-in_err-rest-clause-kept c = extends_more _ _ _ c.loop-rest.invariant.kept c.in_err-rest.ensures.kept
+
+pub loop-rest-preserved : goal.loop-rest-preserved
+loop-rest-preserved c = record {
+  kept = extends_more _ _ _ c.loop-rest.invariant.kept c.in_ok-rest.ensures.kept;
+  whole = c.in_ok-rest.ensures.ok ∙ c.loop-rest.invariant.whole;
+}
+
+pub returns-clause-kept : goal.returns-clause-kept
+returns-clause-kept c =
+    let closed : Extends c.loop-rest.line.items c.push-2.new.self.items = record { added = _; whole = c.in_ok-push-2.ensures.items } in
+    extends_more _ _ _ c.loop-rest.invariant.kept closed
