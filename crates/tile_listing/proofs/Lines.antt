@@ -1,6 +1,6 @@
 -- Lines that are put one after the other.
-use Rattle.std.proofs.Common.{◌≡◌, ℕ, ◌+◌, Option, List, [], ◌∷◌, ◌++◌, map, refl, sym, ap, ◌∙◌}
-use Rattle.std.proofs.lemmas.List.{flat_map_more, map_push}
+use Rattle.std.proofs.Common.{◌≡◌, ℕ, ◌+◌, ◌<◌, Option, List, [], ◌∷◌, ◌++◌, length, get_or, map, take, refl, sym, ap, ◌∙◌}
+use Rattle.std.proofs.lemmas.List.{flat_map_more, map_push, take_more}
 use Rattle.tile_lines.specs.Lines.{with_feed}
 use Rattle.std.specs.List.{enumerate_from, filter_map}
 use Rattle.mvt_messages.specs.Found.{found_in, placed_from}
@@ -16,6 +16,12 @@ pub line_more : {A : Type 0} (line : A → List ℕ) (old now new : List ℕ) (s
 line_more line old now new seen x before put =
     put ∙ ap (λ (s : List ℕ). s ++ with_feed (line x)) before ∙ flat_map_more with_feed old (map line seen) (line x)
     ∙ ap (λ (lines : List (List ℕ)). old ++ joined_lines lines) (sym (map_push line seen x))
+
+-- the same of items in order, of which so many were seen
+pub next_line : {A B : Type 0} (view : A → B) (line : B → List ℕ) (old now new : List ℕ) (items : List A) (i : ℕ) (d : A) → i < length items → now ≡ old ++ joined_lines (map line (map view (take i items))) → new ≡ now ++ with_feed (line (view (get_or items i d))) → new ≡ old ++ joined_lines (map line (map view (take (i + 1) items)))
+next_line {A} {B} view line old now new items i d low before put =
+    line_more line old now new (map view (take i items)) (view (get_or items i d)) before put
+    ∙ ap (λ (xs : List B). old ++ joined_lines (map line xs)) (sym (ap (λ (xs : List A). map view xs) (take_more items i d low) ∙ map_push view (take i items) (get_or items i d)))
 
 pub line_seen_more : {A B : Type 0} (view : A → B) (line : ℕ → B → List ℕ) (old now new : List ℕ) (seen : List (ℕ × A)) (ordinal : ℕ) (x : A) → now ≡ old ++ joined_lines (lines_seen view line seen) → new ≡ now ++ with_feed (line ordinal (view x)) → new ≡ old ++ joined_lines (lines_seen view line (seen ++ (ordinal, x) ∷ []))
 line_seen_more {A} {B} view line old now new seen ordinal x before put =
