@@ -6,7 +6,7 @@ use Rattle.std.specs.List.{AllByRecursion, list_all}
 use Rattle.std.specs.Option.{option_and_then}
 use Rattle.std.proofs.lemmas.Bool.{and_parts}
 use Rattle.std.proofs.lemmas.Option.{cond_some}
-use Rattle.std.proofs.lemmas.List.{length-map}
+use Rattle.std.proofs.lemmas.List.{get_or-map, length-map}
 use Rattle.std.proofs.lemmas.List.Elements.{All-from_recursion}
 use Rattle.mvt_document.specs.Plain.{Feature, Layer}
 use Rattle.mvt_numbers.specs.Numbers.{numbers}
@@ -50,6 +50,15 @@ held_fit layer pairs held_keys held_values of_keys of_values fit =
     let count_values : length (values layer) ≡ length held_values = ap (λ (xs : List (List ℕ)). length xs) (sym of_values) ∙ length-map held_values _ in
     subst (λ (n : ℕ). All (λ pair. IsTrue (is_pair n (length held_values) (pair_seen pair))) pairs) count_keys
     (subst (λ (n : ℕ). All (λ pair. IsTrue (is_pair (length (keys layer)) n (pair_seen pair))) pairs) count_values fit)
+
+-- what the slices hold at a pair's ordinals is what the pair names
+pub named_held : (held_keys held_values : List (Bor (List ℕ))) (pair : ℕ × ℕ) (key value : Bor (List ℕ)) → IsTrue (is_pair (length held_keys) (length held_values) pair)
+    → ((slice_index_or held_keys pair.0 key).now, (slice_index_or held_values pair.1 value).now) ≡ named_by (contents_of held_keys) (contents_of held_values) pair
+named_held held_keys held_values pair key value fits =
+    let both = and_parts (is_ordinal (length held_keys) pair.0) (is_ordinal (length held_values) pair.1) fits in
+    let of_key = ltb-true pair.0 (length held_keys) (and_parts (nat_lt pair.0 (length held_keys)) (nat_lt pair.0 (2 ^ 32)) both.0).0 in
+    let of_value = ltb-true pair.1 (length held_values) (and_parts (nat_lt pair.1 (length held_values)) (nat_lt pair.1 (2 ^ 32)) both.1).0 in
+    sym (rw (get_or-map (λ (slice : Bor (List ℕ)). slice.now) held_keys pair.0 key [] of_key, get_or-map (λ (slice : Bor (List ℕ)). slice.now) held_values pair.1 value [] of_value) refl)
 
 -- ---- the lines of the attributes
 
