@@ -98,8 +98,7 @@ fn and_others(bytes: usize, fields: &[Field]) -> Option<usize>
 fn is_geometry(field: &Field) -> bool
     ensures { result ≡ is_geometry_field (field_of field.now) }
 {
-    field.number() == GEOMETRY
-        && matches!(field.body(), BodyRef::Number(_) | BodyRef::Bytes { .. })
+    field.number() == GEOMETRY && matches!(field.body(), BodyRef::Number(_) | BodyRef::Bytes { .. })
 }
 
 /// The change of the run of the kind and, behind it, of this geometry in place of the others, on

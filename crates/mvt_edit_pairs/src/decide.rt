@@ -91,6 +91,5 @@ fn decided(pair: Pair, named: &[bool], to: Option<u64>) -> (Option<u64>, Option<
 pub fn is_tags(field: &Field) -> bool
     ensures { result ≡ is_tags (field_of field.now) }
 {
-    field.number() == TAGS
-        && matches!(field.body(), BodyRef::Number(_) | BodyRef::Bytes { .. })
+    field.number() == TAGS && matches!(field.body(), BodyRef::Number(_) | BodyRef::Bytes { .. })
 }

@@ -8,8 +8,8 @@
 #![tactic(auto)]
 
 pub use mvt_document::{
-    Body, BodyRef, Document, Feature, FeatureParts, Field, FieldParts, Items, Layer, LayerItem, MAX_FILE,
-    MAX_GROUPS, Measured, Message, MessageTag, Tag, TileItem, Varint, last_value, laws,
+    Body, BodyRef, Document, Feature, FeatureParts, Field, FieldParts, Items, Layer, LayerItem,
+    MAX_FILE, MAX_GROUPS, Measured, Message, MessageTag, Tag, TileItem, Varint, last_value, laws,
     least_width, message_size, put_number, read_varint, size_beside_part, size_of_all, sum_within,
     tags, value_in,
 };
