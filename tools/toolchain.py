@@ -1,4 +1,10 @@
-"""The Rattle toolchain's own command `rt`, as a module: what the tools of this repository ask of it is asked of the same code."""
+"""The Rattle toolchain's own command `rt`, as a module: what the tools of this repository ask of it is asked of the same code.
+
+    python3 tools/toolchain.py WORD..      does what `rt WORD..` does, and computes the stamp of each crate once
+
+A crate's stamp is a sum over its files and over the stamps of the crates below it. `rt` computes each anew along every path
+from a crate to one below it, and there are a hundred thousand: that takes longer than many a proof.
+"""
 import importlib.machinery
 import importlib.util
 import os
@@ -24,7 +30,7 @@ def load():
 
 
 def remember_stamps(rtlib):
-    """A crate's stamp is a sum over its files and over the stamps of all below it: each is computed once."""
+    """Has each crate's stamp computed once."""
     computed, known = rtlib.Crate.stamp, {}
 
     def stamp(crate):
@@ -52,3 +58,7 @@ def crates_of(rt, top, names=()):
         sys.exit(f"there is no crate {', '.join(sorted(lacking))}")
     named = [it for it in crates if it.name in names] or crates
     return [it for it in crates if it in named or any(it in other.below() for other in named)]
+
+
+if __name__ == "__main__":
+    sys.exit(load().main(sys.argv[1:]))
