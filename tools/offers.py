@@ -41,7 +41,7 @@ def options():
 
 def requests():
     """The words that a request begins with."""
-    return {word for place in REQUESTS for word in re.findall(r'name == b"([\w-]+)"', read(place))}
+    return {word for place in REQUESTS for word in re.findall(r'is\(name, b"([\w-]+)"\)', read(place))}
 
 
 def refusals():

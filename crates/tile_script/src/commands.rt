@@ -1,10 +1,12 @@
 //! The command that a word and its arguments make.
 
-ghost use Rattle.std.specs.Prelude.{◌≤◌, length, map};
+ghost use Rattle.std.specs.Prelude.{◌≡◌, ◌≤◌, Err, drop, length, map};
 ghost use Rattle.std.specs.Result.{IsErrOf};
 ghost use Rattle.mvt_command.specs.CommandStands.{command_of, layer_choice_of, layers_choice_of, feature_choice_of};
-ghost use Rattle.tile_script.specs.Commands.{chosen_of, two_texts_of, layers_alone_of, rename_layer_of, move_layer_of, drop_layer_of, keep_layers_of, insert_feature_of, move_feature_of, drop_feature_of, set_id_of, clear_id_of, set_of, unset_of, rename_key_of, exclude_of, exclude_all_of, shift_of, set_geometry_of, compact_keys_of, compact_values_of, compact_of, command_by};
+ghost use Rattle.std.specs.Str.{bytes_eq};
+ghost use Rattle.tile_script.specs.Commands.{chosen_of, two_texts_of, layers_alone_of, rename_layer_of, move_layer_of, drop_layer_of, keep_layers_of, insert_feature_of, move_feature_of, drop_feature_of, set_id_of, clear_id_of, set_of, unset_of, rename_key_of, exclude_of, exclude_all_of, shift_of, set_geometry_of, compact_keys_of, compact_values_of, compact_of, commands, read_by, command_by};
 ghost use Rattle.tile_words.specs.Answers.{Gives};
+ghost use Rattle.tile_words.specs.declared.parse_error.ParseError.TheVariants.{UnknownCommand};
 ghost use Rattle.tile_words.specs.WordStands.{word_of};
 
 use mvt_command::{Command, FeatureChoice, LayerChoice, LayersChoice};
@@ -16,6 +18,13 @@ use tile_arguments::{
 };
 use tile_words::{ParseError, Word};
 
+/// Whether the bytes are this word.
+pub(crate) fn is(name: &[u8], word: &[u8]) -> bool
+    ensures { result ≡ bytes_eq name.now word.now }
+{
+    name == word
+}
+
 /// The command that begins with this word, with its arguments.
 #[tactic(auto, unfolding(crate::specs::Commands::command_by))]
 pub(crate) fn command(
@@ -26,43 +35,85 @@ pub(crate) fn command(
     ensures answer { Gives command_of result (command_by name.now (map word_of arguments.now)) }
     ensures no_memory { IsErrOf result ParseError.NoMemory → 1 ≤ length arguments.now }
 {
-    if name == b"rename-layer".as_slice() {
+    if is(name, b"rename-layer") {
         rename_layer(alloc, arguments)
-    } else if name == b"move-layer".as_slice() {
+    } else if is(name, b"move-layer") {
         move_layer(alloc, arguments)
-    } else if name == b"drop-layer".as_slice() {
+    } else if is(name, b"drop-layer") {
         drop_layer(alloc, arguments)
-    } else if name == b"keep".as_slice() {
+    } else if is(name, b"keep") {
         keep_layers(alloc, arguments)
-    } else if name == b"insert".as_slice() {
+    } else {
+        feature_command(alloc, name, arguments)
+    }
+}
+
+/// The same of the commands behind those on layers.
+fn feature_command(
+    alloc: Global,
+    name: &[u8],
+    arguments: &[Word<'_>],
+) -> Result<Command, ParseError>
+    ensures answer { Gives command_of result (read_by (drop 4 commands) (Err UnknownCommand) name.now (map word_of arguments.now)) }
+    ensures no_memory { IsErrOf result ParseError.NoMemory → 1 ≤ length arguments.now }
+{
+    if is(name, b"insert") {
         insert_feature(alloc, arguments)
-    } else if name == b"move-feature".as_slice() {
+    } else if is(name, b"move-feature") {
         move_feature(alloc, arguments)
-    } else if name == b"drop-feature".as_slice() {
+    } else if is(name, b"drop-feature") {
         drop_feature(alloc, arguments)
-    } else if name == b"set-id".as_slice() {
+    } else if is(name, b"set-id") {
         set_id(alloc, arguments)
-    } else if name == b"clear-id".as_slice() {
+    } else if is(name, b"clear-id") {
         clear_id(alloc, arguments)
-    } else if name == b"set".as_slice() {
+    } else {
+        attribute_command(alloc, name, arguments)
+    }
+}
+
+/// The same of the commands behind those on features and their ids.
+fn attribute_command(
+    alloc: Global,
+    name: &[u8],
+    arguments: &[Word<'_>],
+) -> Result<Command, ParseError>
+    ensures answer { Gives command_of result (read_by (drop 9 commands) (Err UnknownCommand) name.now (map word_of arguments.now)) }
+    ensures no_memory { IsErrOf result ParseError.NoMemory → 1 ≤ length arguments.now }
+{
+    if is(name, b"set") {
         set(alloc, arguments)
-    } else if name == b"unset".as_slice() {
+    } else if is(name, b"unset") {
         unset(alloc, arguments)
-    } else if name == b"rename-key".as_slice() {
+    } else if is(name, b"rename-key") {
         rename_key(alloc, arguments)
-    } else if name == b"exclude".as_slice() {
+    } else if is(name, b"exclude") {
         exclude(alloc, arguments)
-    } else if name == b"exclude-all".as_slice() {
+    } else if is(name, b"exclude-all") {
         exclude_all(alloc, arguments)
-    } else if name == b"shift".as_slice() {
+    } else {
+        geometry_or_pool_command(alloc, name, arguments)
+    }
+}
+
+/// The same of the commands behind those on attributes.
+fn geometry_or_pool_command(
+    alloc: Global,
+    name: &[u8],
+    arguments: &[Word<'_>],
+) -> Result<Command, ParseError>
+    ensures answer { Gives command_of result (read_by (drop 14 commands) (Err UnknownCommand) name.now (map word_of arguments.now)) }
+    ensures no_memory { IsErrOf result ParseError.NoMemory → 1 ≤ length arguments.now }
+{
+    if is(name, b"shift") {
         shift(alloc, arguments)
-    } else if name == b"set-geometry".as_slice() {
+    } else if is(name, b"set-geometry") {
         set_geometry(alloc, arguments)
-    } else if name == b"compact-keys".as_slice() {
+    } else if is(name, b"compact-keys") {
         compact_keys(alloc, arguments)
-    } else if name == b"compact-values".as_slice() {
+    } else if is(name, b"compact-values") {
         compact_values(alloc, arguments)
-    } else if name == b"compact".as_slice() {
+    } else if is(name, b"compact") {
         compact(alloc, arguments)
     } else {
         Err(ParseError::UnknownCommand)

@@ -7,7 +7,7 @@ ghost use Rattle.tile_script.specs.Line.{alone_of, name_of, list_of, request_by,
 ghost use Rattle.tile_words.specs.Answers.{Gives};
 ghost use Rattle.tile_words.specs.WordStands.{word_of};
 
-use crate::commands::{chosen, command};
+use crate::commands::{chosen, command, is};
 use mvt_document::Items;
 use std::alloc::Global;
 use tile_arguments::{layer_choice, text_argument};
@@ -32,29 +32,29 @@ fn named(alloc: Global, name: &[u8], arguments: &[Word<'_>]) -> Result<Request, 
     ensures answer { Gives request_of result (request_by name.now (map word_of arguments.now)) }
     ensures no_memory { IsErrOf result ParseError.NoMemory → 1 ≤ length arguments.now }
 {
-    if name == b"mark".as_slice() {
+    if is(name, b"mark") {
         Ok(Request::Mark(mark_name(alloc, arguments)?))
-    } else if name == b"unmark".as_slice() {
+    } else if is(name, b"unmark") {
         Ok(Request::Unmark(mark_name(alloc, arguments)?))
-    } else if name == b"back".as_slice() {
+    } else if is(name, b"back") {
         Ok(Request::Back(mark_name(alloc, arguments)?))
-    } else if name == b"undo".as_slice() {
+    } else if is(name, b"undo") {
         alone(Request::Undo, arguments)
-    } else if name == b"redo".as_slice() {
+    } else if is(name, b"redo") {
         alone(Request::Redo, arguments)
-    } else if name == b"marks".as_slice() {
+    } else if is(name, b"marks") {
         alone(Request::Marks, arguments)
-    } else if name == b"history".as_slice() {
+    } else if is(name, b"history") {
         alone(Request::History, arguments)
-    } else if name == b"begin".as_slice() {
+    } else if is(name, b"begin") {
         alone(Request::Begin, arguments)
-    } else if name == b"end".as_slice() {
+    } else if is(name, b"end") {
         alone(Request::End, arguments)
-    } else if name == b"cancel".as_slice() {
+    } else if is(name, b"cancel") {
         alone(Request::Cancel, arguments)
-    } else if name == b"size".as_slice() {
+    } else if is(name, b"size") {
         alone(Request::Size, arguments)
-    } else if name == b"list".as_slice() {
+    } else if is(name, b"list") {
         list(alloc, arguments)
     } else {
         Ok(Request::Edit(command(alloc, name, arguments)?))
@@ -67,10 +67,10 @@ fn alone(request: Request, arguments: &[Word<'_>]) -> Result<Request, ParseError
     ensures answer { Gives request_of result (alone_of (request_of request) (map word_of arguments.now)) }
     ensures no_memory { IsErrOf result ParseError.NoMemory → 1 ≤ length arguments.now }
 {
-    match arguments {
-        [] => Ok(request),
-        _ => Err(ParseError::BadArguments),
-    }
+    arguments
+        .is_empty()
+        .then_some(request)
+        .ok_or(ParseError::BadArguments)
 }
 
 /// The name of a mark.
