@@ -1,11 +1,11 @@
 -- Splices of one list, one after the other.
 use Rattle.std.proofs.Common.{◌≡◌, ℕ, zero, suc, ◌+◌, ◌-◌, ◌<◌, ◌≤◌, max, List, [], ◌∷◌, ◌++◌, length, length-append, length-drop, take, drop, get_or, set, refl, sym, ap, ◌∙◌, subst, arith}
-use Rattle.std.specs.Prelude.{Result, Ok, Err, IsOk, IsErr, is_ok, if◌then◌else◌, Option, Some, None, IfSome}
+use Rattle.std.specs.Prelude.{Option, Some, None, IfSome}
 use Rattle.std.specs.List.{AllZip, flat_map}
 use Rattle.std.proofs.lemmas.List.{length-take-le, get_or-drop}
 use Rattle.mvt_document.specs.Splicing.{part, splice}
 use Rattle.mvt_document.proofs.Beside.{spliced_size}
-use Rattle.mvt_splices.specs.Splices.{Splice, spliced, spliced_length, IsRoomier, after_all, FitAll, longest, turned_all, put_bytes}
+use Rattle.mvt_splices.specs.Splices.{Splice, spliced, spliced_length, IsRoomier, after_all, FitAll, longest}
 
 pub length-spliced : {T : Type 0} (s : Splice T) (items : List T) → s.index + s.taken ≤ length items → length (spliced s items) ≡ spliced_length s (length items)
 length-spliced s items within =
@@ -22,35 +22,15 @@ pub roomy_length : {T : Type 0} (s t : Splice T) (n : ℕ) → IsRoomier s t →
 roomy_length s t n roomy =
     ap (λ k. n - k + length t.put.items) roomy.taken ∙ ap (λ put. n - s.taken + length put) roomy.items
 
--- ---- a result in its two cases
-
-pub ok_gives : {A E X : Type 0} (r : Result A E) (x y : X) → IsOk r → (if is_ok r then x else y) ≡ x
-ok_gives (Ok a) x y ok = refl
-ok_gives (Err e) x y ok = absurd cc
-
-pub err_gives : {A E X : Type 0} (r : Result A E) (x y : X) → IsErr r → (if is_ok r then x else y) ≡ y
-err_gives (Ok a) x y err = absurd cc
-err_gives (Err e) x y err = refl
-
 -- ---- sizes that are known
 
-known_is : (known : Option ℕ) (n m : ℕ) → IfSome known (λ k. k ≡ n) → known ≡ Some m → m ≡ n
+pub known_is : (known : Option ℕ) (n m : ℕ) → IfSome known (λ k. k ≡ n) → known ≡ Some m → m ≡ n
 known_is None n m is some = absurd cc
 known_is (Some k) n m is some = let same : k ≡ m = cc in sym same ∙ is
 
--- the size together is enough for what is put in the end
-pub covers : (known together : Option ℕ) (before after come gone : ℕ) → IfSome known (λ k. k ≡ before) → IfSome together (λ n. (m : ℕ) × (known ≡ Some m) × (n ≡ m + come)) → after + gone ≡ before + come → IfSome together (λ n. gone ≤ n)
-covers known None before after come gone is sum whole = tt
-covers known (Some n) before after come gone is sum whole = omega (arith, known_is known before sum.0 is sum.1, sum.2)
-
-pub known_after : (known together result : Option ℕ) (before after come gone : ℕ) → IfSome known (λ k. k ≡ before) → IfSome together (λ n. (m : ℕ) × (known ≡ Some m) × (n ≡ m + come)) → after + gone ≡ before + come
-    → IfSome result (λ n. (m : ℕ) × (together ≡ Some m) × (n + gone ≡ m)) → IfSome result (λ n. n ≡ after)
-known_after known together None before after come gone is sum whole made = tt
-known_after known None (Some n) before after come gone is sum whole made = let none : None ≡ Some made.0 = made.1 in absurd cc
-known_after known (Some k) (Some n) before after come gone is sum whole made =
-    let some : Some k ≡ Some made.0 = made.1 in
-    let same : k ≡ made.0 = cc in
-    omega (arith, known_is known before sum.0 is sum.1, sum.2, same, made.2)
+-- what a splice leaves and takes out weighs what there was and what it puts
+pub weighed : {T : Type 0} (bytes : T → List ℕ) (s : Splice T) (items out : List T) → out ≡ part s.index s.taken items → length (flat_map bytes (spliced s items)) + length (flat_map bytes out) ≡ length (flat_map bytes items) + length (flat_map bytes s.put.items)
+weighed bytes s items out is = ap (λ xs. length (flat_map bytes (spliced s items)) + length (flat_map bytes xs)) is ∙ spliced_size bytes s.index s.taken s.put.items items
 
 -- ---- lists whose items are related one by one
 
@@ -109,33 +89,3 @@ module _ {S T : Type 0} (splice_of : S → Splice T) where
     roomy_longest (s ∷ steps) [] n all = absurd all
     roomy_longest (s ∷ steps) (t ∷ roomy) n all =
         ap (λ m. max n (longest splice_of roomy m)) (roomy_length (splice_of s) (splice_of t) n (law s t all.0)) ∙ ap (max n) (roomy_longest steps roomy (spliced_length (splice_of s) n) all.1)
-
-    pub roomy_puts : (bytes : T → List ℕ) (steps roomy : List S) → AllZip roomier steps roomy → flat_map (put_bytes bytes splice_of) roomy ≡ flat_map (put_bytes bytes splice_of) steps
-    roomy_puts bytes [] [] all = refl
-    roomy_puts bytes [] (t ∷ roomy) all = absurd all
-    roomy_puts bytes (s ∷ steps) [] all = absurd all
-    roomy_puts bytes (s ∷ steps) (t ∷ roomy) all =
-        ap (λ put. flat_map bytes put ++ flat_map (put_bytes bytes splice_of) roomy) (law s t all.0).items ∙ ap (λ rest. put_bytes bytes splice_of s ++ rest) (roomy_puts bytes steps roomy all.1)
-
-  -- what goes and what stays, what comes and what was
-  pub weighed : (turned : S → List T → S) (bytes : T → List ℕ) → ((s : S) (items : List T) → (splice_of (turned s items)).put.items ≡ part (splice_of s).index (splice_of s).taken items) → (steps : List S) (items : List T)
-      → length (flat_map bytes (after_all splice_of steps items)) + length (flat_map (put_bytes bytes splice_of) (turned_all splice_of turned steps items)) ≡ length (flat_map bytes items) + length (flat_map (put_bytes bytes splice_of) steps)
-  weighed turned bytes law [] items = refl
-  weighed turned bytes law (s ∷ steps) items =
-      let next = spliced (splice_of s) items in
-      let here = spliced_size bytes (splice_of s).index (splice_of s).taken (splice_of s).put.items items in
-      let rest = weighed turned bytes law steps next in
-      let gone = ap (λ put. length (flat_map bytes put)) (law s items) in
-      omega (arith, here, rest, gone, length-append (put_bytes bytes splice_of (turned s items)) (flat_map (put_bytes bytes splice_of) (turned_all splice_of turned steps next)), length-append (put_bytes bytes splice_of s) (flat_map (put_bytes bytes splice_of) steps))
-
-  pub carried : (roomier : S → S → Type 0) → ((s t : S) → roomier s t → IsRoomier (splice_of s) (splice_of t)) → (turned : S → List T → S) (bytes : T → List ℕ) → ((s : S) (items : List T) → (splice_of (turned s items)).put.items ≡ part (splice_of s).index (splice_of s).taken items)
-      → (steps roomy new : List S) (items now : List T) → AllZip roomier steps roomy → new ≡ turned_all splice_of turned roomy items → now ≡ after_all splice_of steps items
-      → length (flat_map bytes now) + length (flat_map (put_bytes bytes splice_of) new) ≡ length (flat_map bytes items) + length (flat_map (put_bytes bytes splice_of) steps)
-  carried roomier law turned bytes put_law steps roomy new items now same new_is now_is =
-      omega (
-        arith,
-        weighed turned bytes put_law roomy items,
-        ap (λ xs. length (flat_map bytes xs)) (now_is ∙ sym (roomy_after roomier law steps roomy items same)),
-        ap (λ xs. length (flat_map (put_bytes bytes splice_of) xs)) new_is,
-        ap length (roomy_puts roomier law bytes steps roomy same),
-      )

@@ -1,7 +1,6 @@
 -- Splices of one list, one after the other: what they make of it, when they fit, and what leads back. `splice_of` is
 -- the splice that a step is.
 use Rattle.std.specs.Prelude.{◌≡◌, ℕ, ◌+◌, ◌-◌, ◌≤◌, max, List, [], ◌∷◌, length}
-use Rattle.std.specs.List.{flat_map}
 use Rattle.mvt_document.specs.Held.{Held}
 use Rattle.mvt_document.specs.Splicing.{splice}
 
@@ -50,7 +49,3 @@ module _ {S T : Type 0} (splice_of : S → Splice T) where
   abbrev pub turned_all : (S → List T → S) → List S → List T → List S
   turned_all turned [] items = []
   turned_all turned (s ∷ steps) items = turned s items ∷ turned_all turned steps (spliced (splice_of s) items)
-
--- the bytes of the items that a step puts
-abbrev pub put_bytes : {S T : Type 0} → (T → List ℕ) → (S → Splice T) → S → List ℕ
-put_bytes bytes splice_of s = flat_map bytes (splice_of s).put.items

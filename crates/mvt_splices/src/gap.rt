@@ -10,6 +10,9 @@ use std::collections::VecDeque;
 use std::marker::Model;
 use std::mem;
 
+/// How many items a ring turns by one by one: for those that are more it is dearer than to turn it at once.
+const FEW: usize = 4;
+
 /// A list that is open at a gap, in a ring: what stands behind the gap, and then what stands before it. The
 /// gap goes to where a part is exchanged, so exchanges in order of their indexes, up or down, move
 /// each item once, and in the list's own memory. Contracts see the whole list, and beside it the room for more.
@@ -76,6 +79,7 @@ impl<T> Gap<T> {
 fn move_gap<T>(ring: &mut VecDeque<T>, behind: usize, index: usize)
     requires behind { behind ≤ deque_len ring.old }
     requires there { index ≤ deque_len ring.old }
+    requires room { deque_len ring.old ≤ deque_capacity ring.old }
     ensures items { let items = drop behind ring.old.items ++ take behind ring.old.items in ring.new.items ≡ drop index items ++ take index items }
     ensures length { deque_len ring.new ≡ deque_len ring.old }
     ensures room { deque_capacity ring.new ≡ deque_capacity ring.old }
@@ -86,7 +90,40 @@ fn move_gap<T>(ring: &mut VecDeque<T>, behind: usize, index: usize)
     } else {
         index - before
     };
-    ring.rotate_left(count);
+    turn(ring, count);
+}
+
+/// So many of the first items come last. Mostly that is one, which goes by itself.
+fn turn<T>(ring: &mut VecDeque<T>, count: usize)
+    requires there { count ≤ deque_len ring.old }
+    requires room { deque_len ring.old ≤ deque_capacity ring.old }
+    ensures items { ring.new.items ≡ drop count ring.old.items ++ take count ring.old.items }
+    ensures length { deque_len ring.new ≡ deque_len ring.old }
+    ensures room { deque_capacity ring.new ≡ deque_capacity ring.old }
+{
+    if count > FEW {
+        ring.rotate_left(count);
+    } else {
+        turn_few(ring, count);
+    }
+}
+
+/// The same, one item after the other.
+fn turn_few<T>(ring: &mut VecDeque<T>, count: usize)
+    requires there { count ≤ deque_len ring.old }
+    requires room { deque_len ring.old ≤ deque_capacity ring.old }
+    ensures items { ring.new.items ≡ drop count ring.old.items ++ take count ring.old.items }
+    ensures length { deque_len ring.new ≡ deque_len ring.old }
+    ensures room { deque_capacity ring.new ≡ deque_capacity ring.old }
+{
+    let mut left = count;
+    while 0 < left {
+        let Some(item) = ring.pop_front() else {
+            unreachable!()
+        };
+        ring.push_back_reserved(item);
+        left -= 1;
+    }
 }
 
 /// So many of the first items change places with the ones to put, which come last.

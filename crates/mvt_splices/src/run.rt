@@ -1,9 +1,11 @@
 //! Steps on one list, or on one message with its size: memory is asked for first, then each
 //! is carried out at the gap.
 
-ghost use Rattle.std.specs.Prelude.{◌≡◌, ℕ, ◌+◌, ◌≤◌, length, List, is_ok, if◌then◌else◌, OnOk, IfSome, vec_len, vec_capacity};
+ghost use Rattle.std.specs.Prelude.{◌≡◌, ◌+◌, ◌≤◌, [], length, List, is_ok, if◌then◌else◌, IfOk, OnErr, OnOk, IfSome, vec_len, vec_capacity};
 ghost use Rattle.std.specs.List.{AllByRecursion, AllZip, flat_map};
-ghost use Rattle.mvt_splices.specs.Splices.{FindsRoom, FitAll, after_all, longest, turned_all, put_bytes};
+ghost use Rattle.mvt_document.specs.Kept.{IsKept};
+ghost use Rattle.mvt_document.specs.Splicing.{part};
+ghost use Rattle.mvt_splices.specs.Splices.{FindsRoom, FitAll, after_all, longest, spliced, turned_all};
 
 use crate::gap::Gap;
 use crate::splices::Splices;
@@ -40,14 +42,16 @@ pub fn splice_message<T: Measured, S: Splices<T>>(
     ensures steps { (roomy : List S) × AllZip S.roomier steps.old roomy × (steps.new ≡ (if is_ok result then turned_all S.splice_of S.turned roomy list.old.items else roomy)) }
 {
     let size = list.known_size();
-    let together = size_with(size, steps);
-    let result = splice_vec(alloc, list.as_vec_mut(), steps);
-    let size = match result {
-        Ok(()) => size_without(together, steps),
-        Err(_) => size,
-    };
-    list.know_size(size);
-    result
+    match splice_measured(alloc, list.as_vec_mut(), size, steps) {
+        Ok(now) => {
+            list.know_size(now);
+            Ok(())
+        }
+        Err(error) => {
+            list.know_size(size);
+            Err(error)
+        }
+    }
 }
 
 fn splice_vec<T, S: Splices<T>>(
@@ -61,39 +65,75 @@ fn splice_vec<T, S: Splices<T>>(
     ensures longest { OnOk result (longest S.splice_of steps.old (vec_len list.old) ≤ vec_capacity list.new) }
     ensures steps { (roomy : List S) × AllZip S.roomier steps.old roomy × (steps.new ≡ (if is_ok result then turned_all S.splice_of S.turned roomy list.old.items else roomy)) }
 {
-    let Some(most) = greatest_length(list.len(), steps) else {
-        return Err(AllocError);
-    };
-    list.reserve(most - list.len())?;
-    reserve_all(steps)?;
-    let mut gap = Gap::open(alloc, list)?;
+    let mut gap = open_for(alloc, list, steps)?;
     exchange_all(&mut gap, steps);
     gap.close(list);
     Ok(())
 }
 
-/// How long a list of so many items becomes at most.
-fn greatest_length<T, S: Splices<T>>(length: usize, steps: &[S]) -> Option<usize>
-    requires { FitAll S.splice_of steps.now length }
-    ensures { IfSome result (λ n. n ≡ longest S.splice_of steps.now length) }
+/// The same, where the list takes so many bytes, if that is known; and how many it takes then.
+fn splice_measured<T: Measured, S: Splices<T>>(
+    alloc: Global,
+    list: &mut Vec<T>,
+    size: Option<usize>,
+    steps: &mut [S],
+) -> Result<Option<usize>, AllocError>
+    requires fit { FitAll S.splice_of steps.old (vec_len list.old) }
+    requires size { IsKept T.bytes list.old.items size }
+    ensures items { list.new.items ≡ (if is_ok result then after_all S.splice_of steps.old list.old.items else list.old.items) }
+    ensures room { vec_capacity list.old ≤ vec_capacity list.new }
+    ensures longest { OnOk result (longest S.splice_of steps.old (vec_len list.old) ≤ vec_capacity list.new) }
+    ensures steps { (roomy : List S) × AllZip S.roomier steps.old roomy × (steps.new ≡ (if is_ok result then turned_all S.splice_of S.turned roomy list.old.items else roomy)) }
+    ensures size { IfOk result (λ after. IsKept T.bytes list.new.items after) }
+{
+    let mut gap = open_for(alloc, list, steps)?;
+    let after = exchange_measured(&mut gap, size, steps);
+    gap.close(list);
+    Ok(after)
+}
+
+/// Opens the list at a gap, with room for all that the steps do, in the list and in each step. The
+/// list is empty until the gap is closed. An `Err` changes nothing but room.
+fn open_for<T, S: Splices<T>>(
+    alloc: Global,
+    list: &mut Vec<T>,
+    steps: &mut [S],
+) -> Result<Gap<T>, AllocError>
+    requires { FitAll S.splice_of steps.old (vec_len list.old) }
+    ensures items { IfOk result (λ gap. gap.items ≡ list.old.items) }
+    ensures room { IfOk result (λ gap. vec_capacity list.old ≤ length gap.items + gap.room) }
+    ensures longest { IfOk result (λ gap. longest S.splice_of steps.old (vec_len list.old) ≤ length gap.items + gap.room) }
+    ensures empty { OnOk result (list.new.items ≡ []) }
+    ensures err { OnErr result (list.new.items ≡ list.old.items) }
+    ensures err_room { OnErr result (vec_capacity list.old ≤ vec_capacity list.new) }
+    ensures steps { AllZip S.roomier steps.old steps.new }
+    ensures ready { OnOk result (AllByRecursion (λ s. FindsRoom (S.splice_of s)) steps.new) }
+{
+    let most = ready_all(list.len(), steps)?;
+    list.reserve(most - list.len())?;
+    Gap::open(alloc, list)
+}
+
+/// Makes room in each step for the items that it takes out. How long a list of so many items becomes
+/// at most.
+fn ready_all<T, S: Splices<T>>(length: usize, steps: &mut [S]) -> Result<usize, AllocError>
+    requires { FitAll S.splice_of steps.old length }
+    ensures same { AllZip S.roomier steps.old steps.new }
+    ensures longest { IfOk result (λ most. most ≡ longest S.splice_of steps.old length) }
+    ensures ready { OnOk result (AllByRecursion (λ s. FindsRoom (S.splice_of s)) steps.new) }
 {
     let mut now = length;
     let mut most = length;
-    for step in steps {
-        now = (now - step.taken()).checked_add(step.put().len())?;
-        most = most.max(now);
-    }
-    Some(most)
-}
-
-fn reserve_all<T, S: Splices<T>>(steps: &mut [S]) -> Result<(), AllocError>
-    ensures same { AllZip S.roomier steps.old steps.new }
-    ensures ok { OnOk result (AllByRecursion (λ s. FindsRoom (S.splice_of s)) steps.new) }
-{
     for step in steps.iter_mut() {
+        let left = now - step.taken();
+        let Some(made) = left.checked_add(step.put().len()) else {
+            return Err(AllocError);
+        };
+        now = made;
+        most = most.max(now);
         step.reserve()?;
     }
-    Ok(())
+    Ok(most)
 }
 
 fn exchange_all<T, S: Splices<T>>(gap: &mut Gap<T>, steps: &mut [S])
@@ -109,28 +149,45 @@ fn exchange_all<T, S: Splices<T>>(gap: &mut Gap<T>, steps: &mut [S])
     }
 }
 
-/// How many bytes the list and the items to be put take together, where that is known.
-fn size_with<T: Measured, S: Splices<T>>(size: Option<usize>, steps: &[S]) -> Option<usize>
-    ensures { IfSome result (λ n. (m : ℕ) × (size ≡ Some m) × (n ≡ m + length (flat_map (put_bytes T.bytes S.splice_of) steps.now))) }
+/// The same, where the list takes so many bytes, if that is known. How many it takes then.
+fn exchange_measured<T: Measured, S: Splices<T>>(
+    gap: &mut Gap<T>,
+    size: Option<usize>,
+    steps: &mut [S],
+) -> Option<usize>
+    requires fit { FitAll S.splice_of steps.old (length gap.old.items) }
+    requires room { longest S.splice_of steps.old (length gap.old.items) ≤ length gap.old.items + gap.old.room }
+    requires put_room { AllByRecursion (λ s. FindsRoom (S.splice_of s)) steps.old }
+    requires size { IsKept T.bytes gap.old.items size }
+    ensures items { gap.new.items ≡ after_all S.splice_of steps.old gap.old.items }
+    ensures room { length gap.new.items + gap.new.room ≡ length gap.old.items + gap.old.room }
+    ensures steps { steps.new ≡ turned_all S.splice_of S.turned steps.old gap.old.items }
+    ensures size { IsKept T.bytes gap.new.items result }
 {
-    size?.checked_add(size_of_puts(steps)?)
-}
-
-/// How many bytes the list takes, where it takes so many together with the items to be put.
-fn size_without<T: Measured, S: Splices<T>>(together: Option<usize>, steps: &[S]) -> Option<usize>
-    requires { IfSome together (λ n. length (flat_map (put_bytes T.bytes S.splice_of) steps.now) ≤ n) }
-    ensures { IfSome result (λ n. (m : ℕ) × (together ≡ Some m) × (n + length (flat_map (put_bytes T.bytes S.splice_of) steps.now) ≡ m)) }
-{
-    Some(together? - size_of_puts(steps)?)
-}
-
-/// How many bytes the items to be put take, where that is known.
-fn size_of_puts<T: Measured, S: Splices<T>>(steps: &[S]) -> Option<usize>
-    ensures { IfSome result (λ n. n ≡ length (flat_map (put_bytes T.bytes S.splice_of) steps.now)) }
-{
-    let mut size = 0usize;
-    for step in steps {
-        size = size.checked_add(size_of_all(step.put(), usize::MAX)?)?;
+    let mut now = size;
+    for step in steps.iter_mut() {
+        now = exchange_one(gap, now, step);
     }
-    Some(size)
+    now
+}
+
+/// Carries out one step, and measures what comes and what goes.
+fn exchange_one<T: Measured, S: Splices<T>>(
+    gap: &mut Gap<T>,
+    size: Option<usize>,
+    step: &mut S,
+) -> Option<usize>
+    requires there { (S.splice_of step.old).index + (S.splice_of step.old).taken ≤ length gap.old.items }
+    requires room { length (S.splice_of step.old).put.items ≤ gap.old.room + (S.splice_of step.old).taken }
+    requires put_room { FindsRoom (S.splice_of step.old) }
+    requires size { IsKept T.bytes gap.old.items size }
+    ensures items { gap.new.items ≡ spliced (S.splice_of step.old) gap.old.items }
+    ensures room { length gap.new.items + gap.new.room ≡ length gap.old.items + gap.old.room }
+    ensures turned { step.new ≡ S.turned step.old gap.old.items }
+    ensures size { IsKept T.bytes gap.new.items result }
+{
+    let come = size_of_all(step.put(), usize::MAX);
+    step.exchange(gap);
+    let gone = size_of_all(step.put(), usize::MAX);
+    Some(size?.checked_add(come?)? - gone?)
 }
