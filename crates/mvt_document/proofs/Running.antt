@@ -403,6 +403,30 @@ found_run f items rest last run rest_is last_is front middle behind until back =
     ∙ ap (λ t. replicate run.first false ++ (t ++ (map f (take behind last) ++ map f (drop behind last)))) middle
     ∙ ap (λ t. replicate run.first false ++ (replicate run.count true ++ (t ++ map f (drop behind last)))) back)
 
+-- ---- items that are all of one kind
+
+-- a value that cannot be true is false
+never_true : (value : Bool) → (IsTrue value → ⊥) → value ≡ false
+never_true false never = refl
+never_true true never = absurd (never refl)
+
+-- items that are all of a kind are of no other
+none_other : {T : Type 0} (of_kind : Kind → T → Bool) → ((is other : Kind) (x : T) → IsTrue (of_kind is x) → IsTrue (of_kind other x) → is ≡ other) → (is other : Kind) → (is ≡ other → ⊥) → (items : List T) → map (of_kind is) items ≡ replicate (length items) true → map (of_kind other) items ≡ replicate (length items) false
+none_other of_kind one is other differ [] all = refl
+none_other of_kind one is other differ (x ∷ items) all =
+    let first : of_kind is x ≡ true = ap (λ values. get_or values 0 true) all in
+    let rest : map (of_kind is) items ≡ replicate (length items) true = ap (drop 1) all in
+    let none = never_true (of_kind other x) (λ there. differ (one is other x first there)) in
+    ap (λ value. value ∷ map (of_kind other) items) none ∙ ap (λ values. false ∷ values) (none_other of_kind one is other differ items rest)
+
+-- the run of items that are all of the kind
+pub all_of_one : {T : Type 0} (is_of : T → Bool) (items : List T) (run : Run) → map is_of items ≡ replicate (length items) true → IsRun run (replicate (length items) true) → IsRunOf is_of run items
+all_of_one is_of items run all known = subst (IsRun run) (sym all) known
+
+-- the run of another kind in them
+pub none_of_others : {T : Type 0} (of_kind : Kind → T → Bool) → ((is other : Kind) (x : T) → IsTrue (of_kind is x) → IsTrue (of_kind other x) → is ≡ other) → (is other : Kind) → (is ≡ other → ⊥) → (items : List T) (run : Run) → map (of_kind is) items ≡ replicate (length items) true → IsRun run (replicate (length items) false) → IsRunOf (of_kind other) run items
+none_of_others of_kind one is other differ items run all known = subst (IsRun run) (sym (none_other of_kind one is other differ items all)) known
+
 -- ---- an item behind the others
 
 pub spliced_at_end : {A : Type 0} (items put : List A) (n : ℕ) → n ≡ length items → splice n 0 put items ≡ items ++ put
@@ -412,3 +436,11 @@ spliced_at_end items put n all =
     ∙ ap (λ k. (items ++ put) ++ drop k items) behind
     ∙ ap (λ t. (items ++ put) ++ t) (drop_all n items (omega (arith, all)))
     ∙ append-nil (items ++ put)
+
+-- the run of a list and of a part behind it, which is spliced in at its end
+pub run_with_part : {T : Type 0} (f : T → Bool) (items put : List T) (seen : ℕ) {run behind made : Run} → seen ≡ length items → IsRunOf f run items → IsRunOf f behind put
+    → ((values come : List Bool) → IsRun run values → seen ≤ length values → IsRun behind come → length put ≡ length come → IsRun made (splice seen 0 come values)) → IsRunOf f made (items ++ put)
+run_with_part f items put seen all known found spliced =
+    let long = length-map items f in
+    let here : seen ≡ length (map f items) = omega (arith, all, long) in
+    subst (IsRun _) (spliced_at_end (map f items) (map f put) seen here ∙ sym (map-append f items put)) (spliced (map f items) (map f put) known (omega (arith, here)) found (sym (length-map put f)))

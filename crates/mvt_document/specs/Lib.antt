@@ -19,6 +19,7 @@ pub mod Stands
 pub mod Values
 pub mod StoredIds
 pub mod Kinds
+pub mod KindLaws
 pub mod Parts
 pub mod Settle
 pub mod Splicing

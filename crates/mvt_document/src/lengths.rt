@@ -5,6 +5,7 @@ ghost use Rattle.std.specs.Prelude.{◌≡◌, false};
 ghost use Rattle.mvt_document.specs.Wire.{body_bytes, field_bytes, feature_bytes, layer_item_bytes, layer_bytes, tile_item_bytes};
 ghost use Rattle.mvt_document.specs.Bodies.{body_seen};
 ghost use Rattle.mvt_document.specs.Stands.{field_of, feature_of, layer_item_of, layer_of, tile_item_of};
+ghost use Rattle.mvt_document.specs.KindLaws.{of_none, one_in_layer, one_in_tile};
 ghost use Rattle.mvt_document.specs.Kinds.{in_layer_of_kind, in_tile_of_kind, is_delimited_field};
 
 use crate::body::BodyRef;
@@ -19,6 +20,8 @@ impl Measured for BodyRef<'_> {
     ghost bytes = { λ b. body_bytes (body_seen b) };
 
     ghost of_kind = { λ _ _. false };
+
+    ghost one_kind = { of_none };
 
     fn is_of(&self, _kind: Kind) -> bool {
         false
@@ -40,6 +43,8 @@ impl Measured for Field {
 
     ghost of_kind = { λ _ _. false };
 
+    ghost one_kind = { of_none };
+
     fn is_of(&self, _kind: Kind) -> bool {
         false
     }
@@ -57,6 +62,8 @@ impl Measured for Feature {
     ghost bytes = { λ f. feature_bytes (feature_of f) };
 
     ghost of_kind = { λ _ _. false };
+
+    ghost one_kind = { of_none };
 
     fn is_of(&self, _kind: Kind) -> bool {
         false
@@ -76,6 +83,8 @@ impl Measured for LayerItem {
     ghost bytes = { λ i. layer_item_bytes (layer_item_of i) };
 
     ghost of_kind = { in_layer_of_kind };
+
+    ghost one_kind = { one_in_layer };
 
     #[inline(always)]
     fn is_of(&self, kind: Kind) -> bool {
@@ -101,6 +110,8 @@ impl Measured for Layer {
 
     ghost of_kind = { λ _ _. false };
 
+    ghost one_kind = { of_none };
+
     fn is_of(&self, _kind: Kind) -> bool {
         false
     }
@@ -119,6 +130,8 @@ impl Measured for TileItem {
     ghost bytes = { λ i. tile_item_bytes (tile_item_of i) };
 
     ghost of_kind = { in_tile_of_kind };
+
+    ghost one_kind = { one_in_tile };
 
     #[inline(always)]
     fn is_of(&self, kind: Kind) -> bool {

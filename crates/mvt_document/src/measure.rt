@@ -1,12 +1,13 @@
 //! How many bytes a value takes, and of which kind it is, by one trait that each type of a document
 //! has.
 
-ghost use Rattle.std.specs.Prelude.{◌≡◌, ℕ, ◌+◌, ◌≤◌, Bool, false, List, [], ◌++◌, length, max};
+ghost use Rattle.std.specs.Prelude.{◌≡◌, ℕ, ◌+◌, ◌≤◌, Bool, false, IsTrue, List, [], ◌++◌, length, max};
 ghost use Rattle.std.specs.Option.{SomeIff};
 ghost use Rattle.std.specs.List.{flat_map};
 ghost use Rattle.mvt_document.specs.declared.TheConstants.{MAX_FILE};
 ghost use Rattle.mvt_document.specs.Wire.{spell, minimal_width};
 ghost use Rattle.mvt_document.specs.Splicing.{splice};
+ghost use Rattle.mvt_document.specs.KindLaws.{of_none};
 ghost use Rattle.mvt_document.specs.declared.run.Kind.{Kind};
 
 use crate::MAX_FILE;
@@ -20,6 +21,9 @@ pub trait Measured {
     ghost bytes: { Self → List ℕ };
 
     ghost of_kind: { Kind → Self → Bool };
+
+    /// It is of one kind at most.
+    ghost one_kind: { (is other : Kind) (x : Self) → IsTrue (of_kind is x) → IsTrue (of_kind other x) → is ≡ other };
 
     /// Whether it is of this kind.
     fn is_of(&self, kind: Kind) -> bool
@@ -97,6 +101,8 @@ impl Measured for Varint {
     ghost bytes = { λ n. spell n.value n.width };
 
     ghost of_kind = { λ _ _. false };
+
+    ghost one_kind = { of_none };
 
     fn is_of(&self, _kind: Kind) -> bool {
         false

@@ -1,7 +1,7 @@
 //! The runs of a list: its items of one kind, as far as nothing stands between them. The run of a list
 //! that is joined, parted or spliced is made of those of its parts.
 
-ghost use Rattle.std.specs.Prelude.{◌≡◌, ◌+◌, Bool, List, [], ◌∷◌, ◌++◌, ◌≤◌, length, map, min, take, drop, replicate, IfSome, IsTrue};
+ghost use Rattle.std.specs.Prelude.{◌≡◌, ◌+◌, Bool, true, List, [], ◌∷◌, ◌++◌, ◌≤◌, length, map, min, take, drop, replicate, IfSome, IsTrue};
 ghost use Rattle.mvt_document.specs.Runs.{IsRun, IsRunOf, AreRunsOf};
 ghost use Rattle.mvt_document.specs.Splicing.{splice};
 
@@ -61,6 +61,18 @@ impl Run {
             first: 0,
             count: usize::from(is_of_kind),
             until: 1,
+        }
+    }
+
+    /// That of so many items that are all of the kind, or none of them.
+    #[inline(always)]
+    fn of_same(count: usize, are_of_kind: bool) -> Run
+        ensures { IsRun result (replicate count are_of_kind) }
+    {
+        Run {
+            first: if are_of_kind { 0 } else { count },
+            count: if are_of_kind { count } else { 0 },
+            until: count,
         }
     }
 
@@ -195,22 +207,67 @@ fn run_of<T: Measured>(items: &[T], kind: Kind) -> Run
     }
 }
 
-/// The run of the items and of a part behind them, where that of so many items is known.
-fn run_with_part<T: Measured>(run: Run, seen: usize, part: &[T], kind: Kind) -> Run
-    ensures { (items : List T) → IsRunOf (T.of_kind kind) run items → seen ≡ length items → IsRunOf (T.of_kind kind) result (items ++ part.now) }
+/// The run of each kind in the items of a part. Most parts have items of one kind alone.
+fn runs_of_part<T: Measured>(part: &[T]) -> Runs
+    ensures { AreRunsOf T.of_kind result part.now }
 {
-    run.spliced(seen, 0, run_of(part, kind), part.len())
+    for kind in [Kind::Message, Kind::Key, Kind::Value] {
+        if leading(part, kind, true) == part.len() {
+            return runs_of_whole(part, kind);
+        }
+    }
+    Runs {
+        names: run_of(part, Kind::Name),
+        messages: run_of(part, Kind::Message),
+        keys: run_of(part, Kind::Key),
+        values: run_of(part, Kind::Value),
+    }
 }
 
-/// The same of each kind.
+/// The same, where all items are of this kind.
+fn runs_of_whole<T: Measured>(part: &[T], kind: Kind) -> Runs
+    requires { map (T.of_kind kind) part.now ≡ replicate (length part.now) true }
+    ensures { AreRunsOf T.of_kind result part.now }
+{
+    let all = Run::of_same(part.len(), true);
+    let none = Run::of_same(part.len(), false);
+    let others = Runs {
+        names: none,
+        messages: none,
+        keys: none,
+        values: none,
+    };
+    match kind {
+        Kind::Name => Runs {
+            names: all,
+            ..others
+        },
+        Kind::Message => Runs {
+            messages: all,
+            ..others
+        },
+        Kind::Key => Runs {
+            keys: all,
+            ..others
+        },
+        Kind::Value => Runs {
+            values: all,
+            ..others
+        },
+    }
+}
+
+/// The runs of each kind in the items and in a part behind them, where those of so many items are known.
 fn runs_with_part<T: Measured>(runs: Runs, seen: usize, part: &[T]) -> Runs
     ensures { (items : List T) → AreRunsOf T.of_kind runs items → seen ≡ length items → AreRunsOf T.of_kind result (items ++ part.now) }
 {
+    let behind = runs_of_part(part);
+    let count = part.len();
     Runs {
-        names: run_with_part(runs.names, seen, part, Kind::Name),
-        messages: run_with_part(runs.messages, seen, part, Kind::Message),
-        keys: run_with_part(runs.keys, seen, part, Kind::Key),
-        values: run_with_part(runs.values, seen, part, Kind::Value),
+        names: runs.names.spliced(seen, 0, behind.names, count),
+        messages: runs.messages.spliced(seen, 0, behind.messages, count),
+        keys: runs.keys.spliced(seen, 0, behind.keys, count),
+        values: runs.values.spliced(seen, 0, behind.values, count),
     }
 }
 

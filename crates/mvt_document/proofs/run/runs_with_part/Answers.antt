@@ -1,9 +1,15 @@
+use Rattle.mvt_document.specs.declared.run.Kind.TheVariants as kind
+use Rattle.mvt_document.proofs.Running.{run_with_part}
 use Rattle.mvt_document.proofs.run.runs_with_part.Goals as goal
 
 pub returns : goal.returns
-returns g c = λ items known all. record {
-  names = c.run_with_part.ensures items known.names all;
-  messages = c.run_with_part-2.ensures items known.messages all;
-  keys = c.run_with_part-3.ensures items known.keys all;
-  values = c.run_with_part-4.ensures items known.values all;
-}
+returns g c = λ items known all.
+    let of_kind = g.T.Measured.of_kind in
+    let part = c.args.part.now in
+    let behind = c.runs_of_part-behind.ensures in
+    record {
+      names = run_with_part (of_kind kind.Name) items part c.args.seen all known.names behind.names c.spliced.ensures;
+      messages = run_with_part (of_kind kind.Message) items part c.args.seen all known.messages behind.messages c.spliced-2.ensures;
+      keys = run_with_part (of_kind kind.Key) items part c.args.seen all known.keys behind.keys c.spliced-3.ensures;
+      values = run_with_part (of_kind kind.Value) items part c.args.seen all known.values behind.values c.spliced-4.ensures;
+    }
