@@ -5,7 +5,7 @@ VERSION := $(shell sed -n 's/^const VERSION: &str = "\(.*\)";/\1/p' crates/tile_
 RELEASE := tileshell-$(VERSION)-$(shell uname -sm | tr 'A-Z ' 'a-z-')
 
 .PHONY: all help quick crate rows pages fuzz check bench bench-hostile compare install uninstall deb tar clean toolchain
-.PHONY: check-random-runs check-types check-refused-growths check-failing-calls
+.PHONY: check-program check-random-runs check-types check-refused-growths check-failing-calls
 
 ## make              proves the program, and leaves it as build/tileshell
 all: toolchain
@@ -52,7 +52,10 @@ fuzz:
 check: toolchain
 	tools/lint
 	tools/pages --check
-	tools/wrong-bodies --with-proofs
+	tools/wrong-bodies --with-proofs --then "$(MAKE) check-program"
+
+# what is tried of the program, beside the wrong bodies that are left once all is proved
+check-program:
 	mkdir -p build
 	cp crates/tileshell_program/out/tileshell_program build/tileshell
 	tools/transcripts
