@@ -1,13 +1,11 @@
 -- The first integers of a geometry are read, and what is decided on them.
-use Rattle.std.proofs.Common.{◌≡◌, ℕ, ◌&&◌, Bool, true, false, ℤ, Option, Some, None, Result, Ok, Err, List, [], ◌∷◌, drop, map, option_map, slice_get, refl, ap, ◌∙◌, sym}
+use Rattle.std.proofs.Common.{◌≡◌, ℕ, ◌&&◌, Bool, true, false, ℤ, Option, Some, None, Result, Ok, Err, List, [], ◌∷◌, drop, map, option_map, slice_get, refl, ap, sym}
 use Rattle.std.specs.Option.{option_and_then, option_map_or}
 use Rattle.std.specs.Result.{result_ok}
 use Rattle.mvt_document.specs.Plain.{Field}
-use Rattle.mvt_document.specs.Signed.{zigzag}
 use Rattle.mvt_numbers.specs.Numbers.{Placed, all_good, and_more}
-use Rattle.mvt_geometry.specs.Checks.{is_way}
 use Rattle.mvt_messages.specs.Attributes.{values_in}
-use Rattle.mvt_meaning.specs.Geometries.{can_move, can_move_integers, further, moved_integers, moves}
+use Rattle.mvt_meaning.specs.Geometries.{can_move, can_move_integers, moved_integers, moves}
 use Rattle.mvt_edit_geometry.proofs.FirstIntegers.{FirstIntegers}
 
 -- ---- the next number
@@ -27,21 +25,16 @@ next_read (Ok p ∷ chunks) value more is = one_read p (all_good chunks) value m
 
 -- ---- the first integers
 
-either_false : (a b : Bool) → b ≡ false → (a && b) ≡ false
-either_false true b none = none
-either_false false b none = refl
+pub first_false : (a b : Bool) → a ≡ false → (a && b) ≡ false
+first_false a b none = rw none refl
 
-module _ (dx dy : ℤ) (fields : List Field) (first : FirstIntegers fields) where
-  pub first_moved : (command x y : ℕ) → command ≡ first.command → x ≡ zigzag (further dx first.x) → y ≡ zigzag (further dy first.y) → Some command ∷ Some x ∷ Some y ∷ [] ≡ moves dx dy fields
-  first_moved command x y same along down =
-      let moved : moves dx dy fields ≡ Some first.command ∷ Some (zigzag (further dx first.x)) ∷ Some (zigzag (further dy first.y)) ∷ [] = ap (λ found. option_map_or (moved_integers dx dy) found []) first.read in
-      rw (same, along, down) (sym moved)
+pub second_false : (a b : Bool) → b ≡ false → (a && b) ≡ false
+second_false true b none = none
+second_false false b none = refl
 
-  first_can : can_move dx dy fields ≡ (is_way (further dx first.x) && is_way (further dy first.y))
-  first_can = ap (λ found. option_map_or (can_move_integers dx dy) found true) first.read
+module _ (dx dy : ℤ) (fields : List Field) (first : FirstIntegers fields) (command x y : ℕ) (same : command ≡ first.command) (across : x ≡ first.x) (down : y ≡ first.y) where
+  pub first_moved : moved_integers dx dy (command ∷ x ∷ y ∷ []) ≡ moves dx dy fields
+  first_moved = rw (same, across, down) (sym (ap (λ found. option_map_or (moved_integers dx dy) found []) first.read))
 
-  pub no_way_along : is_way (further dx first.x) ≡ false → can_move dx dy fields ≡ false
-  no_way_along none = first_can ∙ rw none refl
-
-  pub no_way_down : is_way (further dy first.y) ≡ false → can_move dx dy fields ≡ false
-  no_way_down none = first_can ∙ either_false (is_way (further dx first.x)) (is_way (further dy first.y)) none
+  pub first_can : can_move_integers dx dy (command ∷ x ∷ y ∷ []) ≡ can_move dx dy fields
+  first_can = rw (across, down) (sym (ap (λ found. option_map_or (can_move_integers dx dy) found true) first.read))

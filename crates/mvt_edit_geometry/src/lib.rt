@@ -5,5 +5,6 @@
 //!   `Prepares`: `shift`, `set_geometry`.
 #![tactic(auto)]
 
+mod fits;
 pub mod set_geometry;
 pub mod shift;

@@ -3,22 +3,26 @@
 ghost use Rattle.std.specs.Prelude.{◌≡◌, ◌+◌, ◌-◌, ◌≤◌, ◌∷◌, not, IfOk, IsErrOf, OnOk, filter, length, map};
 ghost use Rattle.std.specs.List.{flat_map};
 ghost use Rattle.mvt_document.specs.declared.TheConstants.{MAX_FILE};
+ghost use Rattle.mvt_document.specs.Opens.{IsField};
 ghost use Rattle.mvt_document.specs.Splicing.{splice};
 ghost use Rattle.mvt_document.specs.Stands.{document_of, feature_of, field_of};
 ghost use Rattle.mvt_document.specs.Wire.{field_bytes};
 ghost use Rattle.mvt_geometry.specs.Integers.{IsInRange, encoded};
+ghost use Rattle.mvt_geometry.specs.Shapes.{kind_number};
 ghost use Rattle.mvt_change.specs.Changes.{FeatureStep};
 ghost use Rattle.mvt_change.specs.ChangeStands.{change_of};
 ghost use Rattle.mvt_change.specs.FileSizes.{IsFileSize};
 ghost use Rattle.mvt_command.specs.Command.{SetGeometry};
 ghost use Rattle.mvt_command.specs.CommandStands.{feature_choice_of, layer_choice_of};
 ghost use Rattle.mvt_meaning.specs.Fields.{new_content};
-ghost use Rattle.mvt_meaning.specs.Geometries.{is_geometry_field};
+ghost use Rattle.mvt_meaning.specs.Geometries.{is_geometry_field, is_kind, with_kind};
 ghost use Rattle.mvt_meaning.specs.Ordinals.{put_once};
 ghost use Rattle.mvt_fates.specs.Once.{once_splices};
 ghost use Rattle.mvt_edit_steps.specs.Prepared.{Prepares};
+ghost use Rattle.mvt_edit_steps.specs.PutsLast.{ReplacesLast};
 
-use mvt_change::{Change, fits_with_items, size_with_fields};
+use crate::fits::fits_with_fields;
+use mvt_change::Change;
 use mvt_document::tags::{GEOMETRY, GEOMETRY_TAG, KIND_TAG};
 use mvt_document::{
     Body, BodyRef, Document, Field, FieldParts, Items, MAX_FILE, Measured, Tag, sum_within,
@@ -42,30 +46,46 @@ pub fn set_geometry(
 {
     let holder = find_layer(document, choice)?;
     let found = find_feature(holder.layer, feature)?;
-    let drawing = geometry_field(alloc, geometry)?;
     let fields = found.feature.fields();
-    let kind = number_put(alloc, fields, KIND_TAG, geometry.kind().number())?;
-    let size = size_drawn(fields, &kind, &drawing);
-    let items = size_with_fields(holder.layer, found.position, size, Some(0));
-    if !fits_with_items(document, holder.position, items) {
+    let drawing = redraw(alloc, fields, geometry)?;
+    let size = size_drawn(fields, &drawing.kind, &drawing.field);
+    if !fits_with_fields(document, holder, found, size) {
         return Err(Refusal::TooLarge);
     }
-    Ok(steps_of(alloc, holder.position, found, kind, drawing)?)
+    Ok(steps_of(alloc, holder.position, found, drawing)?)
 }
 
-/// A geometry field with this geometry, in its shortest spelling.
-fn geometry_field(alloc: Global, geometry: &Geometry) -> Result<Field, EncodeError>
-    ensures field { IfOk result (λ field. field_of field ≡ new_content 34 (encoded geometry.now)) }
+/// What the fields of a feature get with a geometry: the run that makes its kind their last, and the
+/// field that holds it.
+#[derive(Drop)]
+struct Drawing {
+    kind: Run<Field>,
+    field: Field,
+}
+
+fn redraw(alloc: Global, fields: &[Field], geometry: &Geometry) -> Result<Drawing, EncodeError>
+    ensures kind { IfOk result (λ drawing. ReplacesLast IsField field_bytes is_kind (map field_of fields.now) (with_kind (kind_number geometry.now.kind) (map field_of fields.now)) drawing.kind.index drawing.kind.take (map field_of drawing.kind.put.items)) }
+    ensures one { IfOk result (λ drawing. length drawing.kind.put.items ≡ 1) }
+    ensures field { IfOk result (λ drawing. field_of drawing.field ≡ new_content 34 (encoded geometry.now)) }
     ensures in_range { OnOk result (IsInRange geometry.now) }
     ensures out_of_range { IsErrOf result EncodeError.OutOfRange → ¬ IsInRange geometry.now }
 {
-    Ok(Field::new(FieldParts {
+    let bytes = encode_geometry(alloc, geometry)?;
+    let kind = number_put(alloc, fields, KIND_TAG, geometry.kind().number())?;
+    Ok(Drawing {
+        kind,
+        field: geometry_field(bytes),
+    })
+}
+
+/// A geometry field of these bytes, in its shortest spelling.
+fn geometry_field(bytes: Items<u8>) -> Field
+    ensures { field_of result ≡ new_content 34 bytes.items }
+{
+    Field::new(FieldParts {
         tag: Tag::minimal(GEOMETRY_TAG),
-        body: Body::Bytes {
-            width: 1,
-            bytes: encode_geometry(alloc, geometry)?,
-        },
-    }))
+        body: Body::Bytes { width: 1, bytes },
+    })
 }
 
 /// How many bytes the fields take once the run of the kind is carried out and they have this
@@ -107,13 +127,13 @@ fn steps_of(
     alloc: Global,
     layer: usize,
     found: FoundFeature<'_>,
-    kind: Run<Field>,
-    drawing: Field,
+    drawing: Drawing,
 ) -> Result<Change, AllocError>
-    requires { kind.take ≤ length (feature_of found.feature.now).fields }
-    ensures { IfOk result (λ change. change_of change ≡ FeatureStep layer found.entry.position kind.index kind.take (map field_of kind.put.items)
-        ∷ map (λ s. FeatureStep layer found.entry.position s.index s.taken s.put) (once_splices (map is_geometry_field (feature_of found.entry.feature.now).fields) (field_of drawing) (length (feature_of found.entry.feature.now).fields - kind.take + 1))) }
+    requires { drawing.kind.take ≤ length (feature_of found.feature.now).fields }
+    ensures { IfOk result (λ change. change_of change ≡ FeatureStep layer found.entry.position drawing.kind.index drawing.kind.take (map field_of drawing.kind.put.items)
+        ∷ map (λ s. FeatureStep layer found.entry.position s.index s.taken s.put) (once_splices (map is_geometry_field (feature_of found.entry.feature.now).fields) (field_of drawing.field) (length (feature_of found.entry.feature.now).fields - drawing.kind.take + 1))) }
 {
+    let Drawing { kind, field } = drawing;
     let item = found.position;
     let fields = found.feature.fields();
     let end = fields.len() - kind.take + 1;
@@ -123,7 +143,7 @@ fn steps_of(
         alloc,
         fields,
         |field| is_geometry(field),
-        drawing,
+        field,
         end,
         |run| run.in_feature(layer, item),
         &mut steps,

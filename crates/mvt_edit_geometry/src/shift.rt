@@ -1,6 +1,6 @@
 //! The geometry of a feature moves.
 
-ghost use Rattle.std.specs.Prelude.{◌≡◌, ◌⊎◌, true, false, IfErr, IfOk, IfSome, drop, is_some, length, map, option_map, slice_get};
+ghost use Rattle.std.specs.Prelude.{◌≡◌, ◌⊎◌, [], ◌∷◌, true, false, IfErr, IfOk, IfSome, drop, is_some, length, map, option_map, slice_get};
 ghost use Rattle.std.specs.List.{flat_map};
 ghost use Rattle.std.specs.Option.{option_and_then};
 ghost use Rattle.std.specs.Result.{result_ok};
@@ -15,13 +15,14 @@ ghost use Rattle.mvt_change.specs.FileSizes.{IsFileSize};
 ghost use Rattle.mvt_command.specs.Command.{Shift};
 ghost use Rattle.mvt_command.specs.CommandStands.{feature_choice_of, layer_choice_of};
 ghost use Rattle.mvt_layers.specs.Seen.{feature_seen};
-ghost use Rattle.mvt_meaning.specs.Geometries.{can_move, further, geometry_among, moves};
-ghost use Rattle.mvt_meaning.specs.declared.refusal.Refusal.TheVariants.{BadGeometry, NoMemory};
+ghost use Rattle.mvt_meaning.specs.Geometries.{can_move, can_move_integers, further, geometry_among, moved_integers, moves};
+ghost use Rattle.mvt_meaning.specs.declared.refusal.Refusal.TheVariants.{BadGeometry, NoMemory, OutOfRange};
 ghost use Rattle.mvt_fates.specs.Decided.{field_fates};
 ghost use Rattle.mvt_fates.specs.Fates.{splices_of};
 ghost use Rattle.mvt_edit_steps.specs.Prepared.{Prepares};
 
-use mvt_change::{Change, Step, fits_with_items, size_with_fields};
+use crate::fits::fits_with_fields;
+use mvt_change::{Change, Step};
 use mvt_document::tags::GEOMETRY;
 use mvt_document::{Document, Items, from_zigzag, to_zigzag};
 use mvt_edit_pairs::renumber_feature;
@@ -46,16 +47,34 @@ pub fn shift(
 {
     let holder = find_layer(document, choice)?;
     let found = find_feature(holder.layer, feature)?;
-    check(alloc, holder.ordinal, found)?;
-    let decisions = decide(found.view(), dx, dy).ok_or(Refusal::OutOfRange)?;
+    let decisions = decided(alloc, holder.ordinal, found, dx, dy)?;
     let (steps, fields) = moving(alloc, holder.position, found, &decisions)?;
-    let items = size_with_fields(holder.layer, found.position, fields, Some(0));
-    if !fits_with_items(document, holder.position, items) {
+    if !fits_with_fields(document, holder, found, fields) {
         return Err(Refusal::TooLarge);
     }
     Ok(Change {
         steps: Items::from_vec(steps),
     })
+}
+
+/// What is decided on the first integers of the feature's geometry. It is refused, in the layer of
+/// this ordinal, where it has none, and where that cannot move so far.
+fn decided(
+    alloc: Global,
+    layer: usize,
+    found: FoundFeature<'_>,
+    dx: i64,
+    dy: i64,
+) -> Result<[Option<u64>; 3], Refusal>
+    ensures drawn { IfOk result (λ decisions. is_some (geometry_among (feature_of found.entry.feature.now).fields) ≡ true) }
+    ensures able { IfOk result (λ decisions. can_move dx dy (feature_of found.entry.feature.now).fields ≡ true) }
+    ensures decided { IfOk result (λ decisions. decisions ≡ moves dx dy (feature_of found.entry.feature.now).fields) }
+    ensures refused { IfErr result (λ refusal. (refusal ≡ NoMemory)
+        ⊎ (((refusal ≡ BadGeometry layer found.entry.ordinal) × (is_some (geometry_among (feature_of found.entry.feature.now).fields) ≡ false))
+        ⊎ ((refusal ≡ OutOfRange) × (is_some (geometry_among (feature_of found.entry.feature.now).fields) ≡ true) × (can_move dx dy (feature_of found.entry.feature.now).fields ≡ false)))) }
+{
+    check(alloc, layer, found)?;
+    decide(found.view(), dx, dy).ok_or(Refusal::OutOfRange)
 }
 
 /// The feature has a geometry. It is refused where it has none, with its ordinal and that of its
@@ -86,6 +105,14 @@ fn decide(feature: FeatureView<'_>, dx: i64, dy: i64) -> Option<[Option<u64>; 3]
     let command = next_value(&mut numbers)?;
     let x = next_value(&mut numbers)?;
     let y = next_value(&mut numbers)?;
+    moved(command, x, y, dx, dy)
+}
+
+/// What is decided on a command and its parameters: it stays, and they lead further, where they can.
+fn moved(command: u64, x: u64, y: u64, dx: i64, dy: i64) -> Option<[Option<u64>; 3]>
+    ensures decided { IfSome result (λ decisions. decisions ≡ moved_integers dx dy (command ∷ x ∷ y ∷ [])) }
+    ensures able { is_some result ≡ can_move_integers dx dy (command ∷ x ∷ y ∷ []) }
+{
     Some([Some(command), Some(further(x, dx)?), Some(further(y, dy)?)])
 }
 

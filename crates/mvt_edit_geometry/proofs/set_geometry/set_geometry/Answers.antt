@@ -11,12 +11,10 @@ use Rattle.mvt_geometry.specs.Shapes.{kind_number}
 use Rattle.mvt_change.specs.Changes.{FeatureStep}
 use Rattle.mvt_command.specs.CommandStands.{feature_choice_of, layer_choice_of}
 use Rattle.mvt_meaning.specs.Geometries.{is_geometry_field, is_kind, with_geometry, with_kind}
-use Rattle.mvt_edit_steps.specs.NumberPut.{is_numbered}
 use Rattle.mvt_fates.specs.Once.{once_splices}
 use Rattle.mvt_edit_steps.specs.PutsLast.{ReplacesLast}
 use Rattle.mvt_fates.proofs.Carrying.{in_feature_at}
 use Rattle.mvt_edit_geometry.proofs.Drawn.{drawn_size}
-use Rattle.mvt_edit_geometry.proofs.FeatureFits.{told_by_fields}
 use Rattle.mvt_edit_geometry.proofs.GeometrySet.{drawing_refused, drawn_too_large, geometry_set, no_feature_drawn}
 use Rattle.mvt_edit_geometry.proofs.Redrawn.{drawings_heavy}
 use Rattle.mvt_edit_geometry.proofs.set_geometry.set_geometry.Goals as goal
@@ -39,13 +37,13 @@ returns-in_err-drawing c =
     rw (passed.1, passed.2) (drawing_refused (layer_choice_of c.args.choice.now) c.args.geometry.now (document_of c.args.document.now) holder.ordinal holder.position (layer_of holder.layer.now) is.meant is.placed is.there (feature_choice_of c.args.feature.now) found.ordinal found.position (feature_of found.feature.now) here.meant here.placed here.there c.in_err-drawing.field-0.0 (λ same. c.in_err-drawing.ensures.out_of_range (ap (λ error. Err error) same)))
 
 pub size_drawn-size-requires : goal.size_drawn-size-requires
-size_drawn-size-requires c = let within = c.in_ok-kind.ensures.puts.can.within in omega (arith, within, length-map c.fields-fields.result.now field_of)
+size_drawn-size-requires c = let within = c.in_ok-drawing.ensures.kind.can.within in omega (arith, within, length-map c.fields-fields.result.now field_of)
 
 pub steps_of-requires : goal.steps_of-requires
-steps_of-requires c = let within = c.in_ok-kind.ensures.puts.can.within in rw (← c.fields-fields.ensures) (omega (arith, within))
+steps_of-requires c = let within = c.in_ok-drawing.ensures.kind.can.within in rw (← c.fields-fields.ensures) (omega (arith, within))
 
-pub returns-then-not-fits_with_items : goal.returns-then-not-fits_with_items
-returns-then-not-fits_with_items c =
+pub returns-then-not-fits_with_fields : goal.returns-then-not-fits_with_fields
+returns-then-not-fits_with_fields c =
     let geometry = c.args.geometry.now in
     let document = document_of c.args.document.now in
     let holder = c.in_ok-holder.holder in
@@ -54,12 +52,11 @@ returns-then-not-fits_with_items c =
     let here = c.in_ok-found.ensures.found in
     let layer = layer_of holder.layer.now in
     let feature = feature_of found.feature.now in
-    let kind = c.in_ok-kind.kind in
-    let puts = c.in_ok-kind.ensures.puts in
-    let fields = drawn_size geometry feature.fields (map field_of c.fields-fields.result.now) kind.index kind.take (map field_of kind.put.items) (field_of c.in_ok-drawing.drawing) c.number.result c.size_drawn-size.result (ap (map field_of) c.fields-fields.ensures) (c.number.ensures ∙ ap kind_number c.kind.ensures) puts.makes c.in_ok-drawing.ensures.field c.size_drawn-size.ensures in
-    let told = told_by_fields document holder.position found.position layer feature is.there here.there (with_geometry geometry) c.size_drawn-size.result c.size_with_fields-items.result c.fits_with_items.result fields c.size_with_fields-items.ensures c.fits_with_items.ensures in
+    let kind = c.in_ok-drawing.drawing.kind in
+    let size = drawn_size geometry feature.fields (map field_of c.fields-fields.result.now) kind.index kind.take (map field_of kind.put.items) (field_of c.in_ok-drawing.drawing.field) c.size_drawn-size.result (ap (map field_of) c.fields-fields.ensures) c.in_ok-drawing.ensures.kind.makes c.in_ok-drawing.ensures.field c.size_drawn-size.ensures in
+    let told = c.fits_with_fields.ensures (with_geometry geometry) size in
     inr (drawn_too_large (layer_choice_of c.args.choice.now) geometry document holder.ordinal holder.position layer is.meant is.placed is.there (feature_choice_of c.args.feature.now) found.ordinal found.position feature here.meant here.placed here.there c.in_ok-drawing.ensures.in_range
-    (not-false (nat_lt MAX_FILE (length (bytes_of (change_fields (with_geometry geometry) holder.position found.position document)))) (sym told ∙ c.if-not-fits_with_items.true)))
+    (not-false (nat_lt MAX_FILE (length (bytes_of (change_fields (with_geometry geometry) holder.position found.position document)))) (sym told ∙ c.if-not-fits_with_fields.true)))
 
 pub returns : goal.returns
 returns c =
@@ -71,17 +68,14 @@ returns c =
     let here = c.in_ok-found.ensures.found in
     let layer = layer_of holder.layer.now in
     let feature = feature_of found.feature.now in
-    let kind = c.in_ok-kind.kind in
-    let puts = c.in_ok-kind.ensures.puts in
-    let number = c.number.ensures ∙ ap kind_number c.kind.ensures in
+    let kind = c.in_ok-drawing.drawing.kind in
     let seen = ap (map field_of) c.fields-fields.ensures in
-    let drawing = c.in_ok-drawing.ensures.field in
-    let fields = drawn_size geometry feature.fields (map field_of c.fields-fields.result.now) kind.index kind.take (map field_of kind.put.items) (field_of c.in_ok-drawing.drawing) c.number.result c.size_drawn-size.result seen number puts.makes drawing c.size_drawn-size.ensures in
-    let told = told_by_fields document holder.position found.position layer feature is.there here.there (with_geometry geometry) c.size_drawn-size.result c.size_with_fields-items.result c.fits_with_items.result fields c.size_with_fields-items.ensures c.fits_with_items.ensures in
-    let replaces = subst (λ n. ReplacesLast IsField field_bytes is_kind feature.fields (with_kind n feature.fields) kind.index kind.take (map field_of kind.put.items)) number
-    (subst (λ list. ReplacesLast IsField field_bytes is_kind list (with_kind c.number.result list) kind.index kind.take (map field_of kind.put.items)) seen puts) in
-    let one : length (map field_of kind.put.items) ≡ 1 = omega (arith, length-map kind.put.items field_of, length-map kind.put.items (λ field. is_numbered 24 (field_of field)), ap (λ list. length list) c.in_ok-kind.ensures.one) in
+    let field = c.in_ok-drawing.ensures.field in
+    let size = drawn_size geometry feature.fields (map field_of c.fields-fields.result.now) kind.index kind.take (map field_of kind.put.items) (field_of c.in_ok-drawing.drawing.field) c.size_drawn-size.result seen c.in_ok-drawing.ensures.kind.makes field c.size_drawn-size.ensures in
+    let told = c.fits_with_fields.ensures (with_geometry geometry) size in
+    let replaces = subst (λ list. ReplacesLast IsField field_bytes is_kind list (with_kind (kind_number geometry.kind) list) kind.index kind.take (map field_of kind.put.items)) seen c.in_ok-drawing.ensures.kind in
+    let one : length (map field_of kind.put.items) ≡ 1 = length-map kind.put.items field_of ∙ c.in_ok-drawing.ensures.one in
     geometry_set (layer_choice_of c.args.choice.now) geometry document holder.ordinal holder.position layer is.meant is.placed is.there (feature_choice_of c.args.feature.now) found.ordinal found.position feature here.meant here.placed here.there c.in_ok-drawing.ensures.in_range
-    (not-true (nat_lt MAX_FILE (length (bytes_of (change_fields (with_geometry geometry) holder.position found.position document)))) (sym told ∙ c.if-not-fits_with_items.false))
+    (not-true (nat_lt MAX_FILE (length (bytes_of (change_fields (with_geometry geometry) holder.position found.position document)))) (sym told ∙ c.if-not-fits_with_fields.false))
     kind.index kind.take (map field_of kind.put.items) replaces one (drawings_heavy found.feature.now.fields.items) _
-    (c.in_ok-steps_of.ensures ∙ ap (λ field. FeatureStep holder.position found.position kind.index kind.take (map field_of kind.put.items) ∷ map (in_feature_at holder.position found.position) (once_splices (map is_geometry_field feature.fields) field (length feature.fields - kind.take + 1))) drawing)
+    (c.in_ok-steps_of.ensures ∙ ap (λ field. FeatureStep holder.position found.position kind.index kind.take (map field_of kind.put.items) ∷ map (in_feature_at holder.position found.position) (once_splices (map is_geometry_field feature.fields) field (length feature.fields - kind.take + 1))) field)

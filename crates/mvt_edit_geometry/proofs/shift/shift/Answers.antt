@@ -1,28 +1,22 @@
-use Rattle.std.proofs.Common.{◌≡◌, is_some, Err, length, map, nat_lt, inl, inr, sym, ap, ◌∙◌, subst, w64}
+use Rattle.std.proofs.Common.{Err, length, map, nat_lt, inl, inr, sym, ap, ◌∙◌, subst, w64}
 use Rattle.std.proofs.lemmas.Bool.{not-false, not-true}
 use Rattle.std.proofs.lemmas.Int.{to_z-of_z}
 use Rattle.std.proofs.lemmas.Result.{err_from_is_err_and}
 use Rattle.std.specs.List.{flat_map}
-use Rattle.std.specs.Option.{IfSome}
 use Rattle.mvt_document.specs.declared.TheConstants.{MAX_FILE}
 use Rattle.mvt_document.specs.Places.{change_fields}
-use Rattle.mvt_document.specs.Plain.{Feature}
 use Rattle.mvt_document.specs.Stands.{document_of, feature_of, layer_of}
 use Rattle.mvt_document.specs.Wire.{bytes_of, field_bytes}
 use Rattle.mvt_renumber.specs.Renumbering.{renumber}
 use Rattle.mvt_change.specs.ChangeStands.{step_of}
 use Rattle.mvt_change.specs.FileSizes.{IsFileSize}
 use Rattle.mvt_command.specs.CommandStands.{feature_choice_of, layer_choice_of}
-use Rattle.mvt_layers.specs.Seen.{feature_seen}
-use Rattle.mvt_meaning.specs.Geometries.{can_move, moves, shifted}
+use Rattle.mvt_meaning.specs.Geometries.{moves, shifted}
 use Rattle.mvt_meaning.proofs.Moving.{moves_short}
-use Rattle.mvt_meaning.specs.declared.refusal.Refusal.TheVariants.{OutOfRange}
 use Rattle.mvt_fates.specs.Decided.{field_fates}
 use Rattle.mvt_fates.specs.Fates.{splices_of}
 use Rattle.mvt_fates.proofs.Carrying.{in_feature_at}
 use Rattle.mvt_edit_pairs.proofs.FieldsLeft.{fields_left}
-use Rattle.mvt_edit_steps.proofs.Refusing.{none_refused, some_found}
-use Rattle.mvt_edit_geometry.proofs.FeatureFits.{told_by_fields}
 use Rattle.mvt_edit_geometry.proofs.Shifted.{no_feature_moves, not_drawn, shift_made, shift_too_large, too_far}
 use Rattle.mvt_edit_geometry.proofs.shift.shift.Goals as goal
 
@@ -34,19 +28,6 @@ returns-in_err-found c =
     let passed = err_from_is_err_and c.from_residual-in_err-found.result c.from_residual-in_err-found.ensures.1 in
     rw (passed.1, passed.2) (inr refused)
 
-pub returns-in_err-check : goal.returns-in_err-check
-returns-in_err-check c =
-    let holder = c.in_ok-holder.holder in
-    let is = c.in_ok-holder.ensures.found in
-    let found = c.in_ok-found.found in
-    let here = c.in_ok-found.ensures.found in
-    let passed = err_from_is_err_and c.from_residual-in_err-check.result c.from_residual-in_err-check.ensures.1 in
-    rw (passed.1, passed.2) (
-    elim c.in_err-check.ensures.refused [
-      | inl memory ↦ inl memory
-      | inr bad ↦ inr (not_drawn (layer_choice_of c.args.choice.now) c.args.dx c.args.dy (document_of c.args.document.now) holder.ordinal holder.position (layer_of holder.layer.now) is.meant is.placed is.there (feature_choice_of c.args.feature.now) found.ordinal found.position (feature_of found.feature.now) here.meant here.placed here.there bad.1 ∙ ap Err (sym bad.0))
-    ])
-
 pub returns-in_err-decisions : goal.returns-in_err-decisions
 returns-in_err-decisions c =
     let holder = c.in_ok-holder.holder in
@@ -54,14 +35,21 @@ returns-in_err-decisions c =
     let found = c.in_ok-found.found in
     let here = c.in_ok-found.ensures.found in
     let feature = feature_of found.feature.now in
-    let none = none_refused c.decide.result c.ok_or.result OutOfRange c.in_err-decisions.field-0.0 c.ok_or.ensures.value c.in_err-decisions.was in
-    let able = rw (to_z-of_z w64 c.args.dx c.ranges.dx, to_z-of_z w64 c.args.dy c.ranges.dy) at c.decide.ensures.able in
-    let far = sym (ap (λ (f : Feature). can_move c.args.dx c.args.dy f.fields) c.view.ensures) ∙ sym able ∙ ap (λ o. is_some o) none.0 in
+    let refused = rw (to_z-of_z w64 c.args.dx c.ranges.dx, to_z-of_z w64 c.args.dy c.ranges.dy) at c.in_err-decisions.ensures.refused in
     let passed = err_from_is_err_and c.from_residual-in_err-decisions.result c.from_residual-in_err-decisions.ensures.1 in
-    rw (passed.1, passed.2) (inr (too_far (layer_choice_of c.args.choice.now) c.args.dx c.args.dy (document_of c.args.document.now) holder.ordinal holder.position (layer_of holder.layer.now) is.meant is.placed is.there (feature_choice_of c.args.feature.now) found.ordinal found.position feature here.meant here.placed here.there c.in_ok-check.ensures.drawn far ∙ ap Err (sym none.1)))
+    rw (passed.1, passed.2) (
+    elim refused [
+      | inl memory ↦ inl memory
+      | inr other ↦ (
+          elim other [
+            | inl bad ↦ inr (not_drawn (layer_choice_of c.args.choice.now) c.args.dx c.args.dy (document_of c.args.document.now) holder.ordinal holder.position (layer_of holder.layer.now) is.meant is.placed is.there (feature_choice_of c.args.feature.now) found.ordinal found.position feature here.meant here.placed here.there bad.1 ∙ ap Err (sym bad.0))
+            | inr far ↦ inr (too_far (layer_choice_of c.args.choice.now) c.args.dx c.args.dy (document_of c.args.document.now) holder.ordinal holder.position (layer_of holder.layer.now) is.meant is.placed is.there (feature_choice_of c.args.feature.now) found.ordinal found.position feature here.meant here.placed here.there far.1 far.2 ∙ ap Err (sym far.0))
+          ]
+          )
+    ])
 
-pub returns-then-not-fits_with_items : goal.returns-then-not-fits_with_items
-returns-then-not-fits_with_items c =
+pub returns-then-not-fits_with_fields : goal.returns-then-not-fits_with_fields
+returns-then-not-fits_with_fields c =
     let dx = c.args.dx in
     let dy = c.args.dy in
     let document = document_of c.args.document.now in
@@ -71,13 +59,11 @@ returns-then-not-fits_with_items c =
     let here = c.in_ok-found.ensures.found in
     let layer = layer_of holder.layer.now in
     let feature = feature_of found.feature.now in
-    let there = some_found c.decide.result c.ok_or.result OutOfRange c.in_ok-decisions.decisions c.ok_or.ensures.value c.in_ok-decisions.was in
-    let able = rw (to_z-of_z w64 dx c.ranges.dx, to_z-of_z w64 dy c.ranges.dy) at c.decide.ensures.able in
-    let can = sym (ap (λ (f : Feature). can_move dx dy f.fields) c.view.ensures) ∙ sym able ∙ ap (λ o. is_some o) there in
-    let decided = subst (λ o. IfSome o (λ decisions. decisions ≡ moves dx dy (feature_seen c.view.result).fields)) there (rw (to_z-of_z w64 dx c.ranges.dx, to_z-of_z w64 dy c.ranges.dy) at c.decide.ensures.decided) ∙ ap (λ (f : Feature). moves dx dy f.fields) c.view.ensures in
+    let can = rw (to_z-of_z w64 dx c.ranges.dx, to_z-of_z w64 dy c.ranges.dy) at c.in_ok-decisions.ensures.able in
+    let decided = rw (to_z-of_z w64 dx c.ranges.dx, to_z-of_z w64 dy c.ranges.dy) at c.in_ok-decisions.ensures.decided in
     let size = subst (λ decisions. IsFileSize c.in_ok-steps.fields (length (flat_map field_bytes (renumber 4 decisions feature.fields)))) decided c.in_ok-steps.ensures.size in
-    let told = told_by_fields document holder.position found.position layer feature is.there here.there (shifted dx dy) c.in_ok-steps.fields c.size_with_fields-items.result c.fits_with_items.result size c.size_with_fields-items.ensures c.fits_with_items.ensures in
-    inr (shift_too_large (layer_choice_of c.args.choice.now) dx dy document holder.ordinal holder.position layer is.meant is.placed is.there (feature_choice_of c.args.feature.now) found.ordinal found.position feature here.meant here.placed here.there c.in_ok-check.ensures.drawn can (not-false (nat_lt MAX_FILE (length (bytes_of (change_fields (shifted dx dy) holder.position found.position document)))) (sym told ∙ c.if-not-fits_with_items.true)))
+    let told = c.fits_with_fields.ensures (shifted dx dy) size in
+    inr (shift_too_large (layer_choice_of c.args.choice.now) dx dy document holder.ordinal holder.position layer is.meant is.placed is.there (feature_choice_of c.args.feature.now) found.ordinal found.position feature here.meant here.placed here.there c.in_ok-decisions.ensures.drawn can (not-false (nat_lt MAX_FILE (length (bytes_of (change_fields (shifted dx dy) holder.position found.position document)))) (sym told ∙ c.if-not-fits_with_fields.true)))
 
 pub returns : goal.returns
 returns c =
@@ -90,14 +76,12 @@ returns c =
     let here = c.in_ok-found.ensures.found in
     let layer = layer_of holder.layer.now in
     let feature = feature_of found.feature.now in
-    let drawn = c.in_ok-check.ensures.drawn in
-    let there = some_found c.decide.result c.ok_or.result OutOfRange c.in_ok-decisions.decisions c.ok_or.ensures.value c.in_ok-decisions.was in
-    let able = rw (to_z-of_z w64 dx c.ranges.dx, to_z-of_z w64 dy c.ranges.dy) at c.decide.ensures.able in
-    let can = sym (ap (λ (f : Feature). can_move dx dy f.fields) c.view.ensures) ∙ sym able ∙ ap (λ o. is_some o) there in
-    let decided = subst (λ o. IfSome o (λ decisions. decisions ≡ moves dx dy (feature_seen c.view.result).fields)) there (rw (to_z-of_z w64 dx c.ranges.dx, to_z-of_z w64 dy c.ranges.dy) at c.decide.ensures.decided) ∙ ap (λ (f : Feature). moves dx dy f.fields) c.view.ensures in
+    let drawn = c.in_ok-decisions.ensures.drawn in
+    let can = rw (to_z-of_z w64 dx c.ranges.dx, to_z-of_z w64 dy c.ranges.dy) at c.in_ok-decisions.ensures.able in
+    let decided = rw (to_z-of_z w64 dx c.ranges.dx, to_z-of_z w64 dy c.ranges.dy) at c.in_ok-decisions.ensures.decided in
     let size = subst (λ decisions. IsFileSize c.in_ok-steps.fields (length (flat_map field_bytes (renumber 4 decisions feature.fields)))) decided c.in_ok-steps.ensures.size in
-    let told = told_by_fields document holder.position found.position layer feature is.there here.there (shifted dx dy) c.in_ok-steps.fields c.size_with_fields-items.result c.fits_with_items.result size c.size_with_fields-items.ensures c.fits_with_items.ensures in
+    let told = c.fits_with_fields.ensures (shifted dx dy) size in
     let left = fields_left 4 (moves dx dy feature.fields) found.feature.now.fields.items (moves_short dx dy feature.fields drawn can) in
     shift_made (layer_choice_of c.args.choice.now) dx dy document holder.ordinal holder.position layer is.meant is.placed is.there (feature_choice_of c.args.feature.now) found.ordinal found.position feature here.meant here.placed here.there drawn can
-    (not-true (nat_lt MAX_FILE (length (bytes_of (change_fields (shifted dx dy) holder.position found.position document)))) (sym told ∙ c.if-not-fits_with_items.false)) left _
+    (not-true (nat_lt MAX_FILE (length (bytes_of (change_fields (shifted dx dy) holder.position found.position document)))) (sym told ∙ c.if-not-fits_with_fields.false)) left _
     (ap (map step_of) c.from_vec.ensures.items ∙ c.in_ok-steps.ensures.steps ∙ ap (λ decisions. map (in_feature_at holder.position found.position) (splices_of (field_fates 4 decisions feature.fields))) decided)
