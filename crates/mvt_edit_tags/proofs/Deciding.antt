@@ -54,6 +54,11 @@ pairs_by_sizes layer feature key_count value_count is_keys is_values =
     ∙ ap (λ n. is_some (plain_pairs (tag_pairs (length (keys layer)) n (numbers 2 feature.fields)))) is_values
     ∙ ap (λ found. is_some found) (tags_are_pairs layer feature)
 
+-- where something is made of them by these sizes, they make pairs
+pub decided_readable : {A : Type 0} (f : List (ℕ × ℕ) → A) (layer : Layer) (feature : Feature) (key_count value_count : ℕ) (made : A) → key_count ≡ length (keys layer) → value_count ≡ length (values layer) → option_map f (plain_pairs (tag_pairs key_count value_count (numbers 2 feature.fields))) ≡ Some made → is_some (pairs_among layer.items feature.fields) ≡ true
+decided_readable f layer feature key_count value_count made is_keys is_values is =
+    sym (pairs_by_sizes layer feature key_count value_count is_keys is_values) ∙ then_pairs f (plain_pairs (tag_pairs key_count value_count (numbers 2 feature.fields))) made is
+
 -- a key is among the items where it is among the keys
 any_key : (key : List ℕ) (content : Option (List ℕ)) (rest : List (List ℕ)) → list_any (λ same. same) (map (bytes_eq key) (cons_option content rest)) ≡ (option_map_or (bytes_eq key) content false || list_any (λ same. same) (map (bytes_eq key) rest))
 any_key key None rest = refl

@@ -1,5 +1,5 @@
 -- The layers that are meant, each feature of them changed.
-use Rattle.std.proofs.Common.{◌≡◌, ℕ, Result, Ok, Err, List}
+use Rattle.std.proofs.Common.{◌≡◌, ℕ, Ok, Err, List}
 use Rattle.std.specs.List.{AllByRecursion}
 use Rattle.mvt_document.specs.Plain.{Field, Layer, LayerItem, TileItem, Document}
 use Rattle.mvt_command.specs.Command.{LayersChoice}

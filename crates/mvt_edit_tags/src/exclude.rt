@@ -1,19 +1,20 @@
 //! The attributes of one key go.
 
-ghost use Rattle.std.specs.Prelude.{◌≡◌, ◌⊎◌, ◌++◌, [], ◌∷◌, is_some, length, Err, IfErr, IfOk, map};
-ghost use Rattle.mvt_document.specs.Stands.{document_of, layer_of};
+ghost use Rattle.std.specs.Prelude.{◌≡◌, ℕ, ◌⊎◌, ◌++◌, true, false, List, [], ◌∷◌, is_some, length, Err, IfErr, IfOk, map};
+ghost use Rattle.std.specs.Str.{bytes_eq};
+ghost use Rattle.mvt_document.specs.Stands.{document_of, feature_of, layer_of};
 ghost use Rattle.mvt_numbers.specs.Numbers.{numbers};
 ghost use Rattle.mvt_change.specs.ChangeStands.{step_of};
 ghost use Rattle.mvt_command.specs.Command.{Exclude};
 ghost use Rattle.mvt_command.specs.CommandStands.{layers_choice_of};
 ghost use Rattle.mvt_meaning.specs.Meaning.{refuse_first};
-ghost use Rattle.mvt_meaning.specs.Tagging.{unreadable};
-ghost use Rattle.mvt_meaning.specs.declared.refusal.Refusal.TheVariants.{NoMemory};
-ghost use Rattle.mvt_layers.specs.Seen.{feature_seen, found_layer_seen};
+ghost use Rattle.mvt_meaning.specs.Tagging.{pairs_among, unreadable};
+ghost use Rattle.mvt_meaning.specs.declared.refusal.Refusal.TheVariants.{BadTags, NoMemory};
+ghost use Rattle.mvt_layers.specs.Seen.{feature_seen, found_feature_seen, found_layer_seen};
 ghost use Rattle.mvt_messages.specs.Tags.{plain_pairs, tag_pairs};
 ghost use Rattle.mvt_messages.specs.Views.{keys, values};
 ghost use Rattle.mvt_edit_steps.specs.Prepared.{Prepares};
-ghost use Rattle.mvt_edit_pairs.specs.EachFeature.{layer_steps};
+ghost use Rattle.mvt_edit_pairs.specs.EachFeature.{feature_steps, layer_steps};
 ghost use Rattle.mvt_edit_tags.specs.EachFeature.{pairs_go};
 
 use crate::unset::is_any;
@@ -22,7 +23,7 @@ use mvt_document::tags::TAGS;
 use mvt_document::{Document, Items};
 use mvt_edit_pairs::{decide_or_refuse, name_keys, renumber_feature};
 use mvt_layers::{FeatureView, PoolSizes};
-use mvt_select::{FoundLayer, LayersChoice, Refusal, find_layers};
+use mvt_select::{FoundFeature, FoundLayer, LayersChoice, Refusal, find_layers};
 use std::alloc::Global;
 
 /// Each feature of the layers that are meant loses each pair of the key, whichever of its layer's
@@ -71,25 +72,49 @@ fn exclude_from(
         return see_layer(found, sizes);
     }
     for feature in layer.features() {
-        let lost = decide_or_refuse(
-            found.ordinal,
+        exclude_pairs(
+            alloc,
+            found,
             feature,
             sizes,
             named.as_slice(),
-            None,
             decisions,
+            steps,
         )?;
-        if lost > 0 {
-            renumber_feature(
-                alloc,
-                found.position,
-                feature,
-                TAGS,
-                decisions.as_slice(),
-                steps,
-                None,
-            )?;
-        }
+    }
+    Ok(())
+}
+
+/// Puts the steps by which the feature of this layer loses the pairs of the keys that are named
+/// behind the others. It is refused where its tags make no pairs.
+fn exclude_pairs(
+    alloc: Global,
+    found: FoundLayer<'_>,
+    feature: FoundFeature<'_>,
+    sizes: PoolSizes,
+    named: &[bool],
+    decisions: &mut Vec<Option<u64>>,
+    steps: &mut Vec<Step>,
+) -> Result<(), Refusal>
+    requires keys { sizes.keys ≡ length (keys (layer_of found.layer.now)) }
+    requires values { sizes.values ≡ length (values (layer_of found.layer.now)) }
+    ensures steps { IfOk result (λ done. (key : List ℕ) → named.now ≡ map (bytes_eq key) (keys (layer_of found.entry.layer.now)) →
+        map step_of steps.new.items ≡ map step_of steps.old.items ++ feature_steps (pairs_go key (layer_of found.entry.layer.now).items) found.entry.position (found_feature_seen feature.entry)) }
+    ensures readable { IfOk result (λ done. is_some (pairs_among (layer_of found.entry.layer.now).items (feature_of feature.entry.feature.now).fields) ≡ true) }
+    ensures refused { IfErr result (λ refusal. (refusal ≡ NoMemory)
+        ⊎ ((refusal ≡ BadTags found.entry.ordinal feature.entry.ordinal) × (is_some (pairs_among (layer_of found.entry.layer.now).items (feature_of feature.entry.feature.now).fields) ≡ false))) }
+{
+    let lost = decide_or_refuse(found.ordinal, feature, sizes, named, None, decisions)?;
+    if lost > 0 {
+        renumber_feature(
+            alloc,
+            found.position,
+            feature,
+            TAGS,
+            decisions.as_slice(),
+            steps,
+            None,
+        )?;
     }
     Ok(())
 }

@@ -1,76 +1,44 @@
-use Rattle.std.proofs.Common.{◌≡◌, ◌++◌, append-nil, inl, inr, false, length, map, slice_get, sym, ap, ◌∙◌, arith}
-use Rattle.std.proofs.lemmas.List.{length-map}
+use Rattle.std.proofs.Common.{◌≡◌, ◌++◌, append-nil, inl, inr, false, map, sym, ap, ◌∙◌}
 use Rattle.std.proofs.lemmas.Result.{err_from_is_err_and}
 use Rattle.std.specs.List.{flat_map, list_any}
-use Rattle.std.specs.Option.{unwrap_or}
 use Rattle.std.specs.Str.{bytes_eq}
 use Rattle.mvt_document.specs.Stands.{layer_of}
 use Rattle.mvt_change.specs.ChangeStands.{step_of}
-use Rattle.mvt_numbers.specs.Numbers.{numbers}
-use Rattle.mvt_layers.specs.Seen.{found_feature_seen, found_layer_seen, layer_seen}
-use Rattle.mvt_messages.specs.Tags.{plain_pairs, tag_pairs}
-use Rattle.mvt_messages.specs.Views.{keys, values}
-use Rattle.mvt_fates.specs.Decided.{field_fates, is_any_gone}
+use Rattle.mvt_layers.specs.Seen.{found_feature_seen, found_layer_seen}
+use Rattle.mvt_messages.specs.Views.{keys}
 use Rattle.mvt_edit_pairs.specs.EachFeature.{feature_steps}
 use Rattle.mvt_edit_tags.specs.EachFeature.{pairs_go}
-use Rattle.mvt_edit_pairs.proofs.Deciding.{no_pairs}
-use Rattle.mvt_edit_tags.proofs.Deciding.{on_pairs}
-use Rattle.mvt_edit_pairs.proofs.StepsPassed.{none_more, steps_more}
-use Rattle.mvt_edit_tags.proofs.NoneLost.{no_steps, none_counted, none_named, of_any}
+use Rattle.mvt_edit_pairs.proofs.StepsPassed.{steps_more}
+use Rattle.mvt_edit_tags.proofs.NoneLost.{none_named, of_any}
 use Rattle.mvt_edit_pairs.proofs.Unreadable.{bad_among, feature_refused, readable_more, unreadable_in}
 use Rattle.mvt_edit_tags.proofs.exclude.exclude_from.Goals as goal
 
-pub returns-in_err-lost-clause-refused : goal.returns-in_err-lost-clause-refused
-returns-in_err-lost-clause-refused c =
+pub returns-in_err-exclude_pairs-clause-refused : goal.returns-in_err-exclude_pairs-clause-refused
+returns-in_err-exclude_pairs-clause-refused c =
     let layer = layer_of c.args.found.layer.now in
     let found = found_feature_seen c.in-Some.feature in
-    let key_count : c.len.result ≡ length (keys layer) = omega (arith, c.len.ensures, ap length c.in_ok-name_keys.ensures, length-map (keys (layer_seen c.view-layer.result)) (bytes_eq c.args.key.now), ap (λ seen. length (keys seen)) c.view-layer.ensures) in
-    let value_count = c.value_count.ensures ∙ ap (λ seen. length (values seen)) c.view-layer.ensures in
-    let passed = err_from_is_err_and c.from_residual-in_err-lost.result c.from_residual-in_err-lost.ensures.1 in
+    let passed = err_from_is_err_and c.from_residual-in_err-exclude_pairs.result c.from_residual-in_err-exclude_pairs.ensures.1 in
     rw (passed.1, passed.2) (
-    elim c.in_err-lost.ensures.refused [
+    elim c.in_err-exclude_pairs.ensures.refused [
       | inl memory ↦ inl memory
       | inr bad ↦ inr (feature_refused c.args.found.ordinal c.args.found.position layer found c.next.new.self _
           (ap (bad_among layer c.args.found.ordinal) (sym c.in-Some.ensures.steps) ∙ c.loop-feature.invariant.readable)
-          (no_pairs layer found.1.1 c.len.result c.value_count.result key_count value_count bad.1)
+          bad.1
           bad.0)
     ])
-
-pub loop-feature-preserved-in_ok-renumber_feature : goal.loop-feature-preserved-in_ok-renumber_feature
-loop-feature-preserved-in_ok-renumber_feature c =
-    let layer = layer_of c.args.found.layer.now in
-    let key = c.args.key.now in
-    let found = found_feature_seen c.in-Some.feature in
-    let key_count : c.len.result ≡ length (keys layer) = omega (arith, c.len.ensures, ap length c.in_ok-name_keys.ensures, length-map (keys (layer_seen c.view-layer.result)) (bytes_eq c.args.key.now), ap (λ seen. length (keys seen)) c.view-layer.ensures) in
-    let value_count = c.value_count.ensures ∙ ap (λ seen. length (values seen)) c.view-layer.ensures in
-    let steps = feature_steps (pairs_go key layer.items) c.args.found.position in
-    let front = map step_of c.loop-feature.steps.items in
-    let on = on_pairs key layer found.1.1 c.len.result c.value_count.result _ _ (c.as_slice-in-loop-feature.ensures.value ∙ c.in_ok-name_keys.ensures ∙ ap (λ seen. map (bytes_eq key) (keys seen)) c.view-layer.ensures)
-    key_count value_count c.in_ok-lost.ensures.decided in
-    record {
-      steps = steps_more steps front _ _ found c.next.new.self
-          (c.in_ok-renumber_feature.ensures.steps ∙ ap (λ decisions. front ++ feature_steps (field_fates 2 decisions) c.args.found.position found) (c.as_slice-then-lost-gt0.ensures.value ∙ on.decided))
-          (ap (λ left. front ++ flat_map steps left) (sym c.in-Some.ensures.steps) ∙ c.loop-feature.invariant.steps);
-      readable = sym (readable_more layer c.args.found.ordinal found c.next.new.self on.readable) ∙ ap (bad_among layer c.args.found.ordinal) (sym c.in-Some.ensures.steps) ∙ c.loop-feature.invariant.readable;
-    }
 
 pub loop-feature-preserved : goal.loop-feature-preserved
 loop-feature-preserved c =
     let layer = layer_of c.args.found.layer.now in
     let key = c.args.key.now in
     let found = found_feature_seen c.in-Some.feature in
-    let key_count : c.len.result ≡ length (keys layer) = omega (arith, c.len.ensures, ap length c.in_ok-name_keys.ensures, length-map (keys (layer_seen c.view-layer.result)) (bytes_eq c.args.key.now), ap (λ seen. length (keys seen)) c.view-layer.ensures) in
-    let value_count = c.value_count.ensures ∙ ap (λ seen. length (values seen)) c.view-layer.ensures in
     let steps = feature_steps (pairs_go key layer.items) c.args.found.position in
     let front = map step_of c.loop-feature.steps.items in
-    let on = on_pairs key layer found.1.1 c.len.result c.value_count.result _ _ (c.as_slice-in-loop-feature.ensures.value ∙ c.in_ok-name_keys.ensures ∙ ap (λ seen. map (bytes_eq key) (keys seen)) c.view-layer.ensures)
-    key_count value_count c.in_ok-lost.ensures.decided in
-    let none = ap is_any_gone (sym on.decided) ∙ none_counted (λ key. unwrap_or (slice_get c.as_slice-in-loop-feature.result.now key) false) (plain_pairs (tag_pairs c.len.result c.value_count.result (numbers 2 found.1.1.fields))) _ _ c.in_ok-lost.ensures.decided c.in_ok-lost.ensures.counted (omega (arith, c.if-lost-gt0.false)) in
     record {
       steps = steps_more steps front _ _ found c.next.new.self
-          (none_more steps front found (no_steps key layer.items c.args.found.position found none))
+          (c.in_ok-exclude_pairs.ensures.steps key (c.as_slice-in-loop-feature.ensures.value ∙ c.in_ok-name_keys.ensures ∙ ap (λ seen. map (bytes_eq key) (keys seen)) c.view-layer.ensures))
           (ap (λ left. front ++ flat_map steps left) (sym c.in-Some.ensures.steps) ∙ c.loop-feature.invariant.steps);
-      readable = sym (readable_more layer c.args.found.ordinal found c.next.new.self on.readable) ∙ ap (bad_among layer c.args.found.ordinal) (sym c.in-Some.ensures.steps) ∙ c.loop-feature.invariant.readable;
+      readable = sym (readable_more layer c.args.found.ordinal found c.next.new.self c.in_ok-exclude_pairs.ensures.readable) ∙ ap (bad_among layer c.args.found.ordinal) (sym c.in-Some.ensures.steps) ∙ c.loop-feature.invariant.readable;
     }
 
 pub returns-clause-readable : goal.returns-clause-readable
