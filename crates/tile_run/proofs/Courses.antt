@@ -15,7 +15,7 @@ use Rattle.tile_course.specs.Headline.{Devices, Runs}
 use Rattle.mvt_history_steps.specs.History.{History, standing_document}
 use Rattle.tile_course.specs.Outcomes.{edited_outcome, opening_outcome, script_outcome, writing_outcome}
 use Rattle.mvt_history_steps.specs.Session.{StandsFor}
-use Rattle.tile_run.specs.Steps.{Moment, OpensTile, CarriesOutScript, WritesTile}
+use Rattle.tile_run.specs.Steps.{Moment, Opening, OpensTile, CarriesOutScript, WritesTile}
 use Rattle.tile_run.specs.declared.editor.Editor.{Editor}
 use Rattle.tile_course.specs.declared.outcome.Options.{Options}
 use Rattle.tile_course.specs.declared.outcome.Outcome.{Outcome}
@@ -33,10 +33,6 @@ abbrev seen : Seen → Seen → Seen → Seen → Devices
 seen tile script replies out = record { tile = tile; script = script; replies = replies; out = out }
 
 -- ---- with the tile
-
--- what opening a tile takes
-abbrev pub Opening : Seen → Seen → ℕ → ℕ → Result program.Document Unopened → Type 0
-Opening t0 t1 before after result = (tile : Intake) × (length tile.bytes ≤ MAX_FILE + 1) × OpensTile result tile × Reads t0 t1 before after tile
 
 abbrev at_tile : Intake → Course
 at_tile tile = record { tile = tile; script = nothing_read; replies = written 0 []; out = written 0 [] }

@@ -3,4 +3,5 @@ pub mod Running
 pub mod Feeding
 pub mod Reading
 pub mod Finishing
+pub mod Tiles
 pub mod Courses

@@ -1,5 +1,5 @@
 -- The lines of a script, carried out and replied to.
-use Rattle.std.proofs.Common.{◌≡◌, ℕ, ◌+◌, ◌-◌, Bool, true, false, ◌||◌, ◌&&◌, List, [], ◌∷◌, ◌++◌, Some, None, refl, sym, ap, subst, ◌∙◌, append-nil}
+use Rattle.std.proofs.Common.{◌≡◌, ℕ, ◌+◌, ◌-◌, Bool, true, false, ◌||◌, ◌&&◌, List, [], ◌∷◌, ◌++◌, Some, None, refl, sym, ap, ap₂, subst, ◌∙◌, append-nil}
 use Rattle.std.specs.Prelude.{Result, Ok, Err, is_err}
 use Rattle.std.proofs.Math.Bool.{or-true, or-false}
 use Rattle.mvt_document.specs.Held.{Held}
@@ -11,8 +11,9 @@ use Rattle.tile_reply.specs.Replies.{reply_to}
 use Rattle.tile_course.specs.Run.{Progress, is_over, MayFollow, Walk}
 use Rattle.mvt_history_steps.specs.Session.{StandsFor}
 use Rattle.tile_course.specs.Course.{IsCutShort}
-use Rattle.tile_run.specs.Steps.{Moment, Replies, answered, told_in, CarriesOut, IsAt, Advances, Falters, Comes, ComesTo}
+use Rattle.tile_run.specs.Steps.{Moment, Replies, answered, told_in, settled, ends_line, CarriesOut, IsAt, Advances, AnswersLine, Falters, Comes, ComesTo}
 use Rattle.tile_run.specs.declared.editor.Editor.{Editor}
+use Rattle.tile_course.specs.declared.outcome.LineStop.{LineStop}
 use Rattle.tile_reply.specs.declared.refused.Refused.{Refused}
 use Rattle.mvt_history.specs.declared.session.Session.{Session}
 use Rattle.tile_device.proofs.Sending.{sends_more, sends_nothing, writes_more}
@@ -81,7 +82,7 @@ and_true true = refl
 and_true false = refl
 
 -- a line that was accepted
-pub advances_accepted : (a b : Moment) (strict : Bool) (p : Progress) (line : List ℕ) (number : ℕ) (answer : Result (Held ℕ) Refused) (seen : Result (List ℕ) Refused) (session : Session) (editor : Editor) (r : Result (Unit {0}) Trouble)
+advances_accepted : (a b : Moment) (strict : Bool) (p : Progress) (line : List ℕ) (number : ℕ) (answer : Result (Held ℕ) Refused) (seen : Result (List ℕ) Refused) (session : Session) (editor : Editor) (r : Result (Unit {0}) Trouble)
     → is_over strict p ≡ false → CarriesOut session line (Some answer) p → editor.session ≡ session → editor.strict ≡ strict → editor.lines ≡ number → p.lines + 1 ≡ number
     → editor.any_refused ≡ p.any_refused → is_err answer ≡ false
     → is_err r ≡ false → seen ≡ told_in answer → Replies a b (reply_to number seen) (trouble_of r) → Advances a b editor strict line p false
@@ -90,13 +91,35 @@ advances_accepted a b strict p line number answer seen session editor r on carri
     (refused ∙ sym (ap (λ (q : Bool). p.any_refused || q) good ∙ or-false p.any_refused)) (ap (λ (q : Bool). strict && q) good ∙ and_false strict) went shown sends
 
 -- a line that was refused
-pub advances_refused : (a b : Moment) (strict over : Bool) (p : Progress) (line : List ℕ) (number : ℕ) (answer : Result (Held ℕ) Refused) (seen : Result (List ℕ) Refused) (session : Session) (editor : Editor) (r : Result (Unit {0}) Trouble)
+advances_refused : (a b : Moment) (strict over : Bool) (p : Progress) (line : List ℕ) (number : ℕ) (answer : Result (Held ℕ) Refused) (seen : Result (List ℕ) Refused) (session : Session) (editor : Editor) (r : Result (Unit {0}) Trouble)
     → is_over strict p ≡ false → CarriesOut session line (Some answer) p → editor.session ≡ session → editor.strict ≡ strict → editor.lines ≡ number → p.lines + 1 ≡ number
     → editor.any_refused ≡ true → is_err answer ≡ true → strict ≡ over
     → is_err r ≡ false → seen ≡ told_in answer → Replies a b (reply_to number seen) (trouble_of r) → Advances a b editor strict line p over
 advances_refused a b strict over p line number answer seen session editor r on carries same strictly lines counted refused bad ends went shown sends =
     advances a b strict over p line number answer seen session editor r on carries same strictly lines counted
     (refused ∙ sym (ap (λ (q : Bool). p.any_refused || q) bad ∙ or-true p.any_refused)) (ap (λ (q : Bool). strict && q) bad ∙ and_true strict ∙ ends) went shown sends
+
+settled_so : (a b : Moment) (strict : Bool) (p : Progress) (line : List ℕ) (number : ℕ) (answer : Result (Held ℕ) Refused) (seen : Result (List ℕ) Refused) (session : Session) (before : Editor) (r : Result (Unit {0}) Trouble)
+    → is_over strict p ≡ false → CarriesOut session line (Some answer) p → before.session ≡ session → before.strict ≡ strict → before.lines ≡ number → p.lines + 1 ≡ number
+    → before.any_refused ≡ p.any_refused → is_err r ≡ false → seen ≡ told_in answer → Replies a b (reply_to number seen) (trouble_of r)
+    → AnswersLine a b (settled (is_err answer) before) strict line p (ends_line strict (is_err answer))
+settled_so a b strict p line number (Ok told) seen session before r on carries same strictly lines counted refused went shown sends =
+    advances_accepted a b strict p line number (Ok told) seen session before r on carries same strictly lines counted refused refl went shown sends
+settled_so a b false p line number (Err reason) seen session before r on carries same strictly lines counted refused went shown sends =
+    advances_refused a b false false p line number (Err reason) seen session (settled true before) r on carries same strictly lines counted refl refl refl went shown sends
+settled_so a b true p line number (Err reason) seen session before r on carries same strictly lines counted refused went shown sends =
+    advances_refused a b true true p line number (Err reason) seen session (settled true before) r on carries same strictly lines counted refl refl refl went shown sends
+
+-- a line that was replied to, and noted where it was refused
+pub settles : (a b : Moment) (strict : Bool) (p : Progress) (line : List ℕ) (number : ℕ) (answer : Result (Held ℕ) Refused) (seen : Result (List ℕ) Refused) (session : Session) (before editor : Editor) (r : Result (Unit {0}) Trouble) (bad : Bool) (q : Result (Unit {0}) LineStop)
+    → is_over strict p ≡ false → CarriesOut session line (Some answer) p → before.session ≡ session → before.strict ≡ strict → before.lines ≡ number → p.lines + 1 ≡ number
+    → before.any_refused ≡ p.any_refused → bad ≡ is_err answer → editor ≡ settled bad before → q ≡ ends_line before.strict bad
+    → is_err r ≡ false → seen ≡ told_in answer → Replies a b (reply_to number seen) (trouble_of r) → AnswersLine a b editor strict line p q
+settles a b strict p line number answer seen session before editor r bad q on carries same strictly lines counted refused is_bad is ends went shown sends =
+    let so = settled_so a b strict p line number answer seen session before r on carries same strictly lines counted refused went shown sends in
+    let ended = ends ∙ ap₂ ends_line strictly is_bad in
+    subst (λ (e : Editor). AnswersLine a b e strict line p q) (sym (is ∙ ap (λ (bad : Bool). settled bad before) is_bad))
+    (subst (λ (q : Result (Unit {0}) LineStop). AnswersLine a b (settled (is_err answer) before) strict line p q) (sym ended) so)
 
 -- a line whose reply met trouble
 pub falters : (a b : Moment) (p : Progress) (line : List ℕ) (number : ℕ) (answer : Result (Held ℕ) Refused) (seen : Result (List ℕ) Refused) (session : Session) (r : Result (Unit {0}) Trouble)

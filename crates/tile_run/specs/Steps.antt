@@ -1,10 +1,14 @@
 -- What the steps of a run answer.
 use Rattle.std.specs.Prelude.{◌≡◌, ℕ, ◌+◌, ◌≤◌, Bool, true, false, List, [], ◌++◌, length, Option, Some, None, IsSome, Result, Ok, Err}
 use Rattle.mvt_document.specs.declared.Document.{Document}
+use Rattle.mvt_document.specs.declared.TheConstants.{MAX_FILE}
 use Rattle.mvt_document.specs.Held.{Held}
 use Rattle.mvt_document.specs.Stands.{document_of}
-use Rattle.tile_device.specs.Seen.{Seen, Intake, Output, IsFront, Receives, Sends, Supplies, Writes, nothing_read, sink_at}
+use Rattle.mvt_read.specs.declared.faults.ReadError.{ReadError}
+use Rattle.mvt_read.specs.declared.faults.ReadError.TheVariants as read_errors
+use Rattle.tile_device.specs.Seen.{Seen, Intake, Output, IsFront, Reads, Receives, Sends, Supplies, Writes, nothing_read, sink_at, source_at}
 use Rattle.tile_device.specs.declared.device.Sink.{Ghosts as SinkMembers}
+use Rattle.tile_device.specs.declared.device.Source.{Ghosts as SourceMembers}
 use Rattle.tile_device.specs.declared.device.Trouble.{Trouble}
 use Rattle.tile_device.specs.declared.device.Trouble.TheVariants.{Interrupted}
 use Rattle.tile_lines.specs.Cutting.{Holding, after_pushes, nothing_held}
@@ -14,6 +18,8 @@ use Rattle.tile_course.specs.declared.outcome.LineStop.{LineStop}
 use Rattle.tile_course.specs.declared.outcome.LineStop.TheVariants as line_stops
 use Rattle.tile_course.specs.declared.outcome.ScriptStop.{ScriptStop}
 use Rattle.tile_course.specs.declared.outcome.ScriptStop.TheVariants as script_stops
+use Rattle.tile_course.specs.Headline.{Devices}
+use Rattle.tile_course.specs.declared.outcome.TileFault.TheVariants as faults
 use Rattle.tile_course.specs.declared.outcome.Unopened.{Unopened}
 use Rattle.tile_course.specs.declared.outcome.Unopened.TheVariants as unopened
 use Rattle.tile_course.specs.declared.outcome.Unwritten.{Unwritten}
@@ -41,6 +47,20 @@ OpensTile (Err unopened.Device) tile = IsSome tile.trouble
 OpensTile (Err (unopened.Refused fault)) tile = (tile.trouble ≡ None) × IsFaulty fault tile
 OpensTile (Err unopened.NoMemory) tile = tile.trouble ≡ None
 
+-- between two moments the tile was read, to its end or to the first byte that is too many, and opening it ended so
+abbrev pub Opening : Seen → Seen → ℕ → ℕ → Result Document Unopened → Type 0
+Opening before after retries left result = (tile : Intake) × (length tile.bytes ≤ MAX_FILE + 1) × OpensTile result tile × Reads before after retries left tile
+
+-- why a tile is not opened, for what its reader says
+abbrev pub stop_for : ReadError → Unopened
+stop_for (read_errors.BadWire place) = unopened.Refused (faults.BadWire place)
+stop_for read_errors.FileTooLarge = unopened.Refused faults.FileTooLarge
+stop_for read_errors.NoMemory = unopened.NoMemory
+
+-- the devices at one moment, of which the tile stands so
+abbrev pub devices_with : {A B C : Type 0} → Seen → SourceMembers A → SinkMembers B → SinkMembers C → A → B → C → Devices
+devices_with tile a b c script replies out = record { tile = tile; script = source_at a script; replies = sink_at b replies; out = sink_at c out }
+
 -- ---- a line
 
 -- the lines that an answer has, or its refusal
@@ -66,6 +86,17 @@ pub record IsAt (editor : Editor) (is_strict : Bool) (p : Progress) : Type 0 whe
   pub stands : StandsFor editor.session p.history
   pub lines : editor.lines ≡ p.lines
   pub refused : editor.any_refused ≡ p.any_refused
+
+-- the editor behind a line, refused or not
+abbrev pub settled : Bool → Editor → Editor
+settled false editor = editor
+settled true editor = record editor { any_refused = true }
+
+-- how a line ends that was replied to, in a strict run or not, refused or not
+abbrev pub ends_line : Bool → Bool → Result (Unit {0}) LineStop
+ends_line strict false = Ok tt
+ends_line false true = Ok tt
+ends_line true true = Err line_stops.Strict
 
 -- ---- moments
 

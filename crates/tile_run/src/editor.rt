@@ -14,7 +14,7 @@ ghost use Rattle.mvt_history_steps.specs.History.{History, standing_document};
 ghost use Rattle.mvt_history_steps.specs.Session.{StandsFor};
 ghost use Rattle.mvt_history_steps.specs.declared.TheConstants.{MAX_DEPTH};
 ghost use Rattle.tile_course.specs.Run.{Progress, at_first, is_over};
-ghost use Rattle.tile_run.specs.Steps.{AnswersLine, CarriesOut, CarriesOutLines, CarriesOutPieces, CarriesOutScript, ComesTo, IsAt, Moment, WasGiven, moment_at, told_in};
+ghost use Rattle.tile_run.specs.Steps.{AnswersLine, CarriesOut, CarriesOutLines, CarriesOutPieces, CarriesOutScript, ComesTo, IsAt, Moment, WasGiven, ends_line, moment_at, settled, told_in};
 
 use mvt_document::{Document, Items};
 use mvt_history::Session;
@@ -185,6 +185,14 @@ impl Editor {
         if reply(replies, self.lines, told_in(&answer), retries).is_err() {
             return Err(LineStop::Replies);
         }
+        self.settle(refused)
+    }
+
+    /// Notes that a line was refused, if it was: that ends a strict run.
+    fn settle(&mut self, refused: bool) -> Result<(), LineStop>
+        ensures editor { self.new ≡ settled refused self.old }
+        ensures ends { result ≡ ends_line self.old.strict refused }
+    {
         if !refused {
             return Ok(());
         }

@@ -1,14 +1,15 @@
 //! A whole run: a tile and a script are read, the replies and the edited tile are written.
 
-ghost use Rattle.std.specs.Prelude.{◌≡◌, ◌+◌, ◌≤◌, length, OnOk};
+ghost use Rattle.std.specs.Prelude.{◌≡◌, ◌≤◌, Ok, OnOk};
 ghost use Rattle.mvt_document.specs.Opens.{IsDocument, OpensAs};
 ghost use Rattle.mvt_document.specs.Settle.{settle};
 ghost use Rattle.mvt_document.specs.Stands.{document_of};
 ghost use Rattle.mvt_document.specs.Wire.{bytes_of};
 ghost use Rattle.mvt_history_steps.specs.declared.TheConstants.{MAX_DEPTH};
-ghost use Rattle.tile_device.specs.Seen.{Intake, Output, Reads, Writes, source_at, sink_at};
+ghost use Rattle.tile_device.specs.Seen.{Output, Seen, Writes, source_at, sink_at};
+ghost use Rattle.tile_course.specs.Course.{start_of};
 ghost use Rattle.tile_course.specs.Headline.{Headline, RefusesTile, Runs, WritesATile, LeavesOut, LeavesReplies, devices_at};
-ghost use Rattle.tile_run.specs.Steps.{OpensTile, WritesTile, document_in};
+ghost use Rattle.tile_run.specs.Steps.{IsAt, Opening, WritesTile, devices_with, document_in, stop_for};
 
 use crate::editor::Editor;
 use mvt_document::{Document, MAX_FILE};
@@ -112,14 +113,42 @@ pub fn run_and_hold<R1: Source, R2: Source, W1: Sink, W2: Sink>(
     let Some(mut editor) = Editor::start(alloc, document, options) else {
         return Ended::new(Outcome::NoMemory, None);
     };
-    if let Err(stop) = editor.carry_out_script(alloc, script, replies, &mut retries) {
-        return Ended::new(stop.into(), Some(editor));
-    }
-    if let Err(stop) = write_tile(alloc, editor.document(), file, out, &mut retries) {
-        return Ended::new(stop.into(), Some(editor));
-    }
-    let outcome = Outcome::edited(editor.any_refused());
+    let outcome = edit(alloc, &mut editor, file, script, replies, out, &mut retries);
     Ended::new(outcome, Some(editor))
+}
+
+/// Carries the script out on a document that no line has edited, and writes what it is then. The
+/// bytes are made in the memory of this vector.
+fn edit<R: Source, W1: Sink, W2: Sink>(
+    alloc: Global,
+    editor: &mut Editor,
+    room: Vec<u8>,
+    script: &mut R,
+    replies: &mut W1,
+    out: &mut W2,
+    retries: &mut Retries,
+) -> Outcome
+    requires { editor.old.lines ≡ 0 }
+
+    // The rest of the run of a tile that was opened between two moments of its device.
+    ensures course { (options : Options) (document : Document) (before : Seen) (after : Seen)
+        → Opening before after MAX_RETRIES retries.old (Ok document)
+        → IsAt editor.old options.strict (start_of options (document_of document))
+        → Runs options
+        (devices_with before R.Source W1.Sink W2.Sink script.old replies.old out.old)
+        (devices_with after R.Source W1.Sink W2.Sink script.new replies.new out.new)
+        result }
+    ensures out_as_it_was { LeavesOut result → out.new ≡ out.old }
+    ensures script_as_it_was { LeavesReplies result → script.new ≡ script.old }
+    ensures replies_as_they_were { LeavesReplies result → replies.new ≡ replies.old }
+{
+    if let Err(stop) = editor.carry_out_script(alloc, script, replies, retries) {
+        return stop.into();
+    }
+    if let Err(stop) = write_tile(alloc, editor.document(), room, out, retries) {
+        return stop.into();
+    }
+    Outcome::edited(editor.any_refused())
 }
 
 /// Reads the tile to its end, or to the first byte that is too many, and opens it. Beside the
@@ -129,15 +158,23 @@ fn open<R: Source>(
     tile: &mut R,
     retries: &mut Retries,
 ) -> Result<(Document, Vec<u8>), Unopened>
-    ensures { (intake : Intake) × (length intake.bytes ≤ MAX_FILE + 1) × OpensTile (document_in result) intake
-        × Reads (source_at R.Source tile.old) (source_at R.Source tile.new) retries.old retries.new intake }
+    ensures { Opening (source_at R.Source tile.old) (source_at R.Source tile.new) retries.old retries.new (document_in result) }
 {
     let file = read_to_limit(alloc, tile, MAX_FILE + 1, retries)?;
     match read_document(alloc, &file) {
         Ok(document) => Ok((document, file)),
-        Err(ReadError::BadWire { place }) => Err(Unopened::Refused(TileFault::BadWire { place })),
-        Err(ReadError::FileTooLarge) => Err(Unopened::Refused(TileFault::FileTooLarge)),
-        Err(ReadError::NoMemory) => Err(Unopened::NoMemory),
+        Err(error) => Err(stop_for(error)),
+    }
+}
+
+/// Why a tile is not opened that is no document.
+fn stop_for(error: ReadError) -> Unopened
+    ensures { result ≡ stop_for error }
+{
+    match error {
+        ReadError::BadWire { place } => Unopened::Refused(TileFault::BadWire { place }),
+        ReadError::FileTooLarge => Unopened::Refused(TileFault::FileTooLarge),
+        ReadError::NoMemory => Unopened::NoMemory,
     }
 }
 
@@ -158,8 +195,5 @@ fn write_tile<W: Sink>(
     let Ok(file) = write_document_into(alloc, document, room) else {
         return Err(Unwritten::NoMemory);
     };
-    if write_and_flush(out, &file, retries).is_err() {
-        return Err(Unwritten::Device);
-    }
-    Ok(())
+    write_and_flush(out, &file, retries).or(Err(Unwritten::Device))
 }

@@ -1,6 +1,6 @@
 use Rattle.std.proofs.Common.{◌∙◌, ◌+◌, ℕ, ap, sym, refl}
 use Rattle.tile_reply.specs.Replies.{answer_seen}
-use Rattle.tile_run.proofs.Running.{advances_silently, advances_accepted, advances_refused, falters}
+use Rattle.tile_run.proofs.Running.{advances_silently, settles, falters}
 use Rattle.tile_run.proofs.editor.Editor.carry_out.Goals as goal
 
 pub returns-in_default-clause-answers : goal.returns-in_default-clause-answers
@@ -12,20 +12,8 @@ returns-then-is_err-clause-answers g c script strict p line at on is =
     falters _ _ p line _ c.in-Some.answer (answer_seen c.told_in.result) _ c.reply.result (c.in-Some.ensures p line at.stands is) (ap (λ (n : ℕ). n + 1) (sym at.lines))
     (sym c.is_err.ensures.value ∙ c.if-is_err.true) c.told_in.ensures c.reply.ensures
 
-pub returns-then-not-refused-clause-answers : goal.returns-then-not-refused-clause-answers
-returns-then-not-refused-clause-answers g c script strict p line at on is =
-    advances_accepted _ _ strict p line _ c.in-Some.answer (answer_seen c.told_in.result) _ _ c.reply.result on (c.in-Some.ensures p line at.stands is)
-    refl at.strict refl (ap (λ (n : ℕ). n + 1) (sym at.lines)) at.refused (sym c.is_err-refused.ensures.value ∙ c.if-not-refused.true)
-    (sym c.is_err.ensures.value ∙ c.if-is_err.false) c.told_in.ensures c.reply.ensures
-
-pub returns-then-self-clause-answers : goal.returns-then-self-clause-answers
-returns-then-self-clause-answers g c script strict p line at on is =
-    advances_refused _ _ strict _ p line _ c.in-Some.answer (answer_seen c.told_in.result) _ _ c.reply.result on (c.in-Some.ensures p line at.stands is)
-    refl at.strict refl (ap (λ (n : ℕ). n + 1) (sym at.lines)) refl (sym c.is_err-refused.ensures.value ∙ c.if-not-refused.false) (sym at.strict ∙ c.if-self.true)
-    (sym c.is_err.ensures.value ∙ c.if-is_err.false) c.told_in.ensures c.reply.ensures
-
 pub returns-clause-answers : goal.returns-clause-answers
 returns-clause-answers g c script strict p line at on is =
-    advances_refused _ _ strict _ p line _ c.in-Some.answer (answer_seen c.told_in.result) _ _ c.reply.result on (c.in-Some.ensures p line at.stands is)
-    refl at.strict refl (ap (λ (n : ℕ). n + 1) (sym at.lines)) refl (sym c.is_err-refused.ensures.value ∙ c.if-not-refused.false) (sym at.strict ∙ c.if-self.false)
+    settles _ _ strict p line _ c.in-Some.answer (answer_seen c.told_in.result) _ _ _ c.reply.result _ _ on (c.in-Some.ensures p line at.stands is)
+    refl at.strict refl (ap (λ (n : ℕ). n + 1) (sym at.lines)) at.refused c.is_err-refused.ensures.value c.settle.ensures.editor c.settle.ensures.ends
     (sym c.is_err.ensures.value ∙ c.if-is_err.false) c.told_in.ensures c.reply.ensures
