@@ -3,12 +3,12 @@ use Rattle.std.proofs.Common.{◌≡◌, ◌↔◌, ℕ, ◌+◌, ◌-◌, ◌<�
 use Rattle.std.specs.Option.{IsSome, ok_or}
 use Rattle.std.specs.Result.{OnOk, OnErr, IfErr, IsErrAnd, MatchResult}
 use Rattle.std.proofs.lemmas.Bool.{cases_Bool}
-use Rattle.std.proofs.lemmas.Bool.Decides.{nat_tests}
 use Rattle.mvt_history_steps.specs.Marks.{Mark, has_name, point_of, bound, unbound}
 use Rattle.mvt_history_steps.specs.History.{History, at_point, with_marks, marked, unmarked, gone_back}
 use Rattle.mvt_history_steps.specs.Moves.{walk_in, moved_along, LeadsAlong}
 use Rattle.mvt_history_steps.specs.Standing.{Standing, IsReady}
 use Rattle.mvt_history_steps.specs.Held.{IsReached, IsHeld}
+use Rattle.mvt_history.specs.Refusing.{has_room}
 use Rattle.mvt_history_steps.specs.Session.{StandsFor, Answers, IsOnTheWay, StopsAt, AnswersBack}
 use Rattle.mvt_history_steps.specs.declared.TheConstants.{MAX_MARKS}
 use Rattle.mvt_history_steps.specs.declared.steps.Direction.{Direction}
@@ -38,24 +38,9 @@ same_point name session history stands = ap (point_of name) stands.marks ∙ cou
 same_named : (name : List ℕ) (session : Standing) (history : History) → StandsFor session history → is_some (point_of name history.marks) ≡ is_some (point_of name session.marks)
 same_named name session history stands = ap is_some (same_point name session history stands) ∙ some_counted history.floor (point_of name session.marks)
 
--- whether there is room to mark the name
-abbrev pub has_room : List ℕ → List Mark → Bool
-has_room name marks = is_some (point_of name marks) || nat_lt (length marks) MAX_MARKS
-
 same_room : (name : List ℕ) (session : Standing) (history : History) → StandsFor session history → has_room name history.marks ≡ has_room name session.marks
 same_room name session history stands =
     ap₂ (λ named count. named || nat_lt count MAX_MARKS) (same_named name session history stands) (ap length stands.marks ∙ counted_length history.floor session.marks)
-
-pub no_room : (name : List ℕ) (marks : List Mark) → is_some (point_of name marks) ≡ false → length marks ≡ MAX_MARKS → has_room name marks ≡ false
-no_room name marks unnamed full = rw (unnamed, full) refl
-
-pub named_room : (name : List ℕ) (marks : List Mark) → is_some (point_of name marks) ≡ true → has_room name marks ≡ true
-named_room name marks named = rw named refl
-
-pub few_room : (name : List ℕ) (marks : List Mark) → length marks < MAX_MARKS → has_room name marks ≡ true
-few_room name marks few =
-    let less : nat_lt (length marks) MAX_MARKS ≡ true = grind (arith, nat_tests) in
-    elim (cases_Bool (is_some (point_of name marks))) [ inl named ↦ rw named refl | inr unnamed ↦ rw (unnamed, less) refl ]
 
 -- ---- a name that is marked
 

@@ -1,5 +1,5 @@
 -- What a session stands for, and that it is held, when steps were taken back or made again.
-use Rattle.std.proofs.Common.{◌≡◌, ℕ, zero, suc, ◌+◌, ◌-◌, ◌<◌, ◌≤◌, false, is_some, if◌then◌else◌, ◌==◌, Result, Ok, Err, Option, Some, None, List, [], ◌∷◌, length, take, get_or, refl, sym, ap, ◌∙◌, subst, inl, arith}
+use Rattle.std.proofs.Common.{◌≡◌, ℕ, zero, suc, ◌+◌, ◌-◌, ◌<◌, ◌≤◌, true, false, is_some, if◌then◌else◌, ◌==◌, Result, Ok, Err, Option, Some, None, List, [], ◌∷◌, length, take, get_or, refl, sym, ap, ◌∙◌, subst, inl, inr, arith}
 use Rattle.std.specs.List.{AllByRecursion}
 use Rattle.std.specs.Result.{IsOk, OnOk, IfErr, result_or}
 use Rattle.std.specs.List.Sorted.{IsStrictlySortedBy}
@@ -10,7 +10,6 @@ use Rattle.mvt_document.specs.Wire.{bytes_of}
 use Rattle.mvt_document.specs.Opens.{IsDocument}
 use Rattle.mvt_command.specs.Command.{Command}
 use Rattle.mvt_change.specs.Changes.{Change, turn}
-use Rattle.mvt_change.specs.declared.change.Change.{Change as HeldChange}
 use Rattle.mvt_change.specs.Joining.{FitAlong}
 use Rattle.mvt_change.proofs.Turning.{change_makes, turned_back, turned_fits}
 use Rattle.mvt_history_steps.specs.History.{History, begun, after_all, after_steps, document_at, commands_in, at_point, with_group, opened}
@@ -19,14 +18,15 @@ use Rattle.mvt_history_steps.specs.Reached.{Leads, LeadBack, LeadOn, LeadOut, al
 use Rattle.mvt_history_steps.specs.declared.steps.Direction.{Direction}
 use Rattle.mvt_history_steps.specs.declared.steps.Direction.TheVariants.{Undo, Redo}
 use Rattle.mvt_history_steps.specs.Standing.{Standing, IsReady}
-use Rattle.mvt_history_steps.specs.Held.{from_last, IsReached, IsHeld}
+use Rattle.mvt_history_steps.specs.Held.{IsReached, IsHeld}
 use Rattle.mvt_history_steps.specs.declared.TheConstants.{MAX_DEPTH}
 use Rattle.mvt_history_error.specs.declared.HistoryError.{HistoryError}
-use Rattle.mvt_history_error.specs.declared.HistoryError.TheVariants.{GroupOpen, NoMemory}
+use Rattle.mvt_history_error.specs.declared.HistoryError.TheVariants.{GroupOpen, NoMemory, NothingToUndo, NothingToRedo}
+use Rattle.mvt_history.specs.Refusing.{ensured_ahead}
 use Rattle.mvt_history_steps.specs.Session.{StandsFor, AnswersWithMemory}
 use Rattle.mvt_history_steps.proofs.Sound.{begins_sound, sound_at_point, sound_with_group}
 use Rattle.mvt_history_steps.proofs.Following.{next_document}
-use Rattle.mvt_history_steps.proofs.Stepping.{walk_of, length_from_last}
+use Rattle.mvt_history_steps.proofs.Stepping.{walk_of}
 use Rattle.mvt_history.proofs.Closed.{is_closed, stands_present}
 use Rattle.mvt_history_steps.proofs.Turned.{turned_leads}
 
@@ -251,13 +251,39 @@ step_goes Redo session history closed ready some stands =
     let apart : (history.present == length history.steps) ≡ false = grind (arith, nat_tests) in
     (at_point (history.present + 1) history, rw (none, apart) refl, walked_stands Redo 1 (history.present + 1) session history closed ready some refl stands)
 
--- a list of changes that is not empty lies ahead
-pub some_ahead : (direction : Direction) (session : Standing) (changes : List HeldChange) → (walk_in direction session).ahead ≡ from_last changes → false ≡ (length changes == 0) → 1 ≤ length (walk_in direction session).ahead
-some_ahead direction session changes is some =
-    let long = ap length is ∙ length_from_last changes in
-    let apart = sym some in
-    let more : 1 ≤ length changes = grind (arith, nat_tests, apart) in
-    omega (arith, long, more)
+some_there : (count : ℕ) (error : HistoryError) (done : Unit {0}) → ◌≡◌ {A = Result (Unit {0}) HistoryError} (Ok done) (if count == 0 then Err error else Ok tt) → 1 ≤ count
+some_there zero error done is = absurd cc
+some_there (suc count) error done is = omega arith
+
+none_there : (count : ℕ) (error why : HistoryError) → ◌≡◌ {A = Result (Unit {0}) HistoryError} (Err why) (if count == 0 then Err error else Ok tt) → (count ≡ 0) × (why ≡ error)
+none_there zero error why is = (refl, cc)
+none_there (suc count) error why is = absurd (let apart : (suc count == 0) ≡ false = grind (arith, nat_tests) in let no = rw apart at is in cc)
+
+-- a step lies ahead where `ensure_ahead` says so
+pub lies_ahead : (direction : Direction) (session : Standing) (done : Unit {0}) → ◌≡◌ {A = Result (Unit {0}) HistoryError} (Ok done) (ensured_ahead direction session) → 1 ≤ length (walk_in direction session).ahead
+lies_ahead Undo session done is = some_there (length session.undo) NothingToUndo done is
+lies_ahead Redo session done is = some_there (length session.redo) NothingToRedo done is
+
+refused_ahead : (direction : Direction) (session : Standing) (history : History) (why : HistoryError) → session.pending ≡ None → ◌≡◌ {A = Result (Unit {0}) HistoryError} (Err why) (ensured_ahead direction session) → StandsFor session history → gone direction history ≡ Err why
+refused_ahead Undo session history why closed is stands =
+    let none = is_closed session history closed stands in
+    let found = none_there (length session.undo) NothingToUndo why is in
+    let undo = stands.undo_reaches in
+    let empty = found.0 in
+    let there : (history.present == history.floor) ≡ true = grind (arith, nat_tests) in
+    rw (none, there) (ap (λ error. Err error) (sym found.1))
+refused_ahead Redo session history why closed is stands =
+    let none = is_closed session history closed stands in
+    let found = none_there (length session.redo) NothingToRedo why is in
+    let redo = stands.redo_reaches in
+    let empty = found.0 in
+    let there : (history.present == length history.steps) ≡ true = grind (arith, nat_tests) in
+    rw (none, there) (ap (λ error. Err error) (sym found.1))
+
+-- what is answered where it refuses
+pub refusal_answers : (direction : Direction) (session : Standing) (history : History) (answer : Result (Unit {0}) HistoryError) (why : HistoryError) → answer ≡ Err why → session.pending ≡ None → ◌≡◌ {A = Result (Unit {0}) HistoryError} (Err why) (ensured_ahead direction session) → StandsFor session history → AnswersWithMemory (gone direction history) history answer session
+refusal_answers direction session history answer why is closed refuses stands =
+    subst (λ answer. AnswersWithMemory (gone direction history) history answer session) (sym is) (inr (refused_ahead direction session history why closed refuses stands), stands)
 
 -- what is answered after one step that was made, or was not
 pub step_answers : (direction : Direction) (session new : Standing) (history : History) (ended : Result (Unit {0}) ℕ) → session.pending ≡ None → IsReady session → 1 ≤ length (walk_in direction session).ahead → OnOk ended (new ≡ moved_along direction 1 session) → IfErr ended (λ taken. (taken < 1) × (new ≡ moved_along direction taken session)) → StandsFor session history → AnswersWithMemory (gone direction history) history (result_or ended (Err NoMemory)) new

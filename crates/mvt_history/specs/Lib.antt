@@ -1,2 +1,3 @@
 pub use Rattle.mvt_history_steps.specs.Session
 pub mod Inside
+pub mod Refusing

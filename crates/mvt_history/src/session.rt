@@ -1,16 +1,21 @@
 //! The session: its document, the changes for undo and redo, the marks and the open step; each
 //! request.
 
-ghost use Rattle.std.specs.Prelude.{◌≡◌, ◌<◌, ◌≤◌, ◌⊎◌, if◌then◌else◌, is_some, None, Ok, Err, OnOk, OnErr, IfOk, IfErr, IsSomeAnd, length, option_map, slice_get};
+ghost use Rattle.std.specs.Prelude.{◌≡◌, ◌∷◌, ◌<◌, ◌≤◌, ◌⊎◌, if◌then◌else◌, is_ok, is_some, None, Ok, Err, OnOk, OnErr, IfOk, IfErr, IsSomeAnd, length, option_map, slice_get};
 ghost use Rattle.mvt_history_error.specs.declared.HistoryError.TheVariants.{GroupOpen, NoMemory};
 ghost use Rattle.mvt_document.specs.Stands.{document_of};
 ghost use Rattle.mvt_document.specs.Opens.{IsDocument};
 ghost use Rattle.mvt_command.specs.CommandStands.{command_of};
+ghost use Rattle.mvt_change.specs.ChangeStands.{change_of};
+ghost use Rattle.mvt_change.specs.Changes.{Fits, go, turn};
 ghost use Rattle.mvt_history_steps.specs.declared.TheConstants.{MAX_DEPTH};
+ghost use Rattle.mvt_history_steps.specs.Held.{from_last};
 ghost use Rattle.mvt_history_steps.specs.Marks.{point_of};
 ghost use Rattle.mvt_history_steps.specs.History.{History, begun, closed, marked, opened, redone, standing_document, undone, unmarked};
 ghost use Rattle.mvt_history_steps.specs.Moves.{gone, moved_along, walk_in};
+ghost use Rattle.mvt_history_steps.specs.Standing.{IsReady};
 ghost use Rattle.mvt_history_steps.specs.Session.{Answers, AnswersBack, AnswersCancel, AnswersCommand, AnswersWithMemory, IsStop, NotStarted, SeesMark, StandsFor};
+ghost use Rattle.mvt_history.specs.Refusing.{ensured_ahead, has_room};
 
 use circular_buffer::HeapCircularBuffer;
 use mvt_change::{Change, flip, join};
@@ -156,13 +161,11 @@ impl Session {
         ensures answer { (history : History) → StandsFor self.old history → AnswersCommand (command_of command.now) history result self.new }
         ensures err { OnErr result (self.new ≡ self.old) }
     {
-        let mut change = prepare(self.alloc, &self.document, command)?;
+        let change = prepare(self.alloc, &self.document, command)?;
         if let Some(pending) = &mut self.pending {
-            pending.reserve(1)?;
-            flip(self.alloc, &mut self.document, &mut change)?;
-            pending.push_reserved(change);
+            flip_onto(self.alloc, &mut self.document, pending, change)?;
         } else {
-            flip(self.alloc, &mut self.document, &mut change)?;
+            let change = flipped(self.alloc, &mut self.document, change)?;
             keep(&mut self.undo, &mut self.redo, &mut self.marks, change);
         }
         Ok(())
@@ -193,10 +196,21 @@ impl Session {
         ensures err { OnErr result (self.new ≡ self.old) }
     {
         self.ensure_closed()?;
+        self.ensure_ahead(direction)?;
+        self.walk(direction, 1).or(Err(HistoryError::NoMemory))
+    }
+
+    /// Refuses where there is no step in a direction.
+    fn ensure_ahead(&self, direction: Direction) -> Result<(), HistoryError>
+        ensures ahead { result ≡ ensured_ahead direction self.now }
+
+        // Each change that is kept fits where it is carried out.
+        ensures ready { IsReady self.now }
+    {
         match direction {
             Direction::Undo if self.undo.is_empty() => Err(HistoryError::NothingToUndo),
             Direction::Redo if self.redo.is_empty() => Err(HistoryError::NothingToRedo),
-            _ => self.walk(direction, 1).or(Err(HistoryError::NoMemory)),
+            _ => Ok(()),
         }
     }
 
@@ -233,11 +247,18 @@ impl Session {
         ensures no_memory { IfErr result (λ error. error ≡ NoMemory → point_of name.now self.old.marks ≡ None) }
     {
         self.ensure_closed()?;
-        if self.marks.len() == MAX_MARKS && find_point(self.marks.as_slice(), name).is_none() {
+        if !self.has_room(name) {
             return Err(HistoryError::TooManyMarks);
         }
         bind(self.alloc, &mut self.marks, name, self.undo.len() as u32)?;
         Ok(())
+    }
+
+    /// Whether there is room to mark the name: it is marked, or there are fewer than `MAX_MARKS`.
+    fn has_room(&self, name: &[u8]) -> bool
+        ensures { result ≡ has_room name.now self.now.marks }
+    {
+        find_point(self.marks.as_slice(), name).is_some() || self.marks.len() < MAX_MARKS
     }
 
     /// Has the name mark nothing. `GroupOpen` while a step is open, else `NoMark` where it marks
@@ -312,4 +333,35 @@ impl Session {
         self.pending = None;
         Ok(())
     }
+}
+
+/// Carries a change out, and puts what leads back last in a list.
+fn flip_onto(
+    alloc: Global,
+    document: &mut Document,
+    changes: &mut Vec<Change>,
+    change: Change,
+) -> Result<(), AllocError>
+    requires { Fits (change_of change) (document_of document.old) }
+    ensures document { document_of document.new ≡ (if is_ok result
+        then go (change_of change) (document_of document.old)
+        else document_of document.old) }
+    ensures ok { OnOk result (from_last changes.new.items ≡ turn (change_of change) (document_of document.old) ∷ from_last changes.old.items) }
+    ensures err { OnErr result (changes.new.items ≡ changes.old.items) }
+{
+    changes.reserve(1)?;
+    changes.push_reserved(flipped(alloc, document, change)?);
+    Ok(())
+}
+
+/// Carries a change out, and returns what leads back.
+fn flipped(alloc: Global, document: &mut Document, mut change: Change) -> Result<Change, AllocError>
+    requires { Fits (change_of change) (document_of document.old) }
+    ensures document { document_of document.new ≡ (if is_ok result
+        then go (change_of change) (document_of document.old)
+        else document_of document.old) }
+    ensures back { IfOk result (λ back. change_of back ≡ turn (change_of change) (document_of document.old)) }
+{
+    flip(alloc, document, &mut change)?;
+    Ok(change)
 }
