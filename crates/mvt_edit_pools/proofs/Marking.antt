@@ -1,5 +1,5 @@
 -- The marks of entries: one more, those of several lists of pairs, and those of all features.
-use Rattle.std.proofs.Common.{◌≡◌, ℕ, zero, suc, ◌+◌, ◌==◌, ◌<◌, ◌≤◌, Bool, true, false, ◌||◌, Option, Some, None, List, [], ◌∷◌, ◌++◌, append_assoc, is_some, length, option_map, replicate, set, refl, sym, ap, ◌∙◌, arith}
+use Rattle.std.proofs.Common.{◌≡◌, ℕ, zero, suc, ◌+◌, ◌==◌, ◌<◌, ◌≤◌, Bool, true, false, ◌||◌, Option, Some, None, List, [], ◌∷◌, ◌++◌, append_assoc, is_some, length, length-append, option_map, replicate, set, refl, sym, ap, ◌∙◌, arith}
 use Rattle.std.proofs.lemmas.Bool.{eq-eqb, ne_eqb}
 use Rattle.std.proofs.lemmas.List.Folds.{flat_map-map, list_any-append}
 use Rattle.std.specs.List.{flat_map}
@@ -118,6 +118,18 @@ pairs_of_found : (before after : List (ℕ × ℕ)) (found : Option (List (ℕ �
 pairs_of_found before after None is = absurd cc
 pairs_of_found before after (Some pairs) is = let same : before ++ pairs ≡ after = cc in sym same
 
+counts_of_found : (before after : List ℕ) (found : Option (List (ℕ × ℕ))) → option_map (λ pairs. before ++ length pairs ∷ []) found ≡ Some after → after ≡ before ++ length (unwrap_or found []) ∷ []
+counts_of_found before after None is = absurd cc
+counts_of_found before after (Some pairs) is = let same : before ++ length pairs ∷ [] ≡ after = cc in sym same
+
+-- how many pairs come, and their count
+pub count_of_found : (before after : List (ℕ × ℕ)) (found : Option (List (ℕ × ℕ))) → option_map (λ pairs. before ++ pairs) found ≡ Some after → length after ≡ length before + length (unwrap_or found [])
+count_of_found before after found is = ap length (pairs_of_found before after found is) ∙ length-append before (unwrap_or found [])
+
+pub counts_with : (counts : List ℕ) (before after : List (ℕ × ℕ)) (found : Option (List (ℕ × ℕ))) (count : ℕ) → option_map (λ pairs. before ++ pairs) found ≡ Some after → count ≡ length (unwrap_or found []) → option_map (λ pairs. counts ++ length pairs ∷ []) found ≡ Some (counts ++ count ∷ [])
+counts_with counts before after None count is many = absurd cc
+counts_with counts before after (Some pairs) count is many = ap (λ n. Some (counts ++ n ∷ [])) (sym many)
+
 -- what its tags make by the sizes of the layer is what they make in the layer
 by_layer : {A : Type 0} (f : Option (List (ℕ × ℕ)) → A) (layer : Layer) (feature : Feature) (key_count value_count : ℕ) → key_count ≡ length (keys layer) → value_count ≡ length (values layer) → f (plain_pairs (tag_pairs key_count value_count (numbers 2 feature.fields))) ≡ f (pairs_among layer.items feature.fields)
 by_layer f layer feature key_count value_count is_keys is_values =
@@ -146,6 +158,11 @@ pub pairs_own : (layer : Layer) (at : ℕ × (ℕ × Feature)) (key_count value_
     → option_map (λ pairs. before ++ pairs) (plain_pairs (tag_pairs key_count value_count (numbers 2 at.1.1.fields))) ≡ Some after → after ≡ before ++ pairs_at layer.items at
 pairs_own layer at key_count value_count before after is_keys is_values is =
     pairs_of_found before after (pairs_among layer.items at.1.1.fields) (sym (by_layer (option_map (λ pairs. before ++ pairs)) layer at.1.1 key_count value_count is_keys is_values) ∙ is)
+
+pub counts_own : (layer : Layer) (at : ℕ × (ℕ × Feature)) (key_count value_count : ℕ) (before after : List ℕ) → key_count ≡ length (keys layer) → value_count ≡ length (values layer)
+    → option_map (λ pairs. before ++ length pairs ∷ []) (plain_pairs (tag_pairs key_count value_count (numbers 2 at.1.1.fields))) ≡ Some after → after ≡ before ++ length (pairs_at layer.items at) ∷ []
+counts_own layer at key_count value_count before after is_keys is_values is =
+    counts_of_found before after (pairs_among layer.items at.1.1.fields) (sym (by_layer (option_map (λ pairs. before ++ length pairs ∷ [])) layer at.1.1 key_count value_count is_keys is_values) ∙ is)
 
 pub is_readable : (layer : Layer) (feature : Feature) (key_count value_count : ℕ) (before after : List Bool) → key_count ≡ length (keys layer) → value_count ≡ length (values layer)
     → option_map (λ pairs. marked (names_key pairs) 0 before) (plain_pairs (tag_pairs key_count value_count (numbers 2 feature.fields))) ≡ Some after → is_some (pairs_among layer.items feature.fields) ≡ true

@@ -1,6 +1,6 @@
 -- What is decided on the tags of a feature by new ordinals: it is what the meaning decides; where no pair changes there is
 -- no step.
-use Rattle.std.proofs.Common.{◌≡◌, ℕ, ◌^◌, Bool, true, false, ◌&&◌, Option, Some, None, List, [], ◌∷◌, ◌++◌, length, map, option_map, slice_get, refl, sym, ap, ◌∙◌, inl, inr, arith}
+use Rattle.std.proofs.Common.{◌≡◌, ℕ, zero, suc, ◌<◌, ◌^◌, Bool, true, false, ◌&&◌, Option, Some, None, List, [], ◌∷◌, ◌++◌, length, append-nil, map, option_map, slice_get, refl, sym, ap, ◌∙◌, inl, inr, arith}
 use Rattle.std.specs.Prelude.{nat_lt}
 use Rattle.std.proofs.lemmas.Bool.{and_parts, cases_Bool, eqb-true, ltb-true}
 use Rattle.std.proofs.lemmas.Simd.{map-map}
@@ -143,3 +143,8 @@ module _ (key_ordinals value_ordinals : List ℕ) where
   -- where no pair changes the feature has no step
   pub no_steps : (items : List LayerItem) (layer : ℕ) (at : ℕ × (ℕ × Feature)) (own : List (ℕ × ℕ)) → own ≡ pairs_at items at → counted_by said own ≡ 0 → feature_steps (pairs_repointed key_ordinals value_ordinals items) layer at ≡ []
   no_steps items layer at own is none = none_found items layer at (pairs_among items at.1.1.fields) refl (ap (counted_by said) (sym is) ∙ none)
+
+-- the steps of a feature by how many of its pairs change
+pub steps_either : {A : Type 0} (changed : ℕ) (front mid steps : List A) → (changed ≡ 0 → mid ≡ front) → (0 < changed → mid ≡ front ++ steps) → (changed ≡ 0 → steps ≡ []) → mid ≡ front ++ steps
+steps_either zero front mid steps same more none = same refl ∙ sym (append-nil front) ∙ ap (λ list. front ++ list) (sym (none refl))
+steps_either (suc n) front mid steps same more none = more (omega arith)

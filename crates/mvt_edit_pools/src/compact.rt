@@ -11,18 +11,18 @@ ghost use Rattle.mvt_meaning.specs.declared.refusal.Refusal.TheVariants.{NoMemor
 ghost use Rattle.mvt_messages.specs.Found.{found_features};
 ghost use Rattle.mvt_layers.specs.Seen.{found_layer_seen, pair_seen};
 ghost use Rattle.mvt_messages.specs.Views.{keys, values};
+ghost use Rattle.mvt_edit_pairs.specs.EachFeature.{layer_steps};
 ghost use Rattle.mvt_edit_steps.specs.Prepared.{Prepares};
 ghost use Rattle.mvt_edit_pools.specs.Pools.{all_keys, all_values, compaction, compacting, keys_stay, values_stay};
-ghost use Rattle.mvt_edit_pools.specs.Marks.{pair_counts, stays_from};
+ghost use Rattle.mvt_edit_pools.specs.Marks.{entry_steps, gone_by, numbered_from, pair_counts, pairs_repointed, stays_from};
 
 use crate::entries::take_entries;
 use crate::repoint::repoint;
 use crate::used::{Marks, mark_used, number, same_marks};
 use mvt_change::{Change, Step};
 use mvt_document::{Document, Items};
-use mvt_layers::PoolSizes;
 use mvt_select::{FoundLayer, LayersChoice, Refusal, find_layers};
-use std::alloc::Global;
+use std::alloc::{AllocError, Global};
 
 /// Which entries of a layer go where no feature uses them.
 #[derive(Clone, Copy, Debug, PartialEq, Eq)]
@@ -86,14 +86,29 @@ fn compact_layer(
     ensures readable { IfOk result (λ done. unreadable (found_layer_seen found.entry ∷ []) ≡ []) }
     ensures refused { IfErr result (λ refusal. (refusal ≡ NoMemory) ⊎ (refuse_first (unreadable (found_layer_seen found.entry ∷ [])) ≡ Err refusal)) }
 {
-    let sizes = found.view().pool_sizes();
-    let marks = marks_of(alloc, found, sizes, pools)?;
-    let key_ordinals = number(alloc, marks.keys.as_slice())?;
-    let value_ordinals = number(alloc, marks.values.as_slice())?;
+    let marks = marks_of(alloc, found, pools)?;
+    Ok(keep_marked(alloc, found, &marks, decisions, steps)?)
+}
+
+/// Puts the steps by which the layer keeps the entries that are marked and no others behind the others.
+fn keep_marked(
+    alloc: Global,
+    found: FoundLayer<'_>,
+    marks: &Marks,
+    decisions: &mut Vec<Option<u64>>,
+    steps: &mut Vec<Step>,
+) -> Result<(), AllocError>
+    requires pairs { map pair_seen marks.now.pairs.items ≡ all_pairs (layer_of found.layer.now).items }
+    requires counts { marks.now.counts.items ≡ pair_counts (layer_of found.layer.now).items (found_features (layer_of found.layer.now).items) }
+    ensures { IfOk result (λ done. map step_of steps.new.items ≡ map step_of steps.old.items
+        ++ (layer_steps (pairs_repointed (numbered_from 0 marks.now.keys.items) (numbered_from 0 marks.now.values.items)) (found_layer_seen found.entry)
+        ++ entry_steps found.entry.position (gone_by marks.now.keys.items marks.now.values.items (layer_of found.entry.layer.now).items))) }
+{
+    let (key_ordinals, value_ordinals) = new_ordinals(alloc, marks)?;
     repoint(
         alloc,
         found,
-        &marks,
+        marks,
         key_ordinals.as_slice(),
         value_ordinals.as_slice(),
         decisions,
@@ -109,22 +124,26 @@ fn compact_layer(
     Ok(())
 }
 
+/// The new ordinals of the keys and of the values, by the marks of those that stay.
+fn new_ordinals(alloc: Global, marks: &Marks) -> Result<(Vec<u64>, Vec<u64>), AllocError>
+    ensures keys { IfOk result (λ ordinals. ordinals.0.items ≡ numbered_from 0 marks.now.keys.items) }
+    ensures values { IfOk result (λ ordinals. ordinals.1.items ≡ numbered_from 0 marks.now.values.items) }
+{
+    let keys = number(alloc, marks.keys.as_slice())?;
+    let values = number(alloc, marks.values.as_slice())?;
+    Ok((keys, values))
+}
+
 /// For each key and each value of the layer, in order, whether it stays; and its pairs.
-fn marks_of(
-    alloc: Global,
-    found: FoundLayer<'_>,
-    sizes: PoolSizes,
-    pools: Pools,
-) -> Result<Marks, Refusal>
-    requires keys { sizes.keys ≡ length (keys (layer_of found.layer.now)) }
-    requires values { sizes.values ≡ length (values (layer_of found.layer.now)) }
-    ensures keys { IfOk result (λ marks. marks.keys.items ≡ stays_from (keys_stay pools (layer_of found.entry.layer.now).items) 0 sizes.keys) }
-    ensures values { IfOk result (λ marks. marks.values.items ≡ stays_from (values_stay pools (layer_of found.entry.layer.now).items) 0 sizes.values) }
+fn marks_of(alloc: Global, found: FoundLayer<'_>, pools: Pools) -> Result<Marks, Refusal>
+    ensures keys { IfOk result (λ marks. marks.keys.items ≡ stays_from (keys_stay pools (layer_of found.entry.layer.now).items) 0 (length (keys (layer_of found.entry.layer.now)))) }
+    ensures values { IfOk result (λ marks. marks.values.items ≡ stays_from (values_stay pools (layer_of found.entry.layer.now).items) 0 (length (values (layer_of found.entry.layer.now)))) }
     ensures pairs { IfOk result (λ marks. map pair_seen marks.pairs.items ≡ all_pairs (layer_of found.entry.layer.now).items) }
     ensures counts { IfOk result (λ marks. marks.counts.items ≡ pair_counts (layer_of found.entry.layer.now).items (found_features (layer_of found.entry.layer.now).items)) }
     ensures readable { IfOk result (λ marks. unreadable (found_layer_seen found.entry ∷ []) ≡ []) }
     ensures refused { IfErr result (λ refusal. (refusal ≡ NoMemory) ⊎ (refuse_first (unreadable (found_layer_seen found.entry ∷ [])) ≡ Err refusal)) }
 {
+    let sizes = found.view().pool_sizes();
     let keys = same_marks(alloc, sizes.keys, pools.all_keys())?;
     let values = same_marks(alloc, sizes.values, pools.all_values())?;
     let mut marks = Marks {

@@ -1,13 +1,13 @@
 //! The tags of the features of a layer, with the new ordinals of what they name.
 
-ghost use Rattle.std.specs.Prelude.{◌≡◌, ◌++◌, IfOk, map, slice_get};
+ghost use Rattle.std.specs.Prelude.{◌≡◌, ◌<◌, [], ◌∷◌, ◌++◌, IfOk, map, slice_get};
 ghost use Rattle.mvt_document.specs.Stands.{layer_of};
 ghost use Rattle.mvt_change.specs.ChangeStands.{step_of};
 ghost use Rattle.mvt_meaning.specs.Compaction.{all_pairs};
 ghost use Rattle.mvt_messages.specs.Found.{found_features};
-ghost use Rattle.mvt_layers.specs.Seen.{found_layer_seen, pair_seen};
-ghost use Rattle.mvt_fates.specs.Decided.{counted_by, decided_by};
-ghost use Rattle.mvt_edit_pairs.specs.EachFeature.{layer_steps};
+ghost use Rattle.mvt_layers.specs.Seen.{found_feature_seen, found_layer_seen, pair_seen};
+ghost use Rattle.mvt_fates.specs.Decided.{counted_by, decided_by, field_fates};
+ghost use Rattle.mvt_edit_pairs.specs.EachFeature.{feature_steps, layer_steps};
 ghost use Rattle.mvt_edit_pools.specs.Marks.{keeps_ordinal, pair_counts, pair_repointed, pairs_repointed};
 
 use crate::used::Marks;
@@ -15,7 +15,7 @@ use mvt_change::Step;
 use mvt_document::tags::TAGS;
 use mvt_edit_pairs::renumber_feature;
 use mvt_layers::Pair;
-use mvt_select::FoundLayer;
+use mvt_select::{FoundFeature, FoundLayer};
 use std::alloc::{AllocError, Global};
 
 /// Puts the steps by which the tags of each feature of the layer name what they named by its new
@@ -43,19 +43,28 @@ pub(crate) fn repoint(
         };
         let (own, pairs_behind) = pairs_left.split_at(*count);
         let changed = decide(own, key_ordinals, value_ordinals, decisions)?;
-        if changed > 0 {
-            renumber_feature(
-                alloc,
-                found.position,
-                feature,
-                TAGS,
-                decisions.as_slice(),
-                steps,
-                None,
-            )?;
-        }
+        renumber_changed(alloc, found, feature, changed, decisions.as_slice(), steps)?;
         pairs_left = pairs_behind;
         counts_left = counts_behind;
+    }
+    Ok(())
+}
+
+/// Puts the steps by which the numbers of the feature's tags become those that are decided on behind
+/// the others, where some of its pairs change.
+fn renumber_changed(
+    alloc: Global,
+    found: FoundLayer<'_>,
+    feature: FoundFeature<'_>,
+    changed: usize,
+    decisions: &[Option<u64>],
+    steps: &mut Vec<Step>,
+) -> Result<(), AllocError>
+    ensures none { changed ≡ 0 → map step_of steps.new.items ≡ map step_of steps.old.items }
+    ensures some { 0 < changed → IfOk result (λ done. map step_of steps.new.items ≡ map step_of steps.old.items ++ feature_steps (field_fates 2 decisions.now) found.entry.position (found_feature_seen feature.entry)) }
+{
+    if changed > 0 {
+        renumber_feature(alloc, found.position, feature, TAGS, decisions, steps, None)?;
     }
     Ok(())
 }
@@ -74,13 +83,27 @@ fn decide(
     decisions.clear();
     let mut changed = 0_usize;
     for pair in pairs {
-        let (key, value, changes) = repointed(*pair, key_ordinals, value_ordinals);
-        decisions.reserve(2)?;
-        decisions.push_reserved(key);
-        decisions.push_reserved(value);
+        let changes = decide_pair(*pair, key_ordinals, value_ordinals, decisions)?;
         changed += usize::from(changes);
     }
     Ok(changed)
+}
+
+/// Decides on the two numbers of the pair, behind what was decided before. Whether one of them changes.
+fn decide_pair(
+    pair: Pair,
+    key_ordinals: &[u64],
+    value_ordinals: &[u64],
+    decisions: &mut Vec<Option<u64>>,
+) -> Result<bool, AllocError>
+    ensures decided { IfOk result (λ changes. decisions.new.items ≡ decisions.old.items ++ decided_by (pair_repointed key_ordinals.now value_ordinals.now) (pair_seen pair ∷ [])) }
+    ensures changes { IfOk result (λ changes. changes ≡ (pair_repointed key_ordinals.now value_ordinals.now (pair_seen pair)).2) }
+{
+    let (key, value, changes) = repointed(pair, key_ordinals, value_ordinals);
+    decisions.reserve(2)?;
+    decisions.push_reserved(key);
+    decisions.push_reserved(value);
+    Ok(changes)
 }
 
 /// What becomes of the two numbers of a pair, where the keys and the values have these new ordinals;

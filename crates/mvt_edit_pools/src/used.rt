@@ -1,6 +1,6 @@
 //! Which keys and which values of a layer stay, and the new ordinal of each.
 
-ghost use Rattle.std.specs.Prelude.{◌≡◌, ◌⊎◌, [], ◌∷◌, ◌++◌, None, Some, Err, IfErr, IfOk, length, map, option_map, replicate};
+ghost use Rattle.std.specs.Prelude.{◌≡◌, ◌+◌, ◌<◌, ◌⊎◌, [], ◌∷◌, ◌++◌, if◌then◌else◌, None, Some, Err, IfErr, IfOk, length, map, option_map, replicate};
 ghost use Rattle.std.specs.Result.{IsErrOf};
 ghost use Rattle.mvt_document.specs.Stands.{layer_of};
 ghost use Rattle.mvt_numbers.specs.Numbers.{numbers};
@@ -45,15 +45,13 @@ pub(crate) fn mark_used(
     ensures refused { IfErr result (λ refusal. (refusal ≡ NoMemory) ⊎ (refuse_first (unreadable (found_layer_seen found.entry ∷ [])) ≡ Err refusal)) }
 {
     for feature in found.view().features() {
-        let before = marks.pairs.len();
         mark_or_refuse(found.ordinal, feature, sizes, marks)?;
-        marks.counts.push(marks.pairs.len() - before)?;
     }
     Ok(())
 }
 
-/// Marks the key and the value of each pair of the feature, or refuses the feature, which is in the
-/// layer of this ordinal.
+/// Marks the key and the value of each pair of the feature, keeps the pairs and how many they are, or
+/// refuses the feature, which is in the layer of this ordinal.
 fn mark_or_refuse(
     layer: usize,
     found: FoundFeature<'_>,
@@ -63,10 +61,10 @@ fn mark_or_refuse(
     ensures keys { IfOk result (λ done. option_map (λ pairs. marked (names_key pairs) 0 marks.old.keys.items) (plain_pairs (tag_pairs sizes.keys sizes.values (numbers 2 (found_feature_seen found.entry).1.1.fields))) ≡ Some marks.new.keys.items) }
     ensures values { IfOk result (λ done. option_map (λ pairs. marked (names_value pairs) 0 marks.old.values.items) (plain_pairs (tag_pairs sizes.keys sizes.values (numbers 2 (found_feature_seen found.entry).1.1.fields))) ≡ Some marks.new.values.items) }
     ensures pairs { IfOk result (λ done. option_map (λ pairs. map pair_seen marks.old.pairs.items ++ pairs) (plain_pairs (tag_pairs sizes.keys sizes.values (numbers 2 (found_feature_seen found.entry).1.1.fields))) ≡ Some (map pair_seen marks.new.pairs.items)) }
-    ensures counts { IfOk result (λ done. marks.new.counts.items ≡ marks.old.counts.items) }
+    ensures counts { IfOk result (λ done. option_map (λ pairs. marks.old.counts.items ++ length pairs ∷ []) (plain_pairs (tag_pairs sizes.keys sizes.values (numbers 2 (found_feature_seen found.entry).1.1.fields))) ≡ Some marks.new.counts.items) }
     ensures refused { IfErr result (λ refusal. (refusal ≡ NoMemory) ⊎ ((refusal ≡ BadTags layer found.entry.ordinal) × (plain_pairs (tag_pairs sizes.keys sizes.values (numbers 2 (found_feature_seen found.entry).1.1.fields)) ≡ None))) }
 {
-    match mark_pairs(found.view(), sizes, marks) {
+    match mark_and_count(found.view(), sizes, marks) {
         Ok(()) => Ok(()),
         Err(PairsError::BadTags) => Err(Refusal::BadTags {
             layer,
@@ -77,7 +75,25 @@ fn mark_or_refuse(
 }
 
 /// Marks the key and the value of each pair of the feature, where its tags make pairs, and keeps the
-/// pair.
+/// pairs and how many they are.
+fn mark_and_count(
+    feature: FeatureView<'_>,
+    sizes: PoolSizes,
+    marks: &mut Marks,
+) -> Result<(), PairsError>
+    ensures keys { IfOk result (λ done. option_map (λ pairs. marked (names_key pairs) 0 marks.old.keys.items) (plain_pairs (tag_pairs sizes.keys sizes.values (numbers 2 (feature_seen feature.entry).fields))) ≡ Some marks.new.keys.items) }
+    ensures values { IfOk result (λ done. option_map (λ pairs. marked (names_value pairs) 0 marks.old.values.items) (plain_pairs (tag_pairs sizes.keys sizes.values (numbers 2 (feature_seen feature.entry).fields))) ≡ Some marks.new.values.items) }
+    ensures pairs { IfOk result (λ done. option_map (λ pairs. map pair_seen marks.old.pairs.items ++ pairs) (plain_pairs (tag_pairs sizes.keys sizes.values (numbers 2 (feature_seen feature.entry).fields))) ≡ Some (map pair_seen marks.new.pairs.items)) }
+    ensures counts { IfOk result (λ done. option_map (λ pairs. marks.old.counts.items ++ length pairs ∷ []) (plain_pairs (tag_pairs sizes.keys sizes.values (numbers 2 (feature_seen feature.entry).fields))) ≡ Some marks.new.counts.items) }
+    ensures bad_tags { IsErrOf result PairsError.BadTags → plain_pairs (tag_pairs sizes.keys sizes.values (numbers 2 (feature_seen feature.entry).fields)) ≡ None }
+{
+    let before = marks.pairs.len();
+    mark_pairs(feature, sizes, marks)?;
+    marks.counts.push(marks.pairs.len() - before)?;
+    Ok(())
+}
+
+/// The same, and leaves the counts as they are.
 #[inline(never)]
 fn mark_pairs(
     feature: FeatureView<'_>,
@@ -92,10 +108,21 @@ fn mark_pairs(
 {
     for tags in feature.tag_pairs(sizes) {
         let pair = tags?.pair;
-        mark(&mut marks.keys, pair.key);
-        mark(&mut marks.values, pair.value);
-        marks.pairs.push(pair)?;
+        mark_pair(pair, marks)?;
     }
+    Ok(())
+}
+
+/// Marks the key and the value of the pair, and keeps it.
+fn mark_pair(pair: Pair, marks: &mut Marks) -> Result<(), AllocError>
+    ensures keys { marks.new.keys.items ≡ marked (is_one pair.key) 0 marks.old.keys.items }
+    ensures values { marks.new.values.items ≡ marked (is_one pair.value) 0 marks.old.values.items }
+    ensures pairs { IfOk result (λ done. marks.new.pairs.items ≡ marks.old.pairs.items ++ pair ∷ []) }
+    ensures counts { marks.new.counts.items ≡ marks.old.counts.items }
+{
+    mark(&mut marks.keys, pair.key);
+    mark(&mut marks.values, pair.value);
+    marks.pairs.push(pair)?;
     Ok(())
 }
 
@@ -125,7 +152,16 @@ pub(crate) fn number(alloc: Global, marks: &[bool]) -> Result<Vec<u64>, AllocErr
     let mut next = 0_u64;
     for stays in marks {
         ordinals.push_reserved(next);
-        next += u64::from(*stays);
+        next = next_ordinal(next, *stays);
     }
     Ok(ordinals)
+}
+
+/// How many entries stay before the one that follows, where so many stay before an entry that stays or
+/// not.
+fn next_ordinal(ordinal: u64, stays: bool) -> u64
+    requires fits { ordinal < 18446744073709551615 }
+    ensures { result ≡ ordinal + (if stays then 1 else 0) }
+{
+    ordinal + u64::from(stays)
 }

@@ -30,10 +30,10 @@ loop-tags-preserved c =
     let read : c.loop-tags.tags-iterator ≡ Ok (pair, (placed_of found.key, placed_of found.value)) ∷ c.next.new.self = rw c.in_ok-pair.was at c.in-Some.ensures.steps in
     let step : plain_pairs c.loop-tags.tags-iterator ≡ and_more pair rest = ap plain_pairs read ∙ plain_more (pair, (placed_of found.key, placed_of found.value)) c.next.new.self in
     record {
-      keys = keys_pair pair c.loop-tags.marks.keys.items _ rest c.mark.ensures ∙ ap (option_map (λ pairs. marked (names_key pairs) 0 c.loop-tags.marks.keys.items)) (sym step) ∙ c.loop-tags.invariant.keys;
-      values = values_pair pair c.loop-tags.marks.values.items _ rest c.mark-in-loop-tags.ensures ∙ ap (option_map (λ pairs. marked (names_value pairs) 0 c.loop-tags.marks.values.items)) (sym step) ∙ c.loop-tags.invariant.values;
-      pairs = pairs_pair pair front _ rest (ap (map pair_seen) c.in_ok-push.ensures.items ∙ map-append pair_seen c.loop-tags.marks.pairs.items (found.pair ∷ [])) ∙ ap (option_map (λ pairs. front ++ pairs)) (sym step) ∙ c.loop-tags.invariant.pairs;
-      counts = c.loop-tags.invariant.counts;
+      keys = keys_pair pair c.loop-tags.marks.keys.items _ rest c.mark_pair.ensures.keys ∙ ap (option_map (λ pairs. marked (names_key pairs) 0 c.loop-tags.marks.keys.items)) (sym step) ∙ c.loop-tags.invariant.keys;
+      values = values_pair pair c.loop-tags.marks.values.items _ rest c.mark_pair.ensures.values ∙ ap (option_map (λ pairs. marked (names_value pairs) 0 c.loop-tags.marks.values.items)) (sym step) ∙ c.loop-tags.invariant.values;
+      pairs = pairs_pair pair front _ rest (ap (map pair_seen) c.in_ok-mark_pair.ensures.pairs ∙ map-append pair_seen c.loop-tags.marks.pairs.items (found.pair ∷ [])) ∙ ap (option_map (λ pairs. front ++ pairs)) (sym step) ∙ c.loop-tags.invariant.pairs;
+      counts = c.mark_pair.ensures.counts ∙ c.loop-tags.invariant.counts;
       read = sym (ap (λ found. is_some found) step ∙ more_some pair rest) ∙ c.loop-tags.invariant.read;
     }
 

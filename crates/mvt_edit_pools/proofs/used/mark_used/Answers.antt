@@ -1,12 +1,12 @@
-use Rattle.std.proofs.Common.{◌≡◌, ◌-◌, [], ◌∷◌, ◌++◌, length, length-append, append_assoc, map, inl, inr, sym, ap, ◌∙◌, arith}
-use Rattle.std.proofs.lemmas.List.{append-nil, length-map}
+use Rattle.std.proofs.Common.{[], ◌∷◌, ◌++◌, length, append_assoc, map, inl, inr, sym, ap, ◌∙◌}
+use Rattle.std.proofs.lemmas.List.{append-nil}
 use Rattle.std.proofs.lemmas.Result.{err_from_is_err_and}
 use Rattle.mvt_document.specs.Stands.{layer_of}
 use Rattle.mvt_layers.specs.Seen.{found_feature_seen, pair_seen}
 use Rattle.mvt_edit_pairs.proofs.Deciding.{no_pairs}
 use Rattle.mvt_edit_pairs.proofs.Unreadable.{bad_among, feature_refused, readable_more, unreadable_in}
 use Rattle.mvt_edit_pools.specs.Marks.{marked, names_key, names_value, pair_counts, pairs_at}
-use Rattle.mvt_edit_pools.proofs.Marking.{is_readable, keys_more, marked_none, pairs_found, pairs_left, pairs_own, values_more}
+use Rattle.mvt_edit_pools.proofs.Marking.{counts_own, is_readable, keys_more, marked_none, pairs_found, pairs_left, pairs_own, values_more}
 use Rattle.mvt_edit_pools.proofs.used.mark_used.Goals as goal
 
 pub returns-in_err-mark_or_refuse-clause-refused : goal.returns-in_err-mark_or_refuse-clause-refused
@@ -23,15 +23,6 @@ returns-in_err-mark_or_refuse-clause-refused c =
           bad.0)
     ])
 
-pub overflow_sub-len : goal.overflow_sub-len
-overflow_sub-len c =
-    let layer = layer_of c.args.found.layer.now in
-    let found = found_feature_seen c.in-Some.feature in
-    let pairs_before = map pair_seen c.loop-feature.marks.pairs.items in
-    let is = pairs_own layer found c.args.sizes.keys c.args.sizes.values pairs_before _ c.requires.keys c.requires.values c.in_ok-mark_or_refuse.ensures.pairs in
-    let more = ap length is ∙ length-append pairs_before (pairs_at layer.items found) in
-    omega (arith, more, length-map c.loop-feature.marks.pairs.items pair_seen, length-map c.mark_or_refuse.new.marks.pairs.items pair_seen, c.len.ensures, c.len-before.ensures)
-
 pub loop-feature-preserved : goal.loop-feature-preserved
 loop-feature-preserved c =
     let layer = layer_of c.args.found.layer.now in
@@ -44,15 +35,13 @@ loop-feature-preserved c =
     let counts_before = c.loop-feature.marks.counts.items in
     let own = pairs_at layer.items found in
     let is = pairs_own layer found c.args.sizes.keys c.args.sizes.values pairs_before _ c.requires.keys c.requires.values made.pairs in
-    let more = ap length is ∙ length-append pairs_before own in
     record {
       pairs = ap (λ list. list ++ pairs_left layer.items rest) is
           ∙ append_assoc pairs_before own (pairs_left layer.items rest)
           ∙ ap (λ left. pairs_before ++ pairs_left layer.items left) (sym c.in-Some.ensures.steps)
           ∙ c.loop-feature.invariant.pairs;
-      counts = ap (λ list. list ++ pair_counts layer.items rest) (c.in_ok-push.ensures.items ∙ ap (λ list. list ++ (c.len.result - c.len-before.result) ∷ []) made.counts)
-          ∙ append_assoc counts_before ((c.len.result - c.len-before.result) ∷ []) (pair_counts layer.items rest)
-          ∙ ap (λ n. counts_before ++ n ∷ pair_counts layer.items rest) (let one : c.len.result - c.len-before.result ≡ length own = omega (arith, more, length-map c.loop-feature.marks.pairs.items pair_seen, length-map c.mark_or_refuse.new.marks.pairs.items pair_seen, c.len.ensures, c.len-before.ensures) in one)
+      counts = ap (λ list. list ++ pair_counts layer.items rest) (counts_own layer found c.args.sizes.keys c.args.sizes.values counts_before _ c.requires.keys c.requires.values made.counts)
+          ∙ append_assoc counts_before (length own ∷ []) (pair_counts layer.items rest)
           ∙ ap (λ left. counts_before ++ pair_counts layer.items left) (sym c.in-Some.ensures.steps)
           ∙ c.loop-feature.invariant.counts;
       keys = keys_more layer found rest c.args.sizes.keys c.args.sizes.values keys_before _ c.requires.keys c.requires.values made.keys
