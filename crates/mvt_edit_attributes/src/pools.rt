@@ -1,7 +1,7 @@
 //! Where a key and a value stand among the keys and the values of a layer, and the entries that it
 //! lacks of them.
 
-ghost use Rattle.std.specs.Prelude.{◌≡◌, IfOk, map};
+ghost use Rattle.std.specs.Prelude.{◌≡◌, [], ◌∷◌, ◌++◌, IfOk, map};
 ghost use Rattle.std.specs.Str.{bytes_eq};
 ghost use Rattle.mvt_document.specs.Plain.{PlainInLayer};
 ghost use Rattle.mvt_document.specs.Shape.{IsTag};
@@ -125,13 +125,21 @@ pub(crate) fn missing_entries(
 {
     let mut entries = Vec::new(alloc);
     if !ordinals.key.is_there {
-        let key = Items::from_vec(Vec::from_slice(alloc, key)?);
-        entries.push(entry(KEY_TAG, key))?;
+        push_key(alloc, key, &mut entries)?;
     }
     if !ordinals.value.is_there {
         entries.push(entry(VALUE_TAG, value))?;
     }
     Ok(entries)
+}
+
+/// Puts the entry of the key behind the others.
+fn push_key(alloc: Global, key: &[u8], entries: &mut Vec<LayerItem>) -> Result<(), AllocError>
+    ensures { IfOk result (λ done. map layer_item_of entries.new.items ≡ map layer_item_of entries.old.items ++ PlainInLayer (new_content 26 key.now) ∷ []) }
+{
+    let key = Items::from_vec(Vec::from_slice(alloc, key)?);
+    entries.push(entry(KEY_TAG, key))?;
+    Ok(())
 }
 
 /// The entry of these bytes behind this tag.

@@ -1,4 +1,4 @@
-use Rattle.std.proofs.Common.{◌≡◌, ◌++◌, [], is_some, Err, length, map, inl, inr, sym, ap, ◌∙◌, arith}
+use Rattle.std.proofs.Common.{◌++◌, [], is_some, Err, length, map, refl, inl, inr, sym, ap, ◌∙◌, arith}
 use Rattle.std.proofs.lemmas.Result.{err_from_is_err_and}
 use Rattle.std.specs.Option.{option_map_or}
 use Rattle.std.specs.Str.{bytes_eq}
@@ -18,8 +18,7 @@ returns-in-0-clause-gives c = λ value found.
     let key = c.args.key.now in
     let layer = layer_of c.args.holder.layer.now in
     let feature = feature_of c.args.found.feature.now in
-    let named : c.as_slice.result.now ≡ map (bytes_eq key) (keys layer) = c.as_slice.ensures.value ∙ c.in_ok-named.ensures ∙ ap (λ l. map (bytes_eq key) (keys l)) c.view.ensures in
-    let on = on_values key layer feature c.args.ordinals.key.count c.args.ordinals.value.count c.as_slice.result.now c.args.ordinals.value.ordinal c.decide_or_refuse.new.decisions.items c.in_ok-count.count named c.requires.key.count c.requires.values c.in_ok-count.ensures.decided c.in_ok-count.ensures.counted in
+    let on = on_values key layer feature c.args.ordinals.key.count c.args.ordinals.value.count (map (bytes_eq key) (keys layer)) c.args.ordinals.value.ordinal c.decide_by_key.new.decisions.items c.in_ok-count.count refl c.requires.key.count c.requires.values c.in_ok-count.ensures.decided c.in_ok-count.ensures.counted in
     let more = ap (λ ordinal. shortest ordinal ++ shortest c.args.ordinals.value.ordinal) found.key_so.at ∙ ap (λ ordinal. shortest (key_ordinal key layer.items) ++ shortest ordinal) found.value_so.at in
     gives_pair key value layer.items feature.fields _ (shortest c.args.ordinals.key.ordinal ++ shortest c.args.ordinals.value.ordinal) (omega (arith, on.all)) more (rw c.fields-fields.ensures at c.in_ok-and_pair-in-0.ensures)
 
@@ -28,8 +27,7 @@ returns-in-0-clause-checked c =
     let key = c.args.key.now in
     let layer = layer_of c.args.holder.layer.now in
     let feature = feature_of c.args.found.feature.now in
-    let named : c.as_slice.result.now ≡ map (bytes_eq key) (keys layer) = c.as_slice.ensures.value ∙ c.in_ok-named.ensures ∙ ap (λ l. map (bytes_eq key) (keys l)) c.view.ensures in
-    let on = on_values key layer feature c.args.ordinals.key.count c.args.ordinals.value.count c.as_slice.result.now c.args.ordinals.value.ordinal c.decide_or_refuse.new.decisions.items c.in_ok-count.count named c.requires.key.count c.requires.values c.in_ok-count.ensures.decided c.in_ok-count.ensures.counted in
+    let on = on_values key layer feature c.args.ordinals.key.count c.args.ordinals.value.count (map (bytes_eq key) (keys layer)) c.args.ordinals.value.ordinal c.decide_by_key.new.decisions.items c.in_ok-count.count refl c.requires.key.count c.requires.values c.in_ok-count.ensures.decided c.in_ok-count.ensures.counted in
     nothing_refused key c.args.holder.ordinal c.args.found.ordinal layer.items feature.fields (ap (λ found. is_some found) on.read) (omega (arith, on.all))
 
 pub first_renumbered-requires : goal.first_renumbered-requires
@@ -37,18 +35,16 @@ first_renumbered-requires c =
     let key = c.args.key.now in
     let layer = layer_of c.args.holder.layer.now in
     let feature = feature_of c.args.found.feature.now in
-    let named : c.as_slice.result.now ≡ map (bytes_eq key) (keys layer) = c.as_slice.ensures.value ∙ c.in_ok-named.ensures ∙ ap (λ l. map (bytes_eq key) (keys l)) c.view.ensures in
-    let on = on_values key layer feature c.args.ordinals.key.count c.args.ordinals.value.count c.as_slice.result.now c.args.ordinals.value.ordinal c.decide_or_refuse.new.decisions.items c.in_ok-count.count named c.requires.key.count c.requires.values c.in_ok-count.ensures.decided c.in_ok-count.ensures.counted in
-    rw (c.as_slice-in-1.ensures.value, on.decided, c.fields-fields.ensures) (one_differs _ c.args.ordinals.value.ordinal (length (keys layer)) (length (values layer)) feature.fields on.pairs on.read (omega (arith, on.counted)))
+    let on = on_values key layer feature c.args.ordinals.key.count c.args.ordinals.value.count (map (bytes_eq key) (keys layer)) c.args.ordinals.value.ordinal c.decide_by_key.new.decisions.items c.in_ok-count.count refl c.requires.key.count c.requires.values c.in_ok-count.ensures.decided c.in_ok-count.ensures.counted in
+    rw (c.as_slice.ensures.value, on.decided, c.fields-fields.ensures) (one_differs _ c.args.ordinals.value.ordinal (length (keys layer)) (length (values layer)) feature.fields on.pairs on.read (omega (arith, on.counted)))
 
 pub returns-in-1-clause-gives : goal.returns-in-1-clause-gives
 returns-in-1-clause-gives c = λ value found.
     let key = c.args.key.now in
     let layer = layer_of c.args.holder.layer.now in
     let feature = feature_of c.args.found.feature.now in
-    let named : c.as_slice.result.now ≡ map (bytes_eq key) (keys layer) = c.as_slice.ensures.value ∙ c.in_ok-named.ensures ∙ ap (λ l. map (bytes_eq key) (keys l)) c.view.ensures in
-    let on = on_values key layer feature c.args.ordinals.key.count c.args.ordinals.value.count c.as_slice.result.now c.args.ordinals.value.ordinal c.decide_or_refuse.new.decisions.items c.in_ok-count.count named c.requires.key.count c.requires.values c.in_ok-count.ensures.decided c.in_ok-count.ensures.counted in
-    let decided = c.as_slice-in-1.ensures.value ∙ on.decided ∙ ap (λ ordinal. revalued (is_key_at layer.items key) ordinal on.pairs) found.value_so.at ∙ ap (λ pairs. option_map_or (revalued (is_key_at layer.items key) (value_ordinal value layer.items)) pairs []) (sym on.read) in
+    let on = on_values key layer feature c.args.ordinals.key.count c.args.ordinals.value.count (map (bytes_eq key) (keys layer)) c.args.ordinals.value.ordinal c.decide_by_key.new.decisions.items c.in_ok-count.count refl c.requires.key.count c.requires.values c.in_ok-count.ensures.decided c.in_ok-count.ensures.counted in
+    let decided = c.as_slice.ensures.value ∙ on.decided ∙ ap (λ ordinal. revalued (is_key_at layer.items key) ordinal on.pairs) found.value_so.at ∙ ap (λ pairs. option_map_or (revalued (is_key_at layer.items key) (value_ordinal value layer.items)) pairs []) (sym on.read) in
     let left = fields_left 2 (replacements key value layer.items feature.fields) c.args.found.feature.now.fields.items (replacements_short key value layer.items feature.fields (omega (arith, found.value_so.at))) in
     gives_value key value layer.items feature.fields _ (omega (arith, on.all)) (rw (decided, c.fields-fields.ensures) at c.in_ok-first_renumbered-in-1.ensures) left
 
@@ -57,8 +53,7 @@ returns-in-1-clause-checked c =
     let key = c.args.key.now in
     let layer = layer_of c.args.holder.layer.now in
     let feature = feature_of c.args.found.feature.now in
-    let named : c.as_slice.result.now ≡ map (bytes_eq key) (keys layer) = c.as_slice.ensures.value ∙ c.in_ok-named.ensures ∙ ap (λ l. map (bytes_eq key) (keys l)) c.view.ensures in
-    let on = on_values key layer feature c.args.ordinals.key.count c.args.ordinals.value.count c.as_slice.result.now c.args.ordinals.value.ordinal c.decide_or_refuse.new.decisions.items c.in_ok-count.count named c.requires.key.count c.requires.values c.in_ok-count.ensures.decided c.in_ok-count.ensures.counted in
+    let on = on_values key layer feature c.args.ordinals.key.count c.args.ordinals.value.count (map (bytes_eq key) (keys layer)) c.args.ordinals.value.ordinal c.decide_by_key.new.decisions.items c.in_ok-count.count refl c.requires.key.count c.requires.values c.in_ok-count.ensures.decided c.in_ok-count.ensures.counted in
     nothing_refused key c.args.holder.ordinal c.args.found.ordinal layer.items feature.fields (ap (λ found. is_some found) on.read) (omega (arith, on.all))
 
 pub returns-clause-refused : goal.returns-clause-refused
@@ -66,15 +61,14 @@ returns-clause-refused c =
     let key = c.args.key.now in
     let layer = layer_of c.args.holder.layer.now in
     let feature = feature_of c.args.found.feature.now in
-    let named : c.as_slice.result.now ≡ map (bytes_eq key) (keys layer) = c.as_slice.ensures.value ∙ c.in_ok-named.ensures ∙ ap (λ l. map (bytes_eq key) (keys l)) c.view.ensures in
-    let on = on_values key layer feature c.args.ordinals.key.count c.args.ordinals.value.count c.as_slice.result.now c.args.ordinals.value.ordinal c.decide_or_refuse.new.decisions.items c.in_ok-count.count named c.requires.key.count c.requires.values c.in_ok-count.ensures.decided c.in_ok-count.ensures.counted in
+    let on = on_values key layer feature c.args.ordinals.key.count c.args.ordinals.value.count (map (bytes_eq key) (keys layer)) c.args.ordinals.value.ordinal c.decide_by_key.new.decisions.items c.in_ok-count.count refl c.requires.key.count c.requires.values c.in_ok-count.ensures.decided c.in_ok-count.ensures.counted in
     inr (repeated_refused key c.args.holder.ordinal c.args.found.ordinal layer.items feature.fields (ap (λ found. is_some found) on.read) (omega (arith, on.all)))
 
 pub returns-in_err-count-clause-refused : goal.returns-in_err-count-clause-refused
 returns-in_err-count-clause-refused c =
     let layer = layer_of c.args.holder.layer.now in
     let feature = feature_of c.args.found.feature.now in
-    let passed = err_from_is_err_and c.from_residual-in_err-count.result c.from_residual-in_err-count.ensures.1 in
+    let passed = err_from_is_err_and c.from_residual.result c.from_residual.ensures.1 in
     rw (passed.1, passed.2) (
     elim c.in_err-count.ensures.refused [
       | inl memory ↦ inl memory
