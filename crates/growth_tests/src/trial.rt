@@ -196,8 +196,8 @@ fn four_layers(alloc: Global) -> Result<Vec<u8>, AllocError> {
 /// One change sets an id, and then sets it anew.
 fn set_twice(alloc: Global) -> Result<Edit, Fault> {
     let series = Series::read(alloc, &T0)?
-        .then(alloc, &set_id(300))?
-        .then(alloc, &set_id(7))?;
+        .then(alloc, set_id(300))?
+        .then(alloc, set_id(7))?;
     with_steps(series.into_edit(), 2)
 }
 
@@ -205,12 +205,12 @@ fn set_twice(alloc: Global) -> Result<Edit, Fault> {
 /// layer, drops the others in two steps, and inserts a feature.
 fn a_series(alloc: Global) -> Result<Edit, Fault> {
     let series = Series::read(alloc, &four_layers(alloc)?)?
-        .then(alloc, &drop_feature())?
-        .then(alloc, &set_id(300))?
-        .then(alloc, &move_layer(1))?
-        .then(alloc, &rename(alloc, b"a", b"roads")?)?
-        .then(alloc, &keep(alloc, b"roads")?)?
-        .then(alloc, &polygon(alloc)?)?;
+        .then(alloc, drop_feature())?
+        .then(alloc, set_id(300))?
+        .then(alloc, move_layer(1))?
+        .then(alloc, rename(alloc, b"a", b"roads")?)?
+        .then(alloc, keep(alloc, b"roads")?)?
+        .then(alloc, polygon(alloc)?)?;
     with_steps(series.into_edit(), 7)
 }
 

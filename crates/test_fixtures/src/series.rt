@@ -46,7 +46,11 @@ impl Series {
     }
 
     /// The change goes on as the command does.
-    pub fn then(self, alloc: Global, command: &Command) -> Result<Series, Refusal> {
+    pub fn then(self, alloc: Global, command: Command) -> Result<Series, Refusal> {
+        self.on(alloc, &command)
+    }
+
+    fn on(self, alloc: Global, command: &Command) -> Result<Series, Refusal> {
         let Series {
             document,
             change,

@@ -1,7 +1,7 @@
 use Rattle.mvt_change.specs.ChangeStands.{change_of}
 use Rattle.mvt_command.specs.CommandStands.{command_of}
 use Rattle.test_fixtures.proofs.Ready.{followed}
-use Rattle.test_fixtures.proofs.series.Series.then.Goals as goal
+use Rattle.test_fixtures.proofs.series.Series.on.Goals as goal
 
 pub invariant_of-result : goal.invariant_of-result
 invariant_of-result c =
