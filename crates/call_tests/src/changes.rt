@@ -5,6 +5,7 @@
 use crate::broken::{Answer, Broken};
 use crate::given::{Given, said};
 use mvt_change::Step;
+use mvt_command::Command;
 use std::alloc::Global;
 use test_fixtures::edits::{Edit, Seen};
 use tile_request::Request;
@@ -12,28 +13,41 @@ use tile_script::parse_line;
 
 pub fn answer(alloc: Global, call: &str, given: Given<'_>) -> Answer {
     let mut edit = prepared(alloc, given)?;
+    of_change(alloc, call, given.tile, &mut edit)
+}
+
+/// What a call answers that looks at a change.
+fn of_change(alloc: Global, call: &str, tile: &[u8], edit: &mut Edit) -> Answer {
     match call {
-        "weights" => weights(alloc, &mut edit),
-        "steps" => steps(alloc, &edit),
+        "weights" => weights(alloc, edit),
+        "steps" => steps(alloc, edit),
         "turned_steps" => {
             edit.flip(alloc)?;
-            steps(alloc, &edit)
+            steps(alloc, edit)
         }
-        "flips" => flips(alloc, given.tile, &mut edit),
+        "flips" => flips(alloc, tile, edit),
         _ => Err(Broken::NoCall),
     }
 }
 
 /// The tile and the change of the command, which is not carried out yet.
 fn prepared(alloc: Global, given: Given<'_>) -> Result<Edit, Broken> {
-    let mut edit = Edit::read(alloc, given.tile)?;
     match parse_line(alloc, given.bytes) {
-        Ok(Some(Request::Edit(command))) => {
-            let prepared = edit.prepare(alloc, &command);
-            prepared.map_err(|_| Broken::BadGiven)?;
-            Ok(edit)
-        }
+        Ok(Some(Request::Edit(command))) => prepared_on(alloc, given.tile, command),
         _ => Err(Broken::BadGiven),
+    }
+}
+
+/// The tile and the change of the command on it.
+fn prepared_on(alloc: Global, tile: &[u8], command: Command) -> Result<Edit, Broken> {
+    with_change(alloc, tile, &command)
+}
+
+fn with_change(alloc: Global, tile: &[u8], command: &Command) -> Result<Edit, Broken> {
+    let mut edit = Edit::read(alloc, tile)?;
+    match edit.prepare(alloc, command) {
+        Ok(()) => Ok(edit),
+        Err(_) => Err(Broken::BadGiven),
     }
 }
 
@@ -71,13 +85,13 @@ fn flips(alloc: Global, tile: &[u8], edit: &mut Edit) -> Answer {
     let after = flipped(alloc, edit)?;
     let again = flipped(alloc, edit)?;
     let after_again = flipped(alloc, edit)?;
-    if before.tile.as_slice() != tile || !has_its_size(&before) || !has_its_size(&after) {
-        return said(alloc, "wrong size");
+    let has_sizes = before.tile.as_slice() == tile && has_its_size(&before) && has_its_size(&after);
+    let comes_back = again == before && after_again == after;
+    match (has_sizes, comes_back) {
+        (true, true) => Ok(after.tile),
+        (true, false) => said(alloc, "does not come back"),
+        (false, _) => said(alloc, "wrong size"),
     }
-    if again != before || after_again != after {
-        return said(alloc, "does not come back");
-    }
-    Ok(after.tile)
 }
 
 fn seen(alloc: Global, edit: &Edit) -> Result<Seen, Broken> {

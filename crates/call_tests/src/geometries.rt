@@ -37,15 +37,19 @@ fn encoded(alloc: Global, text: &str) -> Answer {
 /// What a kind and numbers are read as.
 fn read(alloc: Global, given: Given<'_>) -> Answer {
     let (kind, rest) = given.number_and_rest()?;
-    let mut numbers = Vec::new(alloc);
-    for word in rest.split_whitespace() {
-        let number = number_in(word)?;
-        numbers.push(u32::try_from(number).map_err(|_| Broken::BadGiven)?)?;
-    }
-    match geometry_of(alloc, kind, &numbers) {
+    match geometry_of(alloc, kind, &numbers_in(alloc, rest)?) {
         Ok(geometry) => Ok(geometry_told(alloc, &geometry)?),
         Err(error) => told(alloc, error),
     }
+}
+
+fn numbers_in(alloc: Global, text: &str) -> Result<Vec<u32>, Broken> {
+    let mut numbers = Vec::new(alloc);
+    for word in text.split_whitespace() {
+        let number = number_in(word)?;
+        numbers.push(u32::try_from(number).map_err(|_| Broken::BadGiven)?)?;
+    }
+    Ok(numbers)
 }
 
 /// The geometry that the text tells.
@@ -62,14 +66,18 @@ fn kind_and_parts(alloc: Global, text: &str) -> Result<(Kind, Items<Part>), Brok
         "Areas" => Kind::Areas,
         _ => return Err(Broken::BadGiven),
     };
+    Ok((kind, parts_in(alloc, rest)?))
+}
+
+fn parts_in(alloc: Global, text: &str) -> Result<Items<Part>, Broken> {
     let mut parts = Vec::new(alloc);
-    if rest != "none" {
-        for part in rest.split(" / ") {
+    if text != "none" {
+        for part in text.split(" / ") {
             let points = points_in(alloc, part)?;
             parts.push(Part { points })?;
         }
     }
-    Ok((kind, Items::from_vec(parts)))
+    Ok(Items::from_vec(parts))
 }
 
 fn points_in(alloc: Global, text: &str) -> Result<Items<Point>, Broken> {

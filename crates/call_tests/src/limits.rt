@@ -40,9 +40,16 @@ fn started(alloc: Global, document: Document) -> Answer
 {
     let size = size(&document);
     let written = write_document(alloc, &document).err();
-    let refused = Session::start(alloc, document, 100).err();
-    let zeros = refused.as_ref().and_then(zeros_handed_back);
+    let zeros = zeros_refused(alloc, document);
     Ok(format!(in alloc; "size {size:?} write {written:?} start {zeros:?}")?.into_bytes())
+}
+
+/// How many zeros a document has that no session begins with.
+fn zeros_refused(alloc: Global, document: Document) -> Option<usize>
+    requires { IsDocument (document_of document) }
+{
+    let refused = Session::start(alloc, document, 100).err();
+    refused.as_ref().and_then(zeros_handed_back)
 }
 
 /// How many bytes the field has that stands behind the one layer of a document that is handed back

@@ -76,20 +76,30 @@ fn run_table<R: Eprint + AllocGlobal>(
 ) -> io::Result<()> {
     let mut row = Row::new(rt.alloc());
     for line in text.lines() {
-        let is_well = match row.read(rt.alloc(), pieces, line)? {
-            Line::Taken => true,
-            Line::Unknown => {
-                eprintln!(rt; "no line of a table: {line}")?;
-                false
-            }
-            Line::Answers(wanted) => {
-                counts.rows = counts.rows.saturating_add(1);
-                row.holds(rt, &wanted)?
-            }
-        };
-        if !is_well {
+        let read = row.read(rt.alloc(), pieces, line)?;
+        if let Line::Answers(_) = read {
+            counts.rows = counts.rows.saturating_add(1);
+        }
+        if !is_well(rt, &row, line, &read)? {
             counts.faults = counts.faults.saturating_add(1);
         }
     }
     Ok(())
+}
+
+/// Whether the line is one of a table, and the row holds that it ends. Where not, that is told.
+fn is_well<R: Eprint + AllocGlobal>(
+    rt: &R,
+    row: &Row<'_>,
+    line: &str,
+    read: &Line,
+) -> io::Result<bool> {
+    match read {
+        Line::Taken => Ok(true),
+        Line::Unknown => {
+            eprintln!(rt; "no line of a table: {line}")?;
+            Ok(false)
+        }
+        Line::Answers(wanted) => row.holds(rt, wanted),
+    }
 }

@@ -2,13 +2,18 @@
 
 use crate::broken::{Answer, Broken};
 use crate::given::{Given, told};
-use mvt_view::{LayerView, Numbers, layer, pairs};
-use mvt_wire::read_document;
+use mvt_view::{BadChunk, LayerView, Number, Numbers, Pair, layer, pairs};
+use mvt_wire::{Document, read_document};
 use std::alloc::{AllocError, Global};
 
 pub fn answer(alloc: Global, call: &str, given: Given<'_>) -> Answer {
     let document = read_document(alloc, given.tile)?;
-    let seen = layer(&document, 0).ok_or(Broken::BadTile)?.view();
+    within_tile(alloc, call, &document)
+}
+
+/// What a call answers of the first layer of the tile.
+fn within_tile(alloc: Global, call: &str, document: &Document) -> Answer {
+    let seen = layer(document, 0).ok_or(Broken::BadTile)?.view();
     match call {
         "tags" => tags(alloc, seen),
         "geometry_numbers" => geometry_numbers(alloc, seen),
@@ -32,34 +37,39 @@ fn geometry_numbers(alloc: Global, seen: LayerView<'_>) -> Answer {
 fn numbers_told(alloc: Global, numbers: Numbers<'_>) -> Result<Vec<u8>, AllocError> {
     let mut line = Vec::new(alloc);
     for number in numbers {
-        let told = match number {
-            Ok(n) => {
-                let (value, width) = (n.varint.value, n.varint.width);
-                format!(in alloc;
-                    "{value} width {width} field {} place {}; ",
-                    n.field, n.place
-                )?
-            }
-            Err(chunk) => format!(in alloc; "bad chunk field {}; ", chunk.field)?,
-        };
-        line.extend_from_slice(told.as_bytes())?;
+        line.extend_from_slice(number_told(alloc, number)?.as_bytes())?;
     }
     line.extend_from_slice(b"end")?;
     Ok(line)
+}
+
+fn number_told(alloc: Global, number: Result<Number, BadChunk>) -> Result<String, AllocError> {
+    match number {
+        Ok(n) => {
+            let (value, width) = (n.varint.value, n.varint.width);
+            format!(in alloc;
+                "{value} width {width} field {} place {}; ",
+                n.field, n.place
+            )
+        }
+        Err(chunk) => format!(in alloc; "bad chunk field {}; ", chunk.field),
+    }
 }
 
 /// The pairs of a key and a value.
 fn paired(alloc: Global, seen: LayerView<'_>) -> Answer {
     let feature = seen.feature(0).ok_or(Broken::BadTile)?.view();
     match pairs(alloc, &seen, &feature) {
-        Ok(pairs) => {
-            let mut line = b"pairs".to_vec(alloc)?;
-            for pair in pairs.as_slice() {
-                let told = format!(in alloc; " {}={}", pair.key, pair.value)?;
-                line.extend_from_slice(told.as_bytes())?;
-            }
-            Ok(line)
-        }
+        Ok(pairs) => Ok(pairs_told(alloc, pairs.as_slice())?),
         Err(error) => told(alloc, error),
     }
+}
+
+fn pairs_told(alloc: Global, pairs: &[Pair]) -> Result<Vec<u8>, AllocError> {
+    let mut line = b"pairs".to_vec(alloc)?;
+    for pair in pairs {
+        let told = format!(in alloc; " {}={}", pair.key, pair.value)?;
+        line.extend_from_slice(told.as_bytes())?;
+    }
+    Ok(line)
 }

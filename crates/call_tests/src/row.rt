@@ -62,19 +62,21 @@ impl<'a> Row<'a> {
         word: &str,
         rest: &str,
     ) -> Result<Line, AllocError> {
-        let mut bytes = Vec::new(alloc);
-        if matches!(word, ">" | "<") {
-            bytes.extend_from_slice(rest.as_bytes())?;
-        } else if !pieces.put(alloc, rest, &mut bytes)? {
-            return Ok(Line::Unknown);
-        }
+        Ok(match bytes_in(alloc, pieces, word, rest)? {
+            Some(bytes) => self.take(word, bytes),
+            None => Line::Unknown,
+        })
+    }
+
+    /// Takes the bytes that stand behind the word.
+    fn take(&mut self, word: &str, bytes: Vec<u8>) -> Line {
         match word {
             "tile" => self.tile = bytes,
             ">" | ">>" => self.given = bytes,
-            "<" | "<<" => return Ok(Line::Answers(bytes)),
-            _ => return Ok(Line::Unknown),
+            "<" | "<<" => return Line::Answers(bytes),
+            _ => return Line::Unknown,
         }
-        Ok(Line::Taken)
+        Line::Taken
     }
 
     /// Whether the call answers as it should. Where it does not, that is told.
@@ -83,15 +85,24 @@ impl<'a> Row<'a> {
             tile: &self.tile,
             bytes: &self.given,
         };
-        let answered = match answer(rt.alloc(), self.call, given) {
-            Ok(answered) => answered,
-            Err(broken) => return self.tell_broken(rt, broken),
-        };
-        if answered.as_slice() == wanted {
+        match answer(rt.alloc(), self.call, given) {
+            Ok(answered) => self.is_met(rt, &answered, wanted),
+            Err(broken) => self.tell_broken(rt, broken),
+        }
+    }
+
+    /// Whether this is what the call should answer. Where it is not, that is told.
+    fn is_met<R: Eprint + AllocGlobal>(
+        &self,
+        rt: &R,
+        answered: &[u8],
+        wanted: &[u8],
+    ) -> io::Result<bool> {
+        if answered == wanted {
             return Ok(true);
         }
         self.tell_given(rt)?;
-        tell(rt, "answers", &answered)?;
+        tell(rt, "answers", answered)?;
         tell(rt, "should answer", wanted)?;
         Ok(false)
     }
@@ -108,6 +119,21 @@ impl<'a> Row<'a> {
         eprintln!(rt; "call {}", self.call)?;
         tell(rt, "given", &self.given)
     }
+}
+
+/// The bytes that stand behind the word: those of the text, or of its pieces where each is one.
+fn bytes_in(
+    alloc: Global,
+    pieces: &Pieces,
+    word: &str,
+    text: &str,
+) -> Result<Option<Vec<u8>>, AllocError> {
+    if matches!(word, ">" | "<") {
+        return Ok(Some(Vec::from_slice(alloc, text.as_bytes())?));
+    }
+    let mut bytes = Vec::new(alloc);
+    let is_well = pieces.put(alloc, text, &mut bytes)?;
+    Ok(if is_well { Some(bytes) } else { None })
 }
 
 /// Tells bytes behind the word: as a text where they are one, else in hexadecimal digits.

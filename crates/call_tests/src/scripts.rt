@@ -28,10 +28,15 @@ pub fn answer(alloc: Global, call: &str, given: Given<'_>) -> Answer {
 
 fn parsed(alloc: Global, line: &[u8]) -> Answer {
     match parse_line(alloc, line) {
-        Ok(Some(request)) => request_told(alloc, &request),
+        Ok(Some(request)) => asked(alloc, request),
         Ok(None) => said(alloc, "no request"),
         Err(error) => told(alloc, error),
     }
+}
+
+/// The request as it is told. It is dropped on one way out.
+fn asked(alloc: Global, request: Request) -> Answer {
+    request_told(alloc, &request)
 }
 
 /// The request, with names in hexadecimal digits.
@@ -41,10 +46,7 @@ fn request_told(alloc: Global, request: &Request) -> Answer {
         Request::Unmark(name) => named(alloc, "Unmark", name.as_slice()),
         Request::Back(name) => named(alloc, "Back", name.as_slice()),
         Request::Edit(Command::RenameLayer { layer, name }) => {
-            let mut line = named(alloc, "RenameLayer to", name.as_slice())?;
-            line.push(b' ')?;
-            line.append(&mut layer_told(alloc, layer)?)?;
-            Ok(line)
+            renaming(alloc, &layer_told(alloc, layer)?, name.as_slice())
         }
         Request::List(What::OneLayer(layer)) => listed(alloc, layer_told(alloc, layer)?, ""),
         Request::List(What::OneFeature(layer, feature)) => {
@@ -57,6 +59,13 @@ fn request_told(alloc: Global, request: &Request) -> Answer {
 
 fn named(alloc: Global, word: &str, name: &[u8]) -> Answer {
     Ok(format!(in alloc; "{word} {}", hex::encode(alloc, name)?)?.into_bytes())
+}
+
+fn renaming(alloc: Global, layer: &[u8], name: &[u8]) -> Answer {
+    let mut line = named(alloc, "RenameLayer to", name)?;
+    line.push(b' ')?;
+    line.extend_from_slice(layer)?;
+    Ok(line)
 }
 
 fn listed(alloc: Global, layer: Vec<u8>, feature: &str) -> Answer {
@@ -145,11 +154,17 @@ pub const REASONS: [Refused; 34] = [
 fn replied(alloc: Global, line: u64, told: &str) -> Answer {
     for reason in REASONS {
         if format!(in alloc; "{reason:?}")?.as_str() == told {
-            let mut replies = FromWrite::new(Vec::new(alloc));
-            let answered = reply(&mut replies, line, Err(reason), &mut Retries::new(0));
-            answered.map_err(|_| Broken::NoMemory)?;
-            return Ok(replies.into_inner());
+            return refused(alloc, line, reason);
         }
     }
     Err(Broken::BadGiven)
+}
+
+/// The reply to the line of this number, which is refused for this reason.
+fn refused(alloc: Global, line: u64, reason: Refused) -> Answer {
+    let mut replies = FromWrite::new(Vec::new(alloc));
+    match reply(&mut replies, line, Err(reason), &mut Retries::new(0)) {
+        Ok(()) => Ok(replies.into_inner()),
+        Err(_) => Err(Broken::NoMemory),
+    }
 }

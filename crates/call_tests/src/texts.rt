@@ -4,20 +4,31 @@ use crate::broken::{Answer, Broken};
 use crate::geometries::geometry_in;
 use crate::given::Given;
 use mvt_value::value_of;
-use std::alloc::Global;
+use std::alloc::{AllocError, Global};
 use tile_text::{put_geometry, put_value, quote};
 
 pub fn answer(alloc: Global, call: &str, given: Given<'_>) -> Answer {
-    let mut line = Vec::new(alloc);
     match call {
-        "quote" => return Ok(quote(alloc, given.bytes)?.into_vec()),
-        "put_value" => put_value(&mut line, value_of(given.bytes))?,
+        "quote" => Ok(quote(alloc, given.bytes)?.into_vec()),
+        "put_value" => Ok(value_put(Vec::new(alloc), given.bytes)?),
         "put_value_behind" => {
-            line.extend_from_slice(b"value 3 ")?;
-            put_value(&mut line, value_of(given.bytes))?;
+            let line = Vec::from_slice(alloc, b"value 3 ")?;
+            Ok(value_put(line, given.bytes)?)
         }
-        "put_geometry" => put_geometry(&mut line, &geometry_in(alloc, given.text()?)?)?,
-        _ => return Err(Broken::NoCall),
+        "put_geometry" => geometry_put(alloc, given.text()?),
+        _ => Err(Broken::NoCall),
     }
+}
+
+/// The line, and behind it the value.
+fn value_put(mut line: Vec<u8>, bytes: &[u8]) -> Result<Vec<u8>, AllocError> {
+    put_value(&mut line, value_of(bytes))?;
+    Ok(line)
+}
+
+fn geometry_put(alloc: Global, text: &str) -> Answer {
+    let geometry = geometry_in(alloc, text)?;
+    let mut line = Vec::new(alloc);
+    put_geometry(&mut line, &geometry)?;
     Ok(line)
 }

@@ -12,34 +12,42 @@ use mvt_view::{
 use mvt_wire::{Document, read_document};
 use std::alloc::{AllocError, Global};
 use tile_arguments::{feature_choice, layer_choice};
-use tile_words::words_of;
+use tile_words::{Word, words_of};
 
 pub fn answer(alloc: Global, call: &str, given: Given<'_>) -> Answer {
     let document = read_document(alloc, given.tile)?;
+    within_tile(alloc, call, &document, given)
+}
+
+/// What a call answers that looks at the tile.
+fn within_tile(alloc: Global, call: &str, document: &Document, given: Given<'_>) -> Answer {
     match call {
-        "layer_count" => told(alloc, layer_count(&document)),
-        "layers" => extents(alloc, &document),
-        "layer" => match layer(&document, given.ordinal()?) {
+        "layer_count" => told(alloc, layer_count(document)),
+        "layers" => extents(alloc, document),
+        "layer" => match layer(document, given.ordinal()?) {
             Some(found) => layer_told(alloc, found.view()),
             None => said(alloc, "none"),
         },
         "layer_named" => {
-            let named = layer_named(&document, given.bytes);
+            let named = layer_named(document, given.bytes);
             told(alloc, named.map(|found| found.ordinal))
         }
-        "find_layer" => {
-            let choice = layer_choice(alloc, given.word(alloc)?).map_err(|_| Broken::BadGiven)?;
-            told(
-                alloc,
-                find_layer(&document, &choice).map(|found| found.ordinal),
-            )
-        }
+        "find_layer" => layer_selected(alloc, document, given.word(alloc)?),
         _ => {
             let (ordinal, rest) = given.ordinal_and_rest()?;
-            let found = layer(&document, ordinal).ok_or(Broken::BadTile)?;
+            let found = layer(document, ordinal).ok_or(Broken::BadTile)?;
             within_layer(alloc, call, found, rest)
         }
     }
+}
+
+/// The layer that the word of a script selects.
+fn layer_selected(alloc: Global, document: &Document, word: Word<'_>) -> Answer {
+    let choice = layer_choice(alloc, word).map_err(|_| Broken::BadGiven)?;
+    told(
+        alloc,
+        find_layer(document, &choice).map(|found| found.ordinal),
+    )
 }
 
 /// What a call answers that looks at a layer.

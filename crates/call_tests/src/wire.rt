@@ -3,7 +3,8 @@
 use crate::broken::{Answer, Broken};
 use crate::given::{Given, said, told};
 use mvt_wire::{
-    BodyRef, ReadError, Varint, field_at_front, read_document, read_varint, size, write_document,
+    BodyRef, Document, ReadError, Varint, field_at_front, read_document, read_varint, size,
+    write_document,
 };
 use std::alloc::Global;
 use test_fixtures::bytes::joined;
@@ -57,18 +58,24 @@ fn field_read(alloc: Global, bytes: &[u8]) -> Answer {
 /// How many items a document has, and how many bytes.
 fn document_read(alloc: Global, file: &[u8]) -> Answer {
     match read_document(alloc, file) {
-        Ok(document) => {
-            let items = document.items.len();
-            let size = size(&document);
-            Ok(format!(in alloc; "items {items} size {size:?}")?.into_bytes())
-        }
+        Ok(document) => document_told(alloc, &document),
         Err(error) => told(alloc, error),
     }
 }
 
+fn document_told(alloc: Global, document: &Document) -> Answer {
+    let items = document.items.len();
+    let size = size(document);
+    Ok(format!(in alloc; "items {items} size {size:?}")?.into_bytes())
+}
+
 fn document_written(alloc: Global, file: &[u8]) -> Answer {
     let document = read_document(alloc, file)?;
-    match write_document(alloc, &document) {
+    written(alloc, &document)
+}
+
+fn written(alloc: Global, document: &Document) -> Answer {
+    match write_document(alloc, document) {
         Ok(bytes) => Ok(bytes),
         Err(error) => told(alloc, error),
     }
@@ -80,11 +87,18 @@ fn cuts_read(alloc: Global, before: &[u8], tile: &[u8]) -> Answer {
     let mut places = Vec::new(alloc);
     for end in 1..tile.len() {
         let file = joined(alloc, &[before, &tile[..end]])?;
-        let place = match read_document(alloc, &file) {
-            Err(ReadError::BadWire { place }) => format!(in alloc; "{place} ")?,
-            _ => return said(alloc, "a cut tile is read"),
+        let Some(place) = bad_wire(alloc, &file) else {
+            return said(alloc, "a cut tile is read");
         };
-        places.extend_from_slice(place.as_bytes())?;
+        places.extend_from_slice(format!(in alloc; "{place} ")?.as_bytes())?;
     }
     Ok(places)
+}
+
+/// Up to where the bytes are a tile, where they are none.
+fn bad_wire(alloc: Global, file: &[u8]) -> Option<usize> {
+    match read_document(alloc, file) {
+        Err(ReadError::BadWire { place }) => Some(place),
+        _ => None,
+    }
 }
