@@ -1,6 +1,7 @@
 -- A feature that loses no pair has no steps.
-use Rattle.std.proofs.Common.{Result, Ok, Err, ◌≡◌, ℕ, zero, suc, Bool, false, Option, Some, None, List, [], ◌∷◌, ◌++◌, map, option_map, slice_get, refl, sym, ap, ◌∙◌, inl, inr, arith}
+use Rattle.std.proofs.Common.{Result, Ok, Err, ◌≡◌, ℕ, zero, suc, Bool, false, Option, Some, None, List, [], ◌∷◌, ◌++◌, length, map, option_map, slice_get, Vec, vec_len, refl, sym, ap, ◌∙◌, inl, inr, arith}
 use Rattle.std.proofs.lemmas.Bool.{cases_Bool}
+use Rattle.std.proofs.lemmas.List.{length-map}
 use Rattle.std.specs.Prelude.{IfOk}
 use Rattle.std.specs.List.{flat_map, list_any}
 use Rattle.std.specs.Option.{option_map_or}
@@ -76,3 +77,9 @@ none_named key at none = none_in key at.1.1 at.1.0 none (found_features at.1.1.i
 pub of_any : {T E P : Type 0} → P → (r : Result T E) → IfOk r (λ value. P)
 of_any holds (Ok value) = holds
 of_any holds (Err error) = tt
+
+-- each key of a layer is named or not
+pub named_each : {Z : Type 0} (key : List ℕ) (seen layer : Layer) (named : Vec Bool Z) → named.items ≡ map (bytes_eq key) (keys seen) → seen ≡ layer → vec_len named ≡ length (keys layer)
+named_each key seen layer named is same =
+    let long = ap length (is ∙ ap (λ l. map (bytes_eq key) (keys l)) same) ∙ length-map (keys layer) (bytes_eq key) in
+    omega (arith, long)

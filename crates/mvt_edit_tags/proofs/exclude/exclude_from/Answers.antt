@@ -1,17 +1,29 @@
-use Rattle.std.proofs.Common.{◌≡◌, ◌++◌, append-nil, inl, inr, false, map, sym, ap, ◌∙◌}
+use Rattle.std.proofs.Common.{◌≡◌, ◌++◌, append-nil, inl, inr, false, length, map, sym, ap, ◌∙◌}
 use Rattle.std.proofs.lemmas.Result.{err_from_is_err_and}
 use Rattle.std.specs.List.{flat_map, list_any}
 use Rattle.std.specs.Str.{bytes_eq}
 use Rattle.mvt_document.specs.Stands.{layer_of}
 use Rattle.mvt_change.specs.ChangeStands.{step_of}
 use Rattle.mvt_layers.specs.Seen.{found_feature_seen, found_layer_seen}
-use Rattle.mvt_messages.specs.Views.{keys}
+use Rattle.mvt_messages.specs.Views.{keys, values}
 use Rattle.mvt_edit_pairs.specs.EachFeature.{feature_steps}
 use Rattle.mvt_edit_tags.specs.EachFeature.{pairs_go}
 use Rattle.mvt_edit_pairs.proofs.StepsPassed.{steps_more}
-use Rattle.mvt_edit_tags.proofs.NoneLost.{none_named, of_any}
+use Rattle.mvt_edit_tags.proofs.NoneLost.{named_each, none_named, of_any}
 use Rattle.mvt_edit_pairs.proofs.Unreadable.{bad_among, feature_refused, readable_more, unreadable_in}
 use Rattle.mvt_edit_tags.proofs.exclude.exclude_from.Goals as goal
+
+pub see_layer-requires-clause-keys : goal.see_layer-requires-clause-keys
+see_layer-requires-clause-keys c = c.len.ensures ∙ named_each c.args.key.now _ _ c.name_keys.new.named c.in_ok-name_keys.ensures c.view-layer.ensures
+
+pub see_layer-requires-clause-values : goal.see_layer-requires-clause-values
+see_layer-requires-clause-values c = c.value_count.ensures ∙ ap (λ seen. length (values seen)) c.view-layer.ensures
+
+pub exclude_pairs-requires-clause-keys : goal.exclude_pairs-requires-clause-keys
+exclude_pairs-requires-clause-keys c = c.len.ensures ∙ named_each c.args.key.now _ _ c.name_keys.new.named c.in_ok-name_keys.ensures c.view-layer.ensures
+
+pub exclude_pairs-requires-clause-values : goal.exclude_pairs-requires-clause-values
+exclude_pairs-requires-clause-values c = c.value_count.ensures ∙ ap (λ seen. length (values seen)) c.view-layer.ensures
 
 pub returns-in_err-exclude_pairs-clause-refused : goal.returns-in_err-exclude_pairs-clause-refused
 returns-in_err-exclude_pairs-clause-refused c =

@@ -29,25 +29,16 @@ returns-in_err-decide_or_refuse-clause-refused c =
       | inr bad ↦ inr (inr (bad.0, has, no_pairs layer (feature_of c.args.found.feature.now) c.pool_sizes.result.keys c.pool_sizes.result.values (sizes.keys ∙ ap (λ l. length (keys l)) c.view-layer.ensures) (sizes.values ∙ ap (λ l. length (values l)) c.view-layer.ensures) bad.1))
     ])
 
-pub returns-clause-has : goal.returns-clause-has
-returns-clause-has c =
-    let key = c.args.key.now in
-    let layer = layer_of c.args.holder.layer.now in
-    let named : c.in_ok-named.named.items ≡ map (bytes_eq key) (keys layer) = c.in_ok-named.ensures ∙ ap (λ l. map (bytes_eq key) (keys l)) c.view-layer.ensures in
-    sym (has_named key layer.items) ∙ ap (list_any (λ same. same)) (sym (c.as_slice.ensures.value ∙ named)) ∙ sym c.is_any.ensures ∙ c.if-not-is_any.false
-
-pub returns-clause-readable : goal.returns-clause-readable
-returns-clause-readable c =
+pub returns : goal.returns
+returns c =
     let key = c.args.key.now in
     let layer = layer_of c.args.holder.layer.now in
     let named : c.in_ok-named.named.items ≡ map (bytes_eq key) (keys layer) = c.in_ok-named.ensures ∙ ap (λ l. map (bytes_eq key) (keys l)) c.view-layer.ensures in
     let sizes = c.pool_sizes.ensures in
-    (on_pairs key layer (feature_of c.args.found.feature.now) c.pool_sizes.result.keys c.pool_sizes.result.values c.as_slice-2.result.now c.decide_or_refuse.new.decisions.items (c.as_slice-2.ensures.value ∙ named) (sizes.keys ∙ ap (λ l. length (keys l)) c.view-layer.ensures) (sizes.values ∙ ap (λ l. length (values l)) c.view-layer.ensures) c.in_ok-decide_or_refuse.ensures.decided).readable
-
-pub returns-clause-decided : goal.returns-clause-decided
-returns-clause-decided c =
-    let key = c.args.key.now in
-    let layer = layer_of c.args.holder.layer.now in
-    let named : c.in_ok-named.named.items ≡ map (bytes_eq key) (keys layer) = c.in_ok-named.ensures ∙ ap (λ l. map (bytes_eq key) (keys l)) c.view-layer.ensures in
-    let sizes = c.pool_sizes.ensures in
-    (on_pairs key layer (feature_of c.args.found.feature.now) c.pool_sizes.result.keys c.pool_sizes.result.values c.as_slice-2.result.now c.decide_or_refuse.new.decisions.items (c.as_slice-2.ensures.value ∙ named) (sizes.keys ∙ ap (λ l. length (keys l)) c.view-layer.ensures) (sizes.values ∙ ap (λ l. length (values l)) c.view-layer.ensures) c.in_ok-decide_or_refuse.ensures.decided).decided
+    let on = on_pairs key layer (feature_of c.args.found.feature.now) c.pool_sizes.result.keys c.pool_sizes.result.values c.as_slice-2.result.now c.decide_or_refuse.new.decisions.items (c.as_slice-2.ensures.value ∙ named) (sizes.keys ∙ ap (λ l. length (keys l)) c.view-layer.ensures) (sizes.values ∙ ap (λ l. length (values l)) c.view-layer.ensures) c.in_ok-decide_or_refuse.ensures.decided in
+    record {
+      has = sym (has_named key layer.items) ∙ ap (list_any (λ same. same)) (sym (c.as_slice.ensures.value ∙ named)) ∙ sym c.is_any.ensures ∙ c.if-not-is_any.false;
+      readable = on.readable;
+      decided = on.decided;
+      refused = tt;
+    }
