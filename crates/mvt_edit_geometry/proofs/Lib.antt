@@ -1,5 +1,6 @@
 mod FirstIntegers
 mod FirstMoved
+mod Further
 mod OrRefused
 mod Shifted
 pub mod Drawn

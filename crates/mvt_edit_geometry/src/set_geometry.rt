@@ -63,6 +63,7 @@ struct Drawing {
     field: Field,
 }
 
+/// What these fields get with this geometry. It is refused where it is out of range.
 fn redraw(alloc: Global, fields: &[Field], geometry: &Geometry) -> Result<Drawing, EncodeError>
     ensures kind { IfOk result (λ drawing. ReplacesLast IsField field_bytes is_kind (map field_of fields.now) (with_kind (kind_number geometry.now.kind) (map field_of fields.now)) drawing.kind.index drawing.kind.take (map field_of drawing.kind.put.items)) }
     ensures one { IfOk result (λ drawing. length drawing.kind.put.items ≡ 1) }
