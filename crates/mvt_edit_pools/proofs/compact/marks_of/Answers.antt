@@ -6,6 +6,12 @@ use Rattle.mvt_edit_pools.specs.Pools.{keys_stay, values_stay}
 use Rattle.mvt_edit_pools.proofs.Marking.{keys_marked, values_marked}
 use Rattle.mvt_edit_pools.proofs.compact.marks_of.Goals as goal
 
+pub mark_used-requires-clause-keys : goal.mark_used-requires-clause-keys
+mark_used-requires-clause-keys c = c.pool_sizes-sizes.ensures.keys ∙ ap (λ seen. length (keys seen)) c.view.ensures
+
+pub mark_used-requires-clause-values : goal.mark_used-requires-clause-values
+mark_used-requires-clause-values c = c.pool_sizes-sizes.ensures.values ∙ ap (λ seen. length (values seen)) c.view.ensures
+
 pub returns-clause-keys : goal.returns-clause-keys
 returns-clause-keys c =
     let layer = layer_of c.args.found.layer.now in
