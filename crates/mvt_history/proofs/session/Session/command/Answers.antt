@@ -14,6 +14,9 @@ use Rattle.mvt_history.proofs.session.Session.command.Goals as goal
 
 -- ---- where a step is open
 
+pub flip_onto-requires : goal.flip_onto-requires
+flip_onto-requires c = c.in_ok-change.ensures.fits
+
 pub invariant_of-self : goal.invariant_of-self
 invariant_of-self c =
     let s = c.self.inside in
@@ -36,6 +39,9 @@ returns-in_ok-flip_onto-clause-answer c = λ history stands.
     (command_within (command_of c.args.command.now) history session (from_last pending) (change_of change) is c.self.invariant.ready.valid c.in_ok-change.ensures before)
 
 -- ---- where none is
+
+pub flipped-requires : goal.flipped-requires
+flipped-requires c = c.in_ok-change.ensures.fits
 
 kept : (c : goal.After-keep) → let s = c.self.inside in let pending = option_map (λ (pending : Vec Change Global). pending.items) s.pending in IsKept (seen_in s) (standing_of c.flipped.new.document c.keep.new.undo.items c.keep.new.redo.items s.depth c.keep.new.marks.items pending) (turn (change_of c.in_ok-change.change) (document_of s.document))
 kept c =
