@@ -62,3 +62,9 @@ returns-clause-answer c =
 pub returns-then-not-are_points-clause-answer : goal.returns-then-not-are_points-clause-answer
 returns-then-not-are_points-clause-answer c =
     inr (only_refused BadGeometryText (parts_of (map word_of c.args.words.now)) (parts_only (map word_of c.args.words.now)) (parts_said c.args.words.now ∙ sym c.are_points.ensures ∙ c.if-not-are_points.true))
+
+pub returns-in_err-part-clause-no_memory : goal.returns-in_err-part-clause-no_memory
+returns-in_err-part-clause-no_memory c = λ memory. parts_said c.args.words.now ∙ sym c.are_points.ensures ∙ c.if-not-are_points.false
+
+pub returns-in_err-push-clause-no_memory : goal.returns-in_err-push-clause-no_memory
+returns-in_err-push-clause-no_memory c = λ memory. parts_said c.args.words.now ∙ sym c.are_points.ensures ∙ c.if-not-are_points.false

@@ -36,3 +36,12 @@ returns-clause-answer c =
 pub returns-then-not-are_texts-clause-answer : goal.returns-then-not-are_texts-clause-answer
 returns-then-not-are_texts-clause-answer c =
     inr (only_refused BadArguments (texts_of (map word_of c.args.words.now)) (texts_only (map word_of c.args.words.now)) (texts_said c.args.words.now ∙ sym c.are_texts.ensures ∙ c.if-not-are_texts.true))
+
+pub returns-in_err-texts-clause-no_memory : goal.returns-in_err-texts-clause-no_memory
+returns-in_err-texts-clause-no_memory c = λ memory. texts_said c.args.words.now ∙ sym c.are_texts.ensures ∙ c.if-not-are_texts.false
+
+pub returns-in_err-text_argument-clause-no_memory : goal.returns-in_err-text_argument-clause-no_memory
+returns-in_err-text_argument-clause-no_memory c = λ memory. texts_said c.args.words.now ∙ sym c.are_texts.ensures ∙ c.if-not-are_texts.false
+
+pub returns-in_err-push-clause-no_memory : goal.returns-in_err-push-clause-no_memory
+returns-in_err-push-clause-no_memory c = λ memory. texts_said c.args.words.now ∙ sym c.are_texts.ensures ∙ c.if-not-are_texts.false
