@@ -1,4 +1,6 @@
-use Rattle.std.proofs.Common.{rules, ◌≡◌, ◌++◌, ◌∙◌, sym, refl, length, arith}
+use Rattle.std.proofs.Common.{rules, ◌≡◌, ℤ, ◌++◌, ◌∙◌, ap, sym, refl, length, w64, arith}
+use mir.Val.{SFits}
+use Rattle.std.proofs.lemmas.Int.{to_z-of_z}
 use Rattle.tile_told.specs.Answering.{offset_line}
 use Rattle.tile_answer.proofs.Telling.{told_there, none_behind, lines_of_marks, all_told}
 use Rattle.tile_answer.proofs.told.mark_lines.Goals as goal
@@ -6,7 +8,8 @@ use Rattle.tile_answer.proofs.told.mark_lines.Goals.{else-loop-index-test, then-
 
 pub loop-index-preserved : goal.loop-index-preserved
 loop-index-preserved c =
-    let added : c.put_mark.new.lines.items ≡ c.loop-index.lines.items ++ offset_line c.in-Some.name.now c.in-Some.offset = search rules in
+    let fits : SFits w64 c.in-Some.offset = search rules in
+    let added : c.put_mark.new.lines.items ≡ c.loop-index.lines.items ++ offset_line c.in-Some.name.now c.in-Some.offset = c.in_ok-put_mark.ensures ∙ ap (λ (offset : ℤ). c.loop-index.lines.items ++ offset_line c.in-Some.name.now offset) (to_z-of_z _ _ fits) in
     told_there (length c.args.session.now.undo) c.args.session.now.marks c.loop-index.index c.loop-index.lines.items c.put_mark.new.lines.items (c.in-Some.name, c.in-Some.offset) _ refl c.in-Some.ensures c.loop-index.invariant added
 
 pub returns-clause-lines : goal.returns-clause-lines
