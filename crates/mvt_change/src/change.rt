@@ -1,6 +1,6 @@
 //! A place, a step and a change, as types.
 
-use mvt_document::{Field, Items, LayerItem, TileItem};
+use mvt_document::{Field, Items, LayerItem, Put, TileItem};
 
 /// Which list of a document: that of the tile, of the layer at a position of the tile, or of the
 /// feature at a position of that layer. Positions count all items of a list.
@@ -18,20 +18,20 @@ pub enum Step {
     InTile {
         index: usize,
         take: usize,
-        put: Items<TileItem>,
+        put: Put<TileItem>,
     },
     InLayer {
         layer: usize,
         index: usize,
         take: usize,
-        put: Items<LayerItem>,
+        put: Put<LayerItem>,
     },
     InFeature {
         layer: usize,
         item: usize,
         index: usize,
         take: usize,
-        put: Items<Field>,
+        put: Put<Field>,
     },
     Move {
         place: Place,

@@ -15,7 +15,7 @@ ghost use Rattle.mvt_change.specs.HeldChanges.{AreFlipped, CanMoveHeld, Exchange
 ghost use Rattle.mvt_change.specs.Runs.{IsOn, PassesOver, feature_splice, layer_splice, turned_in_feature, turned_in_layer};
 
 use crate::change::{Place, Step};
-use mvt_document::{Document, Field, Items, LayerItem};
+use mvt_document::{Document, Field, LayerItem, Put};
 use mvt_splices::{splice_items, splice_message};
 use std::alloc::{AllocError, Global};
 use std::slice;
@@ -74,7 +74,7 @@ pub(crate) fn exchange_in_layer(
     layer: usize,
     index: usize,
     taken: usize,
-    put: &mut Items<LayerItem>,
+    put: &mut Put<LayerItem>,
 ) -> Result<(), AllocError>
     requires { IsSomeAnd (held_items_at layer document.old) (HasHeldPart index taken) }
     ensures kept { KeepsDocument (if is_ok result then change_held_items (exchanged index taken put.old) layer document.old else document.old) document.new }
@@ -98,7 +98,7 @@ pub(crate) fn exchange_in_feature(
     item: usize,
     index: usize,
     taken: usize,
-    put: &mut Items<Field>,
+    put: &mut Put<Field>,
 ) -> Result<(), AllocError>
     requires { IsSomeAnd (held_fields_at layer item document.old) (HasHeldPart index taken) }
     ensures kept { KeepsDocument (if is_ok result then change_held_fields (exchanged index taken put.old) layer item document.old else document.old) document.new }

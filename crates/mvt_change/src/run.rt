@@ -50,7 +50,7 @@ impl Splices<TileItem> for Step {
     fn exchange(&mut self, gap: &mut Gap<TileItem>) {
         if let Step::InTile { index, take, put } = self {
             let given = put.len();
-            gap.exchange(*index, *take, put.as_vec_mut());
+            gap.exchange(*index, *take, put);
             *take = given;
         }
     }
@@ -102,7 +102,7 @@ impl Splices<LayerItem> for Step {
         } = self
         {
             let given = put.len();
-            gap.exchange(*index, *take, put.as_vec_mut());
+            gap.exchange(*index, *take, put);
             *take = given;
         }
     }
@@ -154,7 +154,7 @@ impl Splices<Field> for Step {
         } = self
         {
             let given = put.len();
-            gap.exchange(*index, *take, put.as_vec_mut());
+            gap.exchange(*index, *take, put);
             *take = given;
         }
     }

@@ -1,6 +1,6 @@
 -- Lists whose items change places.
-use Rattle.std.proofs.Common.{◌≡◌, ℕ, ◌+◌, ◌-◌, ◌<◌, ◌≤◌, List, [], ◌++◌, length, length-append, length-drop, take, drop, take-append-drop, append_assoc, sym, ap, ◌∙◌, arith}
-use Rattle.std.proofs.lemmas.List.{append-nil, length-take-le, take_all, take_at, drop_all, drop_at, drop-drop, drop-take, take-take}
+use Rattle.std.proofs.Common.{◌≡◌, ℕ, ◌+◌, ◌-◌, ◌<◌, ◌≤◌, List, [], ◌∷◌, ◌++◌, length, set, length-append, length-drop, take, drop, take-append-drop, append_assoc, sym, ap, ◌∙◌, arith}
+use Rattle.std.proofs.lemmas.List.{append-nil, length-take-le, take_all, take_at, drop_all, drop_at, drop-drop, drop-take, take-take, take-set, drop-set}
 use borrow.Rule.Slice.PartMut.{put_mid}
 use Rattle.mvt_document.specs.Splicing.{moved, part, splice}
 
@@ -17,6 +17,15 @@ take_more_items n m items =
     ap (λ front. front ++ take m (drop n items)) (sym (take-take n (n + m) items (omega arith)))
     ∙ ap (λ rest. take n (take (n + m) items) ++ rest) (sym (drop-take n m items))
     ∙ take-append-drop n (take (n + m) items)
+
+-- ---- one item comes for one that is taken
+
+pub set_one : {A : Type 0} (index : ℕ) (list : List A) (item : A) → index < length list → set list index item ≡ splice index 1 (item ∷ []) list
+set_one index list item within =
+    sym (take-append-drop index (set list index item))
+    ∙ ap (λ front. front ++ drop index (set list index item)) (take-set list index item)
+    ∙ ap (λ rest. take index list ++ rest) (drop-set list index item within)
+    ∙ sym (append_assoc (take index list) (item ∷ []) (drop (index + 1) list))
 
 -- ---- fewer items come than are taken: some change places, and the others that are taken follow
 

@@ -10,6 +10,7 @@ pub mod Bodies
 pub mod FieldForms
 pub mod FieldStands
 pub mod BodyShape
+pub mod PutForms
 pub mod Lending
 pub mod Kept
 pub mod Runs

@@ -2,7 +2,8 @@
 
 ghost use Rattle.std.specs.Prelude.{◌≡◌, length};
 
-use crate::exchange::{exchange, move_item};
+use crate::exchange::move_item;
+use crate::put::Put;
 use std::alloc::{AllocError, AllocFailed};
 use std::marker::Model;
 
@@ -91,8 +92,10 @@ impl<T> Items<T> {
         &mut self,
         index: usize,
         taken: usize,
-        put: &mut Items<T>,
+        put: &mut Put<T>,
     ) -> Result<(), AllocError>
+    where
+        T: Drop,
         requires { index + taken ≤ length self.old.items }
         ensures items { self.new.items ≡ (if is_ok result then splice index taken put.old.items self.old.items else self.old.items) }
         ensures put { put.new.items ≡ (if is_ok result then part index taken self.old.items else put.old.items) }
@@ -101,23 +104,6 @@ impl<T> Items<T> {
         ensures succeeds { length put.old.items ≤ self.old.room + taken → taken ≤ length put.old.items + put.old.room → IsOk result }
     {
         put.exchange_in(&mut self.inner, index, taken)
-    }
-
-    /// The same in a vector, where these are the items to put.
-    pub(crate) fn exchange_in(
-        &mut self,
-        list: &mut Vec<T>,
-        index: usize,
-        taken: usize,
-    ) -> Result<(), AllocError>
-        requires { index + taken ≤ vec_len list.old }
-        ensures list { list.new.items ≡ (if is_ok result then splice index taken self.old.items list.old.items else list.old.items) }
-        ensures put { self.new.items ≡ (if is_ok result then part index taken list.old.items else self.old.items) }
-        ensures list_room { vec_capacity list.old ≤ vec_capacity list.new }
-        ensures put_room { length self.old.items + self.old.room ≤ length self.new.items + self.new.room }
-        ensures succeeds { vec_len list.old + length self.old.items ≤ vec_capacity list.old + taken → taken ≤ length self.old.items + self.old.room → IsOk result }
-    {
-        exchange(list, index, taken, &mut self.inner)
     }
 
     /// Takes the item at one position out and puts it back so that it stands at the other.

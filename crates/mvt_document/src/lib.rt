@@ -27,6 +27,8 @@
 //!   and an item moves within its list: `exchange` and `move_item` of `Items` and of `Message`.
 //!   Where memory runs out nothing has changed, and it does not where both lists have the room
 //!   (`succeeds`).
+//! - What changes places with a part of a list holds one item in the value itself, and more in a vector: it is
+//!   made of either and gives either out, has the room of that vector, and makes room for more (`Put`).
 //! - The list of a layer, or of a feature, is changed where it stands, all else is kept, and the
 //!   sizes are right after it: `Document::change_items`, `Document::change_fields`.
 //! - A list makes room for a number of items and for no more, or lends the vector that it is in,
@@ -41,7 +43,8 @@
 //! - Conditions: there is a list at the place, and the change takes it (`change_items`,
 //!   `change_fields`); a part and both positions are within the list (`exchange`, `move_item`,
 //!   `size_beside_part`); a size that is given is that of the items (`Message::of_size`,
-//!   `know_size`); a width is at least 1, and the room has as many bytes (`put_number`); a number that
+//!   `know_size`); at most one item is traded for another, and a vector is taken out where there is room for more
+//!   than one (`Put::trade`, `take_vec`); a width is at least 1, and the room has as many bytes (`put_number`); a number that
 //!   becomes a tag is below 2^32 (`Tag::new`, `Tag::minimal`), or below 2^8 (`MessageTag::new`); a tag and a
 //!   body that are copied are those of a field (`Field::copied`).
 #![tactic(auto)]
@@ -60,6 +63,7 @@ mod measure;
 mod message;
 mod message_tag;
 mod places;
+mod put;
 mod run;
 mod tag;
 pub mod tags;
@@ -75,6 +79,7 @@ pub use items::Items;
 pub use measure::{Measured, message_size, size_beside_part, size_of_all, sum_within};
 pub use message::Message;
 pub use message_tag::MessageTag;
+pub use put::Put;
 pub use run::{Kind, Run, Runs};
 pub use tag::Tag;
 pub use values::{last_value, value_in};

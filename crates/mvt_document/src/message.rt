@@ -11,9 +11,9 @@ ghost use Rattle.mvt_document.specs.Runs.{AreRunsOf};
 
 use crate::MAX_FILE;
 use crate::exchange::move_item;
-use crate::items::Items;
 use crate::kept::Kept;
 use crate::measure::{Measured, size_beside_part, size_of_all, sum_within};
+use crate::put::Put;
 use crate::run::{Kind, Run, Runs, runs_of};
 use std::alloc::{AllocError, AllocFailed};
 use std::marker::Model;
@@ -279,7 +279,7 @@ impl<T: Measured> Message<T> {
 
     /// How many bytes the items take once so many from an index on are exchanged for the ones to
     /// put, where that is known.
-    fn size_exchanged(&self, index: usize, taken: usize, put: &Items<T>) -> Option<usize>
+    fn size_exchanged(&self, index: usize, taken: usize, put: &Put<T>) -> Option<usize>
         requires { index + taken ≤ length self.now.items }
         ensures { IsKept T.bytes (splice index taken put.now.items self.now.items) result }
     {
@@ -296,7 +296,7 @@ impl<T: Measured> Message<T> {
         kind: Kind,
         index: usize,
         taken: usize,
-        put: &Items<T>,
+        put: &Put<T>,
         put_run: Run,
     ) -> Run
         requires there { index + taken ≤ length self.now.items }
@@ -307,7 +307,7 @@ impl<T: Measured> Message<T> {
     }
 
     /// The same of each kind.
-    fn runs_exchanged(&self, index: usize, taken: usize, put: &Items<T>) -> Runs
+    fn runs_exchanged(&self, index: usize, taken: usize, put: &Put<T>) -> Runs
         requires { index + taken ≤ length self.now.items }
         ensures { AreRunsOf T.of_kind result (splice index taken put.now.items self.now.items) }
     {
@@ -326,8 +326,10 @@ impl<T: Measured> Message<T> {
         &mut self,
         index: usize,
         taken: usize,
-        put: &mut Items<T>,
+        put: &mut Put<T>,
     ) -> Result<(), AllocError>
+    where
+        T: Drop,
         requires { index + taken ≤ length self.old.items }
         ensures items { self.new.items ≡ (if is_ok result then splice index taken put.old.items self.old.items else self.old.items) }
         ensures put { put.new.items ≡ (if is_ok result then part index taken self.old.items else put.old.items) }

@@ -29,7 +29,7 @@ ghost use Rattle.mvt_edit_attributes.specs.Attribute.{AreFound, GivesAttribute, 
 use crate::pools::{Ordinals, keys_that_are, look_for, missing_entries};
 use crate::tags_run::{and_pair, first_renumbered, size_with};
 use mvt_change::{Change, Step, fits_with_items, size_with_fields};
-use mvt_document::{Document, Field, Items, LayerItem, MAX_FILE, size_of_all};
+use mvt_document::{Document, Field, Items, LayerItem, MAX_FILE, Put, size_of_all};
 use mvt_edit_pairs::decide_or_refuse;
 use mvt_fates::Run;
 use mvt_layers::PoolSizes;
@@ -178,6 +178,6 @@ fn behind_all(holder: FoundLayer<'_>, entries: Vec<LayerItem>) -> Step
         layer: holder.position,
         index: holder.layer.items.len(),
         take: 0,
-        put: Items::from_vec(entries),
+        put: Put::from_vec(entries),
     }
 }

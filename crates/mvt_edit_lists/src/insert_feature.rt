@@ -15,10 +15,10 @@ ghost use Rattle.mvt_edit_steps.specs.Prepared.{Prepares};
 use mvt_change::{Change, Step};
 use mvt_document::tags::{FEATURE_TAG, GEOMETRY_TAG, KIND_TAG};
 use mvt_document::{
-    Body, Document, Feature, FeatureParts, Field, FieldParts, Items, LayerItem, MessageTag, Tag,
-    Varint,
+    Body, Document, Feature, FeatureParts, Field, FieldParts, Items, LayerItem, MessageTag, Put,
+    Tag, Varint,
 };
-use mvt_edit_steps::{one_item, one_step_within_limit};
+use mvt_edit_steps::one_step_within_limit;
 use mvt_geometry::{EncodeError, Geometry, Kind, encode_geometry};
 use mvt_select::{LayerChoice, Refusal, find_layer};
 use std::alloc::{AllocError, Global};
@@ -40,7 +40,7 @@ pub fn insert_feature(
         layer: found.position,
         index: place,
         take: 0,
-        put: one_item(alloc, feature)?,
+        put: Put::of_one(alloc, feature),
     };
     one_step_within_limit(alloc, document, step)
 }

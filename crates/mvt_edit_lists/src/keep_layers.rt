@@ -12,7 +12,7 @@ ghost use Rattle.mvt_edit_lists.specs.Names.{AreInOrder};
 ghost use Rattle.mvt_edit_steps.specs.Prepared.{Prepares};
 
 use mvt_change::{Change, Step};
-use mvt_document::{Document, Items, TileItem};
+use mvt_document::{Document, Items, Put, TileItem};
 use mvt_fates::{carry_out, goes_if};
 use mvt_layers::{LayerView, layer_count};
 use mvt_select::Refusal;
@@ -38,7 +38,7 @@ pub fn keep_layers(
         |run| Step::InTile {
             index: run.index,
             take: run.take,
-            put: Items::from_vec(run.put),
+            put: Put::from_vec(run.put),
         },
         &mut steps,
     )?;

@@ -17,8 +17,8 @@ ghost use Rattle.mvt_edit_steps.specs.PutsLast.{PutsLast};
 
 use mvt_change::{Change, Step};
 use mvt_document::tags::NAME_TAG;
-use mvt_document::{Body, BodyRef, Document, Field, FieldParts, Items, Layer, LayerItem, Tag};
-use mvt_edit_steps::{Spot, one_item, one_step_within_limit};
+use mvt_document::{Body, BodyRef, Document, Field, FieldParts, Items, Layer, LayerItem, Put, Tag};
+use mvt_edit_steps::{Spot, one_step_within_limit};
 use mvt_select::{FoundLayer, LayerChoice, Refusal, find_and_taken, last_name};
 use std::alloc::{AllocError, Global};
 
@@ -66,7 +66,7 @@ fn naming(alloc: Global, position: usize, layer: &Layer, name: &[u8]) -> Result<
         layer: position,
         index: spot.index,
         take: spot.take,
-        put: one_item(alloc, item)?,
+        put: Put::of_one(alloc, item),
     })
 }
 

@@ -18,4 +18,4 @@ mod steps;
 
 pub use numbered::number_put;
 pub use put_last::Spot;
-pub use steps::{item_out, one_item, one_step, one_step_within_limit};
+pub use steps::{item_out, one_step, one_step_within_limit};

@@ -1,5 +1,5 @@
 //! The change of one step, the same where a file can hold what it makes, and the change that takes
-//! one item out; a list of one item.
+//! one item out.
 
 ghost use Rattle.std.specs.Prelude.{◌≡◌, ◌⊎◌, ◌<◌, ◌≤◌, [], ◌∷◌, IfErr, IfOk, length};
 ghost use Rattle.mvt_document.specs.declared.TheConstants.{MAX_FILE};
@@ -11,7 +11,7 @@ ghost use Rattle.mvt_fates.specs.Fates.{item_out};
 ghost use Rattle.mvt_meaning.specs.declared.refusal.Refusal.TheVariants.{NoMemory, TooLarge};
 
 use mvt_change::{Change, Place, Step, fits_after};
-use mvt_document::{Document, Items};
+use mvt_document::{Document, Items, Put};
 use mvt_meaning::Refusal;
 use std::alloc::{AllocError, Global};
 
@@ -20,7 +20,7 @@ pub fn one_step(alloc: Global, step: Step) -> Result<Change, AllocError>
     ensures { IfOk result (λ change. change_of change ≡ step_of step ∷ []) }
 {
     Ok(Change {
-        steps: one_item(alloc, step)?,
+        steps: Items::from_vec(vec![in alloc; step]?),
     })
 }
 
@@ -52,30 +52,21 @@ pub fn item_out(alloc: Global, place: Place, index: usize) -> Result<Change, All
             Place::Tile => Step::InTile {
                 index,
                 take: 1,
-                put: Items::from_vec(Vec::new(alloc)),
+                put: Put::new(alloc),
             },
             Place::Layer { layer } => Step::InLayer {
                 layer,
                 index,
                 take: 1,
-                put: Items::from_vec(Vec::new(alloc)),
+                put: Put::new(alloc),
             },
             Place::Feature { layer, item } => Step::InFeature {
                 layer,
                 item,
                 index,
                 take: 1,
-                put: Items::from_vec(Vec::new(alloc)),
+                put: Put::new(alloc),
             },
         },
     )
-}
-
-/// The list of this item alone.
-pub fn one_item<T: Drop>(alloc: Global, item: T) -> Result<Items<T>, AllocError>
-    ensures { IfOk result (λ list. list.items ≡ item ∷ []) }
-{
-    let mut list = Vec::new(alloc);
-    list.push(item)?;
-    Ok(Items::from_vec(list))
 }

@@ -17,7 +17,7 @@ ghost use Rattle.mvt_fates.specs.Once.{at_end, once_fate, once_splices};
 ghost use Rattle.mvt_fates.specs.Fates.{IsCarriedOut, Splice, Tells, and_last, goes_if, seen, splice_of, splices_from, splices_of, steps_then};
 
 use mvt_change::Step;
-use mvt_document::{Field, Items, LayerItem, MAX_FILE, Measured, sum_within};
+use mvt_document::{Field, LayerItem, MAX_FILE, Measured, Put, sum_within};
 use mvt_renumber::{Fate, renumber_field};
 use std::alloc::{AllocError, Global};
 
@@ -47,7 +47,7 @@ impl Run<Field> {
             item,
             index: self.index,
             take: self.take,
-            put: Items::from_vec(self.put),
+            put: Put::from_vec(self.put),
         }
     }
 }
@@ -61,7 +61,7 @@ impl Run<LayerItem> {
             layer,
             index: self.index,
             take: self.take,
-            put: Items::from_vec(self.put),
+            put: Put::from_vec(self.put),
         }
     }
 }

@@ -5,6 +5,7 @@ ghost use Rattle.std.specs.VecDeque.{deque_len, deque_capacity};
 ghost use Rattle.mvt_document.specs.Splicing.{part, splice};
 ghost use Rattle.mvt_document.specs.Lending.{held_in};
 
+use mvt_document::Put;
 use std::alloc::{AllocError, Global};
 use std::collections::VecDeque;
 use std::marker::Model;
@@ -48,14 +49,16 @@ impl<T> Gap<T> {
     }
 
     /// Exchanges so many items from an index on for the ones to put, and puts them there in turn.
-    pub fn exchange(&mut self, index: usize, taken: usize, put: &mut Vec<T>)
+    pub fn exchange(&mut self, index: usize, taken: usize, put: &mut Put<T>)
+    where
+        T: Drop,
         requires there { index + taken ≤ length self.old.items }
-        requires room { vec_len put.old ≤ self.old.room + taken }
-        requires put_room { taken ≤ vec_capacity put.old }
+        requires room { length put.old.items ≤ self.old.room + taken }
+        requires put_room { taken ≤ length put.old.items + put.old.room }
         ensures items { self.new.items ≡ splice index taken put.old.items self.old.items }
         ensures put { put.new.items ≡ part index taken self.old.items }
         ensures room { length self.new.items + self.new.room ≡ length self.old.items + self.old.room }
-        ensures put_room { vec_capacity put.new ≡ vec_capacity put.old }
+        ensures put_room { length put.new.items + put.new.room ≡ length put.old.items + put.old.room }
     {
         let behind = self.ring.len() - index - taken;
         move_gap(&mut self.ring, self.behind, index);
@@ -127,7 +130,45 @@ fn turn_few<T>(ring: &mut VecDeque<T>, count: usize)
 }
 
 /// So many of the first items change places with the ones to put, which come last.
-fn exchange_first<T>(ring: &mut VecDeque<T>, taken: usize, put: &mut Vec<T>)
+fn exchange_first<T: Drop>(ring: &mut VecDeque<T>, taken: usize, put: &mut Put<T>)
+    requires there { taken ≤ deque_len ring.old }
+    requires room { deque_len ring.old + length put.old.items ≤ deque_capacity ring.old + taken }
+    requires put_room { taken ≤ length put.old.items + put.old.room }
+    ensures ring { ring.new.items ≡ drop taken ring.old.items ++ put.old.items }
+    ensures put { put.new.items ≡ take taken ring.old.items }
+    ensures length { deque_len ring.new + taken ≡ deque_len ring.old + length put.old.items }
+    ensures ring_room { deque_capacity ring.new ≡ deque_capacity ring.old }
+    ensures put_room { length put.new.items + put.new.room ≡ length put.old.items + put.old.room }
+{
+    if taken <= 1 && put.len() <= 1 {
+        return exchange_one(ring, taken, put);
+    }
+    let mut items = put.take_vec();
+    exchange_many(ring, taken, &mut items);
+    *put = Put::from_vec(items);
+}
+
+/// The same, where one item goes at most, and one comes.
+fn exchange_one<T: Drop>(ring: &mut VecDeque<T>, taken: usize, put: &mut Put<T>)
+    requires few { taken ≤ 1 }
+    requires few_put { length put.old.items ≤ 1 }
+    requires there { taken ≤ deque_len ring.old }
+    requires room { deque_len ring.old + length put.old.items ≤ deque_capacity ring.old + taken }
+    requires put_room { taken ≤ length put.old.items + put.old.room }
+    ensures ring { ring.new.items ≡ drop taken ring.old.items ++ put.old.items }
+    ensures put { put.new.items ≡ take taken ring.old.items }
+    ensures length { deque_len ring.new + taken ≡ deque_len ring.old + length put.old.items }
+    ensures ring_room { deque_capacity ring.new ≡ deque_capacity ring.old }
+    ensures put_room { length put.new.items + put.new.room ≡ length put.old.items + put.old.room }
+{
+    let first = if taken == 0 { None } else { ring.pop_front() };
+    if let Some(item) = put.trade(first) {
+        ring.push_back_reserved(item);
+    }
+}
+
+/// The same, where the ones to put are in a vector.
+fn exchange_many<T>(ring: &mut VecDeque<T>, taken: usize, put: &mut Vec<T>)
     requires there { taken ≤ deque_len ring.old }
     requires room { deque_len ring.old + vec_len put.old ≤ deque_capacity ring.old + taken }
     requires put_room { taken ≤ vec_capacity put.old }

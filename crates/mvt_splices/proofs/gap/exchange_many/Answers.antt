@@ -1,6 +1,6 @@
 use Rattle.std.proofs.Common.{◌≡◌, ◌-◌, ◌++◌, take, drop, vec_len, ap, ◌∙◌, arith}
 use Rattle.mvt_splices.proofs.Gaps.{put_traded}
-use Rattle.mvt_splices.proofs.gap.exchange_first.Goals as goal
+use Rattle.mvt_splices.proofs.gap.exchange_many.Goals as goal
 
 pub returns-clause-put : goal.returns-clause-put
 returns-clause-put g c =
