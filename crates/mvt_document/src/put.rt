@@ -105,7 +105,7 @@ impl<T> Put<T> {
 }
 
 impl<T: Drop> Put<T> {
-    ghost use Rattle.std.specs.Prelude.{◌+◌, is_ok, if◌then◌else◌, IfOk, IsOk, OnErr, OnOk};
+    ghost use Rattle.std.specs.Prelude.{◌+◌, max, is_ok, if◌then◌else◌, IfOk, IsOk, OnErr, OnOk};
 
     /// This item alone.
     pub fn of_one(alloc: Global, item: T) -> Self
@@ -167,8 +167,8 @@ impl<T: Drop> Put<T> {
     /// Makes room for so many more items, and for no more than those. An `Err` changes nothing.
     pub fn reserve_exact(&mut self, more: usize) -> Result<(), AllocError>
         ensures items { self.new.items ≡ self.old.items }
-        ensures ok { OnOk result (more ≤ self.new.room) }
-        ensures room { length self.old.items + self.old.room ≤ length self.new.items + self.new.room }
+        ensures ok { OnOk result (self.new.room ≡ max self.old.room more) }
+        ensures err { OnErr result (self.new.room ≡ self.old.room) }
         ensures succeeds { more ≤ self.old.room → IsOk result }
     {
         match &mut self.form {
