@@ -31,3 +31,7 @@ module _ {X : Type 0} where
   pub if_kept : (o : Option X) (P : X → Type 0) (x : X) → IfSome o (λ kept. kept ≡ x) → P x → IfSome o P
   if_kept None P x same holds = tt
   if_kept (Some kept) P x same holds = subst P (sym same) holds
+
+  pub if_told : (kept told : Option X) (P : X → Type 0) → IfSome kept (λ x. told ≡ Some x) → IfSome told P → IfSome kept P
+  if_told None told P same holds = tt
+  if_told (Some kept) told P same holds = subst (λ o. IfSome o P) same holds

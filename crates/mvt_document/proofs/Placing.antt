@@ -1,6 +1,7 @@
 -- A list inside a document, changed where it stands: what the layers and the features around it are, and what is found.
-use Rattle.std.proofs.Common.{◌≡◌, ℕ, zero, suc, List, [], ◌∷◌, slice_get, slice_set, Option, Some, None, refl, sym, ap, ◌∙◌, subst}
+use Rattle.std.proofs.Common.{◌≡◌, ℕ, zero, suc, List, [], ◌∷◌, get_or, slice_get, slice_set, Option, Some, None, refl, sym, ap, ◌∙◌, subst}
 use Rattle.std.specs.Option.{IsSomeAnd, option_and_then}
+use Rattle.std.proofs.lemmas.Option.{get_or_from_slice_get}
 use Rattle.std.proofs.Props.{props}
 use mathlib.Core.HLevel.{is_prop→PathP}
 use Rattle.std.specs.Fn.{Once}
@@ -17,7 +18,7 @@ use Rattle.mvt_document.specs.declared.field.FieldParts.{FieldParts as Field}
 use Rattle.mvt_document.specs.declared.varint.Varint.{Varint}
 use Rattle.mvt_document.specs.Lists.{change_at}
 use Rattle.mvt_document.specs.HeldPlaces.{held_items_in, held_items_at, held_fields_in_at, held_fields_at, in_held_layer, in_held_feature, change_held_at, change_held_items, change_held_fields}
-use Rattle.mvt_document.proofs.Options.{some_each}
+use Rattle.mvt_document.proofs.Options.{some_each, where_some}
 use Rattle.mvt_document.specs.Made.{Makes, MakesThere}
 
 -- ---- what differs in nothing but the facts that it keeps is the same
@@ -57,9 +58,16 @@ set_changed change zero (z ∷ items) x y is made =
     ap (λ w. w ∷ items) (made ∙ ap change (sym same))
 set_changed change (suc at) (z ∷ items) x y is made = ap (λ rest. z ∷ rest) (set_changed change at items x y is made)
 
--- what is found in it is found at the position
-pub found_there : {A X : Type 0} (find : A → Option X) (at : ℕ) (items : List A) (x : A) → slice_get items at ≡ Some x → find x ≡ option_and_then find (slice_get items at)
-found_there find at items x is = sym (ap (option_and_then find) is)
+-- the item that is read there is the one of which this holds
+pub read_there : {A : Type 0} (items : List A) (at : ℕ) (x : A) (P : A → Type 0) → x ≡ get_or items at x → IsSomeAnd (slice_get items at) P → (slice_get items at ≡ Some x) × P x
+read_there items at x P read there =
+    where_some (slice_get items at) P (λ o. slice_get items at ≡ o → (slice_get items at ≡ Some x) × P x)
+    (λ y holds is.
+    let same : y ≡ x = sym (read ∙ get_or_from_slice_get items at y x is) in
+    (is ∙ ap Some same, subst P same holds)) there refl
+
+changed_alike : {A : Type 0} (f g : A → A) (at : ℕ) (items : List A) (x : A) → slice_get items at ≡ Some x → f x ≡ g x → change_at f at items ≡ change_at g at items
+changed_alike f g at items x is same = sym (set_changed f at items x (f x) is refl) ∙ set_changed g at items x (f x) is same
 
 -- ---- the list that is found is changed to what it was made
 
@@ -109,3 +117,17 @@ module _ {F W R : Type 0} (g : Once F (MutBor (Held Field) × (MutBor W × Unit 
       let f = change_held_at (in_held_feature (λ x. inner)) item in
       there.2 ∙ ap (λ m. change_held_items (λ x. m) layer document) made ∙ ap with (items_made f layer document.items.items list is))
       there.1
+
+-- ---- what was made of the list that an item holds
+
+module _ {F L W R A : Type 0} (g : Once F (MutBor L × (MutBor W × Unit {0})) (R × (MutBor L × (MutBor W × Unit {0})))) (change : F) (find : A → Option L) (with : (L → L) → A → A) where
+  -- the item may be made this one, by what the closure makes of its list
+  abbrev pub MakesItem : A → W → R → A → W → Type 0
+  MakesItem item beside r made left = MakesThere g change (find item) beside r left (λ inner. made ≡ with (λ x. inner) item)
+
+  pub made_in : (at : ℕ) (list new : Held A) (beside : W) (r : R) (left : W) → IsSomeAnd (slice_get list.items at) (λ item. (y : A) × MakesItem item beside r y left × (new ≡ change_held_at (λ z. y) at list))
+      → MakesThere g change (option_and_then find (slice_get list.items at)) beside r left (λ inner. new ≡ change_held_at (with (λ x. inner)) at list)
+  made_in at list new beside r left there =
+      where_some (slice_get list.items at) _ (λ o. slice_get list.items at ≡ o → MakesThere g change (option_and_then find o) beside r left (λ inner. new ≡ change_held_at (with (λ x. inner)) at list))
+      (λ item p is. makes_more g change (find item) (find item) beside r left _ _ refl (λ inner made. p.2 ∙ ap (λ items. record list { items = items }) (changed_alike (λ z. p.0) (with (λ x. inner)) at list.items item is made)) p.1)
+      there refl

@@ -1,13 +1,13 @@
 -- Lists of which one run is true, as far as they are known: joined, parted and spliced.
-use Rattle.std.proofs.Common.{◌≡◌, ℕ, zero, suc, ◌+◌, ◌-◌, ◌<◌, ◌≤◌, Bool, true, false, List, [], ◌∷◌, ◌++◌, length, length-append, length-drop, take, drop, take-append-drop, get_or, map, min, refl, sym, ap, ◌∙◌, subst, append_assoc, arith}
-use Rattle.std.specs.Prelude.{if◌then◌else◌, not, replicate, slice_set, IsTrue}
+use Rattle.std.proofs.Common.{◌≡◌, ℕ, zero, suc, ◌+◌, ◌-◌, ◌<◌, ◌≤◌, Bool, true, false, Option, Some, None, List, [], ◌∷◌, ◌++◌, length, length-append, length-drop, take, drop, take-append-drop, get_or, map, min, refl, sym, ap, ◌∙◌, subst, append_assoc, arith}
+use Rattle.std.specs.Prelude.{if◌then◌else◌, replicate, slice_get, slice_set, IfSome, IsTrue}
 use Rattle.std.proofs.Math.Seq.{get_or-append_seam}
 use Rattle.std.proofs.lemmas.List.{get_or-append_right, get_or_append_left, get_or-replicate, append-nil, drop-map, drop-replicate, drop_all, drop_at, drop_more, length-map, length-replicate, length-take-le, map-append, replicate-append-replicate, replicate_more, take-map, take_all, take_at, take_more, take-set, drop-set-lt}
 use Rattle.mvt_document.specs.declared.run.Kind.{Kind}
 use Rattle.mvt_document.specs.declared.run.Kind.TheVariants as kind
 use Rattle.mvt_document.specs.declared.run.Run.{Run}
 use Rattle.mvt_document.specs.declared.run.Runs.{Runs}
-use Rattle.mvt_document.specs.Runs.{one_run, IsRun, IsRunOf, AreRunsOf, IsRunAround, IsRunBeside, AreRunsBeside}
+use Rattle.mvt_document.specs.Runs.{one_run, IsRun, IsRunOf, AreRunsOf}
 use Rattle.mvt_document.specs.Splicing.{moved, part, splice}
 
 -- ---- parts of joined lists
@@ -260,128 +260,26 @@ moved_values f from to items x inside is =
     ∙ spliced_values f to 0 (x ∷ []) (splice from 1 [] items)
     ∙ ap (λ put. map f (splice to 0 put (splice from 1 [] items))) (sym (one_item items from x inside is))
 
--- ---- the item at an index, whatever it is
+-- ---- an item that becomes another of its kind
 
-beside_values : {T : Type 0} (f : T → Bool) (items : List T) (index : ℕ) → index < length items → (b : Bool) × (map f items ≡ map f (take index items) ++ b ∷ map f (drop (suc index) items))
-beside_values f [] index inside = absurd (omega arith)
-beside_values f (x ∷ items) zero inside = (f x, refl)
-beside_values f (x ∷ items) (suc index) inside =
-    let rest = beside_values f items index (omega arith) in
-    (rest.0, ap (λ t. f x ∷ t) rest.1)
+values_set : {T : Type 0} (f : T → Bool) (items : List T) (index : ℕ) (x y : T) → slice_get items index ≡ Some x → f y ≡ f x → map f (slice_set items index y) ≡ map f items
+values_set f [] index x y is same = refl
+values_set f (z ∷ items) zero x y is same =
+    let z_is : z ≡ x = cc in
+    ap (λ b. b ∷ map f items) (same ∙ ap f (sym z_is))
+values_set f (z ∷ items) (suc index) x y is same = ap (λ rest. f z ∷ rest) (values_set f items index x y is same)
 
-pub run_beside_of : {T : Type 0} (f : T → Bool) (run : Run) (items : List T) (index : ℕ) → index < length items → IsRunOf f run items → IsRunBeside f index run items
-run_beside_of f run items index inside h =
-    let split = beside_values f items index inside in
-    record { between = split.0; is = subst (IsRun run) split.1 h }
-
--- the values before an item, its own, and those behind it
-pub values_whole : {T : Type 0} (f : T → Bool) (items : List T) (index : ℕ) (x : T) → index < length items → x ≡ get_or items index x → map f (take index items) ++ f x ∷ map f (drop (suc index) items) ≡ map f items
-values_whole f items index x inside is =
-    let next : index + 1 ≡ suc index = omega arith in
-    let whole : items ≡ take index items ++ (x ∷ drop (suc index) items) =
-    sym (take-append-drop index items) ∙ ap (λ t. take index items ++ t) (drop_more items index x inside ∙ ap (λ y. y ∷ drop (index + 1) items) (sym is) ∙ ap (λ n. x ∷ drop n items) next) in
-    sym (map-append f (take index items) (x ∷ drop (suc index) items))
-    ∙ sym (ap (map f) whole)
-
-pub values_again : {T : Type 0} (f : T → Bool) (items : List T) (index : ℕ) (x : T) (between : Bool) → index < length items → x ≡ get_or items index x → splice index 1 (f x ∷ []) (map f (take index items) ++ between ∷ map f (drop (suc index) items)) ≡ map f items
-values_again f items index x between inside is =
-    let A = map f (take index items) in
-    let B = map f (drop (suc index) items) in
-    let start : length A ≡ index = length-map (take index items) f ∙ length-take-le index items (omega arith) in
-    let long : length (A ++ between ∷ []) ≡ index + 1 = omega (arith, length-append A (between ∷ []), start) in
-    let next : index + 1 ≡ suc index = omega arith in
-    let whole : items ≡ take index items ++ (x ∷ drop (suc index) items) =
-    sym (take-append-drop index items) ∙ ap (λ t. take index items ++ t) (drop_more items index x inside ∙ ap (λ y. y ∷ drop (index + 1) items) (sym is) ∙ ap (λ n. x ∷ drop n items) next) in
-    ap (λ front. (front ++ (f x ∷ [])) ++ drop (index + 1) (A ++ (between ∷ B))) (take_at A (between ∷ B) index start)
-    ∙ ap (λ back. (A ++ (f x ∷ [])) ++ back) (ap (drop (index + 1)) (sym (append_assoc A (between ∷ []) B)) ∙ drop_at (A ++ (between ∷ [])) B (index + 1) long)
-    ∙ append_assoc A (f x ∷ []) B
-    ∙ sym (map-append f (take index items) (x ∷ drop (suc index) items))
-    ∙ sym (ap (map f) whole)
-
-pub values_before : {T : Type 0} (f : T → Bool) (items : List T) (index : ℕ) (between : Bool) → index < length items → index ≤ length (map f (take index items) ++ between ∷ map f (drop (suc index) items))
-values_before f items index between inside =
-    let A = map f (take index items) in
-    let B = map f (drop (suc index) items) in
-    omega (arith, length-append A (between ∷ B), length-map (take index items) f, length-take-le index items (omega arith))
-
-pub runs_beside_of : {T : Type 0} (of_kind : Kind → T → Bool) (runs : Runs) (items : List T) (index : ℕ) → index < length items → AreRunsOf of_kind runs items → AreRunsBeside of_kind index runs items
-runs_beside_of of_kind runs items index inside h = record {
-  names = run_beside_of (of_kind kind.Name) runs.names items index inside h.names;
-  messages = run_beside_of (of_kind kind.Message) runs.messages items index inside h.messages;
-  keys = run_beside_of (of_kind kind.Key) runs.keys items index inside h.keys;
-  values = run_beside_of (of_kind kind.Value) runs.values items index inside h.values;
-}
-
--- it stays so when the item at the index is another
-run_set : {T : Type 0} (f : T → Bool) (index : ℕ) (items : List T) (x : T) (run : Run) → IsRunBeside f index run items → IsRunBeside f index run (slice_set items index x)
-run_set f index items x run h =
-    let front = sym (take-set items index x) in
-    let back = sym (drop-set-lt (suc index) items index x (omega arith)) in
-    subst (λ ys. IsRunAround f run (take index (slice_set items index x)) ys) back
-    (subst (λ ys. IsRunAround f run ys (drop (suc index) items)) front h)
-
-pub beside_set : {T : Type 0} (of_kind : Kind → T → Bool) (index : ℕ) (items : List T) (x : T) (runs : Runs) → AreRunsBeside of_kind index runs items → AreRunsBeside of_kind index runs (slice_set items index x)
-beside_set of_kind index items x runs h = record {
-  names = run_set (of_kind kind.Name) index items x runs.names h.names;
-  messages = run_set (of_kind kind.Message) index items x runs.messages h.messages;
-  keys = run_set (of_kind kind.Key) index items x runs.keys h.keys;
-  values = run_set (of_kind kind.Value) index items x runs.values h.values;
-}
-
--- ---- an item that becomes another
-
-pub not_so : (is : Bool) → IsTrue (not is) → is ≡ false
-not_so true other = absurd (cc)
-not_so false other = refl
-
--- behind all that is known it may be any
-pub stays_behind : (run : Run) (front back : List Bool) (before is : Bool) → run.until ≤ length front → IsRun run (front ++ before ∷ back) → IsRun run (front ++ is ∷ back)
-stays_behind run front back before is past h =
-    let k = length front in
-    let kept = front_of run run k (front ++ before ∷ back) (omega (arith, past, h.until)) (omega (arith, past, h.until)) (omega (arith, past)) h in
-    run_more run front (is ∷ back) (subst (IsRun run) (take_at front (before ∷ back) k refl) kept)
-
--- what a value is where all is known
-value_known : (run : Run) (front back : List Bool) (before : Bool) (h : IsRun run (front ++ before ∷ back)) → length front < run.until → before ≡ get_or (one_run run.first run.count h.behind) (length front) false
-value_known run front back before h inside =
-    let known = one_run run.first run.count h.behind in
-    sym (get_or-append_seam front before back false)
-    ∙ ap (λ xs. get_or xs (length front) false) h.is
-    ∙ get_or_append_left known h.rest false (length front) (omega (arith, inside, h.until, run_length run.first run.count h.behind))
-
-value_before : (f c b i : ℕ) → i < f → get_or (one_run f c b) i false ≡ false
-value_before f c b i inside =
-    get_or_append_left (replicate f false) (replicate c true ++ replicate b false) false i (omega (arith, inside, length-replicate f false))
-    ∙ get_or-replicate f i false false inside
-
-value_behind_first : (f c b i : ℕ) → f ≤ i → get_or (one_run f c b) i false ≡ get_or (replicate c true ++ replicate b false) (i - f) false
-value_behind_first f c b i past = get_or-append_right (replicate f false) (replicate c true ++ replicate b false) f i false (length-replicate f false) past
-
-value_in : (f c b i : ℕ) → f ≤ i → i - f < c → get_or (one_run f c b) i false ≡ true
-value_in f c b i past inside =
-    value_behind_first f c b i past
-    ∙ get_or_append_left (replicate c true) (replicate b false) false (i - f) (omega (arith, inside, length-replicate c true))
-    ∙ get_or-replicate c (i - f) true false inside
-
-value_past : (f c b i : ℕ) → f ≤ i → c ≤ i - f → i < f + (c + b) → get_or (one_run f c b) i false ≡ false
-value_past f c b i first past inside =
-    value_behind_first f c b i first
-    ∙ get_or-append_right (replicate c true) (replicate b false) c (i - f) false (length-replicate c true) past
-    ∙ get_or-replicate b (i - f - c) false false (omega (arith, first, past, inside))
-
--- in the run it stays of the kind
-pub stays_in : (run : Run) (front back : List Bool) (before is : Bool) → length front < run.until → run.first ≤ length front → length front - run.first < run.count → is ≡ true → IsRun run (front ++ before ∷ back) → IsRun run (front ++ is ∷ back)
-stays_in run front back before is known first inside same h =
-    subst (λ x. IsRun run (front ++ x ∷ back)) (value_known run front back before h known ∙ value_in run.first run.count h.behind (length front) first inside ∙ sym same) h
-
--- and beside the run of none
-pub stays_before : (run : Run) (front back : List Bool) (before is : Bool) → length front < run.until → length front < run.first → is ≡ false → IsRun run (front ++ before ∷ back) → IsRun run (front ++ is ∷ back)
-stays_before run front back before is known inside same h =
-    subst (λ x. IsRun run (front ++ x ∷ back)) (value_known run front back before h known ∙ value_before run.first run.count h.behind (length front) inside ∙ sym same) h
-
-pub stays_past : (run : Run) (front back : List Bool) (before is : Bool) → length front < run.until → run.first ≤ length front → run.count ≤ length front - run.first → is ≡ false → IsRun run (front ++ before ∷ back) → IsRun run (front ++ is ∷ back)
-stays_past run front back before is known first past same h =
-    subst (λ x. IsRun run (front ++ x ∷ back)) (value_known run front back before h known ∙ value_past run.first run.count h.behind (length front) first past (omega (arith, known, h.until)) ∙ sym same) h
+pub runs_set : {T : Type 0} (of_kind : Kind → T → Bool) (kept : Option Runs) (items : List T) (index : ℕ) (x y : T) → slice_get items index ≡ Some x → ((is : Kind) → of_kind is y ≡ of_kind is x) → IfSome kept (λ runs. AreRunsOf of_kind runs items)
+    → IfSome kept (λ runs. AreRunsOf of_kind runs (slice_set items index y))
+runs_set of_kind None items index x y is same h = tt
+runs_set of_kind (Some runs) items index x y is same h =
+    let whole = λ (k : Kind). sym (values_set (of_kind k) items index x y is (same k)) in
+    record {
+      names = subst (IsRun runs.names) (whole kind.Name) h.names;
+      messages = subst (IsRun runs.messages) (whole kind.Message) h.messages;
+      keys = subst (IsRun runs.keys) (whole kind.Key) h.keys;
+      values = subst (IsRun runs.values) (whole kind.Value) h.values;
+    }
 
 -- ---- an item taken out
 

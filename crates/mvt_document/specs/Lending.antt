@@ -1,5 +1,5 @@
 -- What a list ends as where a `&mut` to its vector is returned.
-use Rattle.std.specs.Prelude.{ℕ, ◌-◌, slice_set, vec_len, vec_capacity}
+use Rattle.std.specs.Prelude.{◌-◌, vec_len, vec_capacity}
 use Rattle.std.specs.Borrow.{Lends, Fml, RattleType, MutBor}
 use Rattle.std.specs.declared.alloc.Global.{Global}
 use Rattle.std.specs.declared.vec.Vec.{Vec}
@@ -8,10 +8,6 @@ use Rattle.std.specs.contracts.vec.Vec as vec
 use Rattle.std.specs.contracts.impls.GlobalAllocator.TheImpl.{ghosts}
 use Rattle.mvt_document.specs.Held.{Held}
 use Rattle.mvt_document.specs.contracts.items.Items.{the_row}
-
--- the list with another item at this index, and the same room
-abbrev pub with_item : {T : Type 0} → Held T → ℕ → T → Held T
-with_item list at item = record list { items = slice_set list.items at item }
 
 -- the list that a vector is, as contracts see it
 abbrev pub held_in : {T : Type 0} → Vec T Global → Held T

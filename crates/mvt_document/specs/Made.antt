@@ -1,8 +1,9 @@
 -- What a closure makes of a list, and of the values that it is given beside it.
-use Rattle.std.specs.Prelude.{◌≡◌, Option}
+use Rattle.std.specs.Prelude.{◌≡◌, Bool, Option}
 use Rattle.std.specs.Option.{IsSomeAnd}
 use Rattle.std.specs.Fn.{Once}
 use Rattle.std.specs.Borrow.{MutBor}
+use Rattle.mvt_document.specs.declared.run.Kind.{Kind}
 
 module _ {F L W R : Type 0} (g : Once F (MutBor L × (MutBor W × Unit {0})) (R × (MutBor L × (MutBor W × Unit {0})))) (change : F) where
   -- the closure may be called at a `&mut` to the list, and one to the values beside it
@@ -22,3 +23,7 @@ module _ {F L W R : Type 0} (g : Once F (MutBor L × (MutBor W × Unit {0})) (R 
   -- there is a list, and the closure makes of it one of which this holds
   abbrev pub MakesThere : Option L → W → R → W → (L → Type 0) → Type 0
   MakesThere found beside r left holds = IsSomeAnd found (λ list. (made : L) × Makes list beside r made left × holds made)
+
+  -- whatever it may make of an item is of the kind of that
+  abbrev pub StaysOfKind : (Kind → L → Bool) → L → W → Type 0
+  StaysOfKind of_kind item beside = (r : R) (made : L) (left : W) → Makes item beside r made left → (kind : Kind) → of_kind kind made ≡ of_kind kind item

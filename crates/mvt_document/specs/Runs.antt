@@ -1,5 +1,5 @@
 -- The items of a list that are of one kind, as far as they are known to stand in one run.
-use Rattle.std.specs.Prelude.{◌≡◌, ℕ, suc, ◌+◌, Bool, true, false, List, ◌∷◌, ◌++◌, map, take, drop, replicate}
+use Rattle.std.specs.Prelude.{◌≡◌, ℕ, ◌+◌, Bool, true, false, List, ◌++◌, map, replicate}
 use Rattle.mvt_document.specs.declared.run.Kind.{Kind}
 use Rattle.mvt_document.specs.declared.run.Kind.TheVariants as kind
 use Rattle.mvt_document.specs.declared.run.Run.{Run}
@@ -26,19 +26,3 @@ pub record AreRunsOf {T : Type 0} (of_kind : Kind → T → Bool) (runs : Runs) 
   pub messages : IsRunOf (of_kind kind.Message) runs.messages items
   pub keys : IsRunOf (of_kind kind.Key) runs.keys items
   pub values : IsRunOf (of_kind kind.Value) runs.values items
-
--- a run of items, whether or not the one between these is of the kind
-pub record IsRunAround {T : Type 0} (of_kind : T → Bool) (run : Run) (front back : List T) : Type 0 where
-  pub between : Bool
-  pub is : IsRun run (map of_kind front ++ between ∷ map of_kind back)
-
--- the same of the items beside the one at this index
-abbrev pub IsRunBeside : {T : Type 0} → (T → Bool) → ℕ → Run → List T → Type 0
-IsRunBeside of_kind index run items = IsRunAround of_kind run (take index items) (drop (suc index) items)
-
--- the same of each kind
-pub record AreRunsBeside {T : Type 0} (of_kind : Kind → T → Bool) (index : ℕ) (runs : Runs) (items : List T) : Type 0 where
-  pub names : IsRunBeside (of_kind kind.Name) index runs.names items
-  pub messages : IsRunBeside (of_kind kind.Message) index runs.messages items
-  pub keys : IsRunBeside (of_kind kind.Key) index runs.keys items
-  pub values : IsRunBeside (of_kind kind.Value) index runs.values items

@@ -30,7 +30,8 @@
 //! - What changes places with a part of a list holds one item in the value itself, and more in a vector: it is
 //!   made of either and gives either out, has the room of that vector, and makes room for more (`Put`).
 //! - The list of a layer, or of a feature, is changed where it stands, all else is kept, and the
-//!   sizes are right after it: `Document::change_items`, `Document::change_fields`.
+//!   sizes are right after it: `Document::change_items`, `Document::change_fields`, and in the items of
+//!   a layer `change_fields_in`.
 //! - A list makes room for a number of items and for no more, or lends the vector that it is in,
 //!   and ends as what that does (`writes_back`): `reserve_exact` and `as_vec_mut` of `Items`, and
 //!   `as_vec_mut`, `known_size` and `know_size` of `Message`, whose size is given back with it.
@@ -41,7 +42,7 @@
 //!   with at most 100 groups open at one place (`IsGroup`); the type of a field keeps that
 //!   (`is_group`).
 //! - Conditions: there is a list at the place, and the change takes it (`change_items`,
-//!   `change_fields`); a part and both positions are within the list (`exchange`, `move_item`,
+//!   `change_fields`, `change_fields_in`); a part and both positions are within the list (`exchange`, `move_item`,
 //!   `size_beside_part`); a size that is given is that of the items (`Message::of_size`,
 //!   `know_size`); at most one item is traded for another, and a vector is taken out where there is room for more
 //!   than one (`Put::trade`, `take_vec`); a width is at least 1, and the room has as many bytes (`put_number`); a number that
@@ -79,6 +80,7 @@ pub use items::Items;
 pub use measure::{Measured, message_size, size_beside_part, size_of_all, sum_within};
 pub use message::Message;
 pub use message_tag::MessageTag;
+pub use places::change_fields_in;
 pub use put::Put;
 pub use run::{Kind, Run, Runs};
 pub use tag::Tag;

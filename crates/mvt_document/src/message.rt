@@ -6,7 +6,7 @@ ghost use Rattle.std.specs.Prelude.{◌≡◌, ◌≤◌, ◌+◌, ◌++◌, ℕ
 ghost use Rattle.std.specs.List.{flat_map};
 ghost use Rattle.std.specs.Option.{SomeIff};
 ghost use Rattle.mvt_document.specs.declared.TheConstants.{MAX_FILE};
-ghost use Rattle.mvt_document.specs.Kept.{IsKept};
+ghost use Rattle.mvt_document.specs.Kept.{IsKept, bytes_beside};
 ghost use Rattle.mvt_document.specs.Runs.{AreRunsOf};
 
 use crate::MAX_FILE;
@@ -43,13 +43,16 @@ impl<T: Measured> Model for Message<T> {
 }
 
 impl<T: Measured> Message<T> {
-    ghost use Rattle.std.specs.Prelude.{Some, IfSome, slice_get, ◌<◌, ◌∷◌, [], ◌++◌, if◌then◌else◌, is_ok, IsOk};
+    ghost use Rattle.std.specs.Prelude.{IfSome, slice_get, ◌<◌, ◌∷◌, [], ◌++◌, if◌then◌else◌, is_ok, IsOk};
+    ghost use Rattle.std.specs.Option.{IsSomeAnd};
     ghost use Rattle.mvt_document.specs.Splicing.{moved, part, splice};
     ghost use Rattle.std.specs.Borrow.{sem};
     ghost use Rattle.mvt_document.specs.Kept.{IsKept, bytes_beside};
-    ghost use Rattle.mvt_document.specs.Runs.{AreRunsBeside, AreRunsOf, IsRunBeside, IsRunOf};
+    ghost use Rattle.mvt_document.specs.Runs.{AreRunsOf, IsRunOf};
+    ghost use Rattle.mvt_document.specs.HeldPlaces.{change_held_at};
+    ghost use Rattle.mvt_document.specs.Made.{MakesThere, StaysOfKind, TakesList};
     ghost use Rattle.mvt_document.specs.Lending.{held_in};
-    ghost use Rattle.mvt_document.specs.LendingKept.{LendsKept, LendsVecKept};
+    ghost use Rattle.mvt_document.specs.LendingKept.{LendsVecKept};
 
     /// The message of a vector's items, in the vector's own memory, where it is known how many bytes
     /// they take.
@@ -136,80 +139,22 @@ impl<T: Measured> Message<T> {
         sum_within(sum - part, 0, limit)
     }
 
-    /// The runs, which stay known whatever the item at this index becomes.
-    pub(crate) fn runs_beside(&self, index: usize) -> Runs
-        requires { index < length self.now.items }
-        ensures { AreRunsBeside T.of_kind index result self.now.items }
+    /// Changes the item at this index, which stays of its kind, and the values beside. The size is that
+    /// of the items then, and the runs are the same.
+    pub(crate) fn change_item<W, R, F: FnOnce(&mut T, &mut [W]) -> R>(
+        &mut self,
+        index: usize,
+        beside: &mut [W],
+        change: F,
+    ) -> R
+        requires { IsSomeAnd (slice_get self.old.items index) (λ item. TakesList F.FnOnce change item beside.old × StaysOfKind F.FnOnce change T.of_kind item beside.old) }
+        ensures { MakesThere F.FnOnce change (slice_get self.old.items index) beside.old result beside.new (λ made. self.new ≡ change_held_at (λ _. made) index self.old) }
     {
-        self.runs()
-    }
-
-    /// The run of the items of a kind, where it is known but for the item at this index.
-    fn run_with(&self, kind: Kind, index: usize, beside: Run) -> Run
-        requires there { index < length self.now.items }
-        requires beside { IsRunBeside (T.of_kind kind) index beside self.now.items }
-        ensures { IsRunOf (T.of_kind kind) result self.now.items }
-    {
-        let items = self.as_slice();
-        let is_of_kind = items[index].is_of(kind);
-        if beside.stays_with(index, is_of_kind) {
-            return beside;
-        }
-        beside.spliced(index, 1, Run::of_one(is_of_kind), 1)
-    }
-
-    /// The same of each kind.
-    fn runs_with(&self, index: usize, beside: Runs) -> Runs
-        requires there { index < length self.now.items }
-        requires beside { AreRunsBeside T.of_kind index beside self.now.items }
-        ensures { AreRunsOf T.of_kind result self.now.items }
-    {
-        Runs {
-            names: self.run_with(Kind::Name, index, beside.names),
-            messages: self.run_with(Kind::Message, index, beside.messages),
-            keys: self.run_with(Kind::Key, index, beside.keys),
-            values: self.run_with(Kind::Value, index, beside.values),
-        }
-    }
-
-    /// How many bytes the items take, where those beside this one take so many. What is not known is
-    /// measured.
-    fn size_with(&self, index: usize, beside: Option<usize>) -> Option<usize>
-        requires { IfSome beside (λ n. n ≡ bytes_beside T.bytes index self.now.items) }
-        ensures { IsKept T.bytes self.now.items result }
-    {
-        let Some(beside) = beside else {
-            return size_of_all(self.inner.as_slice(), MAX_FILE);
-        };
-        let item = self.inner.get(index)?;
-        sum_within(beside, item.size()?, MAX_FILE)
-    }
-
-    /// Knows the size and the runs again, where the items beside this one take so many bytes, and have
-    /// these runs whatever it is.
-    pub(crate) fn remember(&mut self, index: usize, beside: Option<usize>, runs: Runs)
-        requires there { index < length self.old.items }
-        requires size { IfSome beside (λ n. n ≡ bytes_beside T.bytes index self.old.items) }
-        requires runs { AreRunsBeside T.of_kind index runs self.old.items }
-        ensures { self.new ≡ self.old }
-    {
-        let size = self.size_with(index, beside);
-        if self.kept.has_runs() {
-            let runs = self.runs_with(index, runs);
-            self.kept.set_runs(runs);
-        }
+        let others = self.size_beside(index);
+        let result = change(&mut self.inner[index], beside);
+        let size = size_with(self.inner.as_slice(), index, others);
         self.kept.set_size(size);
-    }
-
-    /// The item at this index. The size and the runs are no longer known: see `remember`.
-    pub(crate) fn item_mut(&mut self, index: usize) -> &mut T
-        requires { index < length self.old.items }
-        ensures* writes_back { sem 𝓛 (LendsKept T.row T.Measured self.entry index result) }
-        ensures value { slice_get self.old.items index ≡ Some result.now }
-    {
-        self.kept.set_size(None);
-        self.kept.set_runs(Runs::unknown());
-        &mut self.inner[index]
+        result
     }
 
     /// How many bytes the items take, where that is known.
@@ -380,6 +325,19 @@ impl<T: Measured> Message<T> {
         move_item(self.inner.as_mut_slice(), from, to);
         self.kept.set_runs(runs);
     }
+}
+
+/// How many bytes the items take, where those beside this one take so many. What is not known is
+/// measured.
+fn size_with<T: Measured>(items: &[T], index: usize, beside: Option<usize>) -> Option<usize>
+    requires { IfSome beside (λ n. n ≡ bytes_beside T.bytes index items.now) }
+    ensures { IsKept T.bytes items.now result }
+{
+    let Some(beside) = beside else {
+        return size_of_all(items, MAX_FILE);
+    };
+    let item = items.get(index)?;
+    sum_within(beside, item.size()?, MAX_FILE)
 }
 
 /// Finds the runs of these items, where none were kept and the items are many.

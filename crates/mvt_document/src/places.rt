@@ -22,11 +22,14 @@ impl Document {
         requires { IsSomeAnd (held_items_at layer self.old) (λ list. TakesList F.FnOnce change list beside.old) }
         ensures { MakesThere F.FnOnce change (held_items_at layer self.old) beside.old result beside.new (λ made. self.new ≡ change_held_items (λ _. made) layer self.old) }
     {
-        let size = self.items.size_beside(layer);
-        let runs = self.items.runs_beside(layer);
-        let result = change_in_layer(self.items.item_mut(layer), beside, change);
-        self.items.remember(layer, size, runs);
-        result
+        self.items.change_item(
+            layer,
+            beside,
+            |item, beside|
+                requires { IsSomeAnd (held_items_in item.old) (λ list. TakesList F.FnOnce change list beside.old) }
+                ensures { MakesThere F.FnOnce change (held_items_in item.old) beside.old result beside.new (λ made. item.new ≡ in_held_layer (λ _. made) item.old) }
+            { change_in_layer(item, beside, change) },
+        )
     }
 
     /// Changes the fields of the feature at this position of that layer, and the values beside. What
@@ -47,13 +50,14 @@ impl Document {
             |items, beside|
                 requires { IsSomeAnd (held_fields_in_at item items.old) (λ list. TakesList F.FnOnce change list beside.old) }
                 ensures { MakesThere F.FnOnce change (held_fields_in_at item items.old) beside.old result beside.new (λ made. items.new ≡ change_held_at (in_held_feature (λ _. made)) item items.old) }
-            { change_in_items(items, item, beside, change) },
+            { change_fields_in(items, item, beside, change) },
         )
     }
 }
 
-/// Changes the fields of the feature at this position of a layer.
-fn change_in_items<W, R, F: FnOnce(&mut Items<Field>, &mut [W]) -> R>(
+/// Changes the fields of the feature at this position of a layer, and the values beside. What `change`
+/// makes of the list stands there, and all else is kept.
+pub fn change_fields_in<W, R, F: FnOnce(&mut Items<Field>, &mut [W]) -> R>(
     items: &mut Message<LayerItem>,
     item: usize,
     beside: &mut [W],
@@ -62,11 +66,14 @@ fn change_in_items<W, R, F: FnOnce(&mut Items<Field>, &mut [W]) -> R>(
     requires { IsSomeAnd (held_fields_in_at item items.old) (λ list. TakesList F.FnOnce change list beside.old) }
     ensures { MakesThere F.FnOnce change (held_fields_in_at item items.old) beside.old result beside.new (λ made. items.new ≡ change_held_at (in_held_feature (λ _. made)) item items.old) }
 {
-    let size = items.size_beside(item);
-    let runs = items.runs_beside(item);
-    let result = change_in_feature(items.item_mut(item), beside, change);
-    items.remember(item, size, runs);
-    result
+    items.change_item(
+        item,
+        beside,
+        |item, beside|
+            requires { IsSomeAnd (held_fields_in item.old) (λ list. TakesList F.FnOnce change list beside.old) }
+            ensures { MakesThere F.FnOnce change (held_fields_in item.old) beside.old result beside.new (λ made. item.new ≡ in_held_feature (λ _. made) item.old) }
+        { change_in_feature(item, beside, change) },
+    )
 }
 
 /// Changes the fields of a feature.

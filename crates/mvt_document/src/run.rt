@@ -131,21 +131,6 @@ impl Run {
         }
     }
 
-    /// Whether it is that of the list whatever the item at this index was before, which is of the kind or is not now:
-    /// the item is behind all that is known, or it is of the kind just where the run has it.
-    #[inline(always)]
-    pub(crate) fn stays_with(self, index: usize, is_of_kind: bool) -> bool
-        ensures { IsTrue result → (front back : List Bool) (before : Bool) → length front ≡ index → IsRun self (front ++ before ∷ back) → IsRun self (front ++ is_of_kind ∷ back) }
-    {
-        if self.until <= index {
-            return true;
-        }
-        if index < self.first || self.count <= index - self.first {
-            return !is_of_kind;
-        }
-        is_of_kind
-    }
-
     /// That of the list once so many items from an index on are exchanged for others, which are so many and
     /// have a run of their own.
     pub(crate) fn spliced(self, index: usize, taken: usize, put: Run, given: usize) -> Run
