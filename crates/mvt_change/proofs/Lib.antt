@@ -9,4 +9,5 @@ pub mod Actions
 pub mod TurnedRuns
 pub mod ListRuns
 pub mod Underway
+pub mod Visits
 pub mod Resized

@@ -1,6 +1,6 @@
 -- Several steps that were turned: what they stand for, that they have room, and that they lead back.
 use Rattle.std.proofs.Common.{◌≡◌, List, [], ◌∷◌, ◌++◌, map, reverse, refl, sym, ap, ◌∙◌, subst}
-use Rattle.std.specs.Prelude.{Result, Ok, Err, is_ok, true, OnOk}
+use Rattle.std.specs.Prelude.{Result, Ok, Err, is_ok, true, false, OnOk, OnErr}
 use Rattle.std.specs.List.{AllZip}
 use Rattle.std.proofs.lemmas.List.{map-append, reverse-append}
 use Rattle.mvt_document.specs.Plain as plain
@@ -116,3 +116,12 @@ all_lead_back steps document turned after fits are keeps =
 pub ok_then : {A E : Type 0} (r : Result A E) (P : Type 0) → OnOk r P → is_ok r ≡ true → P
 ok_then (Ok a) P so done = so
 ok_then (Err e) P so done = absurd cc
+
+-- and where it is a refusal
+pub err_then : {A E : Type 0} (r : Result A E) (P : Type 0) → OnErr r P → is_ok r ≡ false → P
+err_then (Ok a) P so refused = absurd cc
+err_then (Err e) P so refused = so
+
+pub on_err : {A E : Type 0} (r : Result A E) (P : Type 0) → P → OnErr r P
+on_err (Ok a) P so = tt
+on_err (Err e) P so = so

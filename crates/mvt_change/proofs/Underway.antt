@@ -1,40 +1,32 @@
 -- A change that is under way, and one that is taken back.
-use Rattle.std.proofs.Common.{◌≡◌, ℕ, ◌+◌, ◌-◌, ◌<◌, ◌≤◌, get_or, set, length, true, false, List, [], ◌∷◌, ◌++◌, map, reverse, take, drop, append_assoc, sym, ap, ◌∙◌, subst, arith}
-use Rattle.std.proofs.lemmas.List.{append-nil, length-take-le, map-append, reverse-append, take-append-drop, take_more, take-set, drop-drop, drop-set, drop_at}
-use Rattle.std.proofs.lemmas.Slice.{take-put_mid_below, take-put_mid, drop-put_mid}
+use Rattle.std.proofs.Common.{◌≡◌, ℕ, ◌+◌, ◌-◌, ◌<◌, ◌≤◌, get_or, set, length, Bool, true, false, cond, List, [], ◌∷◌, ◌++◌, map, reverse, take, drop, append_assoc, refl, sym, ap, ◌∙◌, subst, arith}
+use Rattle.std.proofs.Math.Seq.{take-append-add}
 use borrow.Rule.Slice.PartMut.{put_mid}
+use Rattle.std.proofs.lemmas.List.{append-nil, length-take-le, map-append, reverse-append, take-append-le, take_all, take_more, take_more_set, take-set, drop-append-le, drop_all, drop_at, drop-drop, length-drop, take-append-drop, drop_more, drop-set, drop-set-lt}
 use Rattle.mvt_document.specs.Plain as plain
 use Rattle.mvt_document.specs.Stands.{document_of}
 use Rattle.mvt_document.specs.declared.document.Document.{Document}
 use Rattle.mvt_change.specs.declared.change.Step.{Step}
 use Rattle.mvt_change.specs.ChangeStands.{action_of, step_of}
-use Rattle.mvt_change.specs.Changes.{Change, go_step, go, Fits, turn_step, turn}
+use Rattle.mvt_change.specs.Changes.{Change, go_step, go, Fits, FitsStep, turn_step, turn}
 use Rattle.mvt_change.specs.Room.{KeepsDocument}
+use Rattle.mvt_change.specs.Underway.{IsUnderway, Advances}
 use Rattle.mvt_change.specs.HeldChanges.{go_held_step, go_held, ActionHasRoom, HaveRoom, IsTurned, AreTurned, AreFlipped}
 use Rattle.mvt_change.proofs.Turning.{go_joined, fit_joined, turn_joined, turned_back as leads_to_start, turned_twice}
 use Rattle.mvt_change.proofs.Actions.{turned_stands}
 use Rattle.mvt_change.proofs.TurnedRuns.{keeps_stands, kept_goes, steps_stand, have_room_keeps, have_room_joined, all_stand, all_lead_back}
 
--- The first steps of a change were made, and lead back from the document, with the room for it; the others are left.
-pub record IsUnderway (change : Change) (start : plain.Document) (made rest : List Step) (document : Document) : Type 0 where
-  pub first : Change
-  pub all : first ++ map step_of rest ≡ change
-  pub fits : Fits change start
-  pub stands : document_of document ≡ go first start
-  pub turns : map step_of made ≡ turn first start
-  pub room : HaveRoom made document
-
 module _ (change : Change) (start : plain.Document) (made rest : List Step) (document : Document) (under : IsUnderway change start made rest document) where
   fit : Fits under.first start × Fits (map step_of rest) (go under.first start)
   fit = (fit_joined under.first (map step_of rest) start).0 (subst (λ c. Fits c start) (sym under.all) under.fits)
 
-  rest_fits : Fits (map step_of rest) (document_of document)
+  pub rest_fits : Fits (map step_of rest) (document_of document)
   rest_fits = subst (Fits (map step_of rest)) (sym under.stands) fit.1
 
-  leads_back : go (map step_of made) (document_of document) ≡ start
+  pub leads_back : go (map step_of made) (document_of document) ≡ start
   leads_back = ap (λ t. go t (document_of document)) under.turns ∙ ap (go (turn under.first start)) under.stands ∙ leads_to_start under.first start fit.0
 
-  turns_back : turn (map step_of made) (document_of document) ++ map step_of rest ≡ change
+  pub turns_back : turn (map step_of made) (document_of document) ++ map step_of rest ≡ change
   turns_back =
       rw (under.turns, under.stands, turned_twice under.first start fit.0) under.all
 
@@ -65,51 +57,100 @@ goes_on change start made run rest turned document after under keeps are =
       room = have_room_joined (reverse turned) made after lead.room (have_room_keeps made document (go_held (reverse turned) after) lead.back under.room);
     }
 
--- ---- where the steps stand in a list, and a run of them is made
+-- nothing more is made, in a document that is the same
+stays : (change : Change) (start : plain.Document) (made rest other : List Step) (document after : Document) → map step_of other ≡ map step_of rest → KeepsDocument document after → IsUnderway change start made rest document → IsUnderway change start made other after
+stays change start made rest other document after same keeps under = record {
+  first = under.first;
+  all = ap (λ left. under.first ++ left) same ∙ under.all;
+  fits = under.fits;
+  stands = sym (keeps_stands document after keeps) ∙ under.stands;
+  turns = under.turns;
+  room = have_room_keeps made document after keeps under.room;
+}
 
-module _ (change : Change) (start : plain.Document) (steps part : List Step) (from to : ℕ) (document after : Document) (low : from < to) (high : to ≤ length steps) (long : length part ≡ to - from) (under : IsUnderway change start (reverse (take from steps)) (drop from steps) document) where
-  abbrev run : List Step
-  run = take (to - from) (drop from steps)
+-- before the first step
+pub begins : (steps : List Step) (document : Document) → Fits (map step_of steps) (document_of document) → IsUnderway (map step_of steps) (document_of document) [] steps document
+begins steps document fits = record { first = []; all = refl; fits = fits; stands = refl; turns = refl; room = tt }
 
-  abbrev rest : List Step
-  rest = drop (to - from) (drop from steps)
+-- ---- a run is made, or is refused
 
-  apart : IsUnderway change start (reverse (take from steps)) (run ++ rest) document
-  apart = subst (λ left. IsUnderway change start (reverse (take from steps)) left document) (sym (take-append-drop (to - from) (drop from steps))) under
+pub run_advances : (done : Bool) (run part : List Step) (document after : Document) → length part ≡ length run → AreFlipped done run part document after → Advances (cond done (length run) 0) run part document after
+run_advances true run part document after long flipped change start made under =
+    let whole : take (length run) part ≡ part = take_all (length run) part (omega (arith, long)) in
+    let none : drop (length run) part ≡ [] = drop_all (length run) part (omega (arith, long)) in
+    let all = subst (λ left. IsUnderway change start made left document) (sym (append-nil run)) under in
+    rw (whole, none) (goes_on change start made run [] part document after all flipped.0 flipped.1)
+run_advances false run part document after long flipped change start made under = stays change start made run part document after flipped.1 flipped.0 under
 
-  front_stays : take from (put_mid from (to - from) steps part) ≡ take from steps
-  front_stays = take-put_mid_below from (to - from) steps part from (omega arith) (omega arith)
+-- ---- what is made of the first steps is made of more
 
-  pub run_on : AreFlipped true run part document after → IsUnderway change start (reverse (take to (put_mid from (to - from) steps part))) (drop to (put_mid from (to - from) steps part)) after
-  run_on flipped =
+pub with_more : (n : ℕ) (run part rest : List Step) (document after : Document) → n ≤ length part → Advances n run part document after → Advances n (run ++ rest) (part ++ rest) document after
+with_more n run part rest document after within advances change start made under =
+    let runs = map step_of run in
+    let rests = map step_of rest in
+    let short = under.first ++ runs in
+    let whole : short ++ rests ≡ change = append_assoc under.first runs rests ∙ ap (λ c. under.first ++ c) (sym (map-append step_of run rest)) ∙ under.all in
+    let fits : Fits short start = ((fit_joined short rests start).0 (subst (λ c. Fits c start) (sym whole) under.fits)).0 in
+    let met = advances short start made (record { first = under.first; all = refl; fits = fits; stands = under.stands; turns = under.turns; room = under.room }) in
+    let left = drop n part in
+    let all : met.first ++ map step_of (left ++ rest) ≡ change = ap (λ c. met.first ++ c) (map-append step_of left rest) ∙ sym (append_assoc met.first (map step_of left) rests) ∙ ap (λ c. c ++ rests) met.all ∙ whole in
+    rw (take-append-le n part rest within, drop-append-le n part rest within)
+    (record { first = met.first; all = all; fits = under.fits; stands = met.stands; turns = met.turns; room = met.room })
+
+pub front_fits : (n : ℕ) (steps : List Step) (document : Document) → Fits (map step_of steps) (document_of document) → Fits (map step_of (take n steps)) (document_of document)
+front_fits n steps document fits =
+    let apart : map step_of steps ≡ map step_of (take n steps) ++ map step_of (drop n steps) = ap (map step_of) (sym (take-append-drop n steps)) ∙ map-append step_of (take n steps) (drop n steps) in
+    ((fit_joined (map step_of (take n steps)) (map step_of (drop n steps)) (document_of document)).0 (subst (λ c. Fits c (document_of document)) apart fits)).0
+
+pub front_advances : (n end : ℕ) (steps part : List Step) (document after : Document) → n ≤ length part → Advances n (take end steps) part document after → Advances n steps (part ++ drop end steps) document after
+front_advances n end steps part document after within advances =
+    subst (λ whole. Advances n whole (part ++ drop end steps) document after) (take-append-drop end steps) (with_more n (take end steps) part (drop end steps) document after within advances)
+
+-- ---- behind steps that were made
+
+module _ (change : Change) (start : plain.Document) (from n : ℕ) (steps part : List Step) (document after : Document) (within : from ≤ length steps) (under : IsUnderway change start (reverse (take from steps)) (drop from steps) document) where
+  abbrev count : ℕ
+  count = length steps - from
+
+  abbrev whole : List Step
+  whole = put_mid from count steps part
+
+  pub behind_fits : Fits (map step_of (take count (drop from steps))) (document_of document)
+  behind_fits = front_fits count (drop from steps) document (rest_fits change start (reverse (take from steps)) (drop from steps) document under)
+
+  pub goes_behind : Advances n (take count (drop from steps)) part document after → IsUnderway change start (reverse (take (from + n) whole)) (drop (from + n) whole) after
+  goes_behind advances =
       let front = take from steps in
-      let made : reverse (take to (put_mid from (to - from) steps part)) ≡ reverse part ++ reverse front = ap reverse (take-put_mid from (to - from) steps part to (omega arith) (omega arith)) ∙ reverse-append front part in
-      let whole : to ≡ from + (to - from) = omega arith in
-      let behind : drop to (put_mid from (to - from) steps part) ≡ rest = drop-put_mid from (to - from) steps part to (omega arith) (omega arith) long ∙ ap (λ n. drop n steps) whole ∙ sym (drop-drop (to - from) from steps) in
-      rw (made, behind) (goes_on change start (reverse front) run rest part document after apart flipped.0 flipped.1)
+      let rest = drop from steps in
+      let left : length rest ≡ count = length-drop from steps in
+      let long : length front ≡ from = length-take-le from steps within in
+      let is : whole ≡ front ++ part = ap (λ none. front ++ (part ++ none)) (drop_all count rest (omega (arith, left))) ∙ ap (λ p. front ++ p) (append-nil part) in
+      let first : take (from + n) whole ≡ front ++ take n part = ap (take (from + n)) is ∙ ap (λ k. take (k + n) (front ++ part)) (sym long) ∙ take-append-add front part n in
+      let last : drop (from + n) whole ≡ drop n part = ap (drop (from + n)) is ∙ sym (drop-drop n from (front ++ part)) ∙ ap (drop n) (drop_at front part from long) in
+      let all = subst (λ r. Advances n r part document after) (take_all count rest (omega (arith, left))) advances in
+      rw (first, last, reverse-append front (take n part)) (all change start (reverse front) under)
 
-  -- a run that was refused is what it was, and those before it have room
-  pub made_have_room : AreFlipped false run part document after → HaveRoom (reverse (take from (put_mid from (to - from) steps part))) after
-  made_have_room kept =
-      subst (λ front. HaveRoom (reverse front) after) (sym front_stays) (have_room_keeps (reverse (take from steps)) document after kept.0 under.room)
+-- ---- steps in a list, one after the other
 
-  pub goes_back : AreFlipped false run part document after → go (map step_of (reverse (take from (put_mid from (to - from) steps part)))) (document_of after) ≡ start
-  goes_back kept =
-      rw (front_stays, ← keeps_stands document after kept.0) (leads_back change start (reverse (take from steps)) (drop from steps) document under)
+module _ (change : Change) (start : plain.Document) (made steps : List Step) (at : ℕ) (step next : Step) (document after : Document) (within : at < length steps) (is : step ≡ get_or steps at step) (under : IsUnderway change start (reverse (take at steps) ++ made) (drop at steps) document) where
+  behind : drop at steps ≡ step ∷ drop (at + 1) steps
+  behind = drop_more steps at step within ∙ ap (λ s. s ∷ drop (at + 1) steps) (sym is)
 
-  pub turned_back : (back : List Step) → AreFlipped false run part document after
-      → map step_of back ≡ turn (map step_of (reverse (take from (put_mid from (to - from) steps part)))) (document_of after)
-      → map step_of (back ++ drop from (put_mid from (to - from) steps part)) ≡ change
-  turned_back back kept is =
-      rw (map-append, is, front_stays, ← keeps_stands document after kept.0, drop_at (take from steps) (part ++ rest) from (length-take-le from steps (omega arith)), map-append step_of part rest, kept.1, ← map-append step_of run rest)
-      (turns_back change start (reverse (take from steps)) (run ++ rest) document apart)
+  there : IsUnderway change start (reverse (take at steps) ++ made) (step ∷ drop (at + 1) steps) document
+  there = subst (λ left. IsUnderway change start (reverse (take at steps) ++ made) left document) behind under
 
-pub run_fits : (change : Change) (start : plain.Document) (made steps : List Step) (from count : ℕ) (document : Document) → IsUnderway change start made (drop from steps) document → Fits (map step_of (take count (drop from steps))) (document_of document)
-run_fits change start made steps from count document under =
-    let run = take count (drop from steps) in
-    let rest = drop count (drop from steps) in
-    let fits = subst (λ left. Fits left (document_of document)) (ap (map step_of) (sym (take-append-drop count (drop from steps))) ∙ map-append step_of run rest) (rest_fits change start made (drop from steps) document under) in
-    ((fit_joined (map step_of run) (map step_of rest) (document_of document)).0 fits).0
+  pub next_fits : FitsStep (step_of step) (document_of document)
+  next_fits = let fits = rest_fits change start (reverse (take at steps) ++ made) (step ∷ drop (at + 1) steps) document there in fits.0
+
+  pub one_more : KeepsDocument (go_held_step step document) after → IsTurned step document next → IsUnderway change start (reverse (take (at + 1) (set steps at next)) ++ made) (drop (at + 1) (set steps at next)) after
+  one_more keeps turned =
+      rw (take_more_set steps at next within, reverse-append (take at steps) (next ∷ []), drop-set-lt (at + 1) steps at next (omega arith))
+      (goes_on change start (reverse (take at steps) ++ made) (step ∷ []) (drop (at + 1) steps) (next ∷ []) document after there keeps (turned, tt))
+
+  pub no_more : KeepsDocument document after → step_of next ≡ step_of step → IsUnderway change start (reverse (take at (set steps at next)) ++ made) (drop at (set steps at next)) after
+  no_more keeps same =
+      rw (take-set steps at next, drop-set steps at next within)
+      (stays change start (reverse (take at steps) ++ made) (step ∷ drop (at + 1) steps) (next ∷ drop (at + 1) steps) document after (ap (λ s. s ∷ map step_of (drop (at + 1) steps)) same) keeps there)
 
 -- ---- steps that are taken back, the last first
 

@@ -6,6 +6,7 @@ pub mod Joining
 pub mod Laws
 pub mod Room
 pub mod HeldChanges
+pub mod Underway
 pub mod Runs
 pub mod RunLaws
 pub mod FileSizes

@@ -6,14 +6,14 @@ ghost use Rattle.mvt_change.specs.ChangeStands.{change_of, step_of};
 ghost use Rattle.mvt_change.specs.Changes.{Fits, go, turn};
 
 use crate::change::{Change, Step};
-use crate::run::{flip_run, run_end};
+use crate::run::flip_first;
 use crate::taking_back::take_back;
 use mvt_document::Document;
 use std::alloc::{AllocError, Global};
 
 /// Carries the change out, and makes it the change that leads back. Steps on one list that follow
-/// each other are carried out in one pass over it. Where memory runs out, the steps that were made
-/// are taken back, and nothing has changed.
+/// each other are carried out in one pass over it, and steps on features of one layer in one visit of
+/// that. Where memory runs out, the steps that were made are taken back, and nothing has changed.
 pub fn flip(alloc: Global, document: &mut Document, change: &mut Change) -> Result<(), AllocError>
     requires { Fits (change_of change.old) (document_of document.old) }
     ensures document { document_of document.new ≡ (if is_ok result
@@ -40,12 +40,13 @@ fn flip_steps(alloc: Global, document: &mut Document, steps: &mut [Step]) -> Res
 {
     let mut made = 0;
     while made < steps.len() {
-        let end = run_end(steps, made);
-        if let Err(error) = flip_run(alloc, document, &mut steps[made..end]) {
-            take_back(document, &mut steps[..made]);
-            return Err(error);
+        match flip_first(alloc, document, &mut steps[made..]) {
+            Ok(more) => made += more,
+            Err(more) => {
+                take_back(document, &mut steps[..made + more]);
+                return Err(AllocError);
+            }
         }
-        made = end;
     }
     Ok(())
 }

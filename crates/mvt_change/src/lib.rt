@@ -21,6 +21,7 @@
 #![tactic(auto)]
 
 mod change;
+mod features;
 mod flip_change;
 mod joining;
 pub mod laws;

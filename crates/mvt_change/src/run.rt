@@ -1,15 +1,17 @@
 //! Steps that follow each other on one list: as splices of their list, and those on the list of the
 //! tile in one pass.
 
-ghost use Rattle.std.specs.Prelude.{◌<◌, ◌≤◌, length, map, slice_range, is_ok, IsTrue};
+ghost use Rattle.std.specs.Prelude.{◌<◌, ◌≤◌, length, map, slice_range, is_ok, IfOk, IsTrue};
 ghost use Rattle.std.specs.List.{AllByRecursion};
 ghost use Rattle.mvt_document.specs.Stands.{document_of};
 ghost use Rattle.mvt_change.specs.Changes.{Fits, OfTheTile};
 ghost use Rattle.mvt_change.specs.ChangeStands.{step_of};
 ghost use Rattle.mvt_change.specs.HeldChanges.{AreFlipped};
 ghost use Rattle.mvt_change.specs.Runs.{IsOn, IsRun, SharesList};
+ghost use Rattle.mvt_change.specs.Underway.{Advances, steps_made};
 
 use crate::change::Step;
+use crate::features::visit_layer;
 use crate::lists::{run_in_feature, run_in_layer};
 use crate::steps::flip_step;
 use mvt_document::{Document, Field, LayerItem, TileItem};
@@ -199,13 +201,33 @@ pub(crate) fn run_end(steps: &[Step], start: usize) -> usize
     end
 }
 
-/// Carries steps on one list out in one pass over it, or a step alone. Each becomes the step that
-/// leads back.
-pub(crate) fn flip_run(
+/// Carries the first steps out, and makes each the step that leads back: those on one list in one pass
+/// over it, and those that are each alone on a feature in one visit of its layer. How many they are; they
+/// are an `Err` where memory ran out at the next.
+pub(crate) fn flip_first(
     alloc: Global,
     document: &mut Document,
     steps: &mut [Step],
-) -> Result<(), AllocError>
+) -> Result<usize, usize>
+    requires some { 0 < length steps.old }
+    requires fits { Fits (map step_of steps.old) (document_of document.old) }
+    ensures some { IfOk result (λ n. 0 < n) }
+    ensures within { steps_made result ≤ length steps.old }
+    ensures made { Advances (steps_made result) steps.old steps.new document.old document.new }
+{
+    let end = run_end(steps, 0);
+    match steps[0] {
+        Step::InFeature { layer, .. } if end == 1 => visit_layer(document, layer, steps),
+        _ => match flip_run(alloc, document, &mut steps[..end]) {
+            Ok(()) => Ok(end),
+            Err(_) => Err(0),
+        },
+    }
+}
+
+/// Carries steps on one list out in one pass over it, or a step alone. Each becomes the step that
+/// leads back.
+fn flip_run(alloc: Global, document: &mut Document, steps: &mut [Step]) -> Result<(), AllocError>
     requires run { IsRun steps.old }
     requires fits { Fits (map step_of steps.old) (document_of document.old) }
     ensures { AreFlipped (is_ok result) steps.old steps.new document.old document.new }

@@ -1,36 +1,35 @@
-use Rattle.std.proofs.Common.{◌-◌, ◌≤◌, map, reverse, length, take, sym, ap, ◌∙◌, arith}
-use Rattle.std.proofs.lemmas.List.{length-append, length-take, length-drop, take_all, drop_all, reverse-reverse}
+use Rattle.std.proofs.Common.{◌≤◌, map, reverse, length, sym, ap, ◌∙◌, arith}
+use Rattle.std.proofs.lemmas.List.{length-append, length-take, length-drop, map-append, take_all, drop_all, reverse-reverse}
 use Rattle.mvt_change.specs.ChangeStands.{step_of}
 use Rattle.mvt_change.proofs.Changed.{map-reverse}
-use Rattle.mvt_change.proofs.Underway.{ends, run_fits, run_on, made_have_room, goes_back, turned_back}
+use Rattle.mvt_change.proofs.Underway.{behind_fits, ends, goes_behind, leads_back, turns_back}
 use Rattle.mvt_change.proofs.flip_change.flip_steps.Goals as goal
 
-pub flip_run-requires-clause-fits : goal.flip_run-requires-clause-fits
-flip_run-requires-clause-fits c =
-    run_fits _ _ (reverse (take c.loop-made.made c.loop-made.steps)) c.loop-made.steps c.loop-made.made (c.run_end-end.result - c.loop-made.made) c.loop-made.document c.loop-made.invariant.under
-
-pub take_back-requires : goal.take_back-requires
-take_back-requires c =
-    made_have_room _ _ c.loop-made.steps c.flip_run.new.steps c.loop-made.made c.run_end-end.result c.loop-made.document c.flip_run.new.document c.run_end-end.ensures.some c.run_end-end.ensures.within (omega (arith, c.flip_run.auto.steps)) c.loop-made.invariant.under
-    c.in-Err.ensures
-
-pub returns-in-Err-clause-document : goal.returns-in-Err-clause-document
-returns-in-Err-clause-document c =
-    c.take_back.ensures.document
-    ∙ goes_back _ _ c.loop-made.steps c.flip_run.new.steps c.loop-made.made c.run_end-end.result c.loop-made.document c.flip_run.new.document c.run_end-end.ensures.some c.run_end-end.ensures.within (omega (arith, c.flip_run.auto.steps)) c.loop-made.invariant.under
-    c.in-Err.ensures
-
-pub returns-in-Err-clause-steps : goal.returns-in-Err-clause-steps
-returns-in-Err-clause-steps c =
-    turned_back _ _ c.loop-made.steps c.flip_run.new.steps c.loop-made.made c.run_end-end.result c.loop-made.document c.flip_run.new.document c.run_end-end.ensures.some c.run_end-end.ensures.within (omega (arith, c.flip_run.auto.steps)) c.loop-made.invariant.under
-    c.take_back.new.steps c.in-Err.ensures c.take_back.ensures.steps
+pub flip_first-requires-clause-fits : goal.flip_first-requires-clause-fits
+flip_first-requires-clause-fits c =
+    behind_fits _ _ c.loop-made.made 0 c.loop-made.steps c.loop-made.steps c.loop-made.document c.loop-made.document c.loop-made.invariant.within c.loop-made.invariant.under
 
 pub loop-made-preserved : goal.loop-made-preserved
 loop-made-preserved c =
     record {
-      within = simp (length-append, length-take, length-drop) (omega (arith, c.flip_run.auto.steps, c.run_end-end.ensures.some, c.run_end-end.ensures.within));
-      under = run_on _ _ c.loop-made.steps c.flip_run.new.steps c.loop-made.made c.run_end-end.result c.loop-made.document c.flip_run.new.document c.run_end-end.ensures.some c.run_end-end.ensures.within (omega (arith, c.flip_run.auto.steps)) c.loop-made.invariant.under c.in_default.ensures;
+      within = simp (length-append, length-take, length-drop) (omega (arith, c.flip_first.auto.steps, c.in-Ok.ensures.within, c.loop-made.invariant.within));
+      under = goes_behind _ _ c.loop-made.made c.in-Ok.more c.loop-made.steps c.flip_first.new.steps c.loop-made.document c.flip_first.new.document c.loop-made.invariant.within c.loop-made.invariant.under c.in-Ok.ensures.made;
     }
+
+pub take_back-requires : goal.take_back-requires
+take_back-requires c =
+    let under = goes_behind _ _ c.loop-made.made c.in-Err.more c.loop-made.steps c.flip_first.new.steps c.loop-made.document c.flip_first.new.document c.loop-made.invariant.within c.loop-made.invariant.under c.in-Err.ensures.made in
+    under.room
+
+pub returns-in-Err-clause-document : goal.returns-in-Err-clause-document
+returns-in-Err-clause-document c =
+    c.take_back.ensures.document
+    ∙ leads_back _ _ _ _ c.flip_first.new.document (goes_behind _ _ c.loop-made.made c.in-Err.more c.loop-made.steps c.flip_first.new.steps c.loop-made.document c.flip_first.new.document c.loop-made.invariant.within c.loop-made.invariant.under c.in-Err.ensures.made)
+
+pub returns-in-Err-clause-steps : goal.returns-in-Err-clause-steps
+returns-in-Err-clause-steps c =
+    rw (map-append, c.take_back.ensures.steps)
+    (turns_back _ _ _ _ c.flip_first.new.document (goes_behind _ _ c.loop-made.made c.in-Err.more c.loop-made.steps c.flip_first.new.steps c.loop-made.document c.flip_first.new.document c.loop-made.invariant.within c.loop-made.invariant.under c.in-Err.ensures.made))
 
 pub returns-clause-document : goal.returns-clause-document
 returns-clause-document c =

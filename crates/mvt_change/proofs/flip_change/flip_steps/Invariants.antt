@@ -1,7 +1,7 @@
 use Rattle.std.proofs.Common.{◌-◌, ◌≤◌, length, map, reverse, take, drop}
 use Rattle.mvt_document.specs.Stands.{document_of}
 use Rattle.mvt_change.specs.ChangeStands.{step_of}
-use Rattle.mvt_change.proofs.Underway.{IsUnderway}
+use Rattle.mvt_change.specs.Underway.{IsUnderway}
 use Rattle.mvt_change.proofs.flip_change.flip_steps.Given as goal
 
 abbrev pub invariant-loop-made : goal.invariant-loop-made

@@ -1,0 +1,68 @@
+-- A change that is under way, and steps of it that are made on features of one layer.
+use Rattle.std.specs.Prelude.{◌≡◌, ℕ, ◌≤◌, List, ◌++◌, length, map, reverse, take, drop, Result, Ok, Err, Some}
+use Rattle.std.specs.List.{AllByRecursion}
+use Rattle.std.specs.Option.{IsSomeAnd}
+use Rattle.mvt_document.specs.Held.{Held}
+use Rattle.mvt_document.specs.Plain as plain
+use Rattle.mvt_document.specs.Stands.{document_of}
+use Rattle.mvt_document.specs.HeldPlaces.{held_items_at, held_fields_in_at, change_held_items}
+use Rattle.mvt_document.specs.declared.document.LayerItem.{LayerItem}
+use Rattle.mvt_document.specs.declared.document.Document.{Document}
+use Rattle.mvt_change.specs.declared.change.Step.{Step}
+use Rattle.mvt_change.specs.declared.change.Step.TheVariants.{InFeature}
+use Rattle.mvt_change.specs.ChangeStands.{step_of}
+use Rattle.mvt_change.specs.Changes.{Change, go, Fits, turn}
+use Rattle.mvt_change.specs.HeldChanges.{HasHeldPart, HaveRoom}
+
+-- the first steps of a change were made, and lead back from the document, with the room for it; the others are left
+pub record IsUnderway (change : Change) (start : plain.Document) (made rest : List Step) (document : Document) : Type 0 where
+  pub first : Change
+  pub all : first ++ map step_of rest ≡ change
+  pub fits : Fits change start
+  pub stands : document_of document ≡ go first start
+  pub turns : map step_of made ≡ turn first start
+  pub room : HaveRoom made document
+
+-- of a change that is under way so many of the steps that are left are made, and turned; the others are left
+abbrev pub Advances : ℕ → List Step → List Step → Document → Document → Type 0
+Advances n steps new document after =
+    (change : Change) (start : plain.Document) (made : List Step) → IsUnderway change start made steps document → IsUnderway change start (reverse (take n new) ++ made) (drop n new) after
+
+-- how many steps were made, of all or until memory ran out
+abbrev pub steps_made : Result ℕ ℕ → ℕ
+steps_made (Ok n) = n
+steps_made (Err n) = n
+
+-- ---- steps on features of one layer
+
+-- the step is on the fields of a feature of this layer
+abbrev pub IsInFeatureOf : ℕ → Step → Type 0
+IsInFeatureOf layer (InFeature other item index taken put) = other ≡ layer
+IsInFeatureOf layer step = ⊥
+
+-- the layer that a step on the fields of a feature is in
+abbrev pub layer_in : Step → ℕ
+layer_in (InFeature layer item index taken put) = layer
+layer_in step = 0
+
+-- the step is on the fields of a feature, which is one of these items, and takes out some that are there
+abbrev pub FindsFields : Held LayerItem → Step → Type 0
+FindsFields items (InFeature layer item index taken put) = IsSomeAnd (held_fields_in_at item items) (HasHeldPart index taken)
+FindsFields items step = ⊥
+
+-- the steps are on features of a layer of a document, and fit it; that layer has these items
+pub record FitInLayer (steps : List Step) (items : Held LayerItem) : Type 0 where
+  pub layer : ℕ
+  pub document : Document
+  pub there : held_items_at layer document ≡ Some items
+  pub features : AllByRecursion (IsInFeatureOf layer) steps
+  pub fits : Fits (map step_of steps) (document_of document)
+
+-- this holds of each document that has these items in the layer, and of the one that has others there
+abbrev pub InEach : ℕ → Held LayerItem → Held LayerItem → (Document → Document → Type 0) → Type 0
+InEach layer items made holds = (document : Document) → held_items_at layer document ≡ Some items → holds document (change_held_items (λ _. made) layer document)
+
+-- so many of the steps on features of a layer with these items are made
+pub record AdvancesIn (items made : Held LayerItem) (n : ℕ) (steps new : List Step) : Type 0 where
+  pub within : n ≤ length steps
+  pub made_there : (layer : ℕ) → AllByRecursion (IsInFeatureOf layer) steps → InEach layer items made (Advances n steps new)

@@ -1,0 +1,142 @@
+//! Steps on features of one layer, carried out in one visit of that layer.
+
+ghost use Rattle.std.specs.Prelude.{◌≡◌, ℕ, ◌<◌, ◌≤◌, length, map, take, is_ok, if◌then◌else◌, IfOk, IsTrue, OnErr, OnOk};
+ghost use Rattle.std.specs.List.{AllByRecursion};
+ghost use Rattle.std.specs.Option.{IsSomeAnd};
+ghost use Rattle.mvt_document.specs.Stands.{document_of};
+ghost use Rattle.mvt_document.specs.HeldPlaces.{change_held_fields, held_fields_at, held_fields_in_at};
+ghost use Rattle.mvt_change.specs.Changes.{Fits};
+ghost use Rattle.mvt_change.specs.ChangeStands.{step_of};
+ghost use Rattle.mvt_change.specs.Room.{KeepsDocument, KeepsField};
+ghost use Rattle.mvt_change.specs.HeldChanges.{ExchangesFirst, HasHeldPart, IsTurned, TakesOut, exchanged, go_held_step};
+ghost use Rattle.mvt_change.specs.Underway.{Advances, AdvancesIn, FindsFields, FitInLayer, InEach, IsInFeatureOf, layer_in, steps_made};
+
+use crate::change::Step;
+use crate::run::run_end;
+use mvt_document::{Document, Field, LayerItem, Message, Put, change_fields_in};
+use std::alloc::AllocError;
+use std::slice;
+
+/// Carries the first steps out that are each alone on a feature of this layer, and makes each the step
+/// that leads back. How many they are; they are an `Err` where memory ran out at the next.
+pub(crate) fn visit_layer(
+    document: &mut Document,
+    layer: usize,
+    steps: &mut [Step],
+) -> Result<usize, usize>
+    requires first { AllByRecursion (IsInFeatureOf layer) (take 1 steps.old) }
+    requires some { 0 < length steps.old }
+    requires fits { Fits (map step_of steps.old) (document_of document.old) }
+    ensures some { IfOk result (λ n. 0 < n) }
+    ensures within { steps_made result ≤ length steps.old }
+    ensures made { Advances (steps_made result) steps.old steps.new document.old document.new }
+{
+    let end = visit_end(steps, layer);
+    let made = flip_in_layer(document, layer, &mut steps[..end]);
+    if made < end {
+        return Err(made);
+    }
+    Ok(made)
+}
+
+/// Where the steps end that are each alone on a feature of this layer, as the first one is.
+fn visit_end(steps: &[Step], layer: usize) -> usize
+    requires first { AllByRecursion (IsInFeatureOf layer) (take 1 steps.now) }
+    requires some { 0 < length steps.now }
+    ensures some { 0 < result }
+    ensures within { result ≤ length steps.now }
+    ensures features { AllByRecursion (IsInFeatureOf layer) (take result steps.now) }
+{
+    let mut end = 1;
+    while end < steps.len() && is_in_feature(&steps[end], layer) && run_end(steps, end) == end + 1 {
+        end += 1;
+    }
+    end
+}
+
+/// Whether the step is on a feature of this layer.
+fn is_in_feature(step: &Step, layer: usize) -> bool
+    ensures { IsTrue result → IsInFeatureOf layer step.now }
+{
+    matches!(step, Step::InFeature { layer: other, .. } if *other == layer)
+}
+
+/// Carries steps on features of this layer out, and makes each the step that leads back. How many they
+/// are: all, if memory does not run out.
+fn flip_in_layer(document: &mut Document, layer: usize, steps: &mut [Step]) -> usize
+    requires some { 0 < length steps.old }
+    requires features { AllByRecursion (IsInFeatureOf layer) steps.old }
+    requires fits { Fits (map step_of steps.old) (document_of document.old) }
+    ensures within { result ≤ length steps.old }
+    ensures made { Advances result steps.old steps.new document.old document.new }
+{
+    document.change_items(
+        layer,
+        steps,
+        |items, steps|
+            requires { FitInLayer steps.old items.old }
+            ensures { AdvancesIn items.old items.new result steps.old steps.new }
+        { flip_features(items, steps) },
+    )
+}
+
+/// The same in the items of the layer.
+fn flip_features(items: &mut Message<LayerItem>, steps: &mut [Step]) -> usize
+    requires { FitInLayer steps.old items.old }
+    ensures { AdvancesIn items.old items.new result steps.old steps.new }
+{
+    for at in 0..steps.len() {
+        if flip_fields(items, &mut steps[at]).is_err() {
+            return at;
+        }
+    }
+    steps.len()
+}
+
+/// Carries a step on a feature of the layer with these items out, and makes it the step that leads back.
+fn flip_fields(items: &mut Message<LayerItem>, step: &mut Step) -> Result<(), AllocError>
+    requires { FindsFields items.old step.old }
+    ensures kept { InEach (layer_in step.old) items.old items.new (λ before after. KeepsDocument (if is_ok result then go_held_step step.old before else before) after) }
+    ensures turned { InEach (layer_in step.old) items.old items.new (λ before after. OnOk result (IsTurned step.old before step.new)) }
+    ensures same { OnErr result (step_of step.new ≡ step_of step.old) }
+{
+    let Step::InFeature {
+        item,
+        index,
+        take,
+        put,
+        ..
+    } = step
+    else {
+        unreachable!()
+    };
+    let given = put.len();
+    exchange_fields(items, *item, *index, *take, put)?;
+    *take = given;
+    Ok(())
+}
+
+/// In the feature at a position of a layer with these items, so many fields from an index on change
+/// places with the ones to put.
+fn exchange_fields(
+    items: &mut Message<LayerItem>,
+    item: usize,
+    index: usize,
+    taken: usize,
+    put: &mut Put<Field>,
+) -> Result<(), AllocError>
+    requires { IsSomeAnd (held_fields_in_at item items.old) (HasHeldPart index taken) }
+    ensures kept { (layer : ℕ) → InEach layer items.old items.new (λ before after. KeepsDocument (if is_ok result then change_held_fields (exchanged index taken put.old) layer item before else before) after) }
+    ensures given { (layer : ℕ) → InEach layer items.old items.new (λ before after. TakesOut index taken (is_ok result) (held_fields_at layer item before) put.old put.new) }
+    ensures same { OnErr result (put.new.items ≡ put.old.items) }
+{
+    change_fields_in(
+        items,
+        item,
+        slice::from_mut(put),
+        |list, put|
+            requires { HasHeldPart index taken list.old × (0 < length put.old) }
+            ensures { ExchangesFirst KeepsField index taken (is_ok result) list.old list.new put.old put.new }
+        { list.exchange(index, taken, &mut put[0]) },
+    )
+}
