@@ -10,6 +10,10 @@ import importlib.util
 import os
 import shutil
 import sys
+from collections import Counter
+
+# How many parts of a crate are proved at a time, at most, where nearly all of the others wait for it.
+JOBS_OF_A_BASE = 3
 
 
 def load():
@@ -26,6 +30,7 @@ def load():
     made.rtlib.Crate = made.Crate
     made.rtlib.guarded()
     remember_stamps(made.rtlib)
+    share_bases(made)
     return made
 
 
@@ -39,6 +44,27 @@ def remember_stamps(rtlib):
         return known[crate.folder]
 
     rtlib.Crate.stamp = stamp
+
+
+def share_bases(rt):
+    """Has a crate for which nearly all of the others wait proved in parts at a time, where memory holds them. `rt` gives the first crates a
+    processor each, and once the small ones are proved the others stand idle until the base of all is."""
+    in_lanes = rt.in_lanes
+
+    def shared(tasks):
+        waiting = Counter(it for waits, *_ in tasks.values() for it in set(waits))
+        jobs_of_a_base = min(JOBS_OF_A_BASE, rt.processors())
+
+        def share(key, waits, lines, needs, call):
+            # (`rt` too counts a further part as six tenths of the first)
+            needs_shared = needs * (1 + 0.6 * (jobs_of_a_base - 1))
+            if 5 * waiting[key] < 4 * len(tasks) or needs_shared > 0.85 * rt.free():
+                return waits, lines, needs, call
+            return waits, lines, needs_shared, lambda given, jobs: call(given, max(jobs, jobs_of_a_base))
+
+        return {key: share(key, *task) for key, task in tasks.items()}
+
+    rt.in_lanes = lambda tasks: in_lanes(tasks if "RT_JOBS" in os.environ else shared(tasks))
 
 
 def is_built(rt, library):
