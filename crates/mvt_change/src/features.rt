@@ -80,8 +80,24 @@ fn flip_in_layer(document: &mut Document, layer: usize, steps: &mut [Step]) -> u
     )
 }
 
-/// The same in the items of the layer.
+/// The same in the items of the layer. Where most of them change they are measured once, and not before and after each step.
 fn flip_features(items: &mut Message<LayerItem>, steps: &mut [Step]) -> usize
+    requires { FitInLayer steps.old items.old }
+    ensures { AdvancesIn items.old items.new result steps.old steps.new }
+{
+    let most_change = steps.len() > items.len() / 2;
+    if most_change {
+        items.forget_size();
+    }
+    let made = flip_each(items, steps);
+    if most_change {
+        items.measure();
+    }
+    made
+}
+
+/// The same, one step after the other.
+fn flip_each(items: &mut Message<LayerItem>, steps: &mut [Step]) -> usize
     requires { FitInLayer steps.old items.old }
     ensures { AdvancesIn items.old items.new result steps.old steps.new }
 {

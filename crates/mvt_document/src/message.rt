@@ -139,8 +139,8 @@ impl<T: Measured> Message<T> {
         sum_within(sum - part, 0, limit)
     }
 
-    /// Changes the item at this index, which stays of its kind, and the values beside. The size is that
-    /// of the items then, and the runs are the same.
+    /// Changes the item at this index, which stays of its kind, and the values beside. The size, where it was
+    /// known, is that of the items then, and the runs are the same.
     pub(crate) fn change_item<W, R, F: FnOnce(&mut T, &mut [W]) -> R>(
         &mut self,
         index: usize,
@@ -155,6 +155,22 @@ impl<T: Measured> Message<T> {
         let size = size_with(self.inner.as_slice(), index, others);
         self.kept.set_size(size);
         result
+    }
+
+    /// Lets go of how many bytes the items take. Before many of them change that saves measuring each of them twice: see `measure`.
+    pub fn forget_size(&mut self)
+        ensures { self.new ≡ self.old }
+    {
+        let unknown = None;
+        self.kept.set_size(unknown);
+    }
+
+    /// Measures the items, where it is not known how many bytes they take.
+    pub fn measure(&mut self)
+        ensures { self.new ≡ self.old }
+    {
+        let measured = self.size();
+        self.kept.set_size(measured);
     }
 
     /// How many bytes the items take, where that is known.
@@ -327,17 +343,13 @@ impl<T: Measured> Message<T> {
     }
 }
 
-/// How many bytes the items take, where those beside this one take so many. What is not known is
-/// measured.
+/// How many bytes the items take, where it is known how many those beside this one do.
 fn size_with<T: Measured>(items: &[T], index: usize, beside: Option<usize>) -> Option<usize>
     requires { IfSome beside (λ n. n ≡ bytes_beside T.bytes index items.now) }
     ensures { IsKept T.bytes items.now result }
 {
-    let Some(beside) = beside else {
-        return size_of_all(items, MAX_FILE);
-    };
     let item = items.get(index)?;
-    sum_within(beside, item.size()?, MAX_FILE)
+    sum_within(beside?, item.size()?, MAX_FILE)
 }
 
 /// Finds the runs of these items, where none were kept and the items are many.

@@ -10,7 +10,7 @@ use Rattle.mvt_change.proofs.Actions.{fits_finds}
 use Rattle.mvt_change.proofs.TurnedRuns.{err_then, ok_then}
 use Rattle.mvt_change.proofs.Underway.{begins, next_fits, no_more, one_more}
 use Rattle.mvt_change.proofs.Visits.{dropped_next, finds_fields, left_is, not_visited, then_visited, visited}
-use Rattle.mvt_change.proofs.features.flip_features.Goals as goal
+use Rattle.mvt_change.proofs.features.flip_each.Goals as goal
 
 pub loop-at-init : goal.loop-at-init
 loop-at-init c = record {

@@ -1,7 +1,7 @@
 use Rattle.std.proofs.Common.{◌≡◌, ℕ, ◌≤◌, length, drop}
 use Rattle.std.specs.List.{AllByRecursion}
 use Rattle.mvt_change.specs.Underway.{Advances, InEach, IsInFeatureOf}
-use Rattle.mvt_change.proofs.features.flip_features.Given as goal
+use Rattle.mvt_change.proofs.features.flip_each.Given as goal
 
 abbrev pub invariant-loop-at : goal.invariant-loop-at
 invariant-loop-at l = record {
