@@ -11,10 +11,10 @@ ghost use Rattle.mvt_edit_pairs.specs.EachFeature.{feature_steps, layer_steps};
 ghost use Rattle.mvt_edit_tags.specs.EachFeature.{tags_go};
 
 use mvt_change::{Change, Step};
-use mvt_document::{Document, Feature, Items};
+use mvt_document::{Document, Items};
 use mvt_edit_pairs::is_tags;
 use mvt_fates::{carry_out, goes_if};
-use mvt_select::{FoundFeature, FoundLayer, LayersChoice, Refusal, SelectedLayers, find_layers};
+use mvt_select::{FoundFeature, FoundLayer, LayersChoice, Refusal, find_layers};
 use std::alloc::{AllocError, Global};
 
 /// Each feature of the layers that are meant loses all its tags fields.
@@ -26,30 +26,13 @@ pub fn exclude_all(
     ensures { Prepares (ExcludeAll (layers_choice_of choice.now)) (document_of document.now) result }
 {
     let layers = find_layers(document, choice)?;
-    let mut steps = Vec::with_capacity(alloc, tagged_count(layers.clone()?))?;
+    let mut steps = Vec::new(alloc);
     for found in layers {
         untag_layer(alloc, found, &mut steps)?;
     }
     Ok(Change {
         steps: Items::from_vec(steps),
     })
-}
-
-/// How many features of the layers have tags fields, which mostly go in one step of a feature.
-fn tagged_count(layers: SelectedLayers<'_>) -> usize {
-    let mut count = 0_usize;
-    for found in layers {
-        let tagged = found
-            .view()
-            .features()
-            .filter(|found| has_tags(found.feature));
-        count = count.saturating_add(tagged.count());
-    }
-    count
-}
-
-fn has_tags(feature: &Feature) -> bool {
-    feature.fields().iter().any(|field| is_tags(field))
 }
 
 /// Puts the steps by which each feature of the layer loses its tags fields behind the others.
