@@ -16,7 +16,7 @@ import time
 from dataclasses import dataclass
 from pathlib import Path
 
-from functions import functions_of
+from functions import functions_of, inside
 
 # A line that the prover prints as it ends with a function.
 ENDED = re.compile(r"checked \w+::(\S+), \d+ of \d+")
@@ -98,25 +98,33 @@ class Copy:
             self.turned[edit.name] = Turned([function], {(file, at + function.first - edit.functions[0].first) for file, at in edit.lines})
         for edit in in_place:
             self.turned[edit.name] = Turned([by_name[it.name] for it in edit.functions], self.put_in_place(edit))
-        self.write()
         if is_lean:
             self.leave_out_proofs()
+        self.write()
 
     def write(self):
         for file, lines in self.files.items():
             Path(self.room, file).write_text("\n".join(lines))
 
     def leave_out_proofs(self):
-        """Leaves the functions that no edit turns without a proof, where nothing else needs it."""
+        """Leaves the functions that no edit turns without a proof and without a body, where nothing else needs their proof."""
         turned = {it.name for of in self.turned.values() for it in of.functions}
+        placed = {it.name: it for it in self.functions}
         for of in functions_of(self.crate.folder):
             if of.name not in turned and can_go_unproved(self.crate.folder, of):
+                self.leave_out_body(placed[of.name])
                 proof = Path(self.room, "proofs", *of.name.split("::"))
                 for file in proof.glob("*.antt"):
                     file.unlink()
                 proof.mkdir(parents=True, exist_ok=True)
                 # the prover makes no proof of its own where there is this file
                 proof.joinpath("Proof.antt").write_text("-- left out\n")
+
+    def leave_out_body(self, function):
+        """Puts a body that fits any signature into the place of a function's own. All lines stay where they are."""
+        lines = self.lines(function.file)
+        for at in (body := inside(lines, function)):
+            lines[at - 1] = "unreachable!()" if at == body[0] else ""
 
     def lines(self, file):
         return self.files.setdefault(file, lines_of(self.crate.folder, file))

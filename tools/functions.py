@@ -68,6 +68,14 @@ def last_line(lines, number, indent):
     return number
 
 
+def inside(lines, function):
+    """Returns the numbers of the lines of a function's body, between the braces. There are none where these stand in one line."""
+    indent = lines[function.last - 1].removesuffix("}")
+    opens = (at for at in range(function.first, function.last) if lines[at - 1].startswith(indent) and lines[at - 1].endswith("{"))
+    first = next((at for at in opens if not lines[at - 1].startswith(indent + " ")), function.last)
+    return range(first + 1, function.last)
+
+
 def functions_in(text, file, above, homes):
     """Returns the functions with a body in one file, whose own path is `above`. A trait's own are proved at each impl alone.
 
