@@ -9,7 +9,7 @@ from pathlib import Path
 import peers
 import plots
 from commands import LINES, commanded, commands
-from features import features, walked
+from features import RUNS_OF_FEATURES, features, walked
 from figures import WholeRun, keep
 from generate import LAYERS
 from measure import (COUNTED_MILLISECONDS, RUNS, RUNS_OF_LARGE, Program, costliest, count_instructions, measure,
@@ -69,7 +69,7 @@ LONG_SECONDS = 300
 READING = "undo\n"
 LISTING = 'list "{layer}"\n' + READING
 
-FEATURES_WALKED = "A line for each of many features: wall time in milliseconds, one run each"
+FEATURES_WALKED = f"A line for each of many features: wall time in milliseconds, medians of {RUNS_OF_FEATURES} runs"
 
 COMMANDS_TOLD = f"{LINES:,} lines of one command: wall time of a line in microseconds, tileshell alone"
 

@@ -1,8 +1,13 @@
 """The job `features`, of tileshell beside GDAL: a line for each of many features of one layer."""
+import statistics
+
 from measure import Program, run_once, script_of
 from report import Walked, shown, table
 
 FEATURES = 20_000
+
+# The median is taken of so many runs.
+RUNS_OF_FEATURES = 3
 
 # A run that takes more processor time is stopped.
 SECONDS = 300
@@ -37,9 +42,9 @@ def walked(tileshell, tile, with_gdal):
 
 
 def taken(program, tile, lines):
-    """The milliseconds of one run; none where it did not do its job."""
-    run = run_once(program, tile, script_of(lines, tile), SECONDS)
-    return run.milliseconds if run.is_done else None
+    """The milliseconds of a run; none where one did not do its job."""
+    runs = [run_once(program, tile, script_of(lines, tile), SECONDS) for _ in range(RUNS_OF_FEATURES)]
+    return statistics.median(run.milliseconds for run in runs) if all(run.is_done for run in runs) else None
 
 
 def features(walks):
