@@ -1,5 +1,5 @@
-//! Tests that cross crates: runs over devices that are interrupted or fail, and the order of what a
-//! run does. Whole runs have rows in `row_tests`, and the program has transcripts.
+//! Tests that cross crates: inputs, outputs and runs over devices that are interrupted or fail, and
+//! the order of what a run does. Whole runs have rows in `row_tests`, and the program has transcripts.
 #![tactic(auto)]
 
 #[cfg(test)]
@@ -8,3 +8,5 @@ mod memory;
 mod order;
 #[cfg(test)]
 mod troubles;
+#[cfg(test)]
+mod whole;

@@ -3,8 +3,8 @@
 ghost use Rattle.std.specs.Prelude.{◌≤◌};
 ghost use Rattle.mvt_history_steps.specs.declared.TheConstants.{MAX_DEPTH};
 
-use device_tests::drip::{Calls, DripSink, DripSource};
 use std::alloc::Global;
+use test_devices::drip::{Calls, DripSink, DripSource};
 use tileshell::{DeviceName, Options, Outcome, Sink, Source, run};
 
 /// How a run is to end, its replies, and the tile that it is to write.

@@ -1,12 +1,12 @@
 //! Runs whose devices are interrupted, and runs whose devices fail.
 
 use crate::memory::{Drips, Ran, Wanted, options, outcome_of};
-use device_tests::drip::{Calls, DripSink, DripSource};
-use device_tests::std_devices::{Deaf, Slip, SlipReader, SlipWriter};
 use std::alloc::Global;
 use std::io::{BufWriter, ErrorKind};
 use std::process::Abort;
 use std::test::Fail;
+use test_devices::drip::{Calls, DripSink, DripSource};
+use test_devices::std_devices::{Deaf, Slip, SlipReader, SlipWriter};
 use test_fixtures::tiles::{RENAME, ROADS, T0};
 use tileshell::{DeviceName, FromRead, FromWrite, Outcome, Sink};
 

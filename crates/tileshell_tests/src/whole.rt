@@ -1,9 +1,9 @@
 //! Whole inputs and outputs over devices.
 
-use crate::drip::{Calls, DripSink, DripSource};
-use crate::std_devices::Deaf;
 use std::io::{BufWriter, ErrorKind};
 use std::test::Fail;
+use test_devices::drip::{Calls, DripSink, DripSource};
+use test_devices::std_devices::Deaf;
 use tile_device::{
     FromRead, FromWrite, ReadFault, Retries, Sink, Source, Trouble, read_some, read_to_limit,
     write_all, write_and_flush,

@@ -1,6 +1,6 @@
 use Rattle.std.proofs.Common.{rules, arith, ◌≡◌, ℕ, ◌-◌, ◌<◌, List, [], ◌∷◌, ◌++◌, length, take, drop, slice_set, slice_index_or, sym, ap}
 use Rattle.std.proofs.lemmas.List.{take_rest}
-use Rattle.device_tests.proofs.drip.DripSourceSource.read.Goals as goal
+use Rattle.test_devices.proofs.drip.DripSourceSource.read.Goals as goal
 
 moved_first : (rest buffer : List ℕ) → 0 < length rest → 0 < length buffer
     → rest ≡ take 1 (slice_set buffer 0 (slice_index_or rest 0 0)) ++ take (length rest - 1) (drop 1 rest)
