@@ -134,30 +134,52 @@ impl Trial {
 
     fn attempt(self, alloc: Global) -> Result<Refused, Fault> {
         match self {
-            Trial::RenameLayer => there_and_back(alloc, &T0, rename(alloc, b"a", b"roads")?),
-            Trial::MoveLayer => there_and_back(alloc, &four_items(alloc)?, move_layer(1)),
-            Trial::DropLayer => there_and_back(alloc, &four_items(alloc)?, drop_layer()),
-            Trial::KeepLayers => there_and_back(alloc, &four_items(alloc)?, keep(alloc, b"a")?),
-            Trial::InsertFeature => there_and_back(alloc, &T0, polygon(alloc)?),
-            Trial::MoveFeature => there_and_back(alloc, TWO_IDS, move_feature(1)),
-            Trial::DropFeature => there_and_back(alloc, TWO_IDS, drop_feature()),
-            Trial::SetId => there_and_back(alloc, &T0, set_id(300)),
-            Trial::ClearId => there_and_back(alloc, &T0, clear_id()),
-            Trial::ClearIds => there_and_back(alloc, IDS_APART, clear_id()),
-            Trial::Shift => there_and_back(alloc, &T0, shift(-30, 3)),
-            Trial::SetGeometry => there_and_back(alloc, &T0, another_polygon(alloc)?),
-            Trial::Set => there_and_back(alloc, &T0, set(alloc, b"k", 6)?),
-            Trial::SetNew => there_and_back(alloc, &T0, set(alloc, b"m", 6)?),
-            Trial::Unset => there_and_back(alloc, &T0, unset(alloc, b"k")?),
-            Trial::RenameKey => there_and_back(alloc, &T0, rename_key(alloc, b"k", b"kind")?),
-            Trial::Exclude => there_and_back(alloc, &four_items(alloc)?, exclude(alloc, b"k")?),
-            Trial::ExcludeAll => there_and_back(alloc, &four_items(alloc)?, exclude_all()),
-            Trial::CompactKeys => there_and_back(alloc, UNUSED, compact_keys()),
-            Trial::CompactValues => there_and_back(alloc, UNUSED, compact_values()),
-            Trial::Compact => there_and_back(alloc, UNUSED, compact()),
             Trial::SetTwice => flip_twice(alloc, &mut set_twice(alloc)?),
             Trial::Series => flip_twice(alloc, &mut a_series(alloc)?),
+            _ => there_and_back(alloc, &self.tile(alloc)?, self.command(alloc)?),
         }
+    }
+
+    /// The tile of a trial of one command.
+    fn tile(self, alloc: Global) -> Result<Vec<u8>, AllocError> {
+        match self {
+            Trial::MoveLayer
+            | Trial::DropLayer
+            | Trial::KeepLayers
+            | Trial::Exclude
+            | Trial::ExcludeAll => four_items(alloc),
+            Trial::MoveFeature | Trial::DropFeature => joined(alloc, &[TWO_IDS]),
+            Trial::ClearIds => joined(alloc, &[IDS_APART]),
+            Trial::CompactKeys | Trial::CompactValues | Trial::Compact => joined(alloc, &[UNUSED]),
+            _ => joined(alloc, &[T0.as_slice()]),
+        }
+    }
+
+    /// The command of a trial of one.
+    fn command(self, alloc: Global) -> Result<Command, Fault> {
+        Ok(match self {
+            Trial::RenameLayer => rename(alloc, b"a", b"roads")?,
+            Trial::MoveLayer => move_layer(1),
+            Trial::DropLayer => drop_layer(),
+            Trial::KeepLayers => keep(alloc, b"a")?,
+            Trial::InsertFeature => polygon(alloc)?,
+            Trial::MoveFeature => move_feature(1),
+            Trial::DropFeature => drop_feature(),
+            Trial::SetId => set_id(300),
+            Trial::ClearId | Trial::ClearIds => clear_id(),
+            Trial::Shift => shift(-30, 3),
+            Trial::SetGeometry => another_polygon(alloc)?,
+            Trial::Set => set(alloc, b"k", 6)?,
+            Trial::SetNew => set(alloc, b"m", 6)?,
+            Trial::Unset => unset(alloc, b"k")?,
+            Trial::RenameKey => rename_key(alloc, b"k", b"kind")?,
+            Trial::Exclude => exclude(alloc, b"k")?,
+            Trial::ExcludeAll => exclude_all(),
+            Trial::CompactKeys => compact_keys(),
+            Trial::CompactValues => compact_values(),
+            Trial::Compact => compact(),
+            Trial::SetTwice | Trial::Series => return Err(Fault::NoCommand),
+        })
     }
 }
 
