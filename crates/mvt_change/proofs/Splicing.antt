@@ -1,10 +1,11 @@
 -- A list with a part replaced or an item moved: what leads back, its length, and its items.
-use Rattle.std.proofs.Common.{◌≡◌, ℕ, ◌+◌, ◌<◌, ◌≤◌, List, [], ◌++◌, length, length-append, length-drop, take, drop, take-append-drop, append_assoc, refl, sym, ap, ◌∙◌, arith}
+use Rattle.std.proofs.Common.{◌≡◌, ℕ, ◌+◌, ◌<◌, ◌≤◌, List, [], ◌++◌, length, length-append, length-drop, take, drop, take-append-drop, append_assoc, sym, ap, ◌∙◌, arith}
 use Rattle.std.proofs.lemmas.List.{length-take-le, take_at, drop_at, drop-drop}
 use Rattle.std.specs.List.{AllByRecursion}
 use Rattle.mvt_document.specs.Splicing.{part, splice, moved}
 use Rattle.mvt_document.specs.Lists.{CanSplice, CanMove}
 use Rattle.mvt_document.proofs.EachItem.{all_dropped, all_joined, all_taken}
+use Rattle.mvt_document.proofs.Exchanged.{part-splice}
 
 pub length-part : {A : Type 0} (index count : ℕ) (items : List A) → index + count ≤ length items → length (part index count items) ≡ count
 length-part index count items within = length-take-le count (drop index items) (omega (arith, length-drop index items))
@@ -24,10 +25,6 @@ take-splice index taken put items within =
 drop-splice : {A : Type 0} (index taken : ℕ) (put items : List A) → index ≤ length items → drop (index + length put) (splice index taken put items) ≡ drop (index + taken) items
 drop-splice index taken put items within =
     drop_at (take index items ++ put) (drop (index + taken) items) (index + length put) (length_front index put items within)
-
-pub part-splice : {A : Type 0} (index taken : ℕ) (put items : List A) → index ≤ length items → part index (length put) (splice index taken put items) ≡ put
-part-splice index taken put items within =
-    rw (append_assoc, drop_at (take index items) (put ++ drop (index + taken) items) index (length-take-le index items within)) (take_at put (drop (index + taken) items) (length put) refl)
 
 -- the front, a part and the rest are the list
 pieces_join : {A : Type 0} (index taken : ℕ) (items : List A) → take index items ++ part index taken items ++ drop (index + taken) items ≡ items

@@ -10,8 +10,9 @@ use Rattle.mvt_document.specs.Splicing.{splice, moved}
 use Rattle.mvt_document.specs.Lists.{CanSplice, CanMove}
 use Rattle.mvt_change.specs.Changes.{Step, SpliceStep, MoveStep, Change, list_at, change_list, IsItemAt, go_step, go, FitsStep, Fits, turn_step, turn, taken_out}
 use Rattle.mvt_change.specs.Laws.{ChangeMakesDocument, TurnedFits, TurnedLeadsBack, TurnedTwice, JoinedGo, JoinedFit}
+use Rattle.mvt_document.proofs.Exchanged.{part-splice}
 use Rattle.mvt_document.proofs.Options.{where_some, if_each, if_both, some_mapped}
-use Rattle.mvt_change.proofs.Splicing.{length-part, part-splice, splice-back, moved-back, all_splice, all_moved, can_splice_back, can_move_back}
+use Rattle.mvt_change.proofs.Splicing.{length-part, splice-back, moved-back, all_splice, all_moved, can_splice_back, can_move_back}
 use Rattle.mvt_change.proofs.Lenses.{goes_back, found_there, list_part, list_sound}
 
 -- ---- one step

@@ -1,5 +1,5 @@
 -- Lists whose items change places.
-use Rattle.std.proofs.Common.{◌≡◌, ℕ, ◌+◌, ◌-◌, ◌<◌, ◌≤◌, List, [], ◌∷◌, ◌++◌, length, set, length-append, length-drop, take, drop, take-append-drop, append_assoc, sym, ap, ◌∙◌, arith}
+use Rattle.std.proofs.Common.{◌≡◌, ℕ, ◌+◌, ◌-◌, ◌<◌, ◌≤◌, List, [], ◌∷◌, ◌++◌, length, set, length-append, length-drop, take, drop, take-append-drop, append_assoc, refl, sym, ap, ◌∙◌, arith}
 use Rattle.std.proofs.lemmas.List.{append-nil, length-take-le, take_all, take_at, drop_all, drop_at, drop-drop, drop-take, take-take, take-set, drop-set}
 use borrow.Rule.Slice.PartMut.{put_mid}
 use Rattle.mvt_document.specs.Splicing.{moved, part, splice}
@@ -11,6 +11,11 @@ part_behind index count left items turned is within rest =
     omega (arith, length-append (take index items) (drop (index + count) items), length-take-le index items (omega arith), length-drop (index + count) items) in
     ap (drop left) (is ∙ sym (append_assoc (take index items) (drop (index + count) items) (part index count items)))
     ∙ drop_at (take index items ++ drop (index + count) items) (part index count items) left front
+
+-- what came stands where it was put
+pub part-splice : {A : Type 0} (index taken : ℕ) (put items : List A) → index ≤ length items → part index (length put) (splice index taken put items) ≡ put
+part-splice index taken put items within =
+    rw (append_assoc, drop_at (take index items) (put ++ drop (index + taken) items) index (length-take-le index items within)) (take_at put (drop (index + taken) items) (length put) refl)
 
 take_more_items : {A : Type 0} (n m : ℕ) (items : List A) → take n items ++ take m (drop n items) ≡ take (n + m) items
 take_more_items n m items =

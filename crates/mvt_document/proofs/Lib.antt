@@ -12,3 +12,4 @@ pub mod Wholes
 pub mod Exchanged
 pub mod Signed
 pub mod Placing
+pub mod Hashing

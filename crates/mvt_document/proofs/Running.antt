@@ -1,8 +1,7 @@
 -- Lists of which one run is true, as far as they are known: joined, parted and spliced.
 use Rattle.std.proofs.Common.{◌≡◌, ℕ, zero, suc, ◌+◌, ◌-◌, ◌<◌, ◌≤◌, Bool, true, false, Option, Some, None, List, [], ◌∷◌, ◌++◌, length, length-append, length-drop, take, drop, take-append-drop, get_or, map, min, refl, sym, ap, ◌∙◌, subst, append_assoc, arith}
 use Rattle.std.specs.Prelude.{if◌then◌else◌, replicate, slice_get, slice_set, IfSome, IsTrue}
-use Rattle.std.proofs.Math.Seq.{get_or-append_seam}
-use Rattle.std.proofs.lemmas.List.{get_or-append_right, get_or_append_left, get_or-replicate, append-nil, drop-map, drop-replicate, drop_all, drop_at, drop_more, length-map, length-replicate, length-take-le, map-append, replicate-append-replicate, replicate_more, take-map, take_all, take_at, take_more, take-set, drop-set-lt}
+use Rattle.std.proofs.lemmas.List.{append-nil, drop-map, drop-replicate, drop_all, drop_more, length-map, length-replicate, length-take-le, map-append, replicate-append-replicate, replicate_more, take-map, take_all, take_more}
 use Rattle.mvt_document.specs.declared.run.Kind.{Kind}
 use Rattle.mvt_document.specs.declared.run.Kind.TheVariants as kind
 use Rattle.mvt_document.specs.declared.run.Run.{Run}
@@ -244,7 +243,7 @@ pub same_more : {T : Type 0} (f : T → Bool) (xs : List T) (i : ℕ) (x : T) (v
 same_more f xs i x value inside is same so_far =
     sym (mapped_more f xs i x inside is) ∙ ap (λ front. front ++ f x ∷ []) so_far ∙ ap (λ v. replicate i value ++ v ∷ []) same ∙ replicate_more i value
 
-pub spliced_values : {T : Type 0} (f : T → Bool) (index taken : ℕ) (put items : List T) → splice index taken (map f put) (map f items) ≡ map f (splice index taken put items)
+pub spliced_values : {T A : Type 0} (f : T → A) (index taken : ℕ) (put items : List T) → splice index taken (map f put) (map f items) ≡ map f (splice index taken put items)
 spliced_values f index taken put items =
     ap (λ front. (front ++ map f put) ++ drop (index + taken) (map f items)) (take-map f index items)
     ∙ ap (λ back. (map f (take index items) ++ map f put) ++ back) (drop-map f (index + taken) items)

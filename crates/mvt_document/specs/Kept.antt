@@ -1,12 +1,14 @@
--- What a message keeps of its size and of its runs.
+-- What a message keeps of its size, of its runs and of the ids in it.
 use Rattle.std.specs.Prelude.{◌≡◌, ℕ, suc, ◌+◌, List, length, take, drop, Option, IfSome}
 use Rattle.std.specs.List.{flat_map}
 use Rattle.mvt_document.specs.declared.run.Runs.{Runs}
 
--- what a message keeps beside its items: how many bytes they take, and their runs, as far as that is known
+-- what a message keeps beside its items: how many bytes they take, and their runs, as far as that is known, and the
+-- hashes of the ids of those at the front
 pub record Kept : Type 0 where
   pub size : Option ℕ
   pub runs : Option Runs
+  pub hashes : List ℕ
 
 -- where the sum is known, it is how many bytes the items take
 abbrev pub IsKept : {T : Type 0} → (T → List ℕ) → List T → Option ℕ → Type 0

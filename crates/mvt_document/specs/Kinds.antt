@@ -1,5 +1,5 @@
--- Of which kind an item is.
-use Rattle.std.specs.Prelude.{ℕ, ◌/◌, ◌==◌, Bool, true, false, if◌then◌else◌}
+-- Of which kind an item is, and the hash of its id.
+use Rattle.std.specs.Prelude.{ℕ, ◌/◌, ◌==◌, Bool, true, false, map, if◌then◌else◌}
 use Rattle.mvt_document.specs.declared.body.Body.{Body}
 use Rattle.mvt_document.specs.declared.body.Body.TheVariants as in_body
 use Rattle.mvt_document.specs.declared.field.FieldParts.{FieldParts as Field}
@@ -7,6 +7,9 @@ use Rattle.mvt_document.specs.declared.document.LayerItem.{LayerItem}
 use Rattle.mvt_document.specs.declared.document.LayerItem.TheVariants as in_layer
 use Rattle.mvt_document.specs.declared.document.TileItem.{TileItem}
 use Rattle.mvt_document.specs.declared.document.TileItem.TheVariants as in_tile
+use Rattle.mvt_document.specs.FieldStands.{field_of}
+use Rattle.mvt_document.specs.Hashes.{hash_of}
+use Rattle.mvt_document.specs.Values.{last_value}
 use Rattle.mvt_document.specs.declared.run.Kind.{Kind}
 use Rattle.mvt_document.specs.declared.run.Kind.TheVariants as kind
 
@@ -47,3 +50,8 @@ in_tile_of_kind kind.Name item = false
 in_tile_of_kind kind.Message item = is_layer item
 in_tile_of_kind kind.Key item = false
 in_tile_of_kind kind.Value item = false
+
+-- the hash of the id of a feature (tiles 4.2); of another field of a layer it is 0
+abbrev pub layer_item_hash : LayerItem → ℕ
+layer_item_hash (in_layer.Feature feature) = hash_of (last_value 1 (map field_of feature.fields.items))
+layer_item_hash (in_layer.Plain field) = 0

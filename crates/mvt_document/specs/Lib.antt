@@ -19,6 +19,7 @@ pub mod LendingKept
 pub mod Stands
 pub mod Values
 pub mod StoredIds
+pub mod Hashes
 pub mod Kinds
 pub mod KindLaws
 pub mod Parts

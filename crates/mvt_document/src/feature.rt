@@ -2,6 +2,7 @@
 
 ghost use Rattle.std.specs.Prelude.{◌≡◌, IfSome};
 ghost use Rattle.mvt_document.specs.Shape.{IsWidth};
+ghost use Rattle.mvt_document.specs.Hashes.{hash_of};
 ghost use Rattle.mvt_document.specs.StoredIds.{known_id};
 
 use crate::field::Field;
@@ -167,5 +168,15 @@ impl Feature {
         self.id_high = id.high;
         self.id_low = id.low;
         result
+    }
+}
+
+/// The hash of an id, its last four bytes; 0 where there is none. An id of another hash is another id.
+pub fn hash_of(id: Option<u64>) -> u32
+    ensures { result ≡ hash_of id }
+{
+    match id {
+        Some(id) => (id % FOUR_BYTES) as u32,
+        None => 0,
     }
 }

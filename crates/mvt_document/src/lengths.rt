@@ -1,4 +1,4 @@
-//! The sizes of the messages of a tile, and the kinds of items. The size of a layer comes from the one
+//! The sizes of the messages of a tile, the kinds of items, and the hashes of their ids. The size of a layer comes from the one
 //! that its message keeps.
 
 ghost use Rattle.std.specs.Prelude.{◌≡◌, false};
@@ -6,11 +6,11 @@ ghost use Rattle.mvt_document.specs.Wire.{body_bytes, field_bytes, feature_bytes
 ghost use Rattle.mvt_document.specs.Bodies.{body_seen};
 ghost use Rattle.mvt_document.specs.Stands.{field_of, feature_of, layer_item_of, layer_of, tile_item_of};
 ghost use Rattle.mvt_document.specs.KindLaws.{of_none, one_in_layer, one_in_tile};
-ghost use Rattle.mvt_document.specs.Kinds.{in_layer_of_kind, in_tile_of_kind, is_delimited_field};
+ghost use Rattle.mvt_document.specs.Kinds.{in_layer_of_kind, in_tile_of_kind, is_delimited_field, layer_item_hash};
 
 use crate::body::BodyRef;
 use crate::document::{Layer, LayerItem, TileItem};
-use crate::feature::Feature;
+use crate::feature::{Feature, hash_of};
 use crate::field::Field;
 use crate::measure::{Measured, delimited_size, message_size, size_of_all, sum_within};
 use crate::run::Kind;
@@ -22,6 +22,8 @@ impl Measured for BodyRef<'_> {
     ghost of_kind = { λ _ _. false };
 
     ghost one_kind = { of_none };
+
+    ghost id_hash = { λ _. 0 };
 
     fn is_of(&self, _kind: Kind) -> bool {
         false
@@ -45,6 +47,8 @@ impl Measured for Field {
 
     ghost one_kind = { of_none };
 
+    ghost id_hash = { λ _. 0 };
+
     fn is_of(&self, _kind: Kind) -> bool {
         false
     }
@@ -64,6 +68,8 @@ impl Measured for Feature {
     ghost of_kind = { λ _ _. false };
 
     ghost one_kind = { of_none };
+
+    ghost id_hash = { λ _. 0 };
 
     fn is_of(&self, _kind: Kind) -> bool {
         false
@@ -86,6 +92,8 @@ impl Measured for LayerItem {
 
     ghost one_kind = { one_in_layer };
 
+    ghost id_hash = { layer_item_hash };
+
     #[inline(always)]
     fn is_of(&self, kind: Kind) -> bool {
         match (self, kind) {
@@ -103,6 +111,13 @@ impl Measured for LayerItem {
             LayerItem::Plain(field) => field.size_within(limit),
         }
     }
+
+    fn id_hash(&self) -> Option<u32> {
+        match self {
+            LayerItem::Feature(feature) => Some(hash_of(feature.id())),
+            LayerItem::Plain(_) => Some(0),
+        }
+    }
 }
 
 impl Measured for Layer {
@@ -111,6 +126,8 @@ impl Measured for Layer {
     ghost of_kind = { λ _ _. false };
 
     ghost one_kind = { of_none };
+
+    ghost id_hash = { λ _. 0 };
 
     fn is_of(&self, _kind: Kind) -> bool {
         false
@@ -132,6 +149,8 @@ impl Measured for TileItem {
     ghost of_kind = { in_tile_of_kind };
 
     ghost one_kind = { one_in_tile };
+
+    ghost id_hash = { λ _. 0 };
 
     #[inline(always)]
     fn is_of(&self, kind: Kind) -> bool {

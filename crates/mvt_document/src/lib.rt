@@ -23,6 +23,9 @@
 //!   each in one run, with nothing between them, up to some position. Before that just the items of the
 //!   run are of the kind, after every change, which the type of the list keeps (`AreRunsOf`):
 //!   `Message::runs`.
+//! - The hash of an id is its last four bytes, and that of an item of a layer that of its id (`hash_of`,
+//!   `Measured::id_hash`). A layer may keep the hashes of the items at its front; those that it keeps are the right
+//!   ones after every change, which the type of the list keeps (`AreHashes`): `Message::id_hashes`.
 //! - Items of a list change places with those of another, as many for as many or for more or fewer,
 //!   and an item moves within its list: `exchange` and `move_item` of `Items` and of `Message`.
 //!   Where memory runs out nothing has changed, and it does not where both lists have the room
@@ -74,7 +77,7 @@ mod zigzag;
 
 pub use body::{Body, BodyRef};
 pub use document::{Document, Layer, LayerItem, TileItem};
-pub use feature::{Feature, FeatureParts};
+pub use feature::{Feature, FeatureParts, hash_of};
 pub use field::{Field, FieldParts};
 pub use items::Items;
 pub use measure::{Measured, message_size, size_beside_part, size_of_all, sum_within};

@@ -1,7 +1,7 @@
-//! How many bytes a value takes, and of which kind it is, by one trait that each type of a document
-//! has.
+//! How many bytes a value takes, of which kind it is, and the hash of its id, by one trait that each type of a
+//! document has.
 
-ghost use Rattle.std.specs.Prelude.{◌≡◌, ℕ, ◌+◌, ◌≤◌, Bool, false, IsTrue, List, [], ◌++◌, length, max};
+ghost use Rattle.std.specs.Prelude.{◌≡◌, ℕ, ◌+◌, ◌≤◌, Bool, false, IfSome, IsTrue, List, [], ◌++◌, length, max};
 ghost use Rattle.std.specs.Option.{SomeIff};
 ghost use Rattle.std.specs.List.{flat_map};
 ghost use Rattle.mvt_document.specs.declared.TheConstants.{MAX_FILE};
@@ -15,8 +15,8 @@ use crate::run::Kind;
 use crate::tag::Tag;
 use crate::varint::{Varint, least_width};
 
-/// A value that is written as bytes, of which it is known how many they are, and of which kind it is in
-/// the list of a message.
+/// A value that is written as bytes, of which it is known how many they are, of which kind it is in the list of a
+/// message, and which hash its id has there.
 pub trait Measured {
     ghost bytes: { Self → List ℕ };
 
@@ -24,6 +24,8 @@ pub trait Measured {
 
     /// It is of one kind at most.
     ghost one_kind: { (is other : Kind) (x : Self) → IsTrue (of_kind is x) → IsTrue (of_kind other x) → is ≡ other };
+
+    ghost id_hash: { Self → ℕ };
 
     /// Whether it is of this kind.
     fn is_of(&self, kind: Kind) -> bool
@@ -38,6 +40,13 @@ pub trait Measured {
         ensures { SomeIff result (length (bytes self.now) ≤ MAX_FILE) (length (bytes self.now)) }
     {
         self.size_within(MAX_FILE)
+    }
+
+    /// The hash of its id, where its kind has one.
+    fn id_hash(&self) -> Option<u32>
+        ensures { IfSome result (λ hash. hash ≡ id_hash self.now) }
+    {
+        None
     }
 }
 
@@ -103,6 +112,8 @@ impl Measured for Varint {
     ghost of_kind = { λ _ _. false };
 
     ghost one_kind = { of_none };
+
+    ghost id_hash = { λ _. 0 };
 
     fn is_of(&self, _kind: Kind) -> bool {
         false

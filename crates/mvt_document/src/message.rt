@@ -6,6 +6,7 @@ ghost use Rattle.std.specs.Prelude.{◌≡◌, ◌≤◌, ◌+◌, ◌++◌, ℕ
 ghost use Rattle.std.specs.List.{flat_map};
 ghost use Rattle.std.specs.Option.{SomeIff};
 ghost use Rattle.mvt_document.specs.declared.TheConstants.{MAX_FILE};
+ghost use Rattle.mvt_document.specs.Hashes.{AreHashes};
 ghost use Rattle.mvt_document.specs.Kept.{IsKept, bytes_beside};
 ghost use Rattle.mvt_document.specs.Runs.{AreRunsOf};
 
@@ -32,6 +33,7 @@ pub struct Message<T: Measured> {
 impl<T: Measured> Model for Message<T> {
     ghost use Rattle.std.specs.Prelude.{◌-◌, IfSome, vec_len, vec_capacity};
     ghost use Rattle.mvt_document.specs.Held.{Held};
+    ghost use Rattle.mvt_document.specs.Hashes.{AreHashes};
     ghost use Rattle.mvt_document.specs.Kept.{IsKept};
     ghost use Rattle.mvt_document.specs.Runs.{AreRunsOf};
 
@@ -39,7 +41,7 @@ impl<T: Measured> Model for Message<T> {
 
     ghost view = { λ l. record { items = l.inner.items; room = vec_capacity l.inner - vec_len l.inner } };
 
-    ghost invariant = { λ l. IsKept T.bytes l.inner.items l.kept.size × IfSome l.kept.runs (λ runs. AreRunsOf T.of_kind runs l.inner.items) };
+    ghost invariant = { λ l. IsKept T.bytes l.inner.items l.kept.size × IfSome l.kept.runs (λ runs. AreRunsOf T.of_kind runs l.inner.items) × AreHashes T.id_hash l.kept.hashes l.inner.items };
 }
 
 impl<T: Measured> Message<T> {
@@ -47,6 +49,7 @@ impl<T: Measured> Message<T> {
     ghost use Rattle.std.specs.Option.{IsSomeAnd};
     ghost use Rattle.mvt_document.specs.Splicing.{moved, part, splice};
     ghost use Rattle.std.specs.Borrow.{sem};
+    ghost use Rattle.mvt_document.specs.Hashes.{AreHashes};
     ghost use Rattle.mvt_document.specs.Kept.{IsKept, bytes_beside};
     ghost use Rattle.mvt_document.specs.Runs.{AreRunsOf, IsRunOf};
     ghost use Rattle.mvt_document.specs.HeldPlaces.{change_held_at};
@@ -85,6 +88,13 @@ impl<T: Measured> Message<T> {
             Some(runs) => runs,
             None => Runs::unknown(),
         }
+    }
+
+    /// The hashes of the ids of the items at the front, as far as they are kept.
+    pub fn id_hashes(&self) -> &[u32]
+        ensures { AreHashes T.id_hash result.now self.now.items }
+    {
+        self.kept.hashes()
     }
 
     /// The run of the items of this kind.
@@ -154,6 +164,7 @@ impl<T: Measured> Message<T> {
         let result = change(&mut self.inner[index], beside);
         let size = size_with(self.inner.as_slice(), index, others);
         self.kept.set_size(size);
+        self.kept.set_hash(index, &self.inner[index]);
         result
     }
 
@@ -180,17 +191,18 @@ impl<T: Measured> Message<T> {
         self.kept.size()
     }
 
-    /// The vector that the items are in. The size and the runs are no longer known: see `know_size`.
+    /// The vector that the items are in. The size, the runs and the hashes are no longer known: see `know_size`.
     pub fn as_vec_mut(&mut self) -> &mut Vec<T>
         ensures* writes_back { sem 𝓛 (LendsVecKept T.row T.Measured self.entry result) }
         ensures value { held_in result.now ≡ self.old }
     {
         self.kept.set_size(None);
         self.kept.set_runs(Runs::unknown());
+        self.kept.cut_hashes(0);
         &mut self.inner
     }
 
-    /// Knows the size again, and the runs.
+    /// Knows the size again, the runs and the hashes.
     pub fn know_size(&mut self, known: Option<usize>)
         requires { IsKept T.bytes self.old.items known }
         ensures { self.new ≡ self.old }
@@ -300,7 +312,10 @@ impl<T: Measured> Message<T> {
     {
         let size = self.size_exchanged(index, taken, put);
         let runs = self.runs_exchanged(index, taken, put);
+        let given = put.len();
         put.exchange_in(&mut self.inner, index, taken)?;
+        let come = &self.inner[index..index + given];
+        self.kept.exchange_hashes(index, taken, come);
         keep(&mut self.kept, &self.inner, size, runs);
         Ok(())
     }
@@ -338,6 +353,7 @@ impl<T: Measured> Message<T> {
         ensures room { self.new.room ≡ self.old.room }
     {
         let runs = self.runs_moved(from, to);
+        self.kept.move_hash(self.inner.as_slice(), from, to);
         move_item(self.inner.as_mut_slice(), from, to);
         self.kept.set_runs(runs);
     }
@@ -352,18 +368,20 @@ fn size_with<T: Measured>(items: &[T], index: usize, beside: Option<usize>) -> O
     sum_within(beside?, item.size()?, MAX_FILE)
 }
 
-/// Finds the runs of these items, where none were kept and the items are many.
+/// Finds the runs of these items and the hashes, where none were kept and the items are many.
 fn find_runs<T: Measured>(kept: &mut Kept, items: &Vec<T>)
-    requires { kept.old.runs ≡ None }
+    requires runs { kept.old.runs ≡ None }
+    requires hashes { AreHashes T.id_hash kept.old.hashes items.now.items }
     ensures size { kept.new.size ≡ kept.old.size }
     ensures runs { IfSome kept.new.runs (λ runs. AreRunsOf T.of_kind runs items.now.items) }
+    ensures hashes { AreHashes T.id_hash kept.new.hashes items.now.items }
 {
     if items.len() < MANY_ITEMS {
         return;
     }
     kept.add_runs(*items.allocator(), Runs::unknown());
     if kept.has_runs() {
-        kept.set_runs(runs_of(items.as_slice()));
+        keep_runs(kept, items.as_slice(), runs_of(items.as_slice()));
     }
 }
 
@@ -372,13 +390,31 @@ fn find_runs<T: Measured>(kept: &mut Kept, items: &Vec<T>)
 fn keep<T: Measured>(kept: &mut Kept, items: &Vec<T>, size: Option<usize>, runs: Runs)
     requires size { IsKept T.bytes items.now.items size }
     requires runs { AreRunsOf T.of_kind runs items.now.items }
+    requires hashes { AreHashes T.id_hash kept.old.hashes items.now.items }
     ensures size { IsKept T.bytes items.now.items kept.new.size }
     ensures runs { IfSome kept.new.runs (λ runs. AreRunsOf T.of_kind runs items.now.items) }
+    ensures hashes { AreHashes T.id_hash kept.new.hashes items.now.items }
 {
     kept.set_size(size);
     if kept.has_runs() {
-        kept.set_runs(runs);
+        keep_runs(kept, items.as_slice(), runs);
     } else {
         find_runs(kept, items);
+    }
+}
+
+/// Keeps these runs in place of those kept, and the hashes that are lacking. Where less than half of the items up to
+/// the last feature of the run are features, no hash is added, so that there are two at most for each feature.
+fn keep_runs<T: Measured>(kept: &mut Kept, items: &[T], runs: Runs)
+    requires runs { AreRunsOf T.of_kind runs items.now }
+    requires hashes { AreHashes T.id_hash kept.old.hashes items.now }
+    ensures size { kept.new.size ≡ kept.old.size }
+    ensures runs { IfSome kept.new.runs (λ runs. AreRunsOf T.of_kind runs items.now) }
+    ensures hashes { AreHashes T.id_hash kept.new.hashes items.now }
+{
+    kept.set_runs(runs);
+    let Run { first, count, .. } = runs.messages;
+    if first <= count {
+        kept.add_hashes(items, first.saturating_add(count));
     }
 }

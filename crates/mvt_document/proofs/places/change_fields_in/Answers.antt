@@ -1,5 +1,4 @@
-use Rattle.std.specs.Prelude.{slice_get}
-use Rattle.mvt_document.specs.HeldPlaces.{held_fields_in, in_held_feature, change_held_at}
+use Rattle.mvt_document.specs.HeldPlaces.{held_fields_in, in_held_feature}
 use Rattle.mvt_document.proofs.Placing.{MakesItem, made_in, made_there}
 use Rattle.mvt_document.proofs.places.change_fields_in.Goals as goal
 

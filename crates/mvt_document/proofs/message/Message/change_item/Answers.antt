@@ -1,5 +1,9 @@
-use Rattle.std.proofs.Common.{◌-◌, refl, sym, subst}
+use Rattle.std.proofs.Common.{◌-◌, refl, sym, ◌∙◌, subst}
+use Rattle.std.proofs.lemmas.List.{get_or-set_same}
+use Rattle.std.proofs.lemmas.Option.{slice_get_within}
 use Rattle.std.specs.Prelude.{slice_set, IfSome, vec_len, vec_capacity}
+use Rattle.mvt_document.specs.Hashes.{AreHashes}
+use Rattle.mvt_document.specs.Kept.{IsKept}
 use Rattle.mvt_document.specs.Runs.{AreRunsOf}
 use Rattle.mvt_document.proofs.Options.{if_told}
 use Rattle.mvt_document.proofs.Running.{runs_set}
@@ -13,10 +17,13 @@ invariant_of-self g c =
     let there = read_there items c.args.index c.index_mut.result.now _ c.index_mut.ensures.value asks in
     let new = c.change-result.new.arg2 in
     let same = there.1.1 c.change-result.result new c.change-result.new.arg3 (record { shown = _; given = _; shows = (refl, refl); ended = _; passed = _; met = c.change-result.ensures; leaves = (refl, refl) }) in
+    let inside = slice_get_within items c.args.index c.index_mut.result.now there.0 in
     let size = rw c.as_slice.ensures.value at c.size_with-size.ensures in
     let runs = runs_set g.T.Measured.of_kind c.self.inside.kept.runs items c.args.index c.index_mut.result.now new there.0 same c.self.invariant.1 in (
-      if_told c.set_size.new.self.size c.size_with-size.result _ c.set_size.ensures.size size,
-      subst (λ kept. IfSome kept (λ runs. AreRunsOf g.T.Measured.of_kind runs (slice_set items c.args.index new))) (sym c.set_size.ensures.runs) runs,
+      subst (IsKept g.T.Measured.bytes (slice_set items c.args.index new)) (sym c.set_hash.ensures.size) (if_told c.set_size.new.self.size c.size_with-size.result _ c.set_size.ensures.size size),
+      subst (λ kept. IfSome kept (λ runs. AreRunsOf g.T.Measured.of_kind runs (slice_set items c.args.index new))) (sym (c.set_hash.ensures.runs ∙ c.set_size.ensures.runs)) runs,
+      subst (λ x. AreHashes g.T.Measured.id_hash c.set_hash.new.self.hashes (slice_set items c.args.index x)) (c.index.ensures ∙ get_or-set_same items c.args.index new _ inside)
+          (c.set_hash.ensures.hashes items (subst (λ hashes. AreHashes g.T.Measured.id_hash hashes items) (sym c.set_size.ensures.hashes) c.self.invariant.2)),
     )
 
 pub returns : goal.returns
