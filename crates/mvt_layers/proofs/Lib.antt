@@ -2,3 +2,4 @@ pub mod Pairing
 pub mod Yielded
 pub mod Placing
 pub mod InRun
+pub mod ByHash

@@ -1,3 +1,4 @@
 pub mod Pools
 pub mod Seen
 pub mod Laws
+pub mod Hashed

@@ -141,7 +141,7 @@ pub(crate) fn first_with_id(
 }
 
 #[inline(always)]
-fn has_id(feature: &Feature, id: u64) -> bool
+pub(crate) fn has_id(feature: &Feature, id: u64) -> bool
     ensures { result ≡ has_id id (feature_of feature.now) }
 {
     match feature.id() {

@@ -11,7 +11,8 @@
 //!   last field of the number and wire type, or the default: the calls of `LayerView` and
 //!   `FeatureView`.
 //! - A name selects the one layer that has it, and an id the one feature; else the error says
-//!   whether none has it or several: `layer_named`, `feature_by_id`.
+//!   whether none has it or several: `layer_named`, `feature_by_id`. How an id is looked for no clause says: by
+//!   the hashes that its layer keeps, as far as it does.
 //! - The tags of a feature are the numbers of its fields of number 2, those of its geometry of
 //!   number 4: `FeatureView::tags`, `FeatureView::geometry_numbers`.
 //! - The tags of a feature come pair by pair, each with the ordinals of a key and of a value and
@@ -31,6 +32,7 @@ mod attributes;
 mod entries;
 mod fields;
 mod found;
+mod hashed;
 pub mod laws;
 mod lists;
 mod select;

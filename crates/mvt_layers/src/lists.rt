@@ -1,6 +1,6 @@
 //! The layers of a tile, and the features, keys and values of a layer, as iterators.
 
-use crate::fields::{beside_features, first_content, first_feature, first_layer, first_with_id};
+use crate::fields::{beside_features, first_content, first_feature, first_layer};
 use crate::found::{FoundFeature, FoundLayer};
 use mvt_document::{Layer, LayerItem, Run, TileItem};
 use std::marker::Model;
@@ -100,9 +100,7 @@ impl<'a> FeatureViews<'a> {
     ghost use Rattle.mvt_document.specs.declared.run.Kind.TheVariants.{Message};
     ghost use Rattle.mvt_document.specs.Kinds.{in_layer_of_kind};
     ghost use Rattle.mvt_document.specs.Runs.{IsRunOf};
-    ghost use Rattle.std.specs.Prelude.{[], ◌∷◌, MatchOption};
-    ghost use Rattle.mvt_messages.specs.Found.{found_features, found_from, with_id};
-    ghost use Rattle.mvt_layers.specs.Seen.{found_feature_seen};
+    ghost use Rattle.mvt_messages.specs.Found.{found_features, found_from};
     ghost use Rattle.mvt_messages.specs.Views.{feature_in};
 
     pub(crate) fn of(items: &'a [LayerItem]) -> FeatureViews<'a>
@@ -114,16 +112,6 @@ impl<'a> FeatureViews<'a> {
             position: 0,
             ordinal: 0,
         }
-    }
-
-    /// The next that has this id. Those before it are passed over.
-    pub(crate) fn next_with_id(&mut self, id: u64) -> Option<FoundFeature<'a>>
-        ensures { MatchOption result (with_id id self.old ≡ []) (λ found. with_id id self.old ≡ found_feature_seen found ∷ with_id id self.new) }
-    {
-        let found = first_with_id(self.items, id, self.position, self.ordinal)?;
-        self.position = found.position + 1;
-        self.ordinal = found.ordinal + 1;
-        Some(found)
     }
 
     /// Those that are not in the run of the first of them.

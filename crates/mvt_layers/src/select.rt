@@ -85,7 +85,7 @@ fn the_one_layer<'a, I: Iterator<Item = FoundLayer<'a>>>(
 pub fn feature_by_id<'a>(layer: &LayerView<'a>, id: u64) -> Result<FoundFeature<'a>, FeatureError>
     ensures { result_map_both found_feature_seen (λ error. error) result ≡ the_one NoFeature AmbiguousFeature (filter (λ found. has_id id found.1.1) (found_features (layer_seen layer.now).items)) }
 {
-    let mut features = layer.features();
+    let mut features = layer.hashed_features();
     match features.next_with_id(id) {
         None => Err(FeatureError::NoFeature),
         Some(found) => match features.next_with_id(id) {

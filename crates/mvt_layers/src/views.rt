@@ -14,6 +14,7 @@ ghost use Rattle.mvt_messages.specs.Tags.{tag_pairs};
 use crate::entries::{Entries, entry, entry_count, first_equal, last_name};
 use crate::fields::{feature_in_run, last_value_in_layer, up_to_features};
 use crate::found::{FoundEntry, FoundFeature};
+use crate::hashed::HashedFeatures;
 use crate::lists::{Contents, FeatureViews};
 use crate::tag_pairs::{PoolSizes, TagPairs};
 use mvt_document::tags::{EXTENT, GEOMETRY, KEYS, KIND, TAGS, VALUES, VERSION};
@@ -69,6 +70,13 @@ impl<'a> LayerView<'a> {
     {
         let items = self.layer.items.as_slice();
         FeatureViews::of(up_to_features(items, self.layer.items.runs().messages))
+    }
+
+    /// The features, in order, to be looked for by their ids.
+    pub(crate) fn hashed_features(self) -> HashedFeatures<'a>
+        ensures { result ≡ found_features (layer_seen self.entry).items }
+    {
+        HashedFeatures::of(self.layer)
     }
 
     /// The keys, in order.
