@@ -1,5 +1,5 @@
 -- Lists whose items change places.
-use Rattle.std.proofs.Common.{◌≡◌, ℕ, ◌+◌, ◌-◌, ◌<◌, ◌≤◌, List, [], ◌∷◌, ◌++◌, length, set, length-append, length-drop, take, drop, take-append-drop, append_assoc, refl, sym, ap, ◌∙◌, arith}
+use Rattle.std.proofs.Common.{◌≡◌, ℕ, ◌+◌, ◌-◌, ◌<◌, ◌≤◌, List, [], ◌∷◌, ◌++◌, length, set, length-append, length-drop, take, drop, take-append-drop, get_or, append_assoc, refl, sym, ap, ◌∙◌, arith}
 use Rattle.std.proofs.lemmas.List.{append-nil, length-take-le, take_all, take_at, drop_all, drop_at, drop-drop, drop-take, take-take, take-set, drop-set}
 use borrow.Rule.Slice.PartMut.{put_mid}
 use Rattle.mvt_document.specs.Splicing.{moved, part, splice}
@@ -31,6 +31,11 @@ set_one index list item within =
     ∙ ap (λ front. front ++ drop index (set list index item)) (take-set list index item)
     ∙ ap (λ rest. take index list ++ rest) (drop-set list index item within)
     ∙ sym (append_assoc (take index list) (item ∷ []) (drop (index + 1) list))
+
+pub one_alone : {A : Type 0} (item : A) (items : List A) → length items ≡ 1 → item ≡ get_or items 0 item → item ∷ [] ≡ items
+one_alone item [] one is = absurd (omega (arith, one))
+one_alone item (x ∷ []) one is = ap (λ first. first ∷ []) is
+one_alone item (x ∷ y ∷ items) one is = absurd (omega (arith, one))
 
 -- ---- fewer items come than are taken: some change places, and the others that are taken follow
 

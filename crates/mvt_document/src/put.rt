@@ -165,6 +165,7 @@ impl<T: Drop> Put<T> {
     }
 
     /// Makes room for so many more items, and for no more than those. An `Err` changes nothing.
+    #[inline(always)]
     pub fn reserve_exact(&mut self, more: usize) -> Result<(), AllocError>
         ensures items { self.new.items ≡ self.old.items }
         ensures ok { OnOk result (self.new.room ≡ max self.old.room more) }
@@ -196,51 +197,29 @@ impl<T: Drop> Put<T> {
     {
         self.reserve_exact(taken.saturating_sub(self.len()))?;
         match &mut self.form {
-            Form::Empty | Form::One(_) => self.exchange_one(list, index, taken),
-            Form::Many(items) => exchange(list, index, taken, items),
+            Form::Empty if taken == 1 => self.form = Form::One([list.remove(index)]),
+            Form::One(item) if taken == 1 => mem::swap(&mut item[0], &mut list[index]),
+            Form::Empty | Form::One(_) => self.insert_in(list, index)?,
+            Form::Many(items) => exchange(list, index, taken, items)?,
         }
-    }
-
-    /// The same, where one item comes at most, and one goes.
-    fn exchange_one(
-        &mut self,
-        list: &mut Vec<T>,
-        index: usize,
-        taken: usize,
-    ) -> Result<(), AllocError>
-        requires few { taken ≤ 1 }
-        requires few_put { length self.old.items ≤ 1 }
-        requires room { taken ≤ length self.old.items + self.old.room }
-        requires there { index + taken ≤ vec_len list.old }
-        ensures list { list.new.items ≡ (if is_ok result then splice index taken self.old.items list.old.items else list.old.items) }
-        ensures put { self.new.items ≡ (if is_ok result then part index taken list.old.items else self.old.items) }
-        ensures list_room { vec_capacity list.old ≤ vec_capacity list.new }
-        ensures put_room { length self.old.items + self.old.room ≡ length self.new.items + self.new.room }
-        ensures succeeds { vec_len list.old + length self.old.items ≤ vec_capacity list.old + taken → IsOk result }
-    {
-        if taken == 0 {
-            list.reserve(self.len())?;
-            if let Some(item) = self.trade(None) {
-                list.insert(index, item)?;
-            }
-            return Ok(());
-        }
-        let item = self.trade(None);
-        self.trade(Some(take_at(list, index, item)));
         Ok(())
     }
-}
 
-/// The item at an index of a list goes, and this one comes for it, if it is one.
-fn take_at<T>(list: &mut Vec<T>, index: usize, item: Option<T>) -> T
-    requires { index < vec_len list.old }
-    ensures list { list.new.items ≡ splice index 1 (option_to_list item) list.old.items }
-    ensures item { result ∷ [] ≡ part index 1 list.old.items }
-    ensures room { vec_capacity list.new ≡ vec_capacity list.old }
-{
-    match item {
-        Some(item) => mem::replace(&mut list[index], item),
-        None => list.remove(index),
+    /// The item, if there is one, comes into a vector at an index. An `Err` changes nothing.
+    fn insert_in(&mut self, list: &mut Vec<T>, index: usize) -> Result<(), AllocError>
+        requires few { length self.old.items ≤ 1 }
+        requires there { index ≤ vec_len list.old }
+        ensures list { list.new.items ≡ (if is_ok result then splice index 0 self.old.items list.old.items else list.old.items) }
+        ensures put { self.new.items ≡ (if is_ok result then [] else self.old.items) }
+        ensures list_room { vec_capacity list.old ≤ vec_capacity list.new }
+        ensures put_room { length self.old.items + self.old.room ≡ length self.new.items + self.new.room }
+        ensures succeeds { vec_len list.old + length self.old.items ≤ vec_capacity list.old → IsOk result }
+    {
+        list.reserve(self.len())?;
+        if let Some(item) = self.trade(None) {
+            list.insert(index, item)?;
+        }
+        Ok(())
     }
 }
 
