@@ -105,6 +105,7 @@ impl Measured for LayerItem {
         }
     }
 
+    #[inline(always)]
     fn size_within(&self, limit: usize) -> Option<usize> {
         match self {
             LayerItem::Feature(feature) => feature.size_within(limit),
