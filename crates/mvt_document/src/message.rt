@@ -364,8 +364,9 @@ fn size_with<T: Measured>(items: &[T], index: usize, beside: Option<usize>) -> O
     requires { IfSome beside (λ n. n ≡ bytes_beside T.bytes index items.now) }
     ensures { IsKept T.bytes items.now result }
 {
+    let beside = beside?;
     let item = items.get(index)?;
-    sum_within(beside?, item.size()?, MAX_FILE)
+    sum_within(beside, item.size()?, MAX_FILE)
 }
 
 /// Finds the runs of these items and the hashes, where none were kept and the items are many.
