@@ -1,10 +1,9 @@
 -- Steps on one list, one after the other: what a pass over them makes, and where they end.
-use Rattle.std.proofs.Common.{◌≡◌, ◌≢◌, ℕ, zero, suc, ◌+◌, ◌-◌, ◌<◌, ◌≤◌, Bool, true, false, cond, List, [], ◌∷◌, length, length-drop, map, take, drop, get_or, slice_index_or, slice_set, Option, Some, None, option_map, refl, sym, ap, ◌∙◌, subst, add-zero, arith}
+use Rattle.std.proofs.Common.{◌≡◌, ◌≢◌, ℕ, zero, suc, ◌+◌, ◌<◌, ◌≤◌, Bool, true, false, cond, List, [], ◌∷◌, length, map, take, get_or, slice_index_or, slice_set, Option, Some, None, option_map, refl, sym, ap, ◌∙◌, subst, arith}
 use Rattle.std.specs.Prelude.{Result, Ok, Err, is_ok, OnOk, OnErr}
 use Rattle.std.specs.List.{AllByRecursion, AllZip}
 use Rattle.std.specs.Option.{IsSomeAnd}
 use Rattle.std.proofs.Math.Seq.{take-suc}
-use Rattle.std.proofs.lemmas.List.{get_or-drop}
 use Rattle.mvt_document.proofs.EachItem.{all_joined}
 use Rattle.mvt_document.specs.Held.{Held}
 use Rattle.mvt_document.specs.Splicing.{part}
@@ -187,15 +186,11 @@ run_grows [] n d e some within run shares = absurd (omega arith)
 run_grows (first ∷ steps) zero d e some within run shares = absurd (omega arith)
 run_grows (first ∷ steps) (suc n) d e some within run shares = subst (AllByRecursion (SharesList first)) (sym (take-suc steps n e (omega arith))) (all_joined (SharesList first) (take n steps) (get_or steps n e ∷ []) run (shares, tt))
 
-pub run_more : (steps : List Step) (start end : ℕ) (d e : Step) → start < end → end < length steps → IsRun (take (end - start) (drop start steps)) → d ≡ get_or steps start d → e ≡ get_or steps end e → SharesList d e → IsRun (take (end + 1 - start) (drop start steps))
-run_more steps start end d e some within run d_is e_is shares =
-    let n = end - start in
-    let rest = drop start steps in
-    let long : length rest ≡ length steps - start = length-drop start steps in
-    let more : end + 1 - start ≡ suc n = omega arith in
-    let last : start + n ≡ end = omega arith in
-    let shares_there : SharesList (get_or rest 0 d) (get_or rest n e) = rw (get_or-drop start steps 0 d, get_or-drop start steps n e, last, add-zero, ← d_is, ← e_is) shares in
-    subst (λ k. IsRun (take k rest)) (sym more) (run_grows rest n d e (omega arith) (omega arith) run shares_there)
+pub run_more : (steps : List Step) (end : ℕ) (d e : Step) → 0 < end → end < length steps → IsRun (take end steps) → d ≡ get_or steps 0 d → e ≡ get_or steps end e → SharesList d e → IsRun (take (end + 1) steps)
+run_more steps end d e some within run d_is e_is shares =
+    let more : suc end ≡ end + 1 = omega arith in
+    let shares_there : SharesList (get_or steps 0 d) (get_or steps end e) = rw (← d_is, ← e_is) shares in
+    subst (λ k. IsRun (take k steps)) more (run_grows steps end d e some within run shares_there)
 
 -- ---- the list of a run
 

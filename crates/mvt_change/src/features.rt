@@ -1,6 +1,6 @@
 //! Steps on features of one layer, carried out in one visit of that layer.
 
-ghost use Rattle.std.specs.Prelude.{◌≡◌, ℕ, ◌<◌, ◌≤◌, length, map, take, is_ok, if◌then◌else◌, IfOk, IsTrue, OnErr, OnOk};
+ghost use Rattle.std.specs.Prelude.{◌≡◌, ℕ, ◌<◌, ◌≤◌, length, map, take, is_ok, if◌then◌else◌, is_some, IfOk, IsTrue, OnErr, OnOk};
 ghost use Rattle.std.specs.List.{AllByRecursion};
 ghost use Rattle.std.specs.Option.{IsSomeAnd};
 ghost use Rattle.mvt_document.specs.Stands.{document_of};
@@ -12,13 +12,12 @@ ghost use Rattle.mvt_change.specs.HeldChanges.{ExchangesFirst, HasHeldPart, IsTu
 ghost use Rattle.mvt_change.specs.Underway.{Advances, AdvancesIn, FindsFields, FitInLayer, InEach, IsInFeatureOf, layer_in, steps_made};
 
 use crate::change::Step;
-use crate::run::run_end;
 use mvt_document::{Document, Field, LayerItem, Message, Put, change_fields_in};
 use std::alloc::AllocError;
 use std::slice;
 
-/// Carries the first steps out that are each alone on a feature of this layer, and makes each the step
-/// that leads back. How many they are; they are an `Err` where memory ran out at the next.
+/// Carries the first steps out that are on features of this layer, each on another than the step before, and makes
+/// each the step that leads back. How many they are; they are an `Err` where memory ran out at the next.
 pub(crate) fn visit_layer(
     document: &mut Document,
     layer: usize,
@@ -39,7 +38,7 @@ pub(crate) fn visit_layer(
     Ok(made)
 }
 
-/// Where the steps end that are each alone on a feature of this layer, as the first one is.
+/// Where the steps end that are on features of this layer, no two neighbours on the same one.
 fn visit_end(steps: &[Step], layer: usize) -> usize
     requires first { AllByRecursion (IsInFeatureOf layer) (take 1 steps.now) }
     requires some { 0 < length steps.now }
@@ -47,18 +46,31 @@ fn visit_end(steps: &[Step], layer: usize) -> usize
     ensures within { result ≤ length steps.now }
     ensures features { AllByRecursion (IsInFeatureOf layer) (take result steps.now) }
 {
+    let mut last = feature_in(&steps[0], layer);
     let mut end = 1;
-    while end < steps.len() && is_in_feature(&steps[end], layer) && run_end(steps, end) == end + 1 {
+    while end < steps.len() {
+        let feature = feature_in(&steps[end], layer);
+        if feature.is_none() || feature == last {
+            break;
+        }
+        last = feature;
         end += 1;
     }
     end
 }
 
-/// Whether the step is on a feature of this layer.
-fn is_in_feature(step: &Step, layer: usize) -> bool
-    ensures { IsTrue result → IsInFeatureOf layer step.now }
+/// Which item of this layer the step is on, where it is on a feature of it.
+fn feature_in(step: &Step, layer: usize) -> Option<usize>
+    ensures { IsTrue (is_some result) → IsInFeatureOf layer step.now }
 {
-    matches!(step, Step::InFeature { layer: other, .. } if *other == layer)
+    match step {
+        Step::InFeature {
+            layer: other,
+            item,
+            ..
+        } if *other == layer => Some(*item),
+        _ => None,
+    }
 }
 
 /// Carries steps on features of this layer out, and makes each the step that leads back. How many they

@@ -1,7 +1,7 @@
 //! Steps that follow each other on one list: as splices of their list, and those on the list of the
 //! tile in one pass.
 
-ghost use Rattle.std.specs.Prelude.{◌<◌, ◌≤◌, length, map, slice_range, is_ok, IfOk, IsTrue};
+ghost use Rattle.std.specs.Prelude.{◌<◌, ◌≤◌, length, map, take, is_ok, IfOk, IsTrue};
 ghost use Rattle.std.specs.List.{AllByRecursion};
 ghost use Rattle.mvt_document.specs.Stands.{document_of};
 ghost use Rattle.mvt_change.specs.Changes.{Fits, OfTheTile};
@@ -187,22 +187,22 @@ fn shares_list(first: &Step, other: &Step) -> bool
     }
 }
 
-/// Where the steps end that exchange items of the same list as the one at this position.
-pub(crate) fn run_end(steps: &[Step], start: usize) -> usize
-    requires { start < length steps.now }
-    ensures some { start < result }
+/// Where the steps end that exchange items of the same list as the first one.
+fn run_end(steps: &[Step]) -> usize
+    requires { 0 < length steps.now }
+    ensures some { 0 < result }
     ensures within { result ≤ length steps.now }
-    ensures run { IsRun (slice_range steps.now start result) }
+    ensures run { IsRun (take result steps.now) }
 {
-    let mut end = start + 1;
-    while end < steps.len() && shares_list(&steps[start], &steps[end]) {
+    let mut end = 1;
+    while end < steps.len() && shares_list(&steps[0], &steps[end]) {
         end += 1;
     }
     end
 }
 
 /// Carries the first steps out, and makes each the step that leads back: those on one list in one pass
-/// over it, and those that are each alone on a feature in one visit of its layer. How many they are; they
+/// over it, and those on one feature after the other in one visit of their layer. How many they are; they
 /// are an `Err` where memory ran out at the next.
 pub(crate) fn flip_first(
     alloc: Global,
@@ -215,7 +215,7 @@ pub(crate) fn flip_first(
     ensures within { steps_made result ≤ length steps.old }
     ensures made { Advances (steps_made result) steps.old steps.new document.old document.new }
 {
-    let end = run_end(steps, 0);
+    let end = run_end(steps);
     match steps[0] {
         Step::InFeature { layer, .. } if end == 1 => visit_layer(document, layer, steps),
         _ => match flip_run(alloc, document, &mut steps[..end]) {

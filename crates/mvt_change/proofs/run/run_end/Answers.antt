@@ -9,5 +9,5 @@ loop-end-preserved c =
     record {
       some = omega arith;
       within = omega arith;
-      run = run_more steps c.args.start end c.index-steps-start.result c.index-steps-end.result c.loop-end.invariant.some (omega arith) c.loop-end.invariant.run c.index-steps-start.is c.index-steps-end.is (c.shares_list.ensures c.if-shares_list.true);
+      run = run_more steps end c.index-steps-0.result c.index-steps-end.result c.loop-end.invariant.some (omega arith) c.loop-end.invariant.run c.index-steps-0.is c.index-steps-end.is (c.shares_list.ensures c.if-shares_list.true);
     }
