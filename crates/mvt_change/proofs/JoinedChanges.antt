@@ -1,11 +1,12 @@
 -- Changes joined are carried out one after the other, and another one at the end brings its steps.
 use Rattle.std.proofs.Common.{◌≡◌, ℕ, ◌+◌, ◌<◌, List, [], ◌∷◌, ◌++◌, append_assoc, length, length-append, get_or, take, map, reverse, refl, sym, ap, ◌∙◌}
-use Rattle.std.proofs.lemmas.List.{append-nil, length-map, map-append, reverse-append, take_more}
+use Rattle.std.proofs.lemmas.List.{append-nil, map-append, reverse-append, take_more}
 use Rattle.mvt_change.specs.declared.change.Change.{Change as HeldChange}
 use Rattle.mvt_change.specs.ChangeStands.{change_of}
 use Rattle.mvt_change.specs.Changes.{Change, go}
 use Rattle.mvt_change.specs.Joining.{joined}
 use Rattle.mvt_change.specs.Laws.{JoinedListGoes, JoinedListFits}
+use Rattle.mvt_change.proofs.Ordered.{length_of_change}
 use Rattle.mvt_change.proofs.Turning.{go_joined, fit_joined}
 
 pub go_joined_list : JoinedListGoes
@@ -34,7 +35,7 @@ joined_from_last changes change =
 
 pub length_joined_last : (changes : List HeldChange) (change : HeldChange) → length (joined (map change_of (changes ++ change ∷ []))) ≡ length (joined (map change_of changes)) + length change.steps.items
 length_joined_last changes change =
-    rw (joined_last changes change, length-append, length-map)
+    rw (joined_last changes change, length-append, length_of_change change)
 
 pub length_joined_next : (changes : List HeldChange) (i : ℕ) (change : HeldChange) → i < length changes → change ≡ get_or changes i change → length (joined (map change_of (take (i + 1) changes))) ≡ length (joined (map change_of (take i changes))) + length change.steps.items
 length_joined_next changes i change inside is =

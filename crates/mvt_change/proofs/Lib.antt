@@ -1,5 +1,6 @@
 pub mod Splicing
 pub mod Changed
+pub mod Ordered
 pub mod Lenses
 pub mod Turning
 pub mod JoinedChanges

@@ -1,5 +1,5 @@
 -- What a step of the program does at the place of its list, and which plain change a change of the program stands for.
-use Rattle.std.specs.Prelude.{ℕ, map, Option, Some, None}
+use Rattle.std.specs.Prelude.{ℕ, if◌then◌else◌, map, reverse, Option, Some, None}
 use Rattle.mvt_document.specs.Held.{Held}
 use Rattle.mvt_change.specs.Changes as plain
 use Rattle.mvt_change.specs.HeldLists.{HeldItemAt, plain_item}
@@ -41,6 +41,6 @@ plain_step (MoveAt place from to) = plain.MoveStep place from to
 abbrev pub step_of : Step → plain.Step
 step_of step = plain_step (action_of step)
 
--- the plain change that a change of the program stands for
+-- the plain change that a change of the program stands for, in whichever order its steps stand
 abbrev pub change_of : Change → plain.Change
-change_of c = map step_of c.steps.items
+change_of c = if c.backwards then reverse (map step_of c.steps.items) else map step_of c.steps.items

@@ -1,5 +1,8 @@
 //! A place, a step and a change, as types.
 
+ghost use Rattle.std.specs.Prelude.{◌≡◌, false, map};
+ghost use Rattle.mvt_change.specs.ChangeStands.{change_of, step_of};
+
 use mvt_document::{Field, Items, LayerItem, Put, TileItem};
 
 /// Which list of a document: that of the tile, of the layer at a position of the tile, or of the
@@ -40,8 +43,34 @@ pub enum Step {
     },
 }
 
-/// Steps, each on what the steps before it made.
+/// Steps, each on what the steps before it made. Where they stand backwards the last one comes first.
 #[derive(Debug, Drop)]
 pub struct Change {
     pub steps: Items<Step>,
+    pub backwards: bool,
+}
+
+impl Change {
+    /// The change of these steps, in the vector's own memory.
+    pub fn new(steps: Vec<Step>) -> Change
+        ensures change { change_of result ≡ map step_of steps.items }
+        ensures order { result.backwards ≡ false }
+    {
+        Change {
+            steps: Items::from_vec(steps),
+            backwards: false,
+        }
+    }
+
+    /// Lets the steps stand in their order.
+    pub fn in_order(&mut self)
+        ensures change { change_of self.new ≡ change_of self.old }
+        ensures order { self.new.backwards ≡ false }
+        ensures room { self.new.steps.room ≡ self.old.steps.room }
+    {
+        if self.backwards {
+            self.steps.reverse();
+            self.backwards = false;
+        }
+    }
 }

@@ -23,8 +23,9 @@ pub fn flip(alloc: Global, document: &mut Document, change: &mut Change) -> Resu
         then turn (change_of change.old) (document_of document.old)
         else change_of change.old) }
 {
+    change.in_order();
     flip_steps(alloc, document, change.steps.as_vec_mut().as_mut_slice())?;
-    change.steps.reverse();
+    change.backwards = true;
     Ok(())
 }
 

@@ -1,12 +1,11 @@
 //! `join`: a list of changes made one, from the last to the first; their steps move, and one growth
 //! makes the room.
 
-ghost use Rattle.std.specs.Prelude.{◌≡◌, ◌≤◌, [], ◌++◌, length, map, reverse, vec_len, IsOk, IfOk, OnOk, OnErr};
+ghost use Rattle.std.specs.Prelude.{◌≡◌, ◌≤◌, [], ◌++◌, false, length, map, reverse, vec_len, IsOk, IfOk, OnOk, OnErr};
 ghost use Rattle.mvt_change.specs.ChangeStands.{change_of};
 ghost use Rattle.mvt_change.specs.Joining.{joined};
 
 use crate::change::Change;
-use mvt_document::Items;
 use std::alloc::{AllocError, Global};
 
 /// One change with the steps of the last change, then of the one before it, and so on; the list is
@@ -19,10 +18,9 @@ pub fn join(alloc: Global, changes: &mut Vec<Change>) -> Result<Change, AllocErr
     ensures succeeds { vec_len changes.old ≤ 1 → IsOk result }
 {
     let Some(mut last) = changes.pop() else {
-        return Ok(Change {
-            steps: Items::from_vec(Vec::new(alloc)),
-        });
+        return Ok(Change::new(Vec::new(alloc)));
     };
+    last.in_order();
     if let Err(error) = reserve_for(&mut last, changes.as_slice()) {
         changes.push_reserved(last);
         return Err(error);
@@ -34,6 +32,7 @@ pub fn join(alloc: Global, changes: &mut Vec<Change>) -> Result<Change, AllocErr
 /// Makes room in a change for the steps of others.
 fn reserve_for(change: &mut Change, others: &[Change]) -> Result<(), AllocError>
     ensures change { change_of change.new ≡ change_of change.old }
+    ensures order { change.new.backwards ≡ change.old.backwards }
     ensures ok { OnOk result (length (joined (map change_of others.now)) ≤ change.new.steps.room) }
     ensures succeeds { length others.now ≡ 0 → IsOk result }
 {
@@ -47,11 +46,13 @@ fn reserve_for(change: &mut Change, others: &[Change]) -> Result<(), AllocError>
 /// Moves the steps of the last of the others to the end of a change that has room for them, then
 /// those of the one before it, and so on.
 fn append_all(change: &mut Change, others: &mut Vec<Change>)
-    requires { length (joined (map change_of others.old.items)) ≤ change.old.steps.room }
+    requires room { length (joined (map change_of others.old.items)) ≤ change.old.steps.room }
+    requires order { change.old.backwards ≡ false }
     ensures change { change_of change.new ≡ change_of change.old ++ joined (reverse (map change_of others.old.items)) }
     ensures emptied { others.new.items ≡ [] }
 {
     while let Some(mut other) = others.pop() {
+        other.in_order();
         let steps = change.steps.as_vec_mut();
         steps.append(other.steps.as_vec_mut()).unwrap();
     }

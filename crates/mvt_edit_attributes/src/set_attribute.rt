@@ -29,7 +29,7 @@ ghost use Rattle.mvt_edit_attributes.specs.Attribute.{AreFound, GivesAttribute, 
 use crate::pools::{Ordinals, keys_that_are, look_for, missing_entries};
 use crate::tags_run::{and_pair, first_renumbered, size_with};
 use mvt_change::{Change, Step, fits_with_items, size_with_fields};
-use mvt_document::{Document, Field, Items, LayerItem, MAX_FILE, Put, size_of_all};
+use mvt_document::{Document, Field, LayerItem, MAX_FILE, Put, size_of_all};
 use mvt_edit_pairs::decide_or_refuse;
 use mvt_fates::Run;
 use mvt_layers::PoolSizes;
@@ -165,9 +165,7 @@ fn steps_of(
     if !entries.is_empty() {
         steps.push(behind_all(holder, entries))?;
     }
-    Ok(Change {
-        steps: Items::from_vec(steps),
-    })
+    Ok(Change::new(steps))
 }
 
 /// The step that puts the entries behind all items of the layer.

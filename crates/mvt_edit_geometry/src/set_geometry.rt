@@ -149,7 +149,5 @@ fn steps_of(
         |run| run.in_feature(layer, item),
         &mut steps,
     )?;
-    Ok(Change {
-        steps: Items::from_vec(steps),
-    })
+    Ok(Change::new(steps))
 }

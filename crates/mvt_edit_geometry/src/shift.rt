@@ -24,7 +24,7 @@ ghost use Rattle.mvt_edit_steps.specs.Prepared.{Prepares};
 use crate::fits::fits_with_fields;
 use mvt_change::{Change, Step};
 use mvt_document::tags::GEOMETRY;
-use mvt_document::{Document, Items, from_zigzag, to_zigzag};
+use mvt_document::{Document, from_zigzag, to_zigzag};
 use mvt_edit_pairs::renumber_feature;
 use mvt_geometry::is_way;
 use mvt_layers::FeatureView;
@@ -52,9 +52,7 @@ pub fn shift(
     if !fits_with_fields(document, holder, found, fields) {
         return Err(Refusal::TooLarge);
     }
-    Ok(Change {
-        steps: Items::from_vec(steps),
-    })
+    Ok(Change::new(steps))
 }
 
 /// What is decided on the first integers of the feature's geometry. It is refused, in the layer of

@@ -9,7 +9,7 @@ ghost use Rattle.mvt_edit_steps.specs.Prepared.{Prepares};
 
 use mvt_change::Change;
 use mvt_document::tags::ID;
-use mvt_document::{BodyRef, Document, Field, Items};
+use mvt_document::{BodyRef, Document, Field};
 use mvt_fates::{carry_out, goes_if};
 use mvt_select::{FeatureChoice, LayerChoice, Refusal, find_feature, find_layer};
 use std::alloc::Global;
@@ -34,9 +34,7 @@ pub fn clear_id(
         |run| run.in_feature(layer, item),
         &mut steps,
     )?;
-    Ok(Change {
-        steps: Items::from_vec(steps),
-    })
+    Ok(Change::new(steps))
 }
 
 fn is_id(field: &Field) -> bool

@@ -46,9 +46,7 @@ pub fn keep_layers(
     if gone == layer_count(document) {
         return Err(Refusal::NoLayer);
     }
-    Ok(Change {
-        steps: Items::from_vec(steps),
-    })
+    Ok(Change::new(steps))
 }
 
 /// The names, by their bytes.

@@ -20,7 +20,7 @@ use crate::entries::take_entries;
 use crate::repoint::repoint;
 use crate::used::{Marks, mark_used, number, same_marks};
 use mvt_change::{Change, Step};
-use mvt_document::{Document, Items};
+use mvt_document::Document;
 use mvt_select::{FoundLayer, LayersChoice, Refusal, find_layers};
 use std::alloc::{AllocError, Global};
 
@@ -67,9 +67,7 @@ pub fn compact(
     for found in layers {
         compact_layer(alloc, found, pools, &mut decisions, &mut steps)?;
     }
-    Ok(Change {
-        steps: Items::from_vec(steps),
-    })
+    Ok(Change::new(steps))
 }
 
 /// Puts the steps by which the layer loses what it does not use behind the others: first those of

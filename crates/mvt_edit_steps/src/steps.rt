@@ -11,7 +11,7 @@ ghost use Rattle.mvt_fates.specs.Fates.{item_out};
 ghost use Rattle.mvt_meaning.specs.declared.refusal.Refusal.TheVariants.{NoMemory, TooLarge};
 
 use mvt_change::{Change, Place, Step, fits_after};
-use mvt_document::{Document, Items, Put};
+use mvt_document::{Document, Put};
 use mvt_meaning::Refusal;
 use std::alloc::{AllocError, Global};
 
@@ -19,9 +19,7 @@ use std::alloc::{AllocError, Global};
 pub fn one_step(alloc: Global, step: Step) -> Result<Change, AllocError>
     ensures { IfOk result (λ change. change_of change ≡ step_of step ∷ []) }
 {
-    Ok(Change {
-        steps: Items::from_vec(vec![in alloc; step]?),
-    })
+    Ok(Change::new(vec![in alloc; step]?))
 }
 
 /// The same, where a file can hold what the step makes of the document.

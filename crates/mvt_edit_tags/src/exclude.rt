@@ -19,8 +19,8 @@ ghost use Rattle.mvt_edit_tags.specs.EachFeature.{pairs_go};
 
 use crate::unset::is_any;
 use mvt_change::{Change, Step};
+use mvt_document::Document;
 use mvt_document::tags::TAGS;
-use mvt_document::{Document, Items};
 use mvt_edit_pairs::{decide_or_refuse, name_keys, renumber_feature};
 use mvt_layers::{FeatureView, PoolSizes};
 use mvt_select::{FoundFeature, FoundLayer, LayersChoice, Refusal, find_layers};
@@ -43,9 +43,7 @@ pub fn exclude(
     for found in layers {
         exclude_from(alloc, found, key, &mut named, &mut decisions, &mut steps)?;
     }
-    Ok(Change {
-        steps: Items::from_vec(steps),
-    })
+    Ok(Change::new(steps))
 }
 
 /// Puts the steps by which each feature of the layer loses the pairs of the key behind the others.

@@ -11,7 +11,7 @@ ghost use Rattle.mvt_edit_pairs.specs.EachFeature.{feature_steps, layer_steps};
 ghost use Rattle.mvt_edit_tags.specs.EachFeature.{tags_go};
 
 use mvt_change::{Change, Step};
-use mvt_document::{Document, Items};
+use mvt_document::Document;
 use mvt_edit_pairs::is_tags;
 use mvt_fates::{carry_out, goes_if};
 use mvt_select::{FoundFeature, FoundLayer, LayersChoice, Refusal, find_layers};
@@ -30,9 +30,7 @@ pub fn exclude_all(
     for found in layers {
         untag_layer(alloc, found, &mut steps)?;
     }
-    Ok(Change {
-        steps: Items::from_vec(steps),
-    })
+    Ok(Change::new(steps))
 }
 
 /// Puts the steps by which each feature of the layer loses its tags fields behind the others.

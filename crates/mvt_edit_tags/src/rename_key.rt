@@ -51,9 +51,7 @@ pub fn rename_key(
         return Err(Refusal::TooLarge);
     }
     if old == new {
-        return Ok(Change {
-            steps: Items::from_vec(Vec::new(alloc)),
-        });
+        return Ok(Change::new(Vec::new(alloc)));
     }
     Ok(renaming(alloc, found.position, items, old, new)?)
 }
@@ -145,9 +143,7 @@ fn renaming(
         |run| run.in_layer(layer),
         &mut steps,
     )?;
-    Ok(Change {
-        steps: Items::from_vec(steps),
-    })
+    Ok(Change::new(steps))
 }
 
 /// A key that is the old one becomes the new one, with its tag and its stored width.

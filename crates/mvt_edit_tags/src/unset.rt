@@ -14,8 +14,8 @@ ghost use Rattle.mvt_edit_steps.specs.Prepared.{Prepares};
 ghost use Rattle.mvt_edit_pairs.specs.EachFeature.{feature_steps};
 
 use mvt_change::Change;
+use mvt_document::Document;
 use mvt_document::tags::TAGS;
-use mvt_document::{Document, Items};
 use mvt_edit_pairs::{decide_or_refuse, named_keys, renumber_feature};
 use mvt_select::{
     FeatureChoice, FoundFeature, FoundLayer, LayerChoice, Refusal, find_feature, find_layer,
@@ -83,9 +83,7 @@ fn removing(
 {
     let mut steps = Vec::new(alloc);
     renumber_feature(alloc, layer, found, TAGS, decisions, &mut steps, None)?;
-    Ok(Change {
-        steps: Items::from_vec(steps),
-    })
+    Ok(Change::new(steps))
 }
 
 /// Some key is named.

@@ -3,7 +3,7 @@
 use crate::weights::known_weight;
 use mvt_change::{Change, flip, weight};
 use mvt_edit::{Command, Refusal, prepare};
-use mvt_wire::{Document, Items, ReadError, WriteError, read_document, size, write_document};
+use mvt_wire::{Document, ReadError, WriteError, read_document, size, write_document};
 use std::alloc::{AllocError, Global};
 use std::marker::Model;
 
@@ -53,10 +53,10 @@ impl Edit {
 
     /// The document of a file, and a change of no steps.
     pub fn read(alloc: Global, file: &[u8]) -> Result<Edit, ReadError> {
-        let steps = Items::from_vec(Vec::new(alloc));
+        let steps = Vec::new(alloc);
         Ok(Edit {
             document: read_document(alloc, file)?,
-            change: Change { steps },
+            change: Change::new(steps),
         })
     }
 
@@ -89,8 +89,11 @@ impl Edit {
         Ok(())
     }
 
-    /// Carries the change out, and turns it.
+    /// Carries the change out, and turns it. Its steps stand in their order then, so that what is printed of the same
+    /// change is the same.
     pub fn flip(&mut self, alloc: Global) -> Result<(), AllocError> {
-        flip(alloc, &mut self.document, &mut self.change)
+        let flipped = flip(alloc, &mut self.document, &mut self.change);
+        self.change.in_order();
+        flipped
     }
 }

@@ -6,7 +6,7 @@ ghost use Rattle.mvt_change.specs.ChangeStands.{change_of};
 use crate::edits::Edit;
 use mvt_change::{Change, flip};
 use mvt_edit::{Command, Refusal, prepare};
-use mvt_wire::{Document, Items, ReadError, read_document};
+use mvt_wire::{Document, ReadError, read_document};
 use std::alloc::{AllocError, Global};
 use std::marker::Model;
 
@@ -37,10 +37,10 @@ impl Model for Series {
 impl Series {
     /// The document of a file, and a change of no steps.
     pub fn read(alloc: Global, file: &[u8]) -> Result<Series, ReadError> {
-        let steps = Items::from_vec(Vec::new(alloc));
+        let steps = Vec::new(alloc);
         Ok(Series {
             document: read_document(alloc, file)?,
-            change: Change { steps },
+            change: Change::new(steps),
             made: read_document(alloc, file)?,
         })
     }
@@ -78,13 +78,13 @@ impl Series {
 }
 
 /// One change, and behind it the other.
-fn joined(first: Change, second: Change) -> Result<Change, AllocError>
+fn joined(mut first: Change, mut second: Change) -> Result<Change, AllocError>
     ensures { IfOk result (λ change. change_of change ≡ change_of first ++ change_of second) }
 {
+    first.in_order();
+    second.in_order();
     let mut steps = first.steps.into_vec();
     let mut more = second.steps.into_vec();
     steps.append(&mut more)?;
-    Ok(Change {
-        steps: Items::from_vec(steps),
-    })
+    Ok(Change::new(steps))
 }

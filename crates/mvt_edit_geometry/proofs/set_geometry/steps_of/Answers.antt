@@ -25,7 +25,7 @@ returns c =
     let told = picked_seen field_of is_geometry_field _ (λ field is says. search rules) seen_fields done.0 done.1 in
     let end_seen = length seen_fields - c.args.drawing.kind.take + 1 in
     let splices = once_splices done.0 c.args.drawing.field end_seen in
-    ap (map step_of) c.from_vec.ensures.items
+    c.new.ensures.change
     ∙ done.2
     ∙ ap (λ before. before ++ map (λ s. at (seen field_of s)) splices) first
     ∙ ap (λ rest. kind ∷ rest) (

@@ -84,4 +84,4 @@ returns c =
     let left = fields_left 4 (moves dx dy feature.fields) found.feature.now.fields.items (moves_short dx dy feature.fields drawn can) in
     shift_made (layer_choice_of c.args.choice.now) dx dy document holder.ordinal holder.position layer is.meant is.placed is.there (feature_choice_of c.args.feature.now) found.ordinal found.position feature here.meant here.placed here.there drawn can
     (not-true (nat_lt MAX_FILE (length (bytes_of (change_fields (shifted dx dy) holder.position found.position document)))) (sym told ∙ c.if-not-fits_with_fields.false)) left _
-    (ap (map step_of) c.from_vec.ensures.items ∙ c.in_ok-steps.ensures.steps ∙ ap (λ decisions. map (in_feature_at holder.position found.position) (splices_of (field_fates 4 decisions feature.fields))) decided)
+    (c.new.ensures.change ∙ c.in_ok-steps.ensures.steps ∙ ap (λ decisions. map (in_feature_at holder.position found.position) (splices_of (field_fates 4 decisions feature.fields))) decided)

@@ -27,7 +27,7 @@ returns c =
     ids_go (layer_choice_of c.args.choice.now) (document_of c.args.document.now) c.in_ok-holder.holder.ordinal layer (layer_of c.in_ok-holder.holder.layer.now) holder.meant holder.placed holder.there
     (feature_choice_of c.args.feature.now) c.in_ok-found.found.ordinal item (feature_of c.in_ok-found.found.feature.now) found.meant found.placed found.there _
     (heavy field_bytes field_of is_id id_has_bytes fields)
-    (ap (map step_of) c.from_vec.ensures.items
+    (c.new.ensures.change
     ∙ alone step_of c.new-steps.result.items _ _ c.new-steps.ensures.items done.2.behind
     ∙ sym (map-map (in_feature_at layer item) (seen field_of) (splices_of done.0))
     ∙ ap (map (in_feature_at layer item)) (out_seen field_of is_id _ (λ field fate says. search rules) c.fields.result.now done.0 done.1)

@@ -31,7 +31,7 @@ returns c =
     let counted = done.2.counted ∙ count_seen tile_item_of (goes names) _ (λ item fate says. search (rules, alike)) c.as_slice-items.result.now done.0 done.1 in
     let listed = ap (λ list. length (filter (goes names) (map tile_item_of list))) c.as_slice-items.ensures in
     keeps names (document_of c.args.document.now) _
-    (ap (map step_of) c.from_vec.ensures.items
+    (c.new.ensures.change
     ∙ alone step_of c.new-steps.result.items _ _ c.new-steps.ensures.items done.2.behind
     ∙ sym (map-map in_tile (seen tile_item_of) (splices_of done.0))
     ∙ ap (map in_tile) (out_seen tile_item_of (goes names) _ (λ item fate says. search (rules, alike)) c.as_slice-items.result.now done.0 done.1)

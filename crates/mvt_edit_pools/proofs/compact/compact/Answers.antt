@@ -22,7 +22,7 @@ returns c =
     let none = c.in-None.ensures.steps.0 in
     compacts pools (layers_choice_of c.args.choice.now) c.args.document.now found _ c.in_ok-layers.ensures.found
     (ap unreadable (sym all) ∙ sym c.loop-found.invariant.readable ∙ ap unreadable none)
-    (ap (map step_of) c.from_vec.ensures.items
+    (c.new.ensures.change
     ∙ sym (append-nil (map step_of c.loop-found.steps.items))
     ∙ ap (λ left. map step_of c.loop-found.steps.items ++ flat_map steps left) (sym none)
     ∙ c.loop-found.invariant.steps

@@ -16,4 +16,4 @@ returns c =
     let all = YieldsList-from_first found_layer_seen layers_left found refl in
     let came = YieldsList-end (YieldsList-at c.into_iter-found-iterator.ensures.into_iter_gives all) c.loop-found.yielded c.loop-found.found-iterator c.loop-found.yielded_by c.next.result c.next.new.self c.in-None.is c.next.ensures.steps in
     untags (layers_choice_of c.args.choice.now) c.args.document.now found _ c.in_ok-layers.ensures.found
-    (ap (map step_of) c.from_vec.ensures.items ∙ c.loop-found.invariant ∙ ap (flat_map (layer_steps (λ items. tags_go))) came.0)
+    (c.new.ensures.change ∙ c.loop-found.invariant ∙ ap (flat_map (layer_steps (λ items. tags_go))) came.0)

@@ -85,7 +85,7 @@ returns-then-eq c =
     let told = c.fits_with_items.ensures (renamed_keys old new) (items_there found.position document layer (λ items. IsFileSize c.look_for-keys.result.size (length (flat_map layer_item_bytes (renamed_keys old new items)))) is.there size) in
     let fits = not_true (nat_lt MAX_FILE (length (bytes_of (change_items (renamed_keys old new) found.position document)))) (sym told ∙ c.if-not-fits_with_items.false) in
     let same : old ≡ new = (bytes_eq-Decides old new).0 (sym c.eq.ensures ∙ c.if-eq.true) in
-    subst (IsPrepared (RenameKey choice old new) document) (sym (ap (map step_of) (c.from_vec.ensures.items ∙ c.new.ensures.items))) (keys_stay choice old new document found.ordinal found.position layer is.meant is.placed is.there has free fits same)
+    subst (IsPrepared (RenameKey choice old new) document) (sym (c.new-then-eq.ensures.change ∙ ap (map step_of) c.new.ensures.items)) (keys_stay choice old new document found.ordinal found.position layer is.meant is.placed is.there has free fits same)
 
 pub returns : goal.returns
 returns c =

@@ -7,6 +7,6 @@ use Rattle.mvt_edit_tags.proofs.unset.removing.Goals as goal
 
 pub returns : goal.returns
 returns c =
-    ap (map step_of) c.from_vec.ensures.items
+    c.new.ensures.change
     ∙ c.in_ok-renumber_feature.ensures.steps
     ∙ ap (λ list. map step_of list ++ feature_steps (field_fates 2 c.args.decisions.now) c.args.layer (found_feature_seen c.args.found)) c.new-steps.ensures.items
