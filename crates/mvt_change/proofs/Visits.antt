@@ -1,9 +1,10 @@
 -- The items of a layer of a document, and steps on its features, carried out in one visit of the layer.
-use Rattle.std.proofs.Common.{◌≡◌, ℕ, ◌+◌, ◌<◌, ◌≤◌, List, [], ◌∷◌, length, map, drop, get_or, slice_index_or, Option, Some, None, option_map, refl, sym, ap, ◌∙◌, subst, arith}
-use Rattle.std.specs.Prelude.{Result, Ok, Err, is_ok, OnErr}
+use Rattle.std.proofs.Common.{◌≡◌, ℕ, zero, suc, ◌+◌, ◌<◌, ◌≤◌, List, [], ◌∷◌, ◌++◌, length, map, reverse, take, drop, get_or, set, slice_index_or, true, Option, Some, None, option_map, refl, sym, ap, ◌∙◌, subst, arith}
+use Rattle.std.specs.Prelude.{Result, Ok, Err, is_ok, if◌then◌else◌, slice_get, IfOk, OnErr, OnOk}
 use Rattle.std.specs.List.{AllByRecursion}
 use Rattle.std.specs.Option.{IfSome, IsSomeAnd, option_and_then}
 use Rattle.mvt_document.specs.Held.{Held}
+use Rattle.mvt_document.specs.Plain as plain
 use Rattle.mvt_document.specs.Stands.{document_of}
 use Rattle.mvt_document.specs.HeldPlaces.{held_items_at, held_fields_in_at, change_held_items}
 use Rattle.mvt_document.specs.declared.field.FieldParts.{FieldParts as Field}
@@ -11,16 +12,16 @@ use Rattle.mvt_document.specs.declared.document.LayerItem.{LayerItem}
 use Rattle.mvt_document.specs.declared.document.Document.{Document}
 use Rattle.mvt_change.specs.declared.change.Step.{Step}
 use Rattle.mvt_change.specs.declared.change.Step.TheVariants.{InFeature}
-use Rattle.mvt_change.specs.Changes.{OfTheLayer, Fits}
+use Rattle.mvt_change.specs.Changes.{Change, OfTheLayer, Fits}
 use Rattle.mvt_change.specs.ChangeStands.{action_of, step_of}
-use Rattle.mvt_change.specs.Room.{KeepsField}
-use Rattle.mvt_change.specs.HeldChanges.{ExchangesFirst, FindsAction, HasHeldPart}
-use Rattle.mvt_change.specs.Underway.{Advances, AdvancesIn, FindsFields, FitInLayer, InEach, IsInFeatureOf, layer_in}
-use Rattle.std.proofs.lemmas.List.{drop_more, drop-drop}
-use Rattle.mvt_document.proofs.EachItem.{all_dropped}
+use Rattle.mvt_change.specs.Room.{KeepsDocument, KeepsField}
+use Rattle.mvt_change.specs.HeldChanges.{ExchangesFirst, FindsAction, HasHeldPart, IsTurned, go_held_step}
+use Rattle.mvt_change.specs.Underway.{Advances, AdvancesIn, FindsFields, FitInLayer, InEach, IsInFeatureOf, IsUnderway, layer_in, steps_made}
 use Rattle.mvt_document.proofs.Options.{where_some}
 use Rattle.mvt_change.proofs.HeldLenses.{list_part}
 use Rattle.mvt_change.proofs.Actions.{fits_finds}
+use Rattle.mvt_change.proofs.TurnedRuns.{ok_then}
+use Rattle.mvt_change.proofs.Underway.{one_more}
 
 -- ---- a document with other items in the layer
 
@@ -58,14 +59,24 @@ then_visited layer document items is now next step holds on each =
     let here = subst (λ n. InEach n now next holds) (in_its_layer step layer on) each in
     subst (holds (change_held_items (λ x. now) layer document)) (visited_twice layer document items is now next) (here (change_held_items (λ x. now) layer document) (visited layer document items is now))
 
--- a step that is left is one of those that there were
-pub left_is : (P : Step → Type 0) (steps now : List Step) (at : ℕ) (step : Step) → AllByRecursion P steps → drop at now ≡ drop at steps → at < length now → step ≡ get_or now at step → P step
-left_is P steps now at step all rest within is =
-    let head : drop at steps ≡ step ∷ drop (at + 1) now = sym rest ∙ drop_more now at step within ∙ ap (λ s. s ∷ drop (at + 1) now) (sym is) in
-    (subst (AllByRecursion P) head (all_dropped P at steps all)).0
+-- in a document that is visited one more step on a feature of the layer is made, and turned
+pub one_more_visited : {A E : Type 0} (layer : ℕ) (document : Document) (items now next : Held LayerItem) (is : held_items_at layer document ≡ Some items)
+    → (change : Change) (start : plain.Document) (steps : List Step) (at : ℕ) (step turned : Step) (result : Result A E)
+    → at < length steps → step ≡ get_or steps at step → IsInFeatureOf layer step → is_ok result ≡ true
+    → InEach (layer_in step) now next (λ before after. KeepsDocument (if is_ok result then go_held_step step before else before) after)
+    → InEach (layer_in step) now next (λ before after. OnOk result (IsTurned step before turned))
+    → (made : List Step) → IsUnderway change start (reverse (take at steps) ++ made) (drop at steps) (change_held_items (λ x. now) layer document)
+    → IsUnderway change start (reverse (take (at + 1) (set steps at turned)) ++ made) (drop (at + 1) (set steps at turned)) (change_held_items (λ x. next) layer document)
+one_more_visited layer document items now next is change start steps at step turned result within there on done kept turns made under =
+    let keeps = then_visited layer document items is now next step (λ before after. KeepsDocument (if is_ok result then go_held_step step before else before) after) on kept in
+    one_more change start made steps at step turned (change_held_items (λ x. now) layer document) (change_held_items (λ x. next) layer document) within there under (rw done at keeps)
+    (ok_then result _ (then_visited layer document items is now next step (λ before after. OnOk result (IsTurned step before turned)) on turns) done)
 
-pub dropped_next : (steps now : List Step) (at : ℕ) → drop at now ≡ drop at steps → drop (at + 1) now ≡ drop (at + 1) steps
-dropped_next steps now at rest = sym (drop-drop 1 at now) ∙ ap (drop 1) rest ∙ drop-drop 1 at steps
+-- where something is found at a position, that is within the list
+pub found_within : {A : Type 0} (P : A → Type 0) (xs : List A) (at : ℕ) → IsSomeAnd (slice_get xs at) P → at < length xs
+found_within P [] at found = absurd found
+found_within P (x ∷ xs) zero found = omega arith
+found_within P (x ∷ xs) (suc at) found = omega (arith, found_within P xs at found)
 
 -- the fields to put are as they were where none were exchanged
 pub same_puts : {A E : Type 0} (r : Result A E) (index taken : ℕ) (found : Option (Held Field)) (puts left : List (Held Field)) (put : Held Field) (holds : Held Field → Type 0) → puts ≡ put ∷ []
@@ -75,18 +86,19 @@ same_puts (Err e) index taken None puts left put holds is there = absurd there
 same_puts (Err e) index taken (Some list) puts left put holds is there = (there.1.given put).items ∙ ap (λ ps. (slice_index_or ps 0 put).items) is
 
 -- there is a layer where a step on a feature of it fits
-fit_found : (layer : ℕ) (steps : List Step) (document : Document) (found : Option (Held LayerItem)) → 0 < length steps → AllByRecursion (IsInFeatureOf layer) steps → Fits (map step_of steps) (document_of document) → held_items_at layer document ≡ found → IsSomeAnd found (FitInLayer steps)
-fit_found layer [] document found some features fits is = absurd (omega arith)
-fit_found layer (step ∷ steps) document None some features fits is = finds_fields step layer None document features.0 is (fits_finds (action_of step) document fits.0)
-fit_found layer (step ∷ steps) document (Some items) some features fits is = record { layer = layer; document = document; there = is; features = features; fits = fits }
+fit_found : (layer : ℕ) (steps : List Step) (document : Document) (found : Option (Held LayerItem)) → IsSomeAnd (slice_get steps 0) (IsInFeatureOf layer) → Fits (map step_of steps) (document_of document) → held_items_at layer document ≡ found → IsSomeAnd found (FitInLayer layer steps)
+fit_found layer [] document found first fits is = absurd first
+fit_found layer (step ∷ steps) document None first fits is = finds_fields step layer None document first is (fits_finds (action_of step) document fits.0)
+fit_found layer (step ∷ steps) document (Some items) first fits is = record { document = document; there = is; first = first; fits = fits }
 
-pub fit_there : (layer : ℕ) (steps : List Step) (document : Document) → 0 < length steps → AllByRecursion (IsInFeatureOf layer) steps → Fits (map step_of steps) (document_of document) → IsSomeAnd (held_items_at layer document) (FitInLayer steps)
-fit_there layer steps document some features fits = fit_found layer steps document (held_items_at layer document) some features fits refl
+pub fit_there : (layer : ℕ) (steps : List Step) (document : Document) → 0 < length steps → AllByRecursion (IsInFeatureOf layer) (take 1 steps) → Fits (map step_of steps) (document_of document) → IsSomeAnd (held_items_at layer document) (FitInLayer layer steps)
+fit_there layer [] document some features fits = absurd (omega arith)
+fit_there layer (step ∷ steps) document some features fits = fit_found layer (step ∷ steps) document (held_items_at layer document) features.0 fits refl
 
 -- ---- the steps that were made in the items of the layer were made in the document
 
-pub advanced_there : (layer n : ℕ) (steps new : List Step) (document after : Document) → AllByRecursion (IsInFeatureOf layer) steps → IsSomeAnd (held_items_at layer document) (λ items. (made : Held LayerItem) × AdvancesIn items made n steps new × (after ≡ change_held_items (λ x. made) layer document))
-    → (n ≤ length steps) × Advances n steps new document after
-advanced_there layer n steps new document after features there =
-    where_some (held_items_at layer document) _ (λ o. held_items_at layer document ≡ o → (n ≤ length steps) × Advances n steps new document after)
-    (λ items p is. (p.1.within, subst (Advances n steps new document) (sym p.2) (p.1.made_there layer features document is))) there refl
+pub advanced_there : (layer : ℕ) (result : Result ℕ ℕ) (steps new : List Step) (document after : Document) → IsSomeAnd (held_items_at layer document) (λ items. (made : Held LayerItem) × AdvancesIn layer items made result steps new × (after ≡ change_held_items (λ x. made) layer document))
+    → IfOk result (λ n. 0 < n) × (steps_made result ≤ length steps) × Advances (steps_made result) steps new document after
+advanced_there layer result steps new document after there =
+    where_some (held_items_at layer document) _ (λ o. held_items_at layer document ≡ o → IfOk result (λ n. 0 < n) × (steps_made result ≤ length steps) × Advances (steps_made result) steps new document after)
+    (λ items p is. (p.1.some, p.1.within, subst (Advances (steps_made result) steps new document) (sym p.2) (p.1.made_there document is))) there refl

@@ -1,6 +1,5 @@
 -- A change that is under way, and steps of it that are made on features of one layer.
-use Rattle.std.specs.Prelude.{◌≡◌, ℕ, ◌≤◌, List, ◌++◌, length, map, reverse, take, drop, Result, Ok, Err, Some}
-use Rattle.std.specs.List.{AllByRecursion}
+use Rattle.std.specs.Prelude.{◌≡◌, ℕ, ◌<◌, ◌≤◌, List, ◌++◌, length, map, reverse, take, drop, Result, Ok, Err, Some, slice_get, IfOk}
 use Rattle.std.specs.Option.{IsSomeAnd}
 use Rattle.mvt_document.specs.Held.{Held}
 use Rattle.mvt_document.specs.Plain as plain
@@ -50,19 +49,19 @@ abbrev pub FindsFields : Held LayerItem → Step → Type 0
 FindsFields items (InFeature layer item index taken put) = IsSomeAnd (held_fields_in_at item items) (HasHeldPart index taken)
 FindsFields items step = ⊥
 
--- the steps are on features of a layer of a document, and fit it; that layer has these items
-pub record FitInLayer (steps : List Step) (items : Held LayerItem) : Type 0 where
-  pub layer : ℕ
+-- the steps fit a document of which the layer at this position has these items, and the first is on a feature of that layer
+pub record FitInLayer (layer : ℕ) (steps : List Step) (items : Held LayerItem) : Type 0 where
   pub document : Document
   pub there : held_items_at layer document ≡ Some items
-  pub features : AllByRecursion (IsInFeatureOf layer) steps
+  pub first : IsSomeAnd (slice_get steps 0) (IsInFeatureOf layer)
   pub fits : Fits (map step_of steps) (document_of document)
 
 -- this holds of each document that has these items in the layer, and of the one that has others there
 abbrev pub InEach : ℕ → Held LayerItem → Held LayerItem → (Document → Document → Type 0) → Type 0
 InEach layer items made holds = (document : Document) → held_items_at layer document ≡ Some items → holds document (change_held_items (λ _. made) layer document)
 
--- so many of the steps on features of a layer with these items are made
-pub record AdvancesIn (items made : Held LayerItem) (n : ℕ) (steps new : List Step) : Type 0 where
-  pub within : n ≤ length steps
-  pub made_there : (layer : ℕ) → AllByRecursion (IsInFeatureOf layer) steps → InEach layer items made (Advances n steps new)
+-- in each document whose layer at this position has these items the first of the steps are made: one or more, or as many as there were until memory ran out
+pub record AdvancesIn (layer : ℕ) (items made : Held LayerItem) (result : Result ℕ ℕ) (steps new : List Step) : Type 0 where
+  pub some : IfOk result (λ n. 0 < n)
+  pub within : steps_made result ≤ length steps
+  pub made_there : InEach layer items made (Advances (steps_made result) steps new)

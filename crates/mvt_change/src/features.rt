@@ -1,6 +1,6 @@
 //! Steps on features of one layer, carried out in one visit of that layer.
 
-ghost use Rattle.std.specs.Prelude.{◌≡◌, ℕ, ◌<◌, ◌≤◌, length, map, take, is_ok, if◌then◌else◌, is_some, IfOk, IsTrue, OnErr, OnOk};
+ghost use Rattle.std.specs.Prelude.{◌≡◌, ℕ, ◌<◌, ◌≤◌, length, map, take, is_ok, if◌then◌else◌, is_some, slice_get, IfOk, IsTrue, OnErr, OnOk};
 ghost use Rattle.std.specs.List.{AllByRecursion};
 ghost use Rattle.std.specs.Option.{IsSomeAnd};
 ghost use Rattle.mvt_document.specs.Stands.{document_of};
@@ -30,40 +30,63 @@ pub(crate) fn visit_layer(
     ensures within { steps_made result ≤ length steps.old }
     ensures made { Advances (steps_made result) steps.old steps.new document.old document.new }
 {
-    let end = visit_end(steps, layer);
-    let made = flip_in_layer(document, layer, &mut steps[..end]);
-    if made < end {
-        return Err(made);
-    }
-    Ok(made)
+    document.change_items(
+        layer,
+        steps,
+        |items, steps|
+            requires { FitInLayer layer steps.old items.old }
+            ensures { AdvancesIn layer items.old items.new result steps.old steps.new }
+        { flip_features(items, layer, steps) },
+    )
 }
 
-/// Where the steps end that are on features of this layer, no two neighbours on the same one.
-fn visit_end(steps: &[Step], layer: usize) -> usize
-    requires first { AllByRecursion (IsInFeatureOf layer) (take 1 steps.now) }
-    requires some { 0 < length steps.now }
-    ensures some { 0 < result }
-    ensures within { result ≤ length steps.now }
-    ensures features { AllByRecursion (IsInFeatureOf layer) (take result steps.now) }
+/// The same in the items of the layer. Where many of them change they are measured once, at the end, and not before
+/// and after each step.
+fn flip_features(
+    items: &mut Message<LayerItem>,
+    layer: usize,
+    steps: &mut [Step],
+) -> Result<usize, usize>
+    requires { FitInLayer layer steps.old items.old }
+    ensures { AdvancesIn layer items.old items.new result steps.old steps.new }
 {
-    let mut last = feature_in(&steps[0], layer);
-    let mut end = 1;
-    while end < steps.len() {
-        let feature = feature_in(&steps[end], layer);
-        if feature.is_none() || feature == last {
-            break;
+    let few = few_of(steps, layer, items.len());
+    let flipped = flip_each(items, layer, few, steps);
+    items.measure();
+    flipped
+}
+
+/// The same, one step after the other. Behind so few steps the size of the items is no longer known.
+fn flip_each(
+    items: &mut Message<LayerItem>,
+    layer: usize,
+    few: usize,
+    steps: &mut [Step],
+) -> Result<usize, usize>
+    requires { FitInLayer layer steps.old items.old }
+    ensures { AdvancesIn layer items.old items.new result steps.old steps.new }
+{
+    let mut at = 0;
+    let mut item = item_of_step(steps, layer, at);
+    loop {
+        if flip_fields(items, &mut steps[at]).is_err() {
+            return Err(at);
         }
-        last = feature;
-        end += 1;
+        at += 1;
+        let next = item_of_step(steps, layer, at);
+        if next.is_none() || next == item {
+            return Ok(at);
+        }
+        item = next;
+        forget_size_behind(items, few, at);
     }
-    end
 }
 
-/// Which item of this layer the step is on, where it is on a feature of it.
-fn feature_in(step: &Step, layer: usize) -> Option<usize>
-    ensures { IsTrue (is_some result) → IsInFeatureOf layer step.now }
+/// Which item of this layer the step at a position is on, where there is one that is on a feature of it.
+fn item_of_step(steps: &[Step], layer: usize, at: usize) -> Option<usize>
+    ensures { IsTrue (is_some result) → IsSomeAnd (slice_get steps.now at) (IsInFeatureOf layer) }
 {
-    match step {
+    match steps.get(at)? {
         Step::InFeature {
             layer: other,
             item,
@@ -73,52 +96,21 @@ fn feature_in(step: &Step, layer: usize) -> Option<usize>
     }
 }
 
-/// Carries steps on features of this layer out, and makes each the step that leads back. How many they
-/// are: all, if memory does not run out.
-fn flip_in_layer(document: &mut Document, layer: usize, steps: &mut [Step]) -> usize
-    requires some { 0 < length steps.old }
-    requires features { AllByRecursion (IsInFeatureOf layer) steps.old }
-    requires fits { Fits (map step_of steps.old) (document_of document.old) }
-    ensures within { result ≤ length steps.old }
-    ensures made { Advances result steps.old steps.new document.old document.new }
-{
-    document.change_items(
-        layer,
-        steps,
-        |items, steps|
-            requires { FitInLayer steps.old items.old }
-            ensures { AdvancesIn items.old items.new result steps.old steps.new }
-        { flip_features(items, steps) },
-    )
+/// How many steps on features of the layer are few. Where the steps do not reach half of the items none are many.
+fn few_of(steps: &[Step], layer: usize, items: usize) -> usize {
+    match item_of_step(steps, layer, items / 2) {
+        Some(_) => items / 16,
+        None => steps.len(),
+    }
 }
 
-/// The same in the items of the layer. Where most of them change they are measured once, and not before and after each step.
-fn flip_features(items: &mut Message<LayerItem>, steps: &mut [Step]) -> usize
-    requires { FitInLayer steps.old items.old }
-    ensures { AdvancesIn items.old items.new result steps.old steps.new }
+/// Gives up the size of the items where so few steps are made, and no more.
+fn forget_size_behind(items: &mut Message<LayerItem>, few: usize, made: usize)
+    ensures { items.new ≡ items.old }
 {
-    let most_change = steps.len() > items.len() / 2;
-    if most_change {
+    if made == few {
         items.forget_size();
     }
-    let made = flip_each(items, steps);
-    if most_change {
-        items.measure();
-    }
-    made
-}
-
-/// The same, one step after the other.
-fn flip_each(items: &mut Message<LayerItem>, steps: &mut [Step]) -> usize
-    requires { FitInLayer steps.old items.old }
-    ensures { AdvancesIn items.old items.new result steps.old steps.new }
-{
-    for at in 0..steps.len() {
-        if flip_fields(items, &mut steps[at]).is_err() {
-            return at;
-        }
-    }
-    steps.len()
 }
 
 /// Carries a step on a feature of the layer with these items out, and makes it the step that leads back.

@@ -1,11 +1,15 @@
-use Rattle.std.proofs.Common.{◌≡◌, ℕ, ◌≤◌, length, drop}
-use Rattle.std.specs.List.{AllByRecursion}
+use Rattle.std.proofs.Common.{◌-◌, ◌<◌, length}
+use Rattle.std.specs.Prelude.{slice_get}
+use Rattle.std.specs.Option.{IsSomeAnd}
 use Rattle.mvt_change.specs.Underway.{Advances, InEach, IsInFeatureOf}
 use Rattle.mvt_change.proofs.features.flip_each.Given as goal
 
-abbrev pub invariant-loop-at : goal.invariant-loop-at
-invariant-loop-at l = record {
-  there : l.at ≤ length l.steps;
-  rest : drop l.at l.steps ≡ drop l.at l.fn.steps;
-  made : (layer : ℕ) → AllByRecursion (IsInFeatureOf layer) l.fn.steps → InEach layer l.fn.items l.items (Advances l.at l.fn.steps l.steps);
+abbrev pub invariant-loop-item : goal.invariant-loop-item
+invariant-loop-item l = record {
+  there : l.at < length l.steps;
+  on : IsSomeAnd (slice_get l.steps l.at) (IsInFeatureOf l.layer);
+  made : InEach l.layer l.fn.items l.items (Advances l.at l.fn.steps l.steps);
 }
+
+abbrev pub decreases-loop-item : goal.decreases-loop-item
+decreases-loop-item l = length l.steps - l.at
