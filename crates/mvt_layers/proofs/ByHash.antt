@@ -1,5 +1,5 @@
 -- The features with an id, where the items are those of a run.
-use Rattle.std.proofs.Common.{◌≡◌, ℕ, zero, suc, ◌+◌, ◌<◌, ◌≤◌, Bool, true, false, Some, None, List, [], ◌∷◌, ◌++◌, length, drop, get_or, map, option_map, refl, sym, ap, ◌∙◌, append_assoc, arith}
+use Rattle.std.proofs.Common.{◌≡◌, ℕ, zero, suc, ◌+◌, ◌<◌, ◌≤◌, Bool, true, false, Option, Some, None, List, [], ◌∷◌, ◌++◌, length, drop, get_or, map, option_map, refl, sym, ap, ◌∙◌, append_assoc, arith}
 use Rattle.std.specs.Prelude.{if◌then◌else◌, replicate}
 use Rattle.std.specs.List.{cons_option, enumerate_from}
 use Rattle.mvt_document.specs.declared.document.LayerItem.{LayerItem}
@@ -12,7 +12,8 @@ use Rattle.mvt_document.specs.Runs.{IsRunOf}
 use Rattle.mvt_document.specs.Stands.{feature_of, layer_item_of}
 use Rattle.mvt_messages.specs.Found.{found_from, with_id}
 use Rattle.mvt_messages.specs.Views.{feature_in, has_id}
-use Rattle.mvt_layers.specs.Hashed.{feature_with_id}
+use Rattle.mvt_layers.specs.WithId.{feature_with_id, with_id_from}
+use Rattle.mvt_layers.proofs.InRun.{run_within}
 use Rattle.mvt_layers.proofs.Placing.{placed_from-more}
 
 in_run : {X : Type 0} (f : X → Bool) (first count at : ℕ) (tail : List Bool) (items : List X) (x : X) → map f items ≡ replicate first false ++ (replicate count true ++ tail) → first ≤ at → at < first + count → x ≡ get_or items at x → f x ≡ true
@@ -38,10 +39,18 @@ one_kept : {A : Type 0} (is : Bool) (ordinal position : ℕ) (x : A) (rest : Lis
 one_kept true ordinal position x rest = refl
 one_kept false ordinal position x rest = refl
 
--- what is found from a feature on is that one, where it has the id, and what is found behind it
+-- what is left from a feature on is that one, where it has the id, and what is left behind it
 pub with_id-more : (id ordinal position : ℕ) (items : List LayerItem) (x : LayerItem) → position < length items → x ≡ get_or items position x → is_feature x ≡ true
-    → with_id id (found_from feature_in ordinal position (map layer_item_of items)) ≡ cons_option (option_map (λ f. (ordinal, (position, f))) (feature_with_id id (layer_item_of x))) (with_id id (found_from feature_in (ordinal + 1) (position + 1) (map layer_item_of items)))
+    → with_id_from id ordinal position (map layer_item_of items) ≡ cons_option (option_map (λ f. (ordinal, (position, f))) (feature_with_id id (layer_item_of x))) (with_id_from id (ordinal + 1) (position + 1) (map layer_item_of items))
 with_id-more id ordinal position items (in_layer.Feature feature) inside is one =
     ap (λ (placed : List (ℕ × Feature)). with_id id (enumerate_from ordinal placed)) (placed_from-more layer_item_of feature_in position items (in_layer.Feature feature) inside is)
-    ∙ one_kept (has_id id (feature_of feature)) ordinal position (feature_of feature) (with_id id (found_from feature_in (ordinal + 1) (position + 1) (map layer_item_of items)))
+    ∙ one_kept (has_id id (feature_of feature)) ordinal position (feature_of feature) (with_id_from id (ordinal + 1) (position + 1) (map layer_item_of items))
 with_id-more id ordinal position items (in_layer.Plain field) inside is one = absurd (cc)
+
+-- the same at an item of the run, whose feature with the id has been looked for
+pub with_id-there : {found : Option Feature} (id ordinal position : ℕ) (run : Run) (items : List LayerItem) (x : LayerItem) → IsRunOf (in_layer_of_kind Message) run items → run.first ≤ position → position < run.first + run.count
+    → x ≡ get_or items position x → found ≡ feature_with_id id (layer_item_of x)
+    → with_id_from id ordinal position (map layer_item_of items) ≡ cons_option (option_map (λ f. (ordinal, (position, f))) found) (with_id_from id (ordinal + 1) (position + 1) (map layer_item_of items))
+with_id-there id ordinal position run items x h from before is one =
+    with_id-more id ordinal position items x (omega (arith, before, run_within (in_layer_of_kind Message) run items h)) is (feature_there run items position x h from before is)
+    ∙ ap (λ (f : Option Feature). cons_option (option_map (λ g. (ordinal, (position, g))) f) (with_id_from id (ordinal + 1) (position + 1) (map layer_item_of items))) (sym one)

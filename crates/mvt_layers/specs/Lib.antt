@@ -1,4 +1,4 @@
 pub mod Pools
 pub mod Seen
 pub mod Laws
-pub mod Hashed
+pub mod WithId

@@ -7,9 +7,10 @@ ghost use Rattle.mvt_document.specs.declared.run.Kind.TheVariants.{Message};
 ghost use Rattle.mvt_document.specs.Kinds.{in_layer_of_kind};
 ghost use Rattle.mvt_document.specs.Runs.{IsRunOf};
 ghost use Rattle.mvt_document.specs.Stands.{feature_of, field_of, layer_item_of, layer_of, tile_item_of};
-ghost use Rattle.mvt_messages.specs.Found.{found_features, found_from, placed_from, with_id};
+ghost use Rattle.mvt_messages.specs.Found.{found_features, placed_from};
 ghost use Rattle.mvt_layers.specs.Pools.{PassesOver, entry_in};
 ghost use Rattle.mvt_layers.specs.Seen.{found_feature_seen};
+ghost use Rattle.mvt_layers.specs.WithId.{IsFirstWithId, IsPlacedIn};
 ghost use Rattle.mvt_messages.specs.Views.{content_in, contents, feature_in, has_id, last_value, layer_in, plain_fields, value_in};
 
 use crate::found::FoundFeature;
@@ -120,9 +121,8 @@ pub(crate) fn first_with_id(
 ) -> Option<FoundFeature<'_>>
     requires there { start ≤ length items.now }
     requires before { first ≤ start }
-    ensures found { let all = map layer_item_of items.now in let left = with_id id (found_from feature_in first start all) in
-        MatchOption result (left ≡ []) (λ found. left ≡ found_feature_seen found ∷ with_id id (found_from feature_in (found.ordinal + 1) (found.position + 1) all)) }
-    ensures within { IfSome result (λ found. (found.ordinal ≤ found.position) × (found.position < length items.now)) }
+    ensures found { IsFirstWithId id first start (map layer_item_of items.now) [] result }
+    ensures within { IfSome result (IsPlacedIn items.now) }
 {
     let mut ordinal = first;
     for position in start..items.len() {

@@ -8,8 +8,8 @@ ghost use Rattle.mvt_document.specs.Runs.{IsRunOf};
 ghost use Rattle.mvt_document.specs.Stands.{feature_of, layer_item_of};
 ghost use Rattle.mvt_messages.specs.Found.{found_from, with_id};
 ghost use Rattle.mvt_messages.specs.Views.{feature_in};
-ghost use Rattle.mvt_layers.specs.Hashed.{feature_with_id};
 ghost use Rattle.mvt_layers.specs.Seen.{found_feature_seen};
+ghost use Rattle.mvt_layers.specs.WithId.{feature_with_id, with_id_from, IsFirstWithId, IsPlacedIn};
 
 use crate::fields::{first_with_id, has_id};
 use crate::found::FoundFeature;
@@ -95,9 +95,8 @@ fn first_of_id<'a>(
     requires before { first ≤ start }
     requires run { IsRunOf (in_layer_of_kind Message) features items.now }
     requires hashes { AreHashes layer_item_hash hashes.now items.now }
-    ensures found { let all = map layer_item_of items.now in let left = with_id id (found_from feature_in first start all) in
-        MatchOption result (left ≡ []) (λ found. left ≡ found_feature_seen found ∷ with_id id (found_from feature_in (found.ordinal + 1) (found.position + 1) all)) }
-    ensures within { IfSome result (λ found. (found.ordinal ≤ found.position) × (found.position < length items.now)) }
+    ensures found { IsFirstWithId id first start (map layer_item_of items.now) [] result }
+    ensures within { IfSome result (IsPlacedIn items.now) }
 {
     let end = hashes.len().min(features.first + features.count);
     if start < features.first || start >= end {
@@ -120,9 +119,8 @@ fn first_beside(
     requires there { start ≤ length items.now }
     requires before { first ≤ start }
     requires run { IsRunOf (in_layer_of_kind Message) features items.now }
-    ensures found { let all = map layer_item_of items.now in let left = with_id id (found_from feature_in first start all) in
-        MatchOption result (left ≡ []) (λ found. left ≡ found_feature_seen found ∷ with_id id (found_from feature_in (found.ordinal + 1) (found.position + 1) all)) }
-    ensures within { IfSome result (λ found. (found.ordinal ≤ found.position) × (found.position < length items.now)) }
+    ensures found { IsFirstWithId id first start (map layer_item_of items.now) [] result }
+    ensures within { IfSome result (IsPlacedIn items.now) }
 {
     if start == features.first + features.count {
         return first_with_id(items, id, features.until, first);
@@ -147,9 +145,8 @@ fn first_hashed<'a>(
     requires known { end ≤ features.first + features.count }
     requires run { IsRunOf (in_layer_of_kind Message) features items.now }
     requires hashes { AreHashes layer_item_hash hashes.now items.now }
-    ensures found { let all = map layer_item_of items.now in let left = with_id id (found_from feature_in first start all) in
-        MatchOption result (left ≡ with_id id (found_from feature_in (first + (end - start)) end all)) (λ found. left ≡ found_feature_seen found ∷ with_id id (found_from feature_in (found.ordinal + 1) (found.position + 1) all)) }
-    ensures within { IfSome result (λ found. (found.ordinal ≤ found.position) × (found.position < length items.now)) }
+    ensures found { let all = map layer_item_of items.now in IsFirstWithId id first start all (with_id_from id (first + (end - start)) end all) result }
+    ensures within { IfSome result (IsPlacedIn items.now) }
 {
     let wanted = hash_of(Some(id));
     for position in start..end {
