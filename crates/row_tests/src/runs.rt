@@ -77,12 +77,8 @@ struct Drip<'a> {
 
 impl Read for Drip<'_> {
     fn read(&mut self, buffer: &mut [u8]) -> io::Result<usize> {
-        if self.rest.is_empty() || buffer.is_empty() {
-            return Ok(0);
-        }
-        buffer[0] = self.rest[0];
-        self.rest = &self.rest[1..];
-        Ok(1)
+        let most = buffer.len().min(1);
+        self.rest.read(&mut buffer[..most])
     }
 }
 

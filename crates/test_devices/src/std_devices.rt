@@ -71,12 +71,8 @@ impl<'a> SlipReader<'a> {
 impl Read for SlipReader<'_> {
     fn read(&mut self, buffer: &mut [u8]) -> io::Result<usize> {
         self.slip.answer()?;
-        if self.rest.is_empty() || buffer.is_empty() {
-            return Ok(0);
-        }
-        buffer[0] = self.rest[0];
-        self.rest = &self.rest[1..];
-        Ok(1)
+        let most = buffer.len().min(1);
+        self.rest.read(&mut buffer[..most])
     }
 }
 
