@@ -35,7 +35,10 @@ impl Few {
             return None;
         }
         let mut room = [0; MOST];
-        room[..count].copy_from_slice(bytes);
+        // A copy of nothing is a call nevertheless.
+        if count > 0 {
+            room[..count].copy_from_slice(bytes);
+        }
         Some(Few {
             count: count as u8,
             room,
