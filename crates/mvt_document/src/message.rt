@@ -12,6 +12,7 @@ ghost use Rattle.mvt_document.specs.Runs.{AreRunsOf};
 
 use crate::MAX_FILE;
 use crate::exchange::move_item;
+use crate::feature::hash_of;
 use crate::kept::Kept;
 use crate::measure::{Measured, size_beside_part, size_of_all, sum_within};
 use crate::put::Put;
@@ -404,8 +405,9 @@ fn keep<T: Measured>(kept: &mut Kept, items: &Vec<T>, size: Option<usize>, runs:
     }
 }
 
-/// Keeps these runs in place of those kept, and the hashes that are lacking. Where less than half of the items up to
-/// the last feature of the run are features, no hash is added, so that there are two at most for each feature.
+/// Keeps these runs in place of those kept, and the hashes that are lacking. Where the first feature has no id no hash
+/// is added, and where less than half of the items up to the last feature of the run are features, so that there are
+/// two at most for each feature.
 fn keep_runs<T: Measured>(kept: &mut Kept, items: &[T], runs: Runs)
     requires runs { AreRunsOf T.of_kind runs items.now }
     requires hashes { AreHashes T.id_hash kept.old.hashes items.now }
@@ -415,7 +417,15 @@ fn keep_runs<T: Measured>(kept: &mut Kept, items: &[T], runs: Runs)
 {
     kept.set_runs(runs);
     let Run { first, count, .. } = runs.messages;
-    if first <= count {
+    if first <= count && begins_with_id(items, first) {
         kept.add_hashes(items, first.saturating_add(count));
+    }
+}
+
+/// Whether the feature at this position has an id. Mostly all features of a layer have one, or none has.
+fn begins_with_id<T: Measured>(items: &[T], first: usize) -> bool {
+    match items.get(first) {
+        Some(item) => item.id_hash() != Some(hash_of(None)),
+        None => false,
     }
 }
