@@ -186,8 +186,20 @@ fn exchange_one<T: Measured, S: Splices<T>>(
     ensures turned { step.new ≡ S.turned step.old gap.old.items }
     ensures size { IsKept T.bytes gap.new.items result }
 {
-    let come = size_of_all(step.put(), usize::MAX);
+    let come = size_of_few(step.put());
     step.exchange(gap);
-    let gone = size_of_all(step.put(), usize::MAX);
+    let gone = size_of_few(step.put());
     Some(size?.checked_add(come?)? - gone?)
+}
+
+/// How many bytes the items of a step take. Mostly that is one item, or none.
+#[inline(always)]
+fn size_of_few<T: Measured>(items: &[T]) -> Option<usize>
+    ensures { IfSome result (λ size. size ≡ length (flat_map T.bytes items.now)) }
+{
+    match items {
+        [] => Some(0),
+        [item] => item.size_within(usize::MAX),
+        _ => size_of_all(items, usize::MAX),
+    }
 }
