@@ -1,6 +1,6 @@
 //! A list that is open at a gap: a ring that begins behind the gap and ends before it.
 
-ghost use Rattle.std.specs.Prelude.{◌≡◌, ◌+◌, ◌≤◌, [], ◌++◌, length, take, drop, vec_len, vec_capacity, OnOk, OnErr, IfOk};
+ghost use Rattle.std.specs.Prelude.{◌≡◌, ◌+◌, ◌-◌, ◌≤◌, [], ◌++◌, length, take, drop, vec_len, vec_capacity, OnOk, OnErr, IfOk};
 ghost use Rattle.std.specs.VecDeque.{deque_len, deque_capacity};
 ghost use Rattle.mvt_document.specs.Splicing.{part, splice};
 ghost use Rattle.mvt_document.specs.Lending.{held_in};
@@ -96,7 +96,7 @@ fn move_gap<T>(ring: &mut VecDeque<T>, behind: usize, index: usize)
     turn(ring, count);
 }
 
-/// So many of the first items come last. Mostly that is one, which goes by itself.
+/// So many of the first items come last. Mostly that is one, or all but one, and that one goes by itself.
 fn turn<T>(ring: &mut VecDeque<T>, count: usize)
     requires there { count ≤ deque_len ring.old }
     requires room { deque_len ring.old ≤ deque_capacity ring.old }
@@ -104,10 +104,13 @@ fn turn<T>(ring: &mut VecDeque<T>, count: usize)
     ensures length { deque_len ring.new ≡ deque_len ring.old }
     ensures room { deque_capacity ring.new ≡ deque_capacity ring.old }
 {
-    if count > FEW {
-        ring.rotate_left(count);
-    } else {
+    let rest = ring.len() - count;
+    if count <= FEW {
         turn_few(ring, count);
+    } else if rest <= FEW {
+        turn_few_back(ring, rest);
+    } else {
+        ring.rotate_left(count);
     }
 }
 
@@ -125,6 +128,24 @@ fn turn_few<T>(ring: &mut VecDeque<T>, count: usize)
             unreachable!()
         };
         ring.push_back_reserved(item);
+        left -= 1;
+    }
+}
+
+/// So many of the last items come first, one after the other.
+fn turn_few_back<T>(ring: &mut VecDeque<T>, count: usize)
+    requires there { count ≤ deque_len ring.old }
+    requires room { deque_len ring.old ≤ deque_capacity ring.old }
+    ensures items { let first = deque_len ring.old - count in ring.new.items ≡ drop first ring.old.items ++ take first ring.old.items }
+    ensures length { deque_len ring.new ≡ deque_len ring.old }
+    ensures room { deque_capacity ring.new ≡ deque_capacity ring.old }
+{
+    let mut left = count;
+    while 0 < left {
+        let Some(item) = ring.pop_back() else {
+            unreachable!()
+        };
+        ring.push_front_reserved(item);
         left -= 1;
     }
 }
