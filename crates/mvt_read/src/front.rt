@@ -121,6 +121,7 @@ fn delimited_at_front(bytes: &[u8]) -> Option<(BodyRef<'_>, usize)>
 
 impl FieldRef<'_> {
     /// The same field with bytes of its own.
+    #[inline(always)]
     pub(crate) fn to_field(self, alloc: Global) -> Result<Field, AllocError>
         requires { IsField (front_of self) }
         ensures { IfOk result (λ field. field_of field ≡ front_of self.entry) }
