@@ -1,6 +1,7 @@
 -- A list in a ring, which begins behind a gap and ends before it.
 use Rattle.std.proofs.Common.{◌≡◌, ℕ, zero, suc, ◌+◌, ◌-◌, ◌≤◌, List, [], ◌∷◌, ◌++◌, length, length-drop, take, drop, append_assoc, take-append-drop, refl, sym, ap, ◌∙◌, arith}
-use Rattle.std.proofs.lemmas.List.{drop-append-le, drop-drop, drop_at, length-take-le, take_all, take-append-le, take-take}
+use Rattle.std.proofs.lemmas.List.{drop-append-le, drop-drop, drop_at, length-take-le, take_all, take_at, take-append-le, take-take}
+use Rattle.mvt_document.specs.Splicing.{splice}
 
 -- ---- the gap goes to an index
 
@@ -52,6 +53,18 @@ turned_on behind count index ring within few is =
     ∙ ap (λ rest. rest ++ (front ++ take count back)) (sym (drop_past count front back))
     ∙ ap (λ rest. drop (length front + count) (front ++ back) ++ rest) (sym (take_past count front back))
     ∙ ap (λ n. drop n (front ++ back) ++ take n (front ++ back)) sum
+
+-- items come behind the gap, which goes to an index
+pub put_behind : {A : Type 0} (behind index : ℕ) (put items : List A) → length (put ++ drop index items) ≡ behind → unrolled behind (put ++ (drop index items ++ take index items)) ≡ splice index 0 put items
+put_behind behind index put items is =
+    let front = put ++ drop index items in
+    let back = take index items in
+    let none : index + 0 ≡ index = omega arith in
+    ap (unrolled behind) (sym (append_assoc put (drop index items) back))
+    ∙ ap (λ rest. rest ++ take behind (front ++ back)) (drop_at front back behind is)
+    ∙ ap (λ rest. back ++ rest) (take_at front back behind is)
+    ∙ sym (append_assoc back put (drop index items))
+    ∙ ap (λ n. (back ++ put) ++ drop n items) (sym none)
 
 -- ---- the first items of a ring change places with others
 

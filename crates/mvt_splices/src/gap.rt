@@ -1,6 +1,6 @@
 //! A list that is open at a gap: a ring that begins behind the gap and ends before it.
 
-ghost use Rattle.std.specs.Prelude.{◌≡◌, ◌+◌, ◌-◌, ◌≤◌, [], ◌++◌, length, take, drop, vec_len, vec_capacity, OnOk, OnErr, IfOk};
+ghost use Rattle.std.specs.Prelude.{◌≡◌, ◌+◌, ◌-◌, ◌<◌, ◌≤◌, [], ◌++◌, length, take, drop, vec_len, vec_capacity, OnOk, OnErr, IfOk, IsTrue};
 ghost use Rattle.std.specs.VecDeque.{deque_len, deque_capacity};
 ghost use Rattle.mvt_document.specs.Splicing.{part, splice};
 ghost use Rattle.mvt_document.specs.Lending.{held_in};
@@ -60,10 +60,16 @@ impl<T> Gap<T> {
         ensures room { length self.new.items + self.new.room ≡ length self.old.items + self.old.room }
         ensures put_room { length put.new.items + put.new.room ≡ length put.old.items + put.old.room }
     {
+        let goes_back = index < self.ring.len() - self.behind;
         let behind = self.ring.len() - index - taken;
         move_gap(&mut self.ring, self.behind, index);
-        exchange_first(&mut self.ring, taken, put);
-        self.behind = behind;
+        if comes_first(goes_back, taken, put.len()) {
+            put_first(&mut self.ring, put);
+            self.behind = behind + 1;
+        } else {
+            exchange_first(&mut self.ring, taken, put);
+            self.behind = behind;
+        }
     }
 
     /// Closes the gap: the vector has the list again.
@@ -150,6 +156,29 @@ fn turn_few_back<T>(ring: &mut VecDeque<T>, count: usize)
     }
 }
 
+/// Whether the items to put come first: where the gap goes back, and one item comes and none goes, it need not pass by that
+/// item at the next exchange.
+fn comes_first(goes_back: bool, taken: usize, given: usize) -> bool
+    ensures { IsTrue result → (taken ≡ 0) × (given ≡ 1) }
+{
+    goes_back && taken == 0 && given == 1
+}
+
+/// The one item to put comes first.
+fn put_first<T: Drop>(ring: &mut VecDeque<T>, put: &mut Put<T>)
+    requires one { length put.old.items ≡ 1 }
+    requires room { deque_len ring.old < deque_capacity ring.old }
+    ensures ring { ring.new.items ≡ put.old.items ++ ring.old.items }
+    ensures put { put.new.items ≡ [] }
+    ensures length { deque_len ring.new ≡ deque_len ring.old + 1 }
+    ensures ring_room { deque_capacity ring.new ≡ deque_capacity ring.old }
+    ensures put_room { length put.new.items + put.new.room ≡ length put.old.items + put.old.room }
+{
+    if let Some(item) = put.trade(None) {
+        ring.push_front_reserved(item);
+    }
+}
+
 /// So many of the first items change places with the ones to put, which come last.
 fn exchange_first<T: Drop>(ring: &mut VecDeque<T>, taken: usize, put: &mut Put<T>)
     requires there { taken ≤ deque_len ring.old }
@@ -182,8 +211,12 @@ fn exchange_one<T: Drop>(ring: &mut VecDeque<T>, taken: usize, put: &mut Put<T>)
     ensures ring_room { deque_capacity ring.new ≡ deque_capacity ring.old }
     ensures put_room { length put.new.items + put.new.room ≡ length put.old.items + put.old.room }
 {
-    let first = if taken == 0 { None } else { ring.pop_front() };
-    if let Some(item) = put.trade(first) {
+    let left = if taken == 0 {
+        put.trade(None)
+    } else {
+        put.trade(ring.pop_front())
+    };
+    if let Some(item) = left {
         ring.push_back_reserved(item);
     }
 }
