@@ -22,7 +22,7 @@ use Rattle.mvt_edit_pairs.specs.EachFeature.{feature_steps, layer_steps}
 use Rattle.mvt_fates.specs.Fates.{splices_from}
 use Rattle.mvt_fates.proofs.Carrying.{in_feature_at}
 use Rattle.mvt_edit_pairs.proofs.StepsPassed.{no_splices}
-use Rattle.mvt_edit_pools.specs.Marks.{keeps_ordinal, numbered_from, ordinals_in, pair_repointed, pairs_at, pairs_repointed, stays_from}
+use Rattle.mvt_edit_pools.specs.Marks.{keeps_ordinal, ordinals_by, ordinals_in, pair_repointed, pairs_at, pairs_repointed, stays_from}
 use Rattle.mvt_edit_pools.specs.Pools.{ordinal_fates}
 use Rattle.mvt_edit_pools.proofs.Numbering.{got_numbered}
 
@@ -36,21 +36,21 @@ module _ (keys_stay values_stay : ℕ → Bool) (items : List LayerItem) where
   value_count = length (contents value_field (plain_fields items))
 
   abbrev key_ordinals : List ℕ
-  key_ordinals = numbered_from 0 (stays_from keys_stay 0 key_count)
+  key_ordinals = ordinals_by (stays_from keys_stay 0 key_count)
 
   abbrev value_ordinals : List ℕ
-  value_ordinals = numbered_from 0 (stays_from values_stay 0 value_count)
+  value_ordinals = ordinals_by (stays_from values_stay 0 value_count)
 
   pairs_as_meant : (pairs : List (ℕ × ℕ)) → list_all (is_pair key_count value_count) pairs ≡ true → decided_by (pair_repointed key_ordinals value_ordinals) pairs ≡ repointed keys_stay values_stay pairs
   pairs_as_meant [] is = refl
   pairs_as_meant (pair ∷ pairs) is =
       let parts = and_parts (is_pair key_count value_count pair) (list_all (is_pair key_count value_count) pairs) is in
       let both = and_parts (is_ordinal key_count pair.0) (is_ordinal value_count pair.1) parts.0 in
-      let key_below = ltb-true pair.0 key_count (and_parts (nat_lt pair.0 key_count) (nat_lt pair.0 (2 ^ 32)) both.0).0 in
-      let value_below = ltb-true pair.1 value_count (and_parts (nat_lt pair.1 value_count) (nat_lt pair.1 (2 ^ 32)) both.1).0 in
+      let key = and_parts (nat_lt pair.0 key_count) (nat_lt pair.0 (2 ^ 32)) both.0 in
+      let value = and_parts (nat_lt pair.1 value_count) (nat_lt pair.1 (2 ^ 32)) both.1 in
       let rest = decided_by (pair_repointed key_ordinals value_ordinals) pairs in
-      ap (λ (n : Option ℕ). n ∷ slice_get value_ordinals pair.1 ∷ rest) (got_numbered keys_stay key_count pair.0 key_below)
-      ∙ ap (λ (n : Option ℕ). Some (new_ordinal keys_stay pair.0) ∷ n ∷ rest) (got_numbered values_stay value_count pair.1 value_below)
+      ap (λ (n : Option ℕ). n ∷ slice_get value_ordinals pair.1 ∷ rest) (got_numbered keys_stay key_count pair.0 (ltb-true pair.0 key_count key.0) (ltb-true pair.0 (2 ^ 32) key.1))
+      ∙ ap (λ (n : Option ℕ). Some (new_ordinal keys_stay pair.0) ∷ n ∷ rest) (got_numbered values_stay value_count pair.1 (ltb-true pair.1 value_count value.0) (ltb-true pair.1 (2 ^ 32) value.1))
       ∙ ap (λ (more : List (Option ℕ)). Some (new_ordinal keys_stay pair.0) ∷ Some (new_ordinal values_stay pair.1) ∷ more) (pairs_as_meant pairs parts.1)
 
   found_as_meant : (fields : List Field) (found : Option (List (ℕ × ℕ))) → pairs_among items fields ≡ found → option_map_or (decided_by (pair_repointed key_ordinals value_ordinals)) found [] ≡ option_map_or (repointed keys_stay values_stay) found []
@@ -67,12 +67,12 @@ module _ (keys_stay values_stay : ℕ → Bool) (items : List LayerItem) where
       ∙ ap (λ rest. feature_steps (λ fields. field_fates 2 (new_ordinals keys_stay values_stay items fields) fields) layer at ++ rest) (steps_each layer found)
 
 -- the steps of the features of a layer
-pub features_as_meant : (keys_stay values_stay : List LayerItem → ℕ → Bool) (at : ℕ × (ℕ × Layer)) (key_ordinals value_ordinals : List ℕ) → key_ordinals ≡ numbered_from 0 (stays_from (keys_stay at.1.1.items) 0 (length (keys at.1.1))) → value_ordinals ≡ numbered_from 0 (stays_from (values_stay at.1.1.items) 0 (length (values at.1.1)))
+pub features_as_meant : (keys_stay values_stay : List LayerItem → ℕ → Bool) (at : ℕ × (ℕ × Layer)) (key_ordinals value_ordinals : List ℕ) → key_ordinals ≡ ordinals_by (stays_from (keys_stay at.1.1.items) 0 (length (keys at.1.1))) → value_ordinals ≡ ordinals_by (stays_from (values_stay at.1.1.items) 0 (length (values at.1.1)))
     → layer_steps (pairs_repointed key_ordinals value_ordinals) at ≡ layer_steps (ordinal_fates keys_stay values_stay) at
 features_as_meant keys_stay values_stay at key_ordinals value_ordinals are_keys are_values =
     let layer = at.1.1 in
     ap (λ ordinals. layer_steps (pairs_repointed ordinals value_ordinals) at) are_keys
-    ∙ ap (λ ordinals. layer_steps (pairs_repointed (numbered_from 0 (stays_from (keys_stay layer.items) 0 (length (keys layer)))) ordinals) at) are_values
+    ∙ ap (λ ordinals. layer_steps (pairs_repointed (ordinals_by (stays_from (keys_stay layer.items) 0 (length (keys layer)))) ordinals) at) are_values
     ∙ steps_each (keys_stay layer.items) (values_stay layer.items) layer.items at.1.0 (found_features layer.items)
 
 -- ---- a feature of which no pair changes

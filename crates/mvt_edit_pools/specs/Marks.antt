@@ -1,5 +1,5 @@
 -- Which entries of a layer stay, by a mark for each, and what the marks make of the layer.
-use Rattle.std.specs.Prelude.{ℕ, zero, suc, ◌+◌, ◌==◌, Bool, false, ◌&&◌, ◌||◌, not, List, [], ◌∷◌, map, length, drop, slice_get, Option, if◌then◌else◌}
+use Rattle.std.specs.Prelude.{ℕ, zero, suc, ◌+◌, ◌^◌, ◌==◌, Bool, false, ◌&&◌, ◌||◌, not, List, [], ◌∷◌, map, length, take, drop, slice_get, Option, if◌then◌else◌}
 use Rattle.std.specs.List.{list_any}
 use Rattle.std.specs.Option.{option_map_or, unwrap_or}
 use Rattle.mvt_document.specs.Plain.{Field, Feature, LayerItem}
@@ -51,6 +51,10 @@ pair_counts items found = map (λ at. length (pairs_at items at)) found
 abbrev pub numbered_from : ℕ → List Bool → List ℕ
 numbered_from next [] = []
 numbered_from next (stays ∷ marks) = next ∷ numbered_from (next + (if stays then 1 else 0)) marks
+
+-- the new ordinals of the entries that a pair can name, by the marks of those that stay: it names by uint32 (tiles 4.4)
+abbrev pub ordinals_by : List Bool → List ℕ
+ordinals_by marks = numbered_from 0 (take (2 ^ 32) marks)
 
 -- there is a new ordinal, and it is the old one
 abbrev pub keeps_ordinal : ℕ → Option ℕ → Bool

@@ -14,11 +14,11 @@ ghost use Rattle.mvt_messages.specs.Views.{keys, values};
 ghost use Rattle.mvt_edit_pairs.specs.EachFeature.{layer_steps};
 ghost use Rattle.mvt_edit_steps.specs.Prepared.{Prepares};
 ghost use Rattle.mvt_edit_pools.specs.Pools.{all_keys, all_values, compaction, compacting, keys_stay, values_stay};
-ghost use Rattle.mvt_edit_pools.specs.Marks.{entry_steps, gone_by, numbered_from, pair_counts, pairs_repointed, stays_from};
+ghost use Rattle.mvt_edit_pools.specs.Marks.{entry_steps, gone_by, ordinals_by, pair_counts, pairs_repointed, stays_from};
 
 use crate::entries::take_entries;
 use crate::repoint::repoint;
-use crate::used::{Marks, mark_used, number, same_marks};
+use crate::used::{Marks, mark_used, nameable, number, same_marks};
 use mvt_change::{Change, Step};
 use mvt_document::Document;
 use mvt_select::{FoundLayer, LayersChoice, Refusal, find_layers};
@@ -99,7 +99,7 @@ fn keep_marked(
     requires pairs { map pair_seen marks.now.pairs.items ≡ all_pairs (layer_of found.layer.now).items }
     requires counts { marks.now.counts.items ≡ pair_counts (layer_of found.layer.now).items (found_features (layer_of found.layer.now).items) }
     ensures { IfOk result (λ done. map step_of steps.new.items ≡ map step_of steps.old.items
-        ++ (layer_steps (pairs_repointed (numbered_from 0 marks.now.keys.items) (numbered_from 0 marks.now.values.items)) (found_layer_seen found.entry)
+        ++ (layer_steps (pairs_repointed (ordinals_by marks.now.keys.items) (ordinals_by marks.now.values.items)) (found_layer_seen found.entry)
         ++ entry_steps found.entry.position (gone_by marks.now.keys.items marks.now.values.items (layer_of found.entry.layer.now).items))) }
 {
     let (key_ordinals, value_ordinals) = new_ordinals(alloc, marks)?;
@@ -123,12 +123,12 @@ fn keep_marked(
 }
 
 /// The new ordinals of the keys and of the values, by the marks of those that stay.
-fn new_ordinals(alloc: Global, marks: &Marks) -> Result<(Vec<u64>, Vec<u64>), AllocError>
-    ensures keys { IfOk result (λ ordinals. ordinals.0.items ≡ numbered_from 0 marks.now.keys.items) }
-    ensures values { IfOk result (λ ordinals. ordinals.1.items ≡ numbered_from 0 marks.now.values.items) }
+fn new_ordinals(alloc: Global, marks: &Marks) -> Result<(Vec<u32>, Vec<u32>), AllocError>
+    ensures keys { IfOk result (λ ordinals. ordinals.0.items ≡ ordinals_by marks.now.keys.items) }
+    ensures values { IfOk result (λ ordinals. ordinals.1.items ≡ ordinals_by marks.now.values.items) }
 {
-    let keys = number(alloc, marks.keys.as_slice())?;
-    let values = number(alloc, marks.values.as_slice())?;
+    let keys = number(alloc, nameable(marks.keys.as_slice()))?;
+    let values = number(alloc, nameable(marks.values.as_slice()))?;
     Ok((keys, values))
 }
 

@@ -26,8 +26,8 @@ pub(crate) fn repoint(
     alloc: Global,
     found: FoundLayer<'_>,
     marks: &Marks,
-    key_ordinals: &[u64],
-    value_ordinals: &[u64],
+    key_ordinals: &[u32],
+    value_ordinals: &[u32],
     decisions: &mut Vec<Option<u64>>,
     steps: &mut Vec<Step>,
 ) -> Result<(), AllocError>
@@ -73,8 +73,8 @@ fn renumber_changed(
 /// the values have these new ordinals. How many pairs change.
 fn decide(
     pairs: &[Pair],
-    key_ordinals: &[u64],
-    value_ordinals: &[u64],
+    key_ordinals: &[u32],
+    value_ordinals: &[u32],
     decisions: &mut Vec<Option<u64>>,
 ) -> Result<usize, AllocError>
     ensures decided { IfOk result (λ changed. decisions.new.items ≡ decided_by (pair_repointed key_ordinals.now value_ordinals.now) (map pair_seen pairs.now)) }
@@ -92,8 +92,8 @@ fn decide(
 /// Decides on the two numbers of the pair, behind what was decided before. Whether one of them changes.
 fn decide_pair(
     pair: Pair,
-    key_ordinals: &[u64],
-    value_ordinals: &[u64],
+    key_ordinals: &[u32],
+    value_ordinals: &[u32],
     decisions: &mut Vec<Option<u64>>,
 ) -> Result<bool, AllocError>
     ensures decided { IfOk result (λ changes. decisions.new.items ≡ decisions.old.items ++ decided_by (pair_repointed key_ordinals.now value_ordinals.now) (pair_seen pair ∷ [])) }
@@ -110,8 +110,8 @@ fn decide_pair(
 /// and whether one of them changes.
 fn repointed(
     pair: Pair,
-    key_ordinals: &[u64],
-    value_ordinals: &[u64],
+    key_ordinals: &[u32],
+    value_ordinals: &[u32],
 ) -> (Option<u64>, Option<u64>, bool)
     ensures { result ≡ pair_repointed key_ordinals.now value_ordinals.now (pair_seen pair) }
 {
@@ -122,10 +122,11 @@ fn repointed(
 }
 
 /// The new ordinal of the entry of this ordinal.
-fn new_ordinal(ordinals: &[u64], ordinal: u32) -> Option<u64>
+fn new_ordinal(ordinals: &[u32], ordinal: u32) -> Option<u64>
     ensures { result ≡ slice_get ordinals.now ordinal }
 {
-    ordinals.get(ordinal as usize).copied()
+    let new = ordinals.get(ordinal as usize)?;
+    Some(u64::from(*new))
 }
 
 /// The new ordinal is the old one.

@@ -1,6 +1,6 @@
 //! Which keys and which values of a layer stay, and the new ordinal of each.
 
-ghost use Rattle.std.specs.Prelude.{◌≡◌, ◌+◌, ◌<◌, ◌⊎◌, [], ◌∷◌, ◌++◌, if◌then◌else◌, None, Some, Err, IfErr, IfOk, length, map, option_map, replicate};
+ghost use Rattle.std.specs.Prelude.{◌≡◌, ◌+◌, ◌^◌, ◌<◌, ◌≤◌, ◌⊎◌, [], ◌∷◌, ◌++◌, if◌then◌else◌, None, Some, Err, IfErr, IfOk, length, map, option_map, replicate, take};
 ghost use Rattle.std.specs.Result.{IsErrOf};
 ghost use Rattle.mvt_document.specs.Stands.{layer_of};
 ghost use Rattle.mvt_numbers.specs.Numbers.{numbers};
@@ -17,6 +17,9 @@ ghost use Rattle.mvt_edit_pools.specs.Marks.{is_one, marked, names_key, names_va
 use mvt_layers::{FeatureView, Pair, PairsError, PoolSizes};
 use mvt_select::{FoundFeature, FoundLayer, Refusal};
 use std::alloc::{AllocError, Global};
+
+/// How many entries of a pool a pair can name: its ordinals take half a word.
+const MOST_NAMED: usize = 1 << 32;
 
 /// What was read of the tags of a layer: for each of its keys and values, in order, whether it stays;
 /// the pairs of its features, one feature behind the other; and how many each feature has.
@@ -143,15 +146,24 @@ pub(crate) fn same_marks(alloc: Global, count: usize, mark: bool) -> Result<Vec<
     vec![in alloc; mark; count]
 }
 
+/// The marks of the entries that a pair can name.
+pub(crate) fn nameable(marks: &[bool]) -> &[bool]
+    ensures first { result.now ≡ take (2 ^ 32) marks.now }
+    ensures few { length result.now ≤ 2 ^ 32 }
+{
+    &marks[..marks.len().min(MOST_NAMED)]
+}
+
 /// For each entry, by the marks of those that stay, how many before it stay: its new ordinal, where
 /// it stays.
-pub(crate) fn number(alloc: Global, marks: &[bool]) -> Result<Vec<u64>, AllocError>
+pub(crate) fn number(alloc: Global, marks: &[bool]) -> Result<Vec<u32>, AllocError>
+    requires few { length marks.now ≤ 2 ^ 32 }
     ensures { IfOk result (λ ordinals. ordinals.items ≡ numbered_from 0 marks.now) }
 {
     let mut ordinals = Vec::with_capacity(alloc, marks.len())?;
     let mut next = 0_u64;
     for stays in marks {
-        ordinals.push_reserved(next);
+        ordinals.push_reserved(next as u32);
         next = next_ordinal(next, *stays);
     }
     Ok(ordinals)
