@@ -4,6 +4,7 @@ ghost use Rattle.std.specs.Prelude.{◌≡◌, false, map};
 ghost use Rattle.mvt_change.specs.ChangeStands.{change_of, step_of};
 
 use mvt_document::{Field, Items, LayerItem, Put, TileItem};
+use std::mem::size_of;
 
 /// Which list of a document: that of the tile, of the layer at a position of the tile, or of the
 /// feature at a position of that layer. Positions count all items of a list.
@@ -19,7 +20,7 @@ pub enum Place {
 #[derive(Debug, Drop)]
 pub enum Step {
     InTile {
-        index: usize,
+        index: u32,
         take: usize,
         put: Put<TileItem>,
     },
@@ -42,6 +43,11 @@ pub enum Step {
         to: usize,
     },
 }
+
+// A change may have half a million steps, which go through memory a dozen times, so what one takes
+// is held fast here. The items that `InTile` puts are the largest of all, so its index is half a
+// word; a file has at most `MAX_FILE` bytes, so no position on a tile's own list is more.
+const _: () = prove!(size_of::<Step>() == 80);
 
 /// Steps, each on what the steps before it made. Where they stand backwards the last one comes first.
 #[derive(Debug, Drop)]

@@ -52,7 +52,7 @@ impl Splices<TileItem> for Step {
     fn exchange(&mut self, gap: &mut Gap<TileItem>) {
         if let Step::InTile { index, take, put } = self {
             let given = put.len();
-            gap.exchange(*index, *take, put);
+            gap.exchange(*index as usize, *take, put);
             *take = given;
         }
     }

@@ -65,7 +65,9 @@ fn size_after(document: &Document, step: &Step) -> Option<usize>
 {
     match step {
         Step::InTile { index, take, put } => {
-            let beside = document.items.size_beside_part(*index, *take, MAX_FILE);
+            let beside = document
+                .items
+                .size_beside_part(*index as usize, *take, MAX_FILE);
             size_and(beside, put.as_slice())
         }
         Step::InLayer {

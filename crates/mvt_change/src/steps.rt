@@ -24,7 +24,7 @@ pub(crate) fn flip_step(document: &mut Document, step: &mut Step) -> Result<(), 
     match step {
         Step::InTile { index, take, put } => {
             let given = put.len();
-            document.items.exchange(*index, *take, put)?;
+            document.items.exchange(*index as usize, *take, put)?;
             *take = given;
         }
         Step::InLayer {

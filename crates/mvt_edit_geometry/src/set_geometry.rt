@@ -146,7 +146,7 @@ fn steps_of(
         |field| is_geometry(field),
         field,
         end,
-        |run| run.in_feature(layer, item),
+        |run| Ok(run.in_feature(layer, item)),
         &mut steps,
     )?;
     Ok(Change::new(steps))

@@ -31,7 +31,7 @@ pub fn clear_id(
         alloc,
         found.feature.fields(),
         |field| Ok(goes_if(is_id(field))),
-        |run| run.in_feature(layer, item),
+        |run| Ok(run.in_feature(layer, item)),
         &mut steps,
     )?;
     Ok(Change::new(steps))

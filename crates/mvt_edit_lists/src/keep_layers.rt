@@ -11,8 +11,8 @@ ghost use Rattle.mvt_meaning.specs.Meaning.{is_kept};
 ghost use Rattle.mvt_edit_lists.specs.Names.{AreInOrder};
 ghost use Rattle.mvt_edit_steps.specs.Prepared.{Prepares};
 
-use mvt_change::{Change, Step};
-use mvt_document::{Document, Items, Put, TileItem};
+use mvt_change::Change;
+use mvt_document::{Document, Items, TileItem};
 use mvt_fates::{carry_out, goes_if};
 use mvt_layers::{LayerView, layer_count};
 use mvt_select::Refusal;
@@ -35,11 +35,7 @@ pub fn keep_layers(
         alloc,
         items,
         |item| Ok(goes_if(!is_kept(item, ordered))),
-        |run| Step::InTile {
-            index: run.index,
-            take: run.take,
-            put: Put::from_vec(run.put),
-        },
+        |run| run.in_tile(),
         &mut steps,
     )?;
     // Layers alone go, so none stays where as many go as there are.

@@ -93,7 +93,7 @@ pub fn renumber_feature(
         found.feature.fields(),
         number,
         decisions,
-        |run| run.in_feature(layer, item),
+        |run| Ok(run.in_feature(layer, item)),
         steps,
         beside,
     )

@@ -30,7 +30,7 @@ pub(crate) fn take_entries(
     take_out(
         alloc,
         gone.as_slice(),
-        |run: Run<LayerItem>| run.in_layer(layer),
+        |run: Run<LayerItem>| Ok(run.in_layer(layer)),
         steps,
     )?;
     Ok(())

@@ -7,11 +7,12 @@ ghost use Rattle.mvt_document.specs.Stands.{document_of};
 ghost use Rattle.mvt_document.specs.Wire.{bytes_of};
 ghost use Rattle.mvt_change.specs.Changes.{FitsStep, go_step};
 ghost use Rattle.mvt_change.specs.ChangeStands.{change_of, place_of, step_of};
-ghost use Rattle.mvt_fates.specs.Fates.{item_out};
+ghost use Rattle.mvt_fates.specs.Fates.{item_out, splice_of};
 ghost use Rattle.mvt_meaning.specs.declared.refusal.Refusal.TheVariants.{NoMemory, TooLarge};
 
 use mvt_change::{Change, Place, Step, fits_after};
-use mvt_document::{Document, Put};
+use mvt_document::Document;
+use mvt_fates::Run;
 use mvt_meaning::Refusal;
 use std::alloc::{AllocError, Global};
 
@@ -44,27 +45,21 @@ pub fn one_step_within_limit(
 pub fn item_out(alloc: Global, place: Place, index: usize) -> Result<Change, AllocError>
     ensures { IfOk result (λ change. change_of change ≡ item_out (place_of place) index ∷ []) }
 {
-    one_step(
-        alloc,
-        match place {
-            Place::Tile => Step::InTile {
-                index,
-                take: 1,
-                put: Put::new(alloc),
-            },
-            Place::Layer { layer } => Step::InLayer {
-                layer,
-                index,
-                take: 1,
-                put: Put::new(alloc),
-            },
-            Place::Feature { layer, item } => Step::InFeature {
-                layer,
-                item,
-                index,
-                take: 1,
-                put: Put::new(alloc),
-            },
-        },
-    )
+    let step = match place {
+        Place::Tile => one_out(alloc, index).in_tile()?,
+        Place::Layer { layer } => one_out(alloc, index).in_layer(layer),
+        Place::Feature { layer, item } => one_out(alloc, index).in_feature(layer, item),
+    };
+    one_step(alloc, step)
+}
+
+/// The run that takes the item at this index out.
+fn one_out<T>(alloc: Global, index: usize) -> Run<T>
+    ensures { splice_of result ≡ record { index = index; taken = 1; put = [] } }
+{
+    Run {
+        index,
+        take: 1,
+        put: Vec::new(alloc),
+    }
 }

@@ -62,7 +62,7 @@ fn untag(
         alloc,
         found.feature.fields(),
         |field| Ok(goes_if(is_tags(field))),
-        |run| run.in_feature(layer, item),
+        |run| Ok(run.in_feature(layer, item)),
         steps,
     )?;
     Ok(())

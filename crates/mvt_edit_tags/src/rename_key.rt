@@ -140,7 +140,7 @@ fn renaming(
         alloc,
         items,
         |item| fate_of(alloc, item, old, new),
-        |run| run.in_layer(layer),
+        |run| Ok(run.in_layer(layer)),
         &mut steps,
     )?;
     Ok(Change::new(steps))

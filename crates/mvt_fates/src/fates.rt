@@ -6,7 +6,7 @@ ghost use Rattle.std.specs.Fn.{FnReturns, FnReturnsAt};
 ghost use Rattle.std.specs.List.{AllZip, cons_option, flat_map};
 ghost use Rattle.std.specs.Option.{option_map_or};
 ghost use Rattle.mvt_document.specs.Plain as document;
-ghost use Rattle.mvt_document.specs.Stands.{field_of, layer_item_of};
+ghost use Rattle.mvt_document.specs.Stands.{field_of, layer_item_of, tile_item_of};
 ghost use Rattle.mvt_document.specs.Wire.{field_bytes};
 ghost use Rattle.mvt_renumber.specs.Fates.{changes, left_of_fate};
 ghost use Rattle.mvt_renumber.specs.Renumbering.{renumber};
@@ -17,7 +17,7 @@ ghost use Rattle.mvt_fates.specs.Once.{at_end, once_fate, once_splices};
 ghost use Rattle.mvt_fates.specs.Fates.{IsCarriedOut, Splice, Tells, and_last, goes_if, seen, splice_of, splices_from, splices_of, steps_then};
 
 use mvt_change::Step;
-use mvt_document::{Field, LayerItem, MAX_FILE, Measured, Put, sum_within};
+use mvt_document::{Field, LayerItem, MAX_FILE, Measured, Put, TileItem, sum_within};
 use mvt_renumber::{Fate, renumber_field};
 use std::alloc::{AllocError, Global};
 
@@ -66,9 +66,28 @@ impl Run<LayerItem> {
     }
 }
 
+impl Run<TileItem> {
+    /// The step that carries the run out on the items of the tile. There is no memory for one whose
+    /// index is more than half a word, which no tile of `MAX_FILE` bytes has.
+    pub fn in_tile(self) -> Result<Step, AllocError>
+        ensures { IfOk result (λ step. step_of step ≡ plain.TileStep self.index self.take (map tile_item_of self.put.items)) }
+    {
+        let index = u32::try_from(self.index).map_err(|_| AllocError)?;
+        Ok(Step::InTile {
+            index,
+            take: self.take,
+            put: Put::from_vec(self.put),
+        })
+    }
+}
+
 /// Carries out what becomes of each item, in steps behind those that are given. How many items
 /// change.
-pub fn carry_out<T: Drop, F: Fn(&T) -> Result<Fate<T>, AllocError>, S: Fn(Run<T>) -> Step>(
+pub fn carry_out<
+    T: Drop,
+    F: Fn(&T) -> Result<Fate<T>, AllocError>,
+    S: Fn(Run<T>) -> Result<Step, AllocError>,
+>(
     alloc: Global,
     items: &[T],
     fate_of: F,
@@ -77,7 +96,7 @@ pub fn carry_out<T: Drop, F: Fn(&T) -> Result<Fate<T>, AllocError>, S: Fn(Run<T>
 ) -> Result<usize, AllocError>
     requires fates { F.IsAlwaysCallable fate_of }
     requires steps { S.IsAlwaysCallable step }
-    ensures { (step_with : Splice T → plain.Step) → Tells (λ run made. FnReturns S.Fn step (run, tt) made) step_of (λ run. step_with (splice_of run)) →
+    ensures { (step_with : Splice T → plain.Step) → Tells (λ run made. FnReturns S.Fn step (run, tt) (Ok made)) step_of (λ run. step_with (splice_of run)) →
         IfOk result (λ changed. (fates : List (Fate T)) × AllZip (λ item fate. FnReturnsAt F.Fn fate_of item (Ok fate)) items.now fates × IsCarriedOut step_with fates (map step_of steps.old.items) (map step_of steps.new.items) changed) }
 {
     let mut walk = Walk::first();
@@ -90,14 +109,14 @@ pub fn carry_out<T: Drop, F: Fn(&T) -> Result<Fate<T>, AllocError>, S: Fn(Run<T>
 
 /// Takes the items out that are picked, by a mark for each item of a list, in steps behind those
 /// that are given. How many go.
-pub fn take_out<T: Drop, S: Fn(Run<T>) -> Step>(
+pub fn take_out<T: Drop, S: Fn(Run<T>) -> Result<Step, AllocError>>(
     alloc: Global,
     picked: &[bool],
     step: S,
     steps: &mut Vec<Step>,
 ) -> Result<usize, AllocError>
     requires { S.IsAlwaysCallable step }
-    ensures { (step_with : Splice T → plain.Step) → Tells (λ run made. FnReturns S.Fn step (run, tt) made) step_of (λ run. step_with (splice_of run)) →
+    ensures { (step_with : Splice T → plain.Step) → Tells (λ run made. FnReturns S.Fn step (run, tt) (Ok made)) step_of (λ run. step_with (splice_of run)) →
         IfOk result (λ changed. IsCarriedOut step_with (map (λ is. goes_if is) picked.now) (map step_of steps.old.items) (map step_of steps.new.items) changed) }
 {
     let mut walk = Walk::first();
@@ -110,7 +129,7 @@ pub fn take_out<T: Drop, S: Fn(Run<T>) -> Step>(
 /// Carries out what becomes of the fields of a message, by a decision for each number in the fields
 /// of this number, in order, in steps behind those that are given. How many bytes the fields take
 /// then beside so many, where a file may have as many; none where none is given.
-pub fn renumber_fields<S: Fn(Run<Field>) -> Step>(
+pub fn renumber_fields<S: Fn(Run<Field>) -> Result<Step, AllocError>>(
     alloc: Global,
     fields: &[Field],
     number: u64,
@@ -120,7 +139,7 @@ pub fn renumber_fields<S: Fn(Run<Field>) -> Step>(
     beside: Option<usize>,
 ) -> Result<Option<usize>, AllocError>
     requires { S.IsAlwaysCallable step }
-    ensures steps { (step_with : Splice document.Field → plain.Step) → Tells (λ run made. FnReturns S.Fn step (run, tt) made) step_of (λ run. step_with (seen field_of (splice_of run))) →
+    ensures steps { (step_with : Splice document.Field → plain.Step) → Tells (λ run made. FnReturns S.Fn step (run, tt) (Ok made)) step_of (λ run. step_with (seen field_of (splice_of run))) →
         IfOk result (λ size. map step_of steps.new.items ≡ map step_of steps.old.items ++ map step_with (splices_of (field_fates number decisions.now (map field_of fields.now)))) }
     ensures size { IfOk result (IsSizeBeside beside (length (flat_map field_bytes (renumber number decisions.now (map field_of fields.now))))) }
 {
@@ -155,7 +174,7 @@ fn and_left(size: Option<usize>, field: &Field, fate: &Fate<Field>) -> Option<us
 /// Carries out that a new item takes the place of the first that passes, and that the others that
 /// pass go, in steps behind those that are given. Where none passes the new one comes to stand at
 /// `end`, in a step of its own.
-pub fn put_once<T: Drop, P: Fn(&T) -> bool, S: Fn(Run<T>) -> Step>(
+pub fn put_once<T: Drop, P: Fn(&T) -> bool, S: Fn(Run<T>) -> Result<Step, AllocError>>(
     alloc: Global,
     items: &[T],
     passes: P,
@@ -166,7 +185,7 @@ pub fn put_once<T: Drop, P: Fn(&T) -> bool, S: Fn(Run<T>) -> Step>(
 ) -> Result<(), AllocError>
     requires passes { P.IsAlwaysCallable passes }
     requires steps { S.IsAlwaysCallable step }
-    ensures { (step_with : Splice T → plain.Step) → Tells (λ run made. FnReturns S.Fn step (run, tt) made) step_of (λ run. step_with (splice_of run)) →
+    ensures { (step_with : Splice T → plain.Step) → Tells (λ run made. FnReturns S.Fn step (run, tt) (Ok made)) step_of (λ run. step_with (splice_of run)) →
         IfOk result (λ done. (picked : List Bool) × AllZip (λ item is. FnReturnsAt P.Fn passes item is) items.now picked × (map step_of steps.new.items ≡ map step_of steps.old.items ++ map step_with (once_splices picked new end))) }
 {
     let mut walk = Walk::first();
@@ -238,7 +257,7 @@ impl<T: Drop> Walk<T> {
     }
 
     /// Behind one more item, of this fate. A run that is whole now is a step behind the others.
-    fn pass<S: Fn(Run<T>) -> Step>(
+    fn pass<S: Fn(Run<T>) -> Result<Step, AllocError>>(
         self,
         alloc: Global,
         fate: Fate<T>,
@@ -249,7 +268,7 @@ impl<T: Drop> Walk<T> {
         requires ends { IfSome self.last (λ run. (run.index + length run.put.items ≡ self.at) × (run.take + 1 < 2 ^ 64)) }
         requires short { self.at + 1 < 2 ^ 64 }
         requires few { self.changed + 1 < 2 ^ 64 }
-        ensures steps { (step_with : Splice T → plain.Step) → Tells (λ run made. FnReturns S.Fn step.now (run, tt) made) step_of (λ run. step_with (splice_of run)) →
+        ensures steps { (step_with : Splice T → plain.Step) → Tells (λ run made. FnReturns S.Fn step.now (run, tt) (Ok made)) step_of (λ run. step_with (splice_of run)) →
             IfOk result (λ walk. (rest : List (Fate T)) → steps_then step_with (map step_of steps.old.items) self (fate ∷ rest) ≡ steps_then step_with (map step_of steps.new.items) walk rest) }
         ensures ends { IfOk result (λ walk. IfSome walk.last (λ run. run.index + length run.put.items ≡ walk.at)) }
         ensures take { IfOk result (λ walk. (most : ℕ) → IfSome self.last (λ run. run.take ≤ most) → IfSome walk.last (λ run. run.take ≤ most + 1)) }
@@ -269,13 +288,13 @@ impl<T: Drop> Walk<T> {
 
     /// Behind the last item: the run that is open is a step behind the others. How many items
     /// change.
-    fn end<S: Fn(Run<T>) -> Step>(
+    fn end<S: Fn(Run<T>) -> Result<Step, AllocError>>(
         self,
         step: &S,
         steps: &mut Vec<Step>,
     ) -> Result<usize, AllocError>
         requires { S.IsAlwaysCallable step.now }
-        ensures { (step_with : Splice T → plain.Step) → Tells (λ run made. FnReturns S.Fn step.now (run, tt) made) step_of (λ run. step_with (splice_of run)) →
+        ensures { (step_with : Splice T → plain.Step) → Tells (λ run made. FnReturns S.Fn step.now (run, tt) (Ok made)) step_of (λ run. step_with (splice_of run)) →
             IfOk result (λ changed. (map step_of steps.new.items ≡ steps_then step_with (map step_of steps.old.items) self []) × (changed ≡ self.changed)) }
     {
         let Walk { last, changed, .. } = self;
@@ -355,17 +374,17 @@ fn put_behind<T: Drop>(put: &mut Vec<T>, item: T) -> Result<(), AllocError>
 }
 
 /// Puts the step of the run, where there is one, behind the others.
-fn put_step<T: Drop, S: Fn(Run<T>) -> Step>(
+fn put_step<T: Drop, S: Fn(Run<T>) -> Result<Step, AllocError>>(
     run: Option<Run<T>>,
     step: &S,
     steps: &mut Vec<Step>,
 ) -> Result<(), AllocError>
     requires { S.IsAlwaysCallable step.now }
-    ensures { (step_with : Splice T → plain.Step) → Tells (λ run made. FnReturns S.Fn step.now (run, tt) made) step_of (λ run. step_with (splice_of run)) →
+    ensures { (step_with : Splice T → plain.Step) → Tells (λ run made. FnReturns S.Fn step.now (run, tt) (Ok made)) step_of (λ run. step_with (splice_of run)) →
         IfOk result (λ done. map step_of steps.new.items ≡ map step_of steps.old.items ++ map step_with (map splice_of (cons_option run []))) }
 {
     if let Some(run) = run {
-        steps.push(step(run))?;
+        steps.push(step(run)?)?;
     }
     Ok(())
 }

@@ -7,7 +7,7 @@
 //!   `take_out`.
 //! - The fields of a feature whose numbers are decided on, and how many bytes they take then
 //!   (`size`): `renumber_fields`.
-//! - A run of such items is a step of a feature or of a layer: `Run`.
+//! - A run of such items is a step of a feature, of a layer or of the tile: `Run`.
 //! - Conditions: what is given to `carry_out`, `take_out`, `put_once` and `renumber_fields` answers
 //!   for every item and every run.
 #![tactic(auto)]
