@@ -13,7 +13,7 @@ from features import RUNS_OF_FEATURES, features, walked
 from figures import WholeRun, keep
 from generate import LAYERS
 from measure import (COUNTED_MILLISECONDS, RUNS, RUNS_OF_LARGE, Program, costliest, count_instructions, measure,
-                     measure_alone, run_once, script_of)
+                     measure_in_turns, run_once, script_of)
 from phases import phased, phases
 from report import (Listed, Result, Undone, comparison, endings, growth, instructions, memory, put_section, shown, table,
                     time)
@@ -184,7 +184,7 @@ def listed(tileshell, tiles):
     found = []
     for tile in tiles:
         print(f"bench: {tile.name}, list", flush=True)
-        figures = [measure_alone(program, tile, script_of(lines, tile)) for lines in (READING, LISTING)]
+        figures = measure_in_turns(tile, [(program, READING), (program, LISTING)])
         found.append(Listed(tile, *(each and time(each) for each in figures)))
     return found
 
@@ -195,7 +195,7 @@ def undone(tileshell, tiles):
     for tile in tiles:
         job, lines = UNDONE[tile.kind]
         print(f"bench: {tile.name}, {job}, and undone", flush=True)
-        figures = [measure_alone(tileshell, tile, script_of(script, tile)) for script in ("", lines, lines + "undo\n")]
+        figures = measure_in_turns(tile, [(tileshell, script) for script in ("", lines, lines + "undo\n")])
         found.append(Undone(tile, job, *(each and time(each) for each in figures)))
     return found
 

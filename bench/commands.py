@@ -1,5 +1,5 @@
 """The job `commands`, of tileshell alone: what one line takes on a small map and on a large one."""
-from measure import measure_alone, script_of
+from measure import measure_in_turns
 from report import Commanded, shown, table
 
 # A script has so many lines, so that what they take stands out of what the tile takes.
@@ -19,10 +19,9 @@ def commanded(tileshell, tiles):
     found = []
     for tile in tiles:
         print(f"bench: {tile.name}, {LINES:,} commands", flush=True)
-        empty = measure_alone(tileshell, tile, script_of("", tile))
-        for command, lines in COMMANDS.items():
-            done = measure_alone(tileshell, tile, script_of(lines * (LINES // lines.count("\n")), tile))
-            found.append(Commanded(tile, command, LINES, empty, done))
+        scripts = ["", *(lines * (LINES // lines.count("\n")) for lines in COMMANDS.values())]
+        empty, *done = measure_in_turns(tile, [(tileshell, script) for script in scripts])
+        found += [Commanded(tile, command, LINES, empty, each) for command, each in zip(COMMANDS, done)]
     return found
 
 

@@ -143,11 +143,16 @@ def measure(programs, tile, script):
     return figures, endings
 
 
-def measure_alone(program, tile, script):
-    """The figures of one program, or none where a run did not do its job."""
-    count = RUNS_OF_LARGE if tile.is_large else RUNS
-    runs = [run_once(program, tile, script, seconds_for(tile)) for _ in range(count)]
-    return medians(runs) if all(run.is_done for run in runs) else None
+def measure_in_turns(tile, jobs):
+    """The figures of each job, a program with its lines, from runs in turns: what else the machine does meets all of them alike.
+
+    None for one of which a run did not do its job.
+    """
+    runs = [[] for _ in jobs]
+    for _ in range(RUNS_OF_LARGE if tile.is_large else RUNS):
+        for done, (program, lines) in zip(runs, jobs):
+            done.append(run_once(program, tile, script_of(lines, tile), seconds_for(tile)))
+    return [medians(done) if all(run.is_done for run in done) else None for done in runs]
 
 
 def last_ending(runs):

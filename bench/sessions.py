@@ -1,7 +1,7 @@
 """The job `sessions`, of tileshell alone: what many steps take that undo and redo can go over."""
 import dataclasses
 
-from measure import measure_alone, script_of
+from measure import measure_in_turns
 from report import Stepped, shown, table
 
 # So many renames are made, and then as many undos and as many redos, as far as each depth goes in turns.
@@ -25,9 +25,8 @@ def stepped_at(tileshell, tile, depth):
     print(f"bench: {tile.name}, sessions at depth {depth:,}", flush=True)
     program = dataclasses.replace(tileshell, words=(*tileshell.words, "--depth", str(depth)))
     # The first script is what the others are held against, at the depth that is not asked for.
-    runs = [(tileshell, ""), (program, RENAMES), (program, RENAMES + moves(depth))]
-    figures = [measure_alone(each, tile, script_of(lines, tile)) for each, lines in runs]
-    return Stepped(tile, depth, STEPS, 2 * STEPS, *figures)
+    jobs = [(tileshell, ""), (program, RENAMES), (program, RENAMES + moves(depth))]
+    return Stepped(tile, depth, STEPS, 2 * STEPS, *measure_in_turns(tile, jobs))
 
 
 def sessions(steps):
