@@ -1,6 +1,6 @@
 //! A list that is open at a gap: a ring that begins behind the gap and ends before it.
 
-ghost use Rattle.std.specs.Prelude.{◌≡◌, ◌+◌, ◌-◌, ◌<◌, ◌≤◌, [], ◌++◌, length, take, drop, vec_len, vec_capacity, OnOk, OnErr, IfOk, IsTrue};
+ghost use Rattle.std.specs.Prelude.{◌≡◌, ◌+◌, ◌-◌, ◌<◌, ◌≤◌, ◌↔◌, [], ◌++◌, length, take, drop, vec_len, vec_capacity, OnOk, OnErr, IfOk, IsTrue};
 ghost use Rattle.std.specs.VecDeque.{deque_len, deque_capacity};
 ghost use Rattle.mvt_document.specs.Splicing.{part, splice};
 ghost use Rattle.mvt_document.specs.Lending.{held_in};
@@ -159,7 +159,7 @@ fn turn_few_back<T>(ring: &mut VecDeque<T>, count: usize)
 /// Whether the items to put come first: where the gap goes back, and one item comes and none goes, it need not pass by that
 /// item at the next exchange.
 fn comes_first(goes_back: bool, taken: usize, given: usize) -> bool
-    ensures { IsTrue result → (taken ≡ 0) × (given ≡ 1) }
+    ensures { IsTrue result ↔ (IsTrue goes_back × (taken ≡ 0) × (given ≡ 1)) }
 {
     goes_back && taken == 0 && given == 1
 }
