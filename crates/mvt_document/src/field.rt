@@ -91,6 +91,7 @@ impl Model for Field {
 impl Field {
     ghost use Rattle.mvt_document.specs.Opens.{IsField};
     ghost use Rattle.mvt_document.specs.FieldStands.{field_of};
+    ghost use Rattle.mvt_document.specs.Plain.{Delimited};
 
     /// The field of these parts. The bytes of its body stay in their list.
     pub fn new(parts: FieldParts) -> Field
@@ -180,6 +181,30 @@ impl Field {
             },
         };
         Ok(Field { form })
+    }
+
+    /// The LEN field of these bytes. Few bytes lie in the field, and the memory of their vector goes back.
+    pub fn delimited(tag: Tag, width: u8, bytes: Vec<u8>) -> Field
+        requires tag { IsTag tag.value 2 }
+        requires width { IsWidth width }
+        ensures { field_of result ≡ record { tag = number_of tag; body = Delimited width bytes.items } }
+    {
+        let (tag, tag_width) = (tag.to_u32(), tag.width());
+        let form = match Few::new(&bytes) {
+            Some(bytes) => Form::FewBytes {
+                tag_width,
+                width,
+                tag,
+                bytes,
+            },
+            None => Form::Bytes {
+                tag_width,
+                width,
+                tag,
+                bytes: Items::from_vec(bytes),
+            },
+        };
+        Field { form }
     }
 
     /// The tag of the field.

@@ -9,8 +9,9 @@
 //! - The tag of a field is a number below 2^32, in half the memory of a number, and gives that number
 //!   back: `Tag`. That of a layer or of a feature is below 2^8, and takes two bytes: `MessageTag`.
 //! - A field holds its tag and its body in four words, and up to 23 bytes that were read in these; it gives both,
-//!   the body with its bytes where they lie, and is made of a body with a list, or with bytes that are copied:
-//!   `Field::tag`, `body`, `new`, `copied`.
+//!   the body with its bytes where they lie, and is made of a body with a list, or with bytes that are copied, or
+//!   of a LEN body's bytes in a vector, which keep it where they are more than 23: `Field::tag`, `body`, `new`,
+//!   `copied`, `delimited`.
 //! - The value of a VARINT field of a number, and that of the last one in a list, are those of the definitions:
 //!   `value_in`, `last_value`. The id of a feature is kept beside its fields, and is the right one after every
 //!   change, which their type keeps: `Feature::id`.

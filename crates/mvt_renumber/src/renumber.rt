@@ -13,7 +13,7 @@ ghost use Rattle.mvt_renumber.specs.Fates.{IsChange, changes, left_of_fate};
 ghost use Rattle.mvt_renumber.specs.Renumbering.{field_numbers, renumbered, renumbered_field, some_changed, with_left};
 
 use crate::fate::Fate;
-use mvt_document::{Body, BodyRef, Field, FieldParts, Items, Tag, Varint, read_varint};
+use mvt_document::{Body, BodyRef, Field, FieldParts, Tag, Varint, read_varint};
 use std::alloc::{AllocError, Global};
 
 /// What becomes of a field, by a decision for each number in the fields of its number, in order:
@@ -99,7 +99,8 @@ fn renumber_packed<'a>(
     }
 }
 
-/// A packed field goes where nothing is left of it, and else becomes one with what is left.
+/// A packed field goes where nothing is left of it, and else becomes one with what is left. Where that is few bytes, the memory in
+/// which they were made serves the next field.
 fn packed_fate(tag: Tag, width: u8, left: Vec<u8>) -> Fate<Field>
     requires tag { IsTag tag.value 2 }
     requires width { IsWidth width }
@@ -109,11 +110,7 @@ fn packed_fate(tag: Tag, width: u8, left: Vec<u8>) -> Fate<Field>
     if left.is_empty() {
         return Fate::Goes;
     }
-    let bytes = Items::from_vec(left);
-    Fate::Becomes(Field::new(FieldParts {
-        tag,
-        body: Body::Bytes { width, bytes },
-    }))
+    Fate::Becomes(Field::delimited(tag, width, left))
 }
 
 /// What was found of a packed body by decisions on its numbers.
