@@ -3,6 +3,7 @@ mod KeptPairs
 mod Numbering
 mod Repointed
 mod Gone
+mod Told
 mod SeenMarks
 mod Steps
 mod LayerCompacted

@@ -1,7 +1,8 @@
 //! The keys and values of a layer that do not stay, taken out.
 
-ghost use Rattle.std.specs.Prelude.{◌≡◌, ◌++◌, List, ◌∷◌, IfOk, drop, map};
-ghost use Rattle.mvt_document.specs.Plain as plain;
+ghost use Rattle.std.specs.Prelude.{◌≡◌, ◌+◌, ◌<◌, ◌++◌, ◌∷◌, IfOk, Some, drop, length, map, option_map, slice_get};
+ghost use Rattle.mvt_document.specs.Kinds.{in_layer_of_kind, is_entry as is_entry_of};
+ghost use Rattle.mvt_document.specs.Runs.{AreRunsOf, IsRunOf};
 ghost use Rattle.mvt_document.specs.Stands.{layer_item_of, layer_of};
 ghost use Rattle.mvt_change.specs.ChangeStands.{step_of};
 ghost use Rattle.mvt_meaning.specs.Compaction.{is_entry};
@@ -9,8 +10,8 @@ ghost use Rattle.mvt_edit_pools.specs.Marks.{entry_steps, first_goes, gone_by};
 
 use mvt_change::Step;
 use mvt_document::tags::{KEYS, VALUES};
-use mvt_document::{BodyRef, LayerItem};
-use mvt_fates::{Run, take_out};
+use mvt_document::{BodyRef, Layer, LayerItem, Run, Runs};
+use mvt_fates::take_out;
 use mvt_select::FoundLayer;
 use std::alloc::{AllocError, Global};
 
@@ -26,31 +27,39 @@ pub(crate) fn take_entries(
     ensures { IfOk result (λ done. map step_of steps.new.items ≡ map step_of steps.old.items ++ entry_steps found.entry.position (gone_by keys.now values.now (layer_of found.entry.layer.now).items)) }
 {
     let layer = found.position;
-    let gone = gone(alloc, found.layer.items.as_slice(), keys, values)?;
+    let gone = gone(alloc, found.layer, keys, values)?;
     take_out(
         alloc,
         gone.as_slice(),
-        |run: Run<LayerItem>| Ok(run.in_layer(layer)),
+        |run: mvt_fates::Run<LayerItem>| Ok(run.in_layer(layer)),
         steps,
     )?;
     Ok(())
 }
 
-/// For each item, in order, whether it is a key or a value that does not stay, by a mark for each of
+/// For each item of the layer, in order, whether it is a key or a value that does not stay, by a mark for each of
 /// both that does.
 fn gone(
     alloc: Global,
-    items: &[LayerItem],
+    layer: &Layer,
     keys: &[bool],
     values: &[bool],
 ) -> Result<Vec<bool>, AllocError>
-    ensures { IfOk result (λ gone. gone.items ≡ gone_by keys.now values.now (map layer_item_of items.now)) }
+    ensures { IfOk result (λ gone. gone.items ≡ gone_by keys.now values.now (layer_of layer.now).items) }
 {
+    let items = layer.items.as_slice();
+    let runs = layer.items.runs();
     let mut gone = Vec::with_capacity(alloc, items.len())?;
     let mut keys_left = keys;
     let mut values_left = values;
     for index in 0..items.len() {
-        let (goes, keys_behind, values_behind) = item_goes(&items[index], keys_left, values_left);
+        let (goes, keys_behind, values_behind) = item_goes(
+            items,
+            index,
+            &runs,
+            keys_left,
+            values_left,
+        );
         gone.push_reserved(goes);
         keys_left = keys_behind;
         values_left = values_behind;
@@ -58,22 +67,42 @@ fn gone(
     Ok(gone)
 }
 
-/// Whether the item is a key or a value that does not stay, by the marks of those from it on, and
-/// the marks of the keys and of the values behind it.
+/// Whether the item at this index is a key or a value that does not stay, by the marks of those from it on,
+/// and the marks of the keys and of the values behind it.
 fn item_goes<'a>(
-    item: &LayerItem,
+    items: &[LayerItem],
+    index: usize,
+    runs: &Runs,
     keys: &'a [bool],
     values: &'a [bool],
 ) -> (bool, &'a [bool], &'a [bool])
-    ensures { (items : List plain.LayerItem) → gone_by keys.now values.now (layer_item_of item.now ∷ items) ≡ result.0 ∷ gone_by result.1.now result.2.now items }
+    requires runs { AreRunsOf in_layer_of_kind runs.now items.now }
+    requires there { index < length items.now }
+    ensures { gone_by keys.now values.now (map layer_item_of (drop index items.now)) ≡ result.0 ∷ gone_by result.1.now result.2.now (map layer_item_of (drop (index + 1) items.now)) }
 {
-    if is_entry(item, KEYS) {
+    if is_entry_at(items, index, runs.keys, KEYS) {
         return (first_goes(keys), behind_first(keys), values);
     }
-    if is_entry(item, VALUES) {
+    if is_entry_at(items, index, runs.values, VALUES) {
         return (first_goes(values), keys, behind_first(values));
     }
     (false, keys, values)
+}
+
+/// The item at this index is one of the entries that are LEN fields of this number, where this is the run of the
+/// first of them. The item is read only where the run does not tell.
+fn is_entry_at(items: &[LayerItem], index: usize, entries: Run, number: u64) -> bool
+    requires run { IsRunOf (is_entry_of number) entries items.now }
+    requires there { index < length items.now }
+    ensures { option_map (λ item. is_entry number (layer_item_of item)) (slice_get items.now index) ≡ Some result }
+{
+    if index >= entries.until {
+        return is_entry(&items[index], number);
+    }
+    if index < entries.first {
+        return false;
+    }
+    index - entries.first < entries.count
 }
 
 /// The item is one of the entries that are LEN fields of this number.

@@ -1,19 +1,35 @@
-use Rattle.std.proofs.Common.{◌≡◌, true, false, ◌∷◌, drop, refl, sym, ap, ◌∙◌}
+use Rattle.std.proofs.Common.{◌+◌, drop, map, ◌∙◌}
 use Rattle.mvt_document.specs.Stands.{layer_item_of}
 use Rattle.mvt_messages.specs.Views.{key_field, value_field}
-use Rattle.mvt_meaning.specs.Compaction.{is_entry}
-use Rattle.mvt_edit_pools.specs.Marks.{first_goes, gone_by}
 use Rattle.mvt_edit_pools.proofs.Gone.{goes_key, goes_neither, goes_value}
+use Rattle.mvt_edit_pools.proofs.Told.{item_at}
 use Rattle.mvt_edit_pools.proofs.entries.item_goes.Goals as goal
 
-pub returns-then-is_entry : goal.returns-then-is_entry
-returns-then-is_entry c = λ items.
-    goes_key c.args.keys.now c.args.values.now (layer_item_of c.args.item.now) items _ _ (sym c.is_entry.ensures ∙ c.if-is_entry.true) c.first_goes.ensures c.behind_first.ensures
+pub returns-then-is_entry_at : goal.returns-then-is_entry_at
+returns-then-is_entry_at c =
+    let keys = c.args.keys.now in
+    let values = c.args.values.now in
+    let behind = map layer_item_of (drop (c.args.index + 1) c.args.items.now) in
+    let at = item_at c.args.items.now c.args.index c.requires.there in
+    let key = at.told key_field _ c.is_entry_at.ensures ∙ c.if-is_entry_at.true in
+    at.first keys values ∙ goes_key keys values (layer_item_of at.item) behind _ _ key c.first_goes.ensures c.behind_first.ensures
 
-pub returns-then-is_entry-2 : goal.returns-then-is_entry-2
-returns-then-is_entry-2 c = λ items.
-    goes_value c.args.keys.now c.args.values.now (layer_item_of c.args.item.now) items _ _ (sym c.is_entry.ensures ∙ c.if-is_entry.false) (sym c.is_entry-2.ensures ∙ c.if-is_entry-2.true) c.first_goes-then-is_entry-2.ensures c.behind_first-then-is_entry-2.ensures
+pub returns-then-is_entry_at-2 : goal.returns-then-is_entry_at-2
+returns-then-is_entry_at-2 c =
+    let keys = c.args.keys.now in
+    let values = c.args.values.now in
+    let behind = map layer_item_of (drop (c.args.index + 1) c.args.items.now) in
+    let at = item_at c.args.items.now c.args.index c.requires.there in
+    let key = at.told key_field _ c.is_entry_at.ensures ∙ c.if-is_entry_at.false in
+    let value = at.told value_field _ c.is_entry_at-2.ensures ∙ c.if-is_entry_at-2.true in
+    at.first keys values ∙ goes_value keys values (layer_item_of at.item) behind _ _ key value c.first_goes-then-is_entry_at-2.ensures c.behind_first-then-is_entry_at-2.ensures
 
 pub returns : goal.returns
-returns c = λ items.
-    goes_neither c.args.keys.now c.args.values.now (layer_item_of c.args.item.now) items (sym c.is_entry.ensures ∙ c.if-is_entry.false) (sym c.is_entry-2.ensures ∙ c.if-is_entry-2.false)
+returns c =
+    let keys = c.args.keys.now in
+    let values = c.args.values.now in
+    let behind = map layer_item_of (drop (c.args.index + 1) c.args.items.now) in
+    let at = item_at c.args.items.now c.args.index c.requires.there in
+    let key = at.told key_field _ c.is_entry_at.ensures ∙ c.if-is_entry_at.false in
+    let value = at.told value_field _ c.is_entry_at-2.ensures ∙ c.if-is_entry_at-2.false in
+    at.first keys values ∙ goes_neither keys values (layer_item_of at.item) behind key value

@@ -6,15 +6,15 @@ use Rattle.mvt_change.specs.ChangeStands.{step_of}
 use Rattle.mvt_fates.specs.Fates.{goes_if, seen, splices_of}
 use Rattle.mvt_fates.proofs.Carrying.{in_layer_at}
 use Rattle.mvt_edit_pools.proofs.SeenMarks.{marks_seen}
-use Rattle.mvt_edit_pools.specs.Marks.{entry_steps, gone_by}
+use Rattle.mvt_edit_pools.specs.Marks.{entry_steps}
 use Rattle.mvt_edit_pools.proofs.entries.take_entries.Goals as goal
 
 pub returns : goal.returns
 returns c =
     let layer = c.args.found.position in
-    let marks = c.as_slice-2.result.now in
+    let marks = c.as_slice.result.now in
     let given = map step_of c.args.steps.now.items in
     let done = c.in_ok-take_out.ensures (λ s. LayerStep layer s.index s.taken (map layer_item_of s.put)) (λ run made says. search rules) in
     done.behind
     ∙ ap (λ more. given ++ more) (sym (map-map (in_layer_at layer) (seen layer_item_of) (splices_of (map (λ is. goes_if is) marks))) ∙ ap (map (in_layer_at layer)) (marks_seen layer_item_of marks))
-    ∙ ap (λ picked. given ++ entry_steps layer picked) (c.as_slice-2.ensures.value ∙ c.in_ok-gone.ensures ∙ ap (λ items. gone_by c.args.keys.now c.args.values.now (map layer_item_of items)) c.as_slice.ensures)
+    ∙ ap (λ picked. given ++ entry_steps layer picked) (c.as_slice.ensures.value ∙ c.in_ok-gone.ensures)
