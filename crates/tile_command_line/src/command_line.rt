@@ -7,6 +7,7 @@ ghost use Rattle.tile_command_line.specs.Depth.{HasDepth, TellsDepth};
 ghost use Rattle.tile_command_line.specs.Defaulted.{Awaits, IsDefaulted, IsOrdinary};
 
 use crate::help::SCRIPT_HELP;
+use clap::builder::ValueParser;
 use clap::{Arg, ArgAction, ArgMatches, Command, value_parser};
 use mvt_history_steps::MAX_DEPTH;
 use std::alloc::{AllocError, Global};
@@ -97,9 +98,16 @@ fn depth_option<'a>(alloc: Global) -> Arg<'a>
         .long("depth")
         .value_name("N")
         .action(ArgAction::Set)
-        .value_parser(value_parser!(u32).range(1..=i64::from(MAX_DEPTH)))
+        .value_parser(depths())
         .default_value("100")
         .help("How many steps undo goes back at most, from 1 to 10000")
+}
+
+/// The numbers that `--depth` takes.
+fn depths<'a>() -> ValueParser<'a>
+    ensures { result ≡ Signed (pos 1) (pos MAX_DEPTH) }
+{
+    value_parser!(u32).range(1..=i64::from(MAX_DEPTH))
 }
 
 /// The depth that the words ask for, or else the default.
