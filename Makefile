@@ -34,11 +34,10 @@ crate: toolchain
 	rt must-fail $(C)
 	tools/wrong-bodies $(C)
 
-## make rows         whole runs and single calls: the tables of crates/row_tests/data and crates/call_tests/data
+## make rows         whole runs and single calls: the tables of crates/row_tests/data
 rows: toolchain
-	tools/build row_tests call_tests
+	tools/build row_tests
 	cd crates/row_tests/data && ../out/row_tests $$(cat ../args)
-	cd crates/call_tests/data && ../out/call_tests $$(cat ../args)
 
 ## make pages        writes what pages of docs/ have from the sources
 pages:

@@ -1,12 +1,7 @@
-"""Single calls, as the rows of crates/call_tests have them, and what becomes of one where a growth is refused."""
+"""Single calls, as the tables of crates/row_tests have them, and what becomes of one where a growth is refused."""
 import re
-from pathlib import Path
 
-CRATE = Path(__file__).resolve().parent.parent / "crates" / "call_tests"
-PROGRAM = CRATE / "out" / "call_tests"
-
-# What the program says of a line of a table for which there was no memory.
-UNREAD = "no line of a table: "
+from tables import CALLS, NO_MEMORY, UNREAD, texts
 
 # Calls that read many tiles, and do not tell a tile that there was no memory to read from one that is none.
 UNTOLD = ["wire cuts"]
@@ -24,9 +19,9 @@ ANSWERED, WANTING, NOT_COME_TO = "answered", "wanting", "not come to"
 def tables():
     """Tables of one row: of each call the first row of each kind of answer, which its first word tells."""
     found, pieces = {}, {}
-    for file in (CRATE / "args").read_text().split():
+    for text in texts(CALLS):
         call, tile, given = "", "", ""
-        for line in (CRATE / "data" / file).read_text().split("\n"):
+        for line in text.split("\n"):
             word, _, rest = line.partition(" ")
             if word == "piece":
                 pieces[rest.split(" ")[0]] = line
@@ -61,7 +56,7 @@ def judged(status, told, complaint):
     lines = complaint.splitlines()
     if status != 1 or not lines:
         return None
-    if told == "" and lines == ["call_tests: out of memory"] or lines[0].startswith(UNREAD):
+    if told == "" and complaint == NO_MEMORY or lines[0].startswith(UNREAD):
         return NOT_COME_TO
     if told != "1 rows, 1 differ\n" or not lines[0].startswith("call "):
         return None

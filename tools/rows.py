@@ -1,5 +1,5 @@
 #!/usr/bin/env python3
-"""Holds the model of `walks` against the rows of crates/row_tests, which the program is held against too.
+"""Holds the model of `walks` against the rows of whole runs of crates/row_tests, which the program is held against too.
 
 A script of many lines takes the model too long: such rows are passed over, and counted.
 `crates/row_tests/src/main.rt` says how a row is written.
@@ -7,11 +7,9 @@ A script of many lines takes the model too long: such rows are passed over, and 
 import sys
 from collections import Counter
 from dataclasses import dataclass
-from pathlib import Path
 
 from runs import ended
-
-CRATE = Path(__file__).resolve().parent.parent / "crates" / "row_tests"
+from tables import RUNS, texts
 
 # The model goes through all standing commands at each line, and is asked for no more lines than this.
 MOST_LINES = 1000
@@ -67,10 +65,10 @@ def read_line(row, word, rest, pieces):
 
 
 def read_rows():
-    """The rows of all tables."""
+    """The rows of all tables of runs."""
     pieces, rows = {}, []
-    for file in (CRATE / "args").read_text().split():
-        for block in (CRATE / "data" / file).read_text().split("\n\n"):
+    for text in texts(RUNS):
+        for block in text.split("\n\n"):
             row = Row()
             for line in block.split("\n"):
                 read_line(row, *line.partition(" ")[::2], pieces)

@@ -1,14 +1,10 @@
 """A run as crates/row_tests makes it, as a call, over readers and writers and one byte a call; and what becomes of it where
 a growth is refused."""
 import re
-from pathlib import Path
 
-from calls import UNREAD
 from runs import ended
+from tables import NO_MEMORY, UNREAD
 from wanting import PLAIN, RUN, Told, Wrong, judged_script
-
-CRATE = Path(__file__).resolve().parent.parent / "crates" / "row_tests"
-PROGRAM = CRATE / "out" / "row_tests"
 
 # What becomes of a growth that is none of the runs: the table is not read, or what came of a run is not compared.
 ELSEWHERE = "elsewhere"
@@ -46,7 +42,7 @@ def judged(run, status, told, complaint):
     """To what the growth was refused; None where what the program printed is none of the known."""
     if (status, told, complaint) == (0, "1 rows, 0 differ\n", ""):
         return PLAIN
-    if (status, told, complaint) == (1, "", "row_tests: out of memory\n") or status == 1 and complaint.startswith(UNREAD):
+    if (status, told, complaint) == (1, "", NO_MEMORY) or status == 1 and complaint.startswith(UNREAD):
         return ELSEWHERE
     found = DIFFERS.fullmatch(complaint)
     if not found or (status, told) != (1, "1 rows, 1 differ\n"):

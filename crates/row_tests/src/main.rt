@@ -1,13 +1,17 @@
-//! Whole runs as rows of tables: tiles and scripts, with how each run ends, its replies and its tile.
+//! Whole runs and single calls as rows of tables: what is given, and what should come of it.
 //!
-//! Each row is run as a call, over readers and writers of the standard library, and one byte a call;
-//! where no line is refused, as a strict run too. One that differs is told by its name.
-//!
-//! The words of the program are the files of the tables, which lie in `data/`. Blank lines stand
-//! between rows. A line is a word and what stands behind it:
+//! The words of the program are the files of the tables, which lie in `data/`. A line is a word and
+//! what stands behind it. In each table it can be one of these:
 //!
 //! - `#`: a comment.
-//! - `piece NAME = PIECES`: names bytes, for the files behind too. `test_fixtures` says what a piece is.
+//! - `piece NAME = PIECES`: names bytes, for the tables of the same kind behind too. `test_fixtures`
+//!   says what a piece is.
+//!
+//! A table of whole runs, `NAME.rows`, has tiles and scripts, with how each run ends, its replies and
+//! its tile. Each row is run as a call, over readers and writers of the standard library, and one byte
+//! a call; where no line is refused, as a strict run too. One that differs is told by its name. Blank
+//! lines stand between rows.
+//!
 //! - `row NAME`: begins a row.
 //! - `depth N`, `strict`: how the script is run, where it is not with depth 100 or not strict.
 //! - `tile PIECES`: the tile that is read.
@@ -16,12 +20,24 @@
 //! - `ends OUTCOME`: how the run ends, where it is not `Done`.
 //! - `gives PIECES`: the tile that is written, where it is not the one that was read. Where the run
 //!   ends otherwise than as `Done` or `SomeRefused`, none is.
+//!
+//! A table of single calls, `NAME.calls`, has what a call is given, and what it answers. Blank lines
+//! stand where they serve.
+//!
+//! - `call MODULE NAME`: the rows from here on are of this call, which has no tile at first.
+//! - `tile PIECES`: the tile of the rows from here on.
+//! - `> TEXT`, `>> PIECES`: what the call is given.
+//! - `< TEXT`, `<< PIECES`: what it answers. With this line the row is tried. One that answers
+//!   otherwise is told.
 #![tactic(auto)]
 
-mod row;
+mod calls;
+mod counts;
 mod runs;
 
-use crate::row::Row;
+use crate::calls::try_calls;
+use crate::counts::Counts;
+use crate::runs::try_runs;
 use std::process::ExitCode;
 use std::rt::{Env, Files};
 use std::{env, fs, io};
@@ -38,49 +54,25 @@ fn main(rt: HostRuntime) -> ExitCode {
     }
 }
 
-/// How many rows were run, and how many of them are not as they should be, lines that cannot be read
-/// among them.
-#[derive(Clone, Copy, Debug, Default)]
-struct Counts {
-    rows: u64,
-    faults: u64,
-}
-
-/// Runs the rows of all tables, and tells how many differ. Gives whether none does.
+/// Tries the rows of all tables, and tells how many differ. Gives whether none does.
 fn run_tables<R: Files + Env + Print + Eprint + AllocGlobal>(rt: &R) -> io::Result<bool> {
     let files: Vec<String> = env::args(rt)?.skip(1).collect(rt.alloc())?;
-    let mut pieces = Pieces::new(rt.alloc());
+    // Apart, as some names stand for other bytes in tables of the other kind.
+    let mut of_runs = Pieces::new(rt.alloc());
+    let mut of_calls = Pieces::new(rt.alloc());
     let mut counts = Counts::default();
     for file in &files {
         let text = fs::read_to_string(rt, file.as_str())?;
-        for block in text.split("\n\n") {
-            run_block(rt, &mut pieces, block, &mut counts)?;
+        match file.rsplit_once('.') {
+            Some((_, "rows")) => try_runs(rt, &mut of_runs, text.as_str(), &mut counts)?,
+            Some((_, "calls")) => try_calls(rt, &mut of_calls, text.as_str(), &mut counts)?,
+            _ => {
+                eprintln!(rt; "no table: {file}")?;
+                counts.add_fault();
+            }
         }
     }
     let Counts { rows, faults } = counts;
     println!(rt; "{rows} rows, {faults} differ")?;
     Ok(faults == 0)
-}
-
-/// Takes what the lines of a block name, and runs the row that they make.
-fn run_block<R: Eprint + AllocGlobal>(
-    rt: &R,
-    pieces: &mut Pieces,
-    block: &str,
-    counts: &mut Counts,
-) -> io::Result<()> {
-    let mut row = Row::new(rt.alloc());
-    for line in block.lines() {
-        if !row.read(rt.alloc(), pieces, line)? {
-            eprintln!(rt; "no line of a table: {line}")?;
-            counts.faults = counts.faults.saturating_add(1);
-        }
-    }
-    if !row.name.is_empty() {
-        counts.rows = counts.rows.saturating_add(1);
-        if !row.holds(rt)? {
-            counts.faults = counts.faults.saturating_add(1);
-        }
-    }
-    Ok(())
 }

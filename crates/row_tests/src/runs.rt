@@ -1,115 +1,45 @@
-//! A script run on a tile: as a call, over readers and writers of std, and one byte a call.
+//! The tables of whole runs.
 
-ghost use Rattle.std.specs.Prelude.{◌≤◌};
+mod row;
+mod ways;
 
-use std::alloc::Global;
-use std::io::{self, Read, Write};
-use tileshell::{FromRead, FromWrite, Options, Outcome, edit, run};
+use crate::counts::Counts;
+use crate::runs::row::Row;
+use std::io;
+use test_fixtures::pieces::Pieces;
 
-/// What a run did: how it ended, its replies, and the tile that it gave.
-#[derive(Drop)]
-pub struct Ran {
-    pub outcome: Outcome,
-    pub replies: Vec<u8>,
-    pub tile: Option<Vec<u8>>,
-}
-
-pub fn called(alloc: Global, tile: &[u8], script: &[u8], options: Options) -> Ran
-    requires some_depth { 1 ≤ options.depth }
-    requires depth { options.depth ≤ 10000 }
-{
-    let edited = edit(alloc, tile, script, options);
-    Ran {
-        outcome: edited.outcome,
-        replies: edited.replies,
-        tile: edited.tile,
+/// Tries the rows of a table.
+pub fn try_runs<R: Eprint + AllocGlobal>(
+    rt: &R,
+    pieces: &mut Pieces,
+    text: &str,
+    counts: &mut Counts,
+) -> io::Result<()> {
+    for block in text.split("\n\n") {
+        try_block(rt, pieces, block, counts)?;
     }
+    Ok(())
 }
 
-pub fn streamed(alloc: Global, tile: &[u8], script: &[u8], options: Options) -> Ran
-    requires some_depth { 1 ≤ options.depth }
-    requires depth { options.depth ≤ 10000 }
-{
-    let mut replies = FromWrite::new(Taker::new(alloc, usize::MAX));
-    let mut out = FromWrite::new(Taker::new(alloc, usize::MAX));
-    let outcome = run(
-        alloc,
-        &mut FromRead::new(tile),
-        &mut FromRead::new(script),
-        &mut replies,
-        &mut out,
-        options,
-    );
-    gathered(outcome, replies.into_inner(), out.into_inner())
-}
-
-pub fn dripped(alloc: Global, tile: &[u8], script: &[u8], options: Options) -> Ran
-    requires some_depth { 1 ≤ options.depth }
-    requires depth { options.depth ≤ 10000 }
-{
-    let mut replies = FromWrite::new(Taker::new(alloc, 1));
-    let mut out = FromWrite::new(Taker::new(alloc, 1));
-    let outcome = run(
-        alloc,
-        &mut FromRead::new(Drip { rest: tile }),
-        &mut FromRead::new(Drip { rest: script }),
-        &mut replies,
-        &mut out,
-        options,
-    );
-    gathered(outcome, replies.into_inner(), out.into_inner())
-}
-
-/// What came of a run. Where nothing was asked of `out`, no tile was given.
-fn gathered(outcome: Outcome, replies: Taker, out: Taker) -> Ran {
-    Ran {
-        outcome,
-        replies: replies.taken,
-        tile: if out.is_asked { Some(out.taken) } else { None },
-    }
-}
-
-/// Gives one byte a call.
-#[derive(Drop)]
-struct Drip<'a> {
-    rest: &'a [u8],
-}
-
-impl Read for Drip<'_> {
-    fn read(&mut self, buffer: &mut [u8]) -> io::Result<usize> {
-        let most = buffer.len().min(1);
-        self.rest.read(&mut buffer[..most])
-    }
-}
-
-/// Takes so many bytes a call at most, and knows whether it was called.
-#[derive(Drop)]
-struct Taker {
-    taken: Vec<u8>,
-    most: usize,
-    is_asked: bool,
-}
-
-impl Taker {
-    fn new(alloc: Global, most: usize) -> Self {
-        Taker {
-            taken: Vec::new(alloc),
-            most,
-            is_asked: false,
+/// Takes what the lines of a block name, and runs the row that they make.
+fn try_block<R: Eprint + AllocGlobal>(
+    rt: &R,
+    pieces: &mut Pieces,
+    block: &str,
+    counts: &mut Counts,
+) -> io::Result<()> {
+    let mut row = Row::new(rt.alloc());
+    for line in block.lines() {
+        if !row.read(rt.alloc(), pieces, line)? {
+            eprintln!(rt; "no line of a table: {line}")?;
+            counts.add_fault();
         }
     }
-}
-
-impl Write for Taker {
-    fn write(&mut self, bytes: &[u8]) -> io::Result<usize> {
-        self.is_asked = true;
-        let count = bytes.len().min(self.most);
-        self.taken.extend_from_slice(&bytes[..count])?;
-        Ok(count)
+    if !row.name.is_empty() {
+        counts.add_row();
+        if !row.holds(rt)? {
+            counts.add_fault();
+        }
     }
-
-    fn flush(&mut self) -> io::Result<()> {
-        self.is_asked = true;
-        Ok(())
-    }
+    Ok(())
 }

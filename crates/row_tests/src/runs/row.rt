@@ -2,7 +2,7 @@
 
 ghost use Rattle.std.specs.Prelude.{◌≤◌};
 
-use crate::runs::{Ran, called, dripped, streamed};
+use crate::runs::ways::{Ran, called, dripped, streamed};
 use std::alloc::{AllocError, Global};
 use std::io;
 use test_fixtures::pieces::Pieces;

@@ -1,8 +1,8 @@
 //! A row: read from its lines, tried, and held against what it should be.
 
-use crate::broken::Broken;
-use crate::calls::answer;
-use crate::given::Given;
+use crate::calls::answers::answer;
+use crate::calls::broken::Broken;
+use crate::calls::given::Given;
 use std::alloc::{AllocError, Global};
 use std::io;
 use test_fixtures::pieces::Pieces;

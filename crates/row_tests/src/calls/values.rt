@@ -1,7 +1,7 @@
 //! Values: what their bytes are, and how new ones are written.
 
-use crate::broken::{Answer, Broken};
-use crate::given::Given;
+use crate::calls::broken::{Answer, Broken};
+use crate::calls::given::Given;
 use mvt_value::{NewValue, Value, encode_value, value_of};
 use std::alloc::{AllocError, Global};
 use tile_arguments::new_value;

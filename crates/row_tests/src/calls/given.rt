@@ -1,12 +1,12 @@
 //! What a call is given, as what it takes; and what it answers, as text.
 
-use crate::broken::{Answer, Broken};
+use crate::calls::broken::{Answer, Broken};
 use std::alloc::Global;
 use std::fmt;
 use tile_words::{Word, words_of};
 
 /// A tile, and bytes that stand for all else.
-#[derive(Clone, Copy, Debug)]
+#[derive(Clone, Copy)]
 pub struct Given<'a> {
     pub tile: &'a [u8],
     pub bytes: &'a [u8],

@@ -1,7 +1,7 @@
 //! Numbers, fields and documents at the limits of the wire format.
 
-use crate::broken::{Answer, Broken};
-use crate::given::{Given, said, told};
+use crate::calls::broken::{Answer, Broken};
+use crate::calls::given::{Given, said, told};
 use mvt_wire::{
     BodyRef, Document, ReadError, Varint, field_at_front, read_document, read_varint, size,
     write_document,

@@ -2,8 +2,8 @@
 //!
 //! A command is given as a line of a script, and prepared on the tile.
 
-use crate::broken::{Answer, Broken};
-use crate::given::{Given, said};
+use crate::calls::broken::{Answer, Broken};
+use crate::calls::given::{Given, said};
 use mvt_change::Step;
 use mvt_command::Command;
 use std::alloc::Global;

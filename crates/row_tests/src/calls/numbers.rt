@@ -1,7 +1,7 @@
 //! The numbers of the tags and the geometry of a tile's first feature, and its tags in pairs.
 
-use crate::broken::{Answer, Broken};
-use crate::given::{Given, told};
+use crate::calls::broken::{Answer, Broken};
+use crate::calls::given::{Given, told};
 use mvt_view::{BadChunk, LayerView, Number, Numbers, Pair, layer, pairs};
 use mvt_wire::{Document, read_document};
 use std::alloc::{AllocError, Global};

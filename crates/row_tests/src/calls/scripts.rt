@@ -1,8 +1,8 @@
 //! Scripts: how they are cut into lines, what a line asks for, and how a refused one is replied to.
 
-use crate::arguments::layer_told;
-use crate::broken::{Answer, Broken};
-use crate::given::{Given, said, told};
+use crate::calls::arguments::layer_told;
+use crate::calls::broken::{Answer, Broken};
+use crate::calls::given::{Given, said, told};
 use mvt_command::Command;
 use mvt_history_error::HistoryError;
 use mvt_meaning::Refusal;

@@ -1,9 +1,9 @@
 //! The arguments of requests: texts, numbers, layers, features, values and geometries.
 
-use crate::broken::{Answer, Broken};
-use crate::geometries::geometry_told;
-use crate::given::{Given, told};
-use crate::values::{as_read, value_told};
+use crate::calls::broken::{Answer, Broken};
+use crate::calls::geometries::geometry_told;
+use crate::calls::given::{Given, told};
+use crate::calls::values::{as_read, value_told};
 use mvt_command::LayerChoice;
 use std::alloc::Global;
 use tile_arguments::{

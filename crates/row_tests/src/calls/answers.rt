@@ -1,8 +1,8 @@
-//! The calls by their names.
+//! What the calls answer, by their names.
 
-use crate::broken::{Answer, Broken};
-use crate::given::Given;
-use crate::{
+use crate::calls::broken::{Answer, Broken};
+use crate::calls::given::Given;
+use crate::calls::{
     arguments, changes, errors, geometries, limits, numbers, scripts, texts, values, views, wire,
 };
 use std::alloc::Global;

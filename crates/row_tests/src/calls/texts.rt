@@ -1,8 +1,8 @@
 //! How texts, values and geometries are written.
 
-use crate::broken::{Answer, Broken};
-use crate::geometries::geometry_in;
-use crate::given::Given;
+use crate::calls::broken::{Answer, Broken};
+use crate::calls::geometries::geometry_in;
+use crate::calls::given::Given;
 use mvt_value::value_of;
 use std::alloc::{AllocError, Global};
 use tile_text::{put_geometry, put_value, quote};

@@ -1,8 +1,8 @@
 //! The texts of errors. An error is given as `Debug` tells it, and its text is answered.
 
-use crate::broken::{Answer, Broken};
-use crate::given::Given;
-use crate::scripts::REASONS;
+use crate::calls::broken::{Answer, Broken};
+use crate::calls::given::Given;
+use crate::calls::scripts::REASONS;
 use mvt_view::{
     BadChunk, BadPair, EncodeError, FeatureError, GeometryError, LayerError, PairsError,
 };

@@ -2,8 +2,8 @@
 //!
 //! A layer of the tile is given by its ordinal, and what is looked at within it behind that.
 
-use crate::broken::{Answer, Broken};
-use crate::given::{Given, number_in, said, told};
+use crate::calls::broken::{Answer, Broken};
+use crate::calls::given::{Given, number_in, said, told};
 use mvt_select::{find_feature, find_layer};
 use mvt_view::{
     Contents, FoundFeature, FoundLayer, LayerView, feature_by_id, layer, layer_count, layer_named,

@@ -3,8 +3,8 @@
 //! A geometry is told as its kind and its parts, with ` / ` between them: `Lines 2,2 2,10 / 1,1 3,5`.
 //! `Dots none` has no part, and `Dots` alone one part of no points.
 
-use crate::broken::{Answer, Broken};
-use crate::given::{Given, number_in, told};
+use crate::calls::broken::{Answer, Broken};
+use crate::calls::given::{Given, number_in, told};
 use mvt_geometry::{Geometry, Kind, Part, Point, encode_geometry, geometry_of};
 use mvt_wire::Items;
 use std::alloc::{AllocError, Global};

@@ -4,8 +4,8 @@ ghost use Rattle.std.specs.Prelude.{IfOk};
 ghost use Rattle.mvt_wire.specs.Stands.{document_of};
 ghost use Rattle.mvt_wire.specs.Opens.{IsDocument};
 
-use crate::broken::{Answer, Broken};
-use crate::given::Given;
+use crate::calls::broken::{Answer, Broken};
+use crate::calls::given::Given;
 use mvt_history::{Session, StartError};
 use mvt_wire::{
     Body, BodyRef, Document, Field, FieldParts, Items, Tag, TileItem, read_document, size,
