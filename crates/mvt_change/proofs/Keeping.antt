@@ -11,7 +11,8 @@ use Rattle.mvt_document.specs.declared.document.TileItem.TheVariants as in_tile
 use Rattle.mvt_splices.proofs.Runs.{zip_same}
 use Rattle.mvt_change.specs.Room.{capacity, KeepsList, KeepsField, KeepsMessage, KeepsLayerItem, KeepsTileItem, KeepsDocument}
 use Rattle.mvt_change.specs.HeldChanges.{ExchangesFirst, exchanged, held_moved, HasRoom, CanMoveHeld}
-use Rattle.mvt_change.proofs.Splicing.{length-part, length-splice, length-moved, splice-back, moved-back}
+use Rattle.mvt_splices.proofs.Backwards.{splice-back}
+use Rattle.mvt_change.proofs.Splicing.{length-part, length-splice, length-moved, moved-back}
 
 -- ---- of the same value, and one after the other
 

@@ -1,31 +1,30 @@
--- Steps on one list, one after the other: what a pass over them makes, and where they end.
-use Rattle.std.proofs.Common.{◌≡◌, ◌≢◌, ℕ, zero, suc, ◌+◌, ◌<◌, ◌≤◌, Bool, true, false, cond, List, [], ◌∷◌, length, map, take, get_or, slice_index_or, slice_set, Option, Some, None, option_map, refl, sym, ap, ◌∙◌, subst, arith}
-use Rattle.std.specs.Prelude.{Result, Ok, Err, is_ok, OnOk, OnErr}
+-- Steps on one list, one after the other, and what a pass over the list makes of them.
+use Rattle.std.proofs.Common.{◌≡◌, ℕ, zero, suc, ◌<◌, ◌≤◌, List, [], ◌∷◌, length, map, take, drop, slice_index_or, Some, option_map, refl, sym, ap, ◌∙◌, subst, arith}
+use Rattle.std.specs.Prelude.{Result, Ok, Err, IfOk}
 use Rattle.std.specs.List.{AllByRecursion, AllZip}
 use Rattle.std.specs.Option.{IsSomeAnd}
-use Rattle.std.proofs.Math.Seq.{take-suc}
-use Rattle.mvt_document.proofs.EachItem.{all_joined}
 use Rattle.mvt_document.specs.Held.{Held}
 use Rattle.mvt_document.specs.Splicing.{part}
 use Rattle.mvt_document.specs.Stands.{document_of}
 use Rattle.mvt_document.specs.declared.document.Document.{Document}
-use Rattle.mvt_splices.specs.Splices.{Splice, IsRoomier, FitAll, after_all, longest, turned_all, spliced_length}
-use Rattle.mvt_splices.proofs.Runs.{length-spliced, length_within, roomy_spliced}
-use Rattle.mvt_change.specs.declared.change.Place as place
+use Rattle.mvt_splices.specs.Splices.{Splice, IsRoomier, FitAll, FitRun, StartElsewhere, CarriesOut, after_all, longest, turned_all, spliced_length}
+use Rattle.mvt_splices.proofs.Runs.{length-spliced, length_within, roomy_spliced, run_fits}
 use Rattle.mvt_change.specs.declared.change.Step.{Step}
 use Rattle.mvt_change.specs.declared.change.Step.TheVariants.{InTile, InLayer, InFeature, Move}
 use Rattle.mvt_change.specs.Changes.{Place, OfTheTile, OfTheLayer, OfTheFeature, Fits}
 use Rattle.mvt_change.specs.HeldLists.{HeldItemAt, KeepsItemAt, held_list_at, change_held_list}
 use Rattle.mvt_change.specs.ChangeStands.{SpliceAt, action_of, spliced_place, step_of}
 use Rattle.mvt_change.specs.Room.{capacity, KeepsList, KeepsDocument}
-use Rattle.mvt_change.specs.HeldChanges.{HasHeldPart, exchanged, go_action, go_held_step, go_held, FindsAction, IsBack, IsTurnedAction, IsTurned, AreTurned, AreFlipped}
-use Rattle.mvt_change.specs.Runs.{tile_splice, layer_splice, feature_splice, turned_in_tile, turned_in_layer, turned_in_feature, held_part, IsRoomierStep, IsOn, SharesList, IsRun, exchanged_all, AreMade, PassesOver}
+use Rattle.mvt_change.specs.HeldChanges.{HasHeldPart, exchanged, go_action, go_held_step, go_held, FindsAction, IsBack, IsTurnedAction, AreTurned}
+use Rattle.mvt_change.specs.Runs.{tile_splice, layer_splice, feature_splice, turned_in_tile, turned_in_layer, turned_in_feature, held_part, IsRoomierStep, IsOn, exchanged_all}
+use Rattle.mvt_change.specs.Underway.{Advances, carried_out}
 use Rattle.mvt_change.specs.RunLaws.{roomy_tile, roomy_layer, roomy_feature}
-use Rattle.mvt_document.proofs.Options.{where_some, some_each}
+use Rattle.mvt_document.proofs.Options.{where_some}
 use Rattle.mvt_change.proofs.Splicing.{length-part}
 use Rattle.mvt_change.proofs.Keeping.{Order, kept_items}
-use Rattle.mvt_change.proofs.HeldLenses.{list_part, made_or_kept}
+use Rattle.mvt_change.proofs.HeldLenses.{list_part, made_keeps, order_at}
 use Rattle.mvt_change.proofs.Actions.{action_stands, fits_finds}
+use Rattle.mvt_change.proofs.Underway.{first_advance, none_advance}
 
 -- ---- one list, which has the room for its greatest length on the way
 
@@ -39,12 +38,6 @@ module _ {T : Type 0} {Keeps : T → T → Type 0} (order : Order Keeps) (splice
       let rest = subst (FitAll splice_of steps) (sym count) fit.1 in
       let far : longest splice_of steps (length next.items) ≤ capacity new = omega (arith, long, ap (longest splice_of steps) count) in
       list_kept steps next new rest same (omega (arith, room, far, length_within splice_of steps (length next.items))) far
-
-  pub list_kept_or_same : {A E : Type 0} (r : Result A E) (steps : List Step) (list new : Held T) → FitAll splice_of steps (length list.items)
-      → new.items ≡ cond (is_ok r) (after_all splice_of steps list.items) list.items → capacity list ≤ capacity new → OnOk r (longest splice_of steps (length list.items) ≤ capacity new)
-      → KeepsList Keeps (cond (is_ok r) (exchanged_all splice_of steps list) list) new
-  list_kept_or_same (Ok a) steps list new fit same room long = list_kept steps list new fit same room long
-  list_kept_or_same (Err e) steps list new fit same room long = kept_items order list new same room
 
 -- ---- steps as splices of the list at a place
 
@@ -130,18 +123,18 @@ module _ (place : Place) where
   finds : (step : Step) (steps : List Step) (document : Document) → IsOn place step → Fits (map step_of (step ∷ steps)) (document_of document) → IsSomeAnd (held_list_at place document) (HasHeldPart (splice_of step).index (splice_of step).taken)
   finds step steps document on fits = subst (λ action. FindsAction action document) (is_splice place step on).is (fits_finds (action_of step) document fits.0)
 
-  fit : (steps : List Step) (document : Document) (list : Items) → AllByRecursion (IsOn place) steps → held_list_at place document ≡ Some list → Fits (map step_of steps) (document_of document) → FitAll splice_of steps (length list.items)
-  fit [] document list all found fits = tt
-  fit (step ∷ steps) document list all found fits =
-      let within = subst (λ o. IsSomeAnd o (HasHeldPart (splice_of step).index (splice_of step).taken)) found (finds step steps document all.0 fits) in
-      let rest = fit steps (go_held_step step document) (made_of step list) all.1 (next_found step document list all.0 found) (subst (Fits (map step_of steps)) (sym (action_stands (action_of step) document)) fits.1) in
-      (within, subst (FitAll splice_of steps) (length-spliced (splice_of step) list.items within) rest)
+  fit : (steps : List Step) (document : Document) (list : Items) → held_list_at place document ≡ Some list → Fits (map step_of steps) (document_of document) → FitRun (IsOn place) splice_of steps (length list.items)
+  fit [] document list found fits = tt
+  fit (step ∷ steps) document list found fits = λ on.
+      let within = subst (λ o. IsSomeAnd o (HasHeldPart (splice_of step).index (splice_of step).taken)) found (finds step steps document on fits) in
+      let rest = fit steps (go_held_step step document) (made_of step list) (next_found step document list on found) (subst (Fits (map step_of steps)) (sym (action_stands (action_of step) document)) fits.1) in
+      (within, subst (FitRun (IsOn place) splice_of steps) (length-spliced (splice_of step) list.items within) rest)
 
-  -- the list is there, and the steps fit it
-  pub all_fit : (steps : List Step) (document : Document) → 0 < length steps → AllByRecursion (IsOn place) steps → Fits (map step_of steps) (document_of document) → IsSomeAnd (held_list_at place document) (λ list. FitAll splice_of steps (length list.items))
-  all_fit [] document some all fits = absurd (omega arith)
-  all_fit (step ∷ steps) document some all fits =
-      where_some (held_list_at place document) _ (λ o. held_list_at place document ≡ o → IsSomeAnd o (λ list. FitAll splice_of (step ∷ steps) (length list.items))) (λ list there found. fit (step ∷ steps) document list all found fits) (finds step steps document all.0 fits) refl
+  -- the list is there, and the steps fit it as far as they are on it
+  pub run_fits_there : (steps : List Step) (document : Document) → 0 < length steps → AllByRecursion (IsOn place) (take 1 steps) → Fits (map step_of steps) (document_of document) → IsSomeAnd (held_list_at place document) (λ list. FitRun (IsOn place) splice_of steps (length list.items))
+  run_fits_there [] document some first fits = absurd (omega arith)
+  run_fits_there (step ∷ steps) document some first fits =
+      where_some (held_list_at place document) _ (λ o. held_list_at place document ≡ o → IsSomeAnd o (λ list. FitRun (IsOn place) splice_of (step ∷ steps) (length list.items))) (λ list there found. fit (step ∷ steps) document list found fits) (finds step steps document first.0 fits) refl
 
   are_turned : (steps roomy : List Step) (document : Document) (list : Items) → AllByRecursion (IsOn place) steps → AllZip IsRoomierStep steps roomy → held_list_at place document ≡ Some list → FitAll splice_of steps (length list.items)
       → AreTurned steps document (turned_all splice_of (turned_on place) roomy list.items)
@@ -164,54 +157,46 @@ module _ (place : Place) where
 
   -- ---- what a pass over the list made
 
-  made_flipped : (done : Bool) (steps new : List Step) (document after : Document) (o : Option Items) → held_list_at place document ≡ o → AllByRecursion (IsOn place) steps → Fits (map step_of steps) (document_of document)
-      → KeepsDocument (cond done (go_held steps document) document) after → IsSomeAnd o (λ list. AreMade splice_of (turned_on place) done steps new list.items) → AreFlipped done steps new document after
-  made_flipped done steps new document after None found all fits keeps made = absurd made
-  made_flipped true steps new document after (Some list) found all fits keeps made =
-      (keeps, subst (AreTurned steps document) (sym made.2) (are_turned steps made.0 document list all made.1 found (fit steps document list all found fits)))
-  made_flipped false steps new document after (Some list) found all fits keeps made = (keeps, ap (map step_of) made.2 ∙ roomier_stand steps made.0 made.1)
+  -- where the first step is on the list, one is made
+  makes_some : {E : Type 0} (result : Result ℕ E) (steps : List Step) → 0 < length steps → AllByRecursion (IsOn place) (take 1 steps) → IfOk result (λ n. StartElsewhere (IsOn place) (drop n steps)) → IfOk result (λ n. 0 < n)
+  makes_some (Ok zero) [] some first ends = absurd (omega arith)
+  makes_some (Ok zero) (step ∷ steps) some first ends = absurd (ends first.0)
+  makes_some (Ok (suc n)) steps some first ends = omega arith
+  makes_some (Err error) steps some first ends = tt
 
-  pub flipped : (done : Bool) (steps new : List Step) (document after : Document) → AllByRecursion (IsOn place) steps → Fits (map step_of steps) (document_of document)
-      → IsSomeAnd (held_list_at place document) (λ list. (made : Items) × PassesOver (KeepsItemAt place) splice_of (turned_on place) done list made steps new × (after ≡ change_held_list place (λ x. made) document))
-      → AreFlipped done steps new document after
-  flipped done steps new document after all fits there =
-      let found = held_list_at place document in
-      let kept = made_or_kept place done (exchanged_all splice_of steps) document after (some_each found _ _ (λ list p. (p.0, p.1.kept, p.2)) there) in
-      made_flipped done steps new document after found refl all fits (subst (λ d. KeepsDocument (cond done d document) after) (sym (goes steps document all)) kept) (some_each found _ _ (λ list p. p.1.are_made) there)
+  module _ (steps new : List Step) (document after : Document) (fits : Fits (map step_of steps) (document_of document)) where
+    abbrev Carries : {E : Type 0} → Result ℕ E → Items → Items → Type 0
+    Carries result list made = CarriesOut (IsOn place) splice_of (turned_on place) IsRoomierStep result steps new list made
 
--- ---- one step more on the same list
+    -- the list that is there was made another
+    becomes : (f : Items → Items) (list made : Items) → held_list_at place document ≡ Some list → KeepsList (KeepsItemAt place) (f list) made → after ≡ change_held_list place (λ x. made) document → KeepsDocument (change_held_list place f document) after
+    becomes f list made found kept is =
+        made_keeps place f document after (subst (λ o. IsSomeAnd o (λ x. (y : Items) × KeepsList (KeepsItemAt place) (f x) y × (after ≡ change_held_list place (λ z. y) document))) (sym found) (made, kept, is))
 
-run_grows : (steps : List Step) (n : ℕ) (d e : Step) → 0 < n → n < length steps → IsRun (take n steps) → SharesList (get_or steps 0 d) (get_or steps n e) → IsRun (take (suc n) steps)
-run_grows [] n d e some within run shares = absurd (omega arith)
-run_grows (first ∷ steps) zero d e some within run shares = absurd (omega arith)
-run_grows (first ∷ steps) (suc n) d e some within run shares = subst (AllByRecursion (SharesList first)) (sym (take-suc steps n e (omega arith))) (all_joined (SharesList first) (take n steps) (get_or steps n e ∷ []) run (shares, tt))
+    advances : {E : Type 0} (result : Result ℕ E) (list made : Items) → held_list_at place document ≡ Some list → Carries result list made → after ≡ change_held_list place (λ x. made) document
+        → (carried_out result ≤ length steps) × Advances (carried_out result) steps new document after
+    advances (Ok n) list made found out is =
+        let run = take n steps in
+        let met = out.first in
+        let fits_all : FitAll splice_of run (length list.items) = run_fits splice_of (IsOn place) n steps (length list.items) (fit steps document list found fits) met.run in
+        let kept = list_kept (order_at place) splice_of run list made fits_all met.items met.room met.greatest in
+        let keeps = subst (λ d. KeepsDocument d after) (sym (goes run document met.run)) (becomes (exchanged_all splice_of run) list made found kept is) in
+        let turns = subst (AreTurned run document) (sym met.are_turned.3) (are_turned run met.are_turned.0 document list met.run met.are_turned.1 found fits_all) in
+        (met.within, first_advance n steps new document after keeps turns (ap (map step_of) met.left))
+    advances (Err error) list made found out is =
+        let met = out.refused in
+        let keeps = subst (λ d. KeepsDocument d after) (list_part place document).same (becomes (λ x. x) list made found (kept_items (order_at place) list made met.items met.room) is) in
+        (omega arith, none_advance steps new document after keeps (roomier_stand steps new met.are_roomier))
 
-pub run_more : (steps : List Step) (end : ℕ) (d e : Step) → 0 < end → end < length steps → IsRun (take end steps) → d ≡ get_or steps 0 d → e ≡ get_or steps end e → SharesList d e → IsRun (take (end + 1) steps)
-run_more steps end d e some within run d_is e_is shares =
-    let more : suc end ≡ end + 1 = omega arith in
-    let shares_there : SharesList (get_or steps 0 d) (get_or steps end e) = rw (← d_is, ← e_is) shares in
-    subst (λ k. IsRun (take k steps)) more (run_grows steps end d e some within run shares_there)
+    -- the steps that were carried out on the list were made in the document
+    pub run_advanced : {E : Type 0} (result : Result ℕ E) → 0 < length steps → AllByRecursion (IsOn place) (take 1 steps) → IsSomeAnd (held_list_at place document) (λ list. (made : Items) × Carries result list made × (after ≡ change_held_list place (λ x. made) document))
+        → IfOk result (λ n. 0 < n) × (carried_out result ≤ length steps) × Advances (carried_out result) steps new document after
+    run_advanced result some first there =
+        where_some (held_list_at place document) _ (λ o. held_list_at place document ≡ o → IfOk result (λ n. 0 < n) × (carried_out result ≤ length steps) × Advances (carried_out result) steps new document after)
+        (λ list p found. let made = advances result list p.0 found p.1 p.2 in (makes_some result steps some first p.1.ends, made.0, made.1)) there refl
 
--- ---- the list of a run
+-- ---- the first step by itself
 
--- the only step that there is finds its list, and is flipped where it is
-pub only_fits : (steps : List Step) (d : Step) (document : Document) → length steps ≡ 1 → Fits (map step_of steps) (document_of document) → FindsAction (action_of (slice_index_or steps 0 d)) document
-only_fits [] d document one fits = absurd (omega arith)
-only_fits (step ∷ steps) d document one fits = fits_finds (action_of step) document fits.0
-
-pub one_flipped : {A E : Type 0} (r : Result A E) (steps : List Step) (d next : Step) (document after : Document) → length steps ≡ 1 → KeepsDocument (cond (is_ok r) (go_held_step (slice_index_or steps 0 d) document) document) after
-    → OnOk r (IsTurned (slice_index_or steps 0 d) document next) → OnErr r (step_of next ≡ step_of (slice_index_or steps 0 d)) → AreFlipped (is_ok r) steps (slice_set steps 0 next) document after
-one_flipped (Ok x) (step ∷ []) d next document after one keeps turned same = (keeps, (turned, tt))
-one_flipped (Err e) (step ∷ []) d next document after one keeps turned same = (keeps, ap (λ s. s ∷ []) same)
-one_flipped r steps d next document after one keeps turned same = absurd (omega arith)
-
--- where the first step is on a list, all are
-pub run_is_on : (place : Place) (steps : List Step) (d : Step) → IsOn place (slice_index_or steps 0 d) → IsRun steps → AllByRecursion (IsOn place) steps
-run_is_on place [] d on run = tt
-run_is_on place (first ∷ steps) d on run = (on, subst (λ o. AllByRecursion (λ step. IsSomeAnd o (λ p. IsOn p step)) steps) on run)
-
--- a move is alone
-pub move_is_alone : (steps : List Step) (d : Step) (place : place.Place) (from to : ℕ) → slice_index_or steps 0 d ≡ Move place from to → length steps ≢ 1 → IsRun steps → ⊥
-move_is_alone [] d place from to is several run = run
-move_is_alone (step ∷ []) d place from to is several run = several refl
-move_is_alone (step ∷ other ∷ steps) d place from to is several run = subst (λ s. SharesList s other) is run.0
+pub first_finds : (steps : List Step) (d : Step) (document : Document) → 0 < length steps → Fits (map step_of steps) (document_of document) → FindsAction (action_of (slice_index_or steps 0 d)) document
+first_finds [] d document some fits = absurd (omega arith)
+first_finds (step ∷ steps) d document some fits = fits_finds (action_of step) document fits.0

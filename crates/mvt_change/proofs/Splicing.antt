@@ -1,11 +1,12 @@
 -- A list with a part replaced or an item moved: what leads back, its length, and its items.
-use Rattle.std.proofs.Common.{◌≡◌, ℕ, ◌+◌, ◌<◌, ◌≤◌, List, [], ◌++◌, length, length-append, length-drop, take, drop, take-append-drop, append_assoc, sym, ap, ◌∙◌, arith}
-use Rattle.std.proofs.lemmas.List.{length-take-le, take_at, drop_at, drop-drop}
+use Rattle.std.proofs.Common.{◌≡◌, ℕ, ◌+◌, ◌<◌, ◌≤◌, List, [], ◌++◌, length, length-append, length-drop, take, drop, sym, ap, ◌∙◌, arith}
+use Rattle.std.proofs.lemmas.List.{length-take-le}
 use Rattle.std.specs.List.{AllByRecursion}
 use Rattle.mvt_document.specs.Splicing.{part, splice, moved}
 use Rattle.mvt_document.specs.Lists.{CanSplice, CanMove}
 use Rattle.mvt_document.proofs.EachItem.{all_dropped, all_joined, all_taken}
 use Rattle.mvt_document.proofs.Exchanged.{part-splice}
+use Rattle.mvt_splices.proofs.Backwards.{splice-back}
 
 pub length-part : {A : Type 0} (index count : ℕ) (items : List A) → index + count ≤ length items → length (part index count items) ≡ count
 length-part index count items within = length-take-le count (drop index items) (omega (arith, length-drop index items))
@@ -13,28 +14,6 @@ length-part index count items within = length-take-le count (drop index items) (
 pub length-splice : {A : Type 0} (index taken : ℕ) (put items : List A) → index + taken ≤ length items → length (splice index taken put items) + taken ≡ length items + length put
 length-splice index taken put items within =
     omega (arith, length-append (take index items ++ put) (drop (index + taken) items), length-append (take index items) put, length-take-le index items (omega arith), length-drop (index + taken) items)
-
-length_front : {A : Type 0} (index : ℕ) (put items : List A) → index ≤ length items → length (take index items ++ put) ≡ index + length put
-length_front index put items within = length-append (take index items) put ∙ ap (λ n. n + length put) (length-take-le index items within)
-
--- the front stays, and so does what is behind
-take-splice : {A : Type 0} (index taken : ℕ) (put items : List A) → index ≤ length items → take index (splice index taken put items) ≡ take index items
-take-splice index taken put items within =
-    rw append_assoc (take_at (take index items) (put ++ drop (index + taken) items) index (length-take-le index items within))
-
-drop-splice : {A : Type 0} (index taken : ℕ) (put items : List A) → index ≤ length items → drop (index + length put) (splice index taken put items) ≡ drop (index + taken) items
-drop-splice index taken put items within =
-    drop_at (take index items ++ put) (drop (index + taken) items) (index + length put) (length_front index put items within)
-
--- the front, a part and the rest are the list
-pieces_join : {A : Type 0} (index taken : ℕ) (items : List A) → take index items ++ part index taken items ++ drop (index + taken) items ≡ items
-pieces_join index taken items =
-    rw (append_assoc, ← drop-drop taken index items, take-append-drop, take-append-drop)
-
--- what was taken out put back for what was put
-pub splice-back : {A : Type 0} (index taken : ℕ) (put items : List A) → index ≤ length items → splice index (length put) (part index taken items) (splice index taken put items) ≡ items
-splice-back index taken put items within =
-    rw (take-splice index taken put items within, drop-splice index taken put items within) (pieces_join index taken items)
 
 -- ---- an item that moves
 

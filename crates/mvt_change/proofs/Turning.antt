@@ -12,7 +12,8 @@ use Rattle.mvt_change.specs.Changes.{Step, SpliceStep, MoveStep, Change, list_at
 use Rattle.mvt_change.specs.Laws.{ChangeMakesDocument, TurnedFits, TurnedLeadsBack, TurnedTwice, JoinedGo, JoinedFit}
 use Rattle.mvt_document.proofs.Exchanged.{part-splice}
 use Rattle.mvt_document.proofs.Options.{where_some, if_each, if_both, some_mapped}
-use Rattle.mvt_change.proofs.Splicing.{length-part, splice-back, moved-back, all_splice, all_moved, can_splice_back, can_move_back}
+use Rattle.mvt_splices.proofs.Backwards.{splice-back}
+use Rattle.mvt_change.proofs.Splicing.{length-part, moved-back, all_splice, all_moved, can_splice_back, can_move_back}
 use Rattle.mvt_change.proofs.Lenses.{goes_back, found_there, list_part, list_sound}
 
 -- ---- one step

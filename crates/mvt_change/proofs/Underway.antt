@@ -1,8 +1,8 @@
 -- A change that is under way, and one that is taken back.
-use Rattle.std.proofs.Common.{◌≡◌, ℕ, ◌+◌, ◌-◌, ◌<◌, ◌≤◌, get_or, set, length, Bool, true, false, cond, List, [], ◌∷◌, ◌++◌, map, reverse, take, drop, append_assoc, refl, sym, ap, ◌∙◌, subst, arith}
+use Rattle.std.proofs.Common.{◌≡◌, ℕ, ◌+◌, ◌-◌, ◌<◌, ◌≤◌, get_or, set, length, List, [], ◌∷◌, ◌++◌, map, reverse, take, drop, append_assoc, refl, sym, ap, ◌∙◌, subst, arith}
 use Rattle.std.proofs.Math.Seq.{take-append-add}
 use borrow.Rule.Slice.PartMut.{put_mid}
-use Rattle.std.proofs.lemmas.List.{append-nil, length-take-le, map-append, reverse-append, take-append-le, take_all, take_more, take_more_set, take-set, drop-append-le, drop_all, drop_at, drop-drop, length-drop, take-append-drop, drop_more, drop-set, drop-set-lt}
+use Rattle.std.proofs.lemmas.List.{append-nil, length-take-le, map-append, reverse-append, take_all, take_more, take_more_set, take-set, drop_all, drop_at, drop-drop, length-drop, take-append-drop, drop_more, drop-set, drop-set-lt}
 use Rattle.mvt_document.specs.Plain as plain
 use Rattle.mvt_document.specs.Stands.{document_of}
 use Rattle.mvt_document.specs.declared.document.Document.{Document}
@@ -11,8 +11,9 @@ use Rattle.mvt_change.specs.ChangeStands.{action_of, step_of}
 use Rattle.mvt_change.specs.Changes.{Change, go_step, go, Fits, FitsStep, turn_step, turn}
 use Rattle.mvt_change.specs.Room.{KeepsDocument}
 use Rattle.mvt_change.specs.Underway.{IsUnderway, Advances}
-use Rattle.mvt_change.specs.HeldChanges.{go_held_step, go_held, ActionHasRoom, HaveRoom, IsTurned, AreTurned, AreFlipped}
+use Rattle.mvt_change.specs.HeldChanges.{go_held_step, go_held, ActionHasRoom, HaveRoom, IsTurned, AreTurned}
 use Rattle.mvt_change.proofs.Turning.{go_joined, fit_joined, turn_joined, turned_back as leads_to_start, turned_twice}
+use Rattle.mvt_change.proofs.Keeping.{document_order}
 use Rattle.mvt_change.proofs.Actions.{turned_stands}
 use Rattle.mvt_change.proofs.TurnedRuns.{keeps_stands, kept_goes, steps_stand, have_room_keeps, have_room_joined, all_stand, all_lead_back}
 
@@ -72,39 +73,23 @@ stays change start made rest other document after same keeps under = record {
 pub begins : (steps : List Step) (document : Document) → Fits (map step_of steps) (document_of document) → IsUnderway (map step_of steps) (document_of document) [] steps document
 begins steps document fits = record { first = []; all = refl; fits = fits; stands = refl; turns = refl; room = tt }
 
--- ---- a run is made, or is refused
+-- ---- the first steps of more
 
-pub run_advances : (done : Bool) (run part : List Step) (document after : Document) → length part ≡ length run → AreFlipped done run part document after → Advances (cond done (length run) 0) run part document after
-run_advances true run part document after long flipped change start made under =
-    let whole : take (length run) part ≡ part = take_all (length run) part (omega (arith, long)) in
-    let none : drop (length run) part ≡ [] = drop_all (length run) part (omega (arith, long)) in
-    let all = subst (λ left. IsUnderway change start made left document) (sym (append-nil run)) under in
-    rw (whole, none) (goes_on change start made run [] part document after all flipped.0 flipped.1)
-run_advances false run part document after long flipped change start made under = stays change start made run part document after flipped.1 flipped.0 under
-
--- ---- what is made of the first steps is made of more
-
-pub with_more : (n : ℕ) (run part rest : List Step) (document after : Document) → n ≤ length part → Advances n run part document after → Advances n (run ++ rest) (part ++ rest) document after
-with_more n run part rest document after within advances change start made under =
-    let runs = map step_of run in
-    let rests = map step_of rest in
-    let short = under.first ++ runs in
-    let whole : short ++ rests ≡ change = append_assoc under.first runs rests ∙ ap (λ c. under.first ++ c) (sym (map-append step_of run rest)) ∙ under.all in
-    let fits : Fits short start = ((fit_joined short rests start).0 (subst (λ c. Fits c start) (sym whole) under.fits)).0 in
-    let met = advances short start made (record { first = under.first; all = refl; fits = fits; stands = under.stands; turns = under.turns; room = under.room }) in
-    let left = drop n part in
-    let all : met.first ++ map step_of (left ++ rest) ≡ change = ap (λ c. met.first ++ c) (map-append step_of left rest) ∙ sym (append_assoc met.first (map step_of left) rests) ∙ ap (λ c. c ++ rests) met.all ∙ whole in
-    rw (take-append-le n part rest within, drop-append-le n part rest within)
-    (record { first = met.first; all = all; fits = under.fits; stands = met.stands; turns = met.turns; room = met.room })
+-- the first steps are made, and the others are the same but for room
+pub first_advance : (n : ℕ) (steps new : List Step) (document after : Document) → KeepsDocument (go_held (take n steps) document) after → AreTurned (take n steps) document (take n new) → map step_of (drop n new) ≡ map step_of (drop n steps) → Advances n steps new document after
+first_advance n steps new document after keeps are same change start made under =
+    let apart = subst (λ left. IsUnderway change start made left document) (sym (take-append-drop n steps)) under in
+    let on = goes_on change start made (take n steps) (drop n steps) (take n new) document after apart keeps are in
+    stays change start (reverse (take n new) ++ made) (drop n steps) (drop n new) after after same (document_order.same after) on
 
 pub front_fits : (n : ℕ) (steps : List Step) (document : Document) → Fits (map step_of steps) (document_of document) → Fits (map step_of (take n steps)) (document_of document)
 front_fits n steps document fits =
     let apart : map step_of steps ≡ map step_of (take n steps) ++ map step_of (drop n steps) = ap (map step_of) (sym (take-append-drop n steps)) ∙ map-append step_of (take n steps) (drop n steps) in
     ((fit_joined (map step_of (take n steps)) (map step_of (drop n steps)) (document_of document)).0 (subst (λ c. Fits c (document_of document)) apart fits)).0
 
-pub front_advances : (n end : ℕ) (steps part : List Step) (document after : Document) → n ≤ length part → Advances n (take end steps) part document after → Advances n steps (part ++ drop end steps) document after
-front_advances n end steps part document after within advances =
-    subst (λ whole. Advances n whole (part ++ drop end steps) document after) (take-append-drop end steps) (with_more n (take end steps) part (drop end steps) document after within advances)
+-- none are made, in a document that is the same
+pub none_advance : (steps new : List Step) (document after : Document) → KeepsDocument document after → map step_of new ≡ map step_of steps → Advances 0 steps new document after
+none_advance steps new document after keeps same change start made under = stays change start made steps new document after same keeps under
 
 -- ---- behind steps that were made
 

@@ -1,14 +1,14 @@
 -- What steps make of a document of the program, with the room of its lists, and when no list has to grow.
-use Rattle.std.specs.Prelude.{◌≡◌, ℕ, ◌+◌, ◌-◌, ◌≤◌, Bool, true, false, List, [], ◌∷◌, length, map, Option, Some, IsTrue, if◌then◌else◌, slice_index_or}
+use Rattle.std.specs.Prelude.{◌≡◌, ℕ, ◌+◌, ◌-◌, ◌≤◌, Bool, List, [], ◌∷◌, length, Option, Some, IsTrue, if◌then◌else◌, slice_index_or}
 use Rattle.std.specs.Option.{IsSomeAnd, option_map_or}
 use Rattle.mvt_document.specs.Held.{Held}
 use Rattle.mvt_document.specs.Splicing.{part, splice, moved}
 use Rattle.mvt_document.specs.Lists.{CanMove}
 use Rattle.mvt_document.specs.declared.document.Document.{Document}
 use Rattle.mvt_change.specs.declared.change.Step.{Step}
-use Rattle.mvt_change.specs.ChangeStands.{Action, SpliceAt, MoveAt, action_of, step_of}
+use Rattle.mvt_change.specs.ChangeStands.{Action, SpliceAt, MoveAt, action_of}
 use Rattle.mvt_change.specs.HeldLists.{HeldItemAt, held_list_at, change_held_list}
-use Rattle.mvt_change.specs.Room.{capacity, KeepsList, KeepsDocument}
+use Rattle.mvt_change.specs.Room.{capacity, KeepsList}
 
 -- ---- one list
 
@@ -106,8 +106,3 @@ abbrev pub AreTurned : List Step → Document → List Step → Type 0
 AreTurned [] document [] = Unit {0}
 AreTurned (step ∷ steps) document (next ∷ turned) = IsTurned step document next × AreTurned steps (go_held_step step document) turned
 AreTurned steps document turned = ⊥
-
--- the steps were carried out, and each is turned; or all is as it was, and no list has less room
-abbrev pub AreFlipped : Bool → List Step → List Step → Document → Document → Type 0
-AreFlipped true steps new document after = KeepsDocument (go_held steps document) after × AreTurned steps document new
-AreFlipped false steps new document after = KeepsDocument document after × (map step_of new ≡ map step_of steps)

@@ -1,10 +1,8 @@
 -- Steps as splices of the list that they are on.
-use Rattle.std.specs.Prelude.{◌≡◌, ℕ, ◌-◌, ◌≤◌, Bool, List, [], ◌∷◌, length, Some, if◌then◌else◌}
-use Rattle.std.specs.List.{AllByRecursion, AllZip}
-use Rattle.std.specs.Option.{IsSomeAnd}
+use Rattle.std.specs.Prelude.{◌≡◌, ℕ, ◌-◌, ◌≤◌, List, [], ◌∷◌, length, Some}
 use Rattle.mvt_document.specs.Held.{Held}
 use Rattle.mvt_document.specs.Splicing.{part}
-use Rattle.mvt_splices.specs.Splices.{Splice, turned_all}
+use Rattle.mvt_splices.specs.Splices.{Splice}
 use Rattle.mvt_document.specs.declared.field.FieldParts.{FieldParts as Field}
 use Rattle.mvt_document.specs.declared.document.LayerItem.{LayerItem}
 use Rattle.mvt_document.specs.declared.document.TileItem.{TileItem}
@@ -12,7 +10,7 @@ use Rattle.mvt_change.specs.declared.change.Step.{Step}
 use Rattle.mvt_change.specs.declared.change.Step.TheVariants.{InTile, InLayer, InFeature, Move}
 use Rattle.mvt_change.specs.ChangeStands.{action_of, spliced_place}
 use Rattle.mvt_change.specs.Changes.{Place}
-use Rattle.mvt_change.specs.Room.{capacity, KeepsList}
+use Rattle.mvt_change.specs.Room.{capacity}
 use Rattle.mvt_change.specs.HeldChanges.{exchanged}
 
 -- the splice that takes nothing and puts nothing
@@ -77,25 +75,7 @@ IsRoomierStep (Move place from to) step = step ≡ Move place from to
 abbrev pub IsOn : Place → Step → Type 0
 IsOn place step = spliced_place (action_of step) ≡ Some place
 
--- both steps are splices of the same list
-abbrev pub SharesList : Step → Step → Type 0
-SharesList first other = IsSomeAnd (spliced_place (action_of first)) (λ place. IsOn place other)
-
--- there is a first step, and all others are on the list of that
-abbrev pub IsRun : List Step → Type 0
-IsRun [] = ⊥
-IsRun (first ∷ steps) = AllByRecursion (SharesList first) steps
-
 -- the list after the splices of all steps, with its room
 abbrev pub exchanged_all : {T : Type 0} → (Step → Splice T) → List Step → Held T → Held T
 exchanged_all splice_of [] list = list
 exchanged_all splice_of (step ∷ steps) list = exchanged_all splice_of steps (exchanged (splice_of step).index (splice_of step).taken (splice_of step).put list)
-
--- the steps have at least as much room as before, and where they were carried out on a list each is turned
-abbrev pub AreMade : {T : Type 0} → (Step → Splice T) → (Step → List T → Step) → Bool → List Step → List Step → List T → Type 0
-AreMade splice_of turned done steps new items = (roomy : List Step) × AllZip IsRoomierStep steps roomy × (new ≡ (if done then turned_all splice_of turned roomy items else roomy))
-
--- the steps were carried out on the list, which has no less room then, and are made; or the list is kept
-pub record PassesOver {T : Type 0} (Keeps : T → T → Type 0) (splice_of : Step → Splice T) (turned : Step → List T → Step) (done : Bool) (list made : Held T) (steps left : List Step) : Type 0 where
-  pub kept : KeepsList Keeps (if done then exchanged_all splice_of steps list else list) made
-  pub are_made : AreMade splice_of turned done steps left list.items

@@ -32,6 +32,11 @@ abbrev pub steps_made : Result ℕ ℕ → ℕ
 steps_made (Ok n) = n
 steps_made (Err n) = n
 
+-- how many steps were carried out in one pass, which are none where memory ran out
+abbrev pub carried_out : {E : Type 0} → Result ℕ E → ℕ
+carried_out (Ok n) = n
+carried_out (Err error) = 0
+
 -- ---- steps on features of one layer
 
 -- the step is on the fields of a feature of this layer

@@ -1,18 +1,19 @@
 //! The list at a place of a document: an item of it moves, some change places with those of a step,
 //! or steps are carried out in one pass.
 
-ghost use Rattle.std.specs.Prelude.{◌<◌, length, map, is_ok, if◌then◌else◌};
+ghost use Rattle.std.specs.Prelude.{◌<◌, ◌≤◌, length, map, take, is_ok, if◌then◌else◌, IfOk};
 ghost use Rattle.std.specs.List.{AllByRecursion};
 ghost use Rattle.std.specs.Option.{IsSomeAnd};
 ghost use Rattle.mvt_document.specs.Stands.{document_of};
 ghost use Rattle.mvt_document.specs.HeldPlaces.{change_held_fields, change_held_items, held_fields_at, held_items_at};
-ghost use Rattle.mvt_splices.specs.Splices.{FitAll};
+ghost use Rattle.mvt_splices.specs.Splices.{CarriesOut, FitRun};
 ghost use Rattle.mvt_change.specs.Changes.{Fits, OfTheFeature, OfTheLayer};
 ghost use Rattle.mvt_change.specs.ChangeStands.{place_of, step_of};
 ghost use Rattle.mvt_change.specs.Room.{KeepsDocument, KeepsField, KeepsLayerItem, KeepsList};
 ghost use Rattle.mvt_change.specs.HeldLists.{change_held_list, held_list_at};
-ghost use Rattle.mvt_change.specs.HeldChanges.{AreFlipped, CanMoveHeld, ExchangesFirst, HasHeldPart, TakesOut, exchanged, held_moved};
-ghost use Rattle.mvt_change.specs.Runs.{IsOn, PassesOver, feature_splice, layer_splice, turned_in_feature, turned_in_layer};
+ghost use Rattle.mvt_change.specs.HeldChanges.{CanMoveHeld, ExchangesFirst, HasHeldPart, TakesOut, exchanged, held_moved};
+ghost use Rattle.mvt_change.specs.Runs.{IsOn, IsRoomierStep, feature_splice, layer_splice, turned_in_feature, turned_in_layer};
+ghost use Rattle.mvt_change.specs.Underway.{Advances, carried_out};
 
 use crate::change::{Place, Step};
 use mvt_document::{Document, Field, LayerItem, Put};
@@ -115,50 +116,55 @@ pub(crate) fn exchange_in_feature(
     )
 }
 
-/// Carries steps on the list of the layer at this position out in one pass over it, and makes each
-/// the step that leads back. Memory is asked for before the first item moves.
+/// Carries the first steps out that are on the list of the layer at this position, in one pass over
+/// it, and makes each the step that leads back. How many they are. An `Err` changes nothing but room.
 pub(crate) fn run_in_layer(
     alloc: Global,
     document: &mut Document,
     layer: usize,
     steps: &mut [Step],
-) -> Result<(), AllocError>
+) -> Result<usize, AllocError>
     requires some { 0 < length steps.old }
-    requires layer { AllByRecursion (IsOn (OfTheLayer layer)) steps.old }
+    requires first { AllByRecursion (IsOn (OfTheLayer layer)) (take 1 steps.old) }
     requires fits { Fits (map step_of steps.old) (document_of document.old) }
-    ensures { AreFlipped (is_ok result) steps.old steps.new document.old document.new }
+    ensures some { IfOk result (λ n. 0 < n) }
+    ensures within { carried_out result ≤ length steps.old }
+    ensures made { Advances (carried_out result) steps.old steps.new document.old document.new }
 {
     document.change_items(
         layer,
         steps,
         |list, steps|
-            requires { FitAll layer_splice steps.old (length list.old.items) }
-            ensures { PassesOver KeepsLayerItem layer_splice turned_in_layer (is_ok result) list.old list.new steps.old steps.new }
-        { splice_message(alloc, list, steps) },
+            requires { FitRun (IsOn (OfTheLayer layer)) layer_splice steps.old (length list.old.items) }
+            ensures { CarriesOut (IsOn (OfTheLayer layer)) layer_splice turned_in_layer IsRoomierStep result steps.old steps.new list.old list.new }
+        { splice_message(alloc, list, &Place::Layer { layer }, steps) },
     )
 }
 
-/// Carries steps on the fields of the feature at this position of a layer out in one pass over
-/// them, and makes each the step that leads back. Memory is asked for before the first field moves.
+/// Carries the first steps out that are on the fields of the feature at this position of a layer, in
+/// one pass over them, and makes each the step that leads back. How many they are. An `Err` changes
+/// nothing but room.
 pub(crate) fn run_in_feature(
     alloc: Global,
     document: &mut Document,
     layer: usize,
     item: usize,
     steps: &mut [Step],
-) -> Result<(), AllocError>
+) -> Result<usize, AllocError>
     requires some { 0 < length steps.old }
-    requires feature { AllByRecursion (IsOn (OfTheFeature layer item)) steps.old }
+    requires first { AllByRecursion (IsOn (OfTheFeature layer item)) (take 1 steps.old) }
     requires fits { Fits (map step_of steps.old) (document_of document.old) }
-    ensures { AreFlipped (is_ok result) steps.old steps.new document.old document.new }
+    ensures some { IfOk result (λ n. 0 < n) }
+    ensures within { carried_out result ≤ length steps.old }
+    ensures made { Advances (carried_out result) steps.old steps.new document.old document.new }
 {
     document.change_fields(
         layer,
         item,
         steps,
         |list, steps|
-            requires { FitAll feature_splice steps.old (length list.old.items) }
-            ensures { PassesOver KeepsField feature_splice turned_in_feature (is_ok result) list.old list.new steps.old steps.new }
-        { splice_items(alloc, list, steps) },
+            requires { FitRun (IsOn (OfTheFeature layer item)) feature_splice steps.old (length list.old.items) }
+            ensures { CarriesOut (IsOn (OfTheFeature layer item)) feature_splice turned_in_feature IsRoomierStep result steps.old steps.new list.old list.new }
+        { splice_items(alloc, list, &Place::Feature { layer, item }, steps) },
     )
 }

@@ -1,16 +1,14 @@
-//! Steps that follow each other on one list: as splices of their list, and those on the list of the
-//! tile in one pass.
+//! Steps that follow each other on one list: as splices of their list, and carried out in one pass.
 
-ghost use Rattle.std.specs.Prelude.{◌<◌, ◌≤◌, length, map, take, is_ok, IfOk, IsTrue};
+ghost use Rattle.std.specs.Prelude.{◌<◌, ◌≤◌, ◌↔◌, length, map, take, IfOk, IfSome, IsTrue};
 ghost use Rattle.std.specs.List.{AllByRecursion};
 ghost use Rattle.mvt_document.specs.Stands.{document_of};
 ghost use Rattle.mvt_change.specs.Changes.{Fits, OfTheTile};
-ghost use Rattle.mvt_change.specs.ChangeStands.{step_of};
-ghost use Rattle.mvt_change.specs.HeldChanges.{AreFlipped};
-ghost use Rattle.mvt_change.specs.Runs.{IsOn, IsRun, SharesList};
-ghost use Rattle.mvt_change.specs.Underway.{Advances, steps_made};
+ghost use Rattle.mvt_change.specs.ChangeStands.{place_of, step_of};
+ghost use Rattle.mvt_change.specs.Runs.{IsOn};
+ghost use Rattle.mvt_change.specs.Underway.{Advances, carried_out, steps_made};
 
-use crate::change::Step;
+use crate::change::{Place, Step};
 use crate::features::visit_layer;
 use crate::lists::{run_in_feature, run_in_layer};
 use crate::steps::flip_step;
@@ -19,14 +17,23 @@ use mvt_splices::{Gap, Splices, splice_message};
 use std::alloc::{AllocError, Global};
 
 impl Splices<TileItem> for Step {
-    ghost use Rattle.mvt_change.specs.Runs.{tile_splice, turned_in_tile, IsRoomierStep};
-    ghost use Rattle.mvt_change.specs.RunLaws.{as_roomy as step_as_roomy, roomy_tile, turned_tile_put};
+    type Place = Place;
+
+    ghost use Rattle.mvt_change.specs.Runs.{tile_splice, turned_in_tile, IsOn, IsRoomierStep};
+    ghost use Rattle.mvt_change.specs.ChangeStands.{place_of};
+    ghost use Rattle.mvt_change.specs.RunLaws.{as_roomy as step_as_roomy, roomy_tile, turned_tile_splice, turned_tile_twice};
 
     ghost splice_of = { tile_splice };
 
     ghost turned = { turned_in_tile };
 
     ghost roomier = { IsRoomierStep };
+
+    ghost on_list = { λ place step. IsOn (place_of place) step };
+
+    fn is_on(&self, place: &Place) -> bool {
+        is_in(self, place)
+    }
 
     fn taken(&self) -> usize {
         match self {
@@ -61,18 +68,29 @@ impl Splices<TileItem> for Step {
 
     ghost as_roomy = { step_as_roomy };
 
-    ghost turned_put = { turned_tile_put };
+    ghost turned_splice = { turned_tile_splice };
+
+    ghost turned_twice = { turned_tile_twice };
 }
 
 impl Splices<LayerItem> for Step {
-    ghost use Rattle.mvt_change.specs.Runs.{layer_splice, turned_in_layer, IsRoomierStep};
-    ghost use Rattle.mvt_change.specs.RunLaws.{as_roomy as step_as_roomy, roomy_layer, turned_layer_put};
+    type Place = Place;
+
+    ghost use Rattle.mvt_change.specs.Runs.{layer_splice, turned_in_layer, IsOn, IsRoomierStep};
+    ghost use Rattle.mvt_change.specs.ChangeStands.{place_of};
+    ghost use Rattle.mvt_change.specs.RunLaws.{as_roomy as step_as_roomy, roomy_layer, turned_layer_splice, turned_layer_twice};
 
     ghost splice_of = { layer_splice };
 
     ghost turned = { turned_in_layer };
 
     ghost roomier = { IsRoomierStep };
+
+    ghost on_list = { λ place step. IsOn (place_of place) step };
+
+    fn is_on(&self, place: &Place) -> bool {
+        is_in(self, place)
+    }
 
     fn taken(&self) -> usize {
         match self {
@@ -113,18 +131,29 @@ impl Splices<LayerItem> for Step {
 
     ghost as_roomy = { step_as_roomy };
 
-    ghost turned_put = { turned_layer_put };
+    ghost turned_splice = { turned_layer_splice };
+
+    ghost turned_twice = { turned_layer_twice };
 }
 
 impl Splices<Field> for Step {
-    ghost use Rattle.mvt_change.specs.Runs.{feature_splice, turned_in_feature, IsRoomierStep};
-    ghost use Rattle.mvt_change.specs.RunLaws.{as_roomy as step_as_roomy, roomy_feature, turned_feature_put};
+    type Place = Place;
+
+    ghost use Rattle.mvt_change.specs.Runs.{feature_splice, turned_in_feature, IsOn, IsRoomierStep};
+    ghost use Rattle.mvt_change.specs.ChangeStands.{place_of};
+    ghost use Rattle.mvt_change.specs.RunLaws.{as_roomy as step_as_roomy, roomy_feature, turned_feature_splice, turned_feature_twice};
 
     ghost splice_of = { feature_splice };
 
     ghost turned = { turned_in_feature };
 
     ghost roomier = { IsRoomierStep };
+
+    ghost on_list = { λ place step. IsOn (place_of place) step };
+
+    fn is_on(&self, place: &Place) -> bool {
+        is_in(self, place)
+    }
 
     fn taken(&self) -> usize {
         match self {
@@ -165,40 +194,52 @@ impl Splices<Field> for Step {
 
     ghost as_roomy = { step_as_roomy };
 
-    ghost turned_put = { turned_feature_put };
+    ghost turned_splice = { turned_feature_splice };
+
+    ghost turned_twice = { turned_feature_twice };
 }
 
-/// Whether both steps exchange items of the same list.
-fn shares_list(first: &Step, other: &Step) -> bool
-    ensures { IsTrue result → SharesList first.now other.now }
+/// Whether the step exchanges items of the list at this place.
+fn is_in(step: &Step, place: &Place) -> bool
+    ensures { IsTrue result ↔ IsOn (place_of place.now) step.now }
 {
-    match (first, other) {
-        (Step::InTile { .. }, Step::InTile { .. }) => true,
-        (Step::InLayer { layer, .. }, Step::InLayer { layer: other, .. }) => layer == other,
+    match (step, place) {
+        (Step::InTile { .. }, Place::Tile) => true,
+        (Step::InLayer { layer, .. }, Place::Layer { layer: other }) => layer == other,
         (
             Step::InFeature { layer, item, .. },
-            Step::InFeature {
+            Place::Feature {
                 layer: other_layer,
                 item: other_item,
-                ..
             },
         ) => layer == other_layer && item == other_item,
         _ => false,
     }
 }
 
-/// Where the steps end that exchange items of the same list as the first one.
-fn run_end(steps: &[Step]) -> usize
-    requires { 0 < length steps.now }
-    ensures some { 0 < result }
-    ensures within { result ≤ length steps.now }
-    ensures run { IsRun (take result steps.now) }
+/// The place of the list that the step exchanges items of; none where it moves one.
+fn list_of(step: &Step) -> Option<Place>
+    ensures { IfSome result (λ place. IsOn (place_of place) step.now) }
 {
-    let mut end = 1;
-    while end < steps.len() && shares_list(&steps[0], &steps[end]) {
-        end += 1;
+    match *step {
+        Step::InTile { .. } => Some(Place::Tile),
+        Step::InLayer { layer, .. } => Some(Place::Layer { layer }),
+        Step::InFeature { layer, item, .. } => Some(Place::Feature { layer, item }),
+        Step::Move { .. } => None,
     }
-    end
+}
+
+/// The place of the list that the first step exchanges items of and the next one too; none where the
+/// first is alone on its list.
+fn list_of_run(steps: &[Step]) -> Option<Place>
+    ensures { IfSome result (λ place. AllByRecursion (IsOn (place_of place)) (take 1 steps.now)) }
+{
+    let place = list_of(steps.first()?)?;
+    if is_in(steps.get(1)?, &place) {
+        Some(place)
+    } else {
+        None
+    }
 }
 
 /// Carries the first steps out, and makes each the step that leads back: those on one list in one pass
@@ -215,45 +256,78 @@ pub(crate) fn flip_first(
     ensures within { steps_made result ≤ length steps.old }
     ensures made { Advances (steps_made result) steps.old steps.new document.old document.new }
 {
-    let end = run_end(steps);
-    match steps[0] {
-        Step::InFeature { layer, .. } if end == 1 => visit_layer(document, layer, steps),
-        _ => match flip_run(alloc, document, &mut steps[..end]) {
-            Ok(()) => Ok(end),
-            Err(_) => Err(0),
-        },
+    let Some(place) = list_of_run(steps) else {
+        return flip_alone(document, steps);
+    };
+    match flip_run(alloc, document, place, steps) {
+        Ok(made) => Ok(made),
+        Err(_) => Err(0),
     }
 }
 
-/// Carries steps on one list out in one pass over it, or a step alone. Each becomes the step that
-/// leads back.
-fn flip_run(alloc: Global, document: &mut Document, steps: &mut [Step]) -> Result<(), AllocError>
-    requires run { IsRun steps.old }
+/// Carries the first steps out that are on the list at this place, in one pass over it, and makes each the step that
+/// leads back. How many they are. An `Err` changes nothing but room.
+fn flip_run(
+    alloc: Global,
+    document: &mut Document,
+    place: Place,
+    steps: &mut [Step],
+) -> Result<usize, AllocError>
+    requires some { 0 < length steps.old }
+    requires first { AllByRecursion (IsOn (place_of place)) (take 1 steps.old) }
     requires fits { Fits (map step_of steps.old) (document_of document.old) }
-    ensures { AreFlipped (is_ok result) steps.old steps.new document.old document.new }
+    ensures some { IfOk result (λ n. 0 < n) }
+    ensures within { carried_out result ≤ length steps.old }
+    ensures made { Advances (carried_out result) steps.old steps.new document.old document.new }
 {
-    if steps.len() == 1 {
-        return flip_step(document, &mut steps[0]);
-    }
-    match steps[0] {
-        Step::InTile { .. } => run_in_tile(alloc, document, steps),
-        Step::InLayer { layer, .. } => run_in_layer(alloc, document, layer, steps),
-        Step::InFeature { layer, item, .. } => run_in_feature(alloc, document, layer, item, steps),
-        Step::Move { .. } => unreachable!(),
+    match place {
+        Place::Tile => run_in_tile(alloc, document, steps),
+        Place::Layer { layer } => run_in_layer(alloc, document, layer, steps),
+        Place::Feature { layer, item } => run_in_feature(alloc, document, layer, item, steps),
     }
 }
 
-/// Carries steps on the tile's own list out in one pass over it, and makes each the step that leads
-/// back. Memory is asked for before the first item moves.
+/// The same where the first step is alone on its list.
+fn flip_alone(document: &mut Document, steps: &mut [Step]) -> Result<usize, usize>
+    requires some { 0 < length steps.old }
+    requires fits { Fits (map step_of steps.old) (document_of document.old) }
+    ensures some { IfOk result (λ n. 0 < n) }
+    ensures within { steps_made result ≤ length steps.old }
+    ensures made { Advances (steps_made result) steps.old steps.new document.old document.new }
+{
+    match steps[0] {
+        Step::InFeature { layer, .. } => visit_layer(document, layer, steps),
+        _ => flip_one(document, steps),
+    }
+}
+
+/// Carries the first step out, and no other.
+fn flip_one(document: &mut Document, steps: &mut [Step]) -> Result<usize, usize>
+    requires some { 0 < length steps.old }
+    requires fits { Fits (map step_of steps.old) (document_of document.old) }
+    ensures some { IfOk result (λ n. 0 < n) }
+    ensures within { steps_made result ≤ length steps.old }
+    ensures made { Advances (steps_made result) steps.old steps.new document.old document.new }
+{
+    match flip_step(document, &mut steps[0]) {
+        Ok(()) => Ok(1),
+        Err(_) => Err(0),
+    }
+}
+
+/// Carries the first steps out that are on the tile's own list, in one pass over it, and makes each the step that
+/// leads back. How many they are. An `Err` changes nothing but room.
 pub(crate) fn run_in_tile(
     alloc: Global,
     document: &mut Document,
     steps: &mut [Step],
-) -> Result<(), AllocError>
+) -> Result<usize, AllocError>
     requires some { 0 < length steps.old }
-    requires tile { AllByRecursion (IsOn OfTheTile) steps.old }
+    requires first { AllByRecursion (IsOn OfTheTile) (take 1 steps.old) }
     requires fits { Fits (map step_of steps.old) (document_of document.old) }
-    ensures { AreFlipped (is_ok result) steps.old steps.new document.old document.new }
+    ensures some { IfOk result (λ n. 0 < n) }
+    ensures within { carried_out result ≤ length steps.old }
+    ensures made { Advances (carried_out result) steps.old steps.new document.old document.new }
 {
-    splice_message(alloc, &mut document.items, steps)
+    splice_message(alloc, &mut document.items, &Place::Tile, steps)
 }

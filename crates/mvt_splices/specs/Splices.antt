@@ -1,8 +1,9 @@
 -- Splices of one list, one after the other: what they make of it, when they fit, and what leads back. `splice_of` is
 -- the splice that a step is.
-use Rattle.std.specs.Prelude.{◌≡◌, ℕ, ◌+◌, ◌-◌, ◌≤◌, max, List, [], ◌∷◌, length}
+use Rattle.std.specs.Prelude.{◌≡◌, ℕ, ◌+◌, ◌-◌, ◌≤◌, max, List, [], ◌∷◌, length, take, drop, Result, IfOk, OnErr}
+use Rattle.std.specs.List.{AllByRecursion, AllZip}
 use Rattle.mvt_document.specs.Held.{Held}
-use Rattle.mvt_document.specs.Splicing.{splice}
+use Rattle.mvt_document.specs.Splicing.{part, splice}
 
 -- a splice of a list: how many items from which index are taken out, and the held ones that come in their place
 pub record Splice (T : Type 0) : Type 0 where
@@ -17,6 +18,10 @@ spliced s items = splice s.index s.taken s.put.items items
 -- the length of a list of `n` items after a splice
 abbrev pub spliced_length : {T : Type 0} → Splice T → ℕ → ℕ
 spliced_length s n = n - s.taken + length s.put.items
+
+-- the splice that leads back from what a splice makes of these items; its own list has the items that are taken out
+abbrev pub splice_back : {T : Type 0} → Splice T → List T → Splice T
+splice_back s items = record { index = s.index; taken = length s.put.items; put = record { items = part s.index s.taken items; room = length s.put.items + s.put.room - s.taken } }
 
 -- the items that are taken out find room where those that are put were, without growing
 abbrev pub FindsRoom : {T : Type 0} → Splice T → Type 0
@@ -49,3 +54,48 @@ module _ {S T : Type 0} (splice_of : S → Splice T) where
   abbrev pub turned_all : (S → List T → S) → List S → List T → List S
   turned_all turned [] items = []
   turned_all turned (s ∷ steps) items = turned s items ∷ turned_all turned steps (spliced (splice_of s) items)
+
+-- ---- steps that begin on one list, and may go on on others; `on` says that a step is on the list
+
+module _ {S : Type 0} (on : S → Type 0) where
+  -- as far as the steps are on the list each takes out items that are there, in a list that has `n` items before the first
+  abbrev pub FitRun : {T : Type 0} → (S → Splice T) → List S → ℕ → Type 0
+  FitRun splice_of [] n = Unit {0}
+  FitRun splice_of (s ∷ steps) n = on s → ((splice_of s).index + (splice_of s).taken ≤ n) × FitRun splice_of steps (spliced_length (splice_of s) n)
+
+  -- the first of the steps, if there is one, is not on the list
+  abbrev pub StartElsewhere : List S → Type 0
+  StartElsewhere [] = Unit {0}
+  StartElsewhere (s ∷ steps) = on s → ⊥
+
+-- the steps and the list are the same, with at least as much room
+pub record OnlyMakesRoom {S T : Type 0} (roomier : S → S → Type 0) (steps new : List S) (list made : Held T) : Type 0 where
+  pub items : made.items ≡ list.items
+  pub room : length list.items + list.room ≤ length made.items + made.room
+  pub are_roomier : AllZip roomier steps new
+
+module _ {S T : Type 0} (on : S → Type 0) (splice_of : S → Splice T) (turned : S → List T → S) (roomier : S → S → Type 0) where
+  -- of the steps the first `n` are carried out on the list, and each is turned: all these are on the list, which has the
+  -- room for its greatest length on the way, and each of them had the room for what it takes out; the others are as they were
+  pub record AreCarriedOut (n : ℕ) (steps new : List S) (list made : Held T) : Type 0 where
+    pub within : n ≤ length steps
+    pub run : AllByRecursion on (take n steps)
+    pub items : made.items ≡ after_all splice_of (take n steps) list.items
+    pub room : length list.items + list.room ≤ length made.items + made.room
+    pub greatest : longest splice_of (take n steps) (length list.items) ≤ length made.items + made.room
+    pub are_turned : (roomy : List S) × AllZip roomier (take n steps) roomy × AllByRecursion (λ s. FindsRoom (splice_of s)) roomy × (take n new ≡ turned_all splice_of turned roomy list.items)
+    pub left : drop n new ≡ drop n steps
+
+  -- so many of the first steps are carried out as are on the list; or memory ran out, and nothing has changed but room
+  pub record CarriesOut {E : Type 0} (result : Result ℕ E) (steps new : List S) (list made : Held T) : Type 0 where
+    pub first : IfOk result (λ n. AreCarriedOut n steps new list made)
+    pub ends : IfOk result (λ n. StartElsewhere on (drop n steps))
+    pub refused : OnErr result (OnlyMakesRoom roomier steps new list made)
+
+-- the steps are `first` turned, each on the list that it met, on what these made of the items; it has the room for the way back
+pub record LeadBack {S T : Type 0} (splice_of : S → Splice T) (turned : S → List T → S) (steps : List S) (list : Held T) (first : List S) (items : List T) : Type 0 where
+  pub fit : FitAll splice_of first (length items)
+  pub find_room : AllByRecursion (λ s. FindsRoom (splice_of s)) first
+  pub are_turned : steps ≡ turned_all splice_of turned first items
+  pub made : list.items ≡ after_all splice_of first items
+  pub greatest : longest splice_of first (length items) ≤ length list.items + list.room

@@ -1,6 +1,6 @@
 //! A list that is open at a gap: a ring that begins behind the gap and ends before it.
 
-ghost use Rattle.std.specs.Prelude.{◌≡◌, ◌+◌, ◌-◌, ◌<◌, ◌≤◌, ◌↔◌, [], ◌++◌, length, take, drop, vec_len, vec_capacity, OnOk, OnErr, IfOk, IsTrue};
+ghost use Rattle.std.specs.Prelude.{◌≡◌, ◌+◌, ◌-◌, ◌<◌, ◌≤◌, ◌↔◌, [], ◌++◌, length, take, drop, vec_len, vec_capacity, OnOk, IsTrue};
 ghost use Rattle.std.specs.VecDeque.{deque_len, deque_capacity};
 ghost use Rattle.mvt_document.specs.Splicing.{part, splice};
 ghost use Rattle.mvt_document.specs.Lending.{held_in};
@@ -36,16 +36,24 @@ impl<T> Model for Gap<T> {
 
 impl<T> Gap<T> {
     /// Opens the list of a vector, which is empty until the gap is closed. It stays in the vector's memory.
-    pub fn open(alloc: Global, list: &mut Vec<T>) -> Result<Gap<T>, AllocError>
-        ensures ok { IfOk result (λ gap. gap ≡ held_in list.old) }
-        ensures empty { OnOk result (list.new.items ≡ []) }
-        ensures err { OnErr result (list.new ≡ list.old) }
+    pub fn open(alloc: Global, list: &mut Vec<T>) -> Gap<T>
+        ensures gap { result ≡ held_in list.old }
+        ensures empty { list.new.items ≡ [] }
     {
         let list = mem::replace(list, Vec::new(alloc));
-        Ok(Gap {
+        Gap {
             ring: VecDeque::from_vec(list),
             behind: 0,
-        })
+        }
+    }
+
+    /// Makes room for so many items more.
+    pub fn reserve(&mut self, more: usize) -> Result<(), AllocError>
+        ensures items { self.new.items ≡ self.old.items }
+        ensures room { self.old.room ≤ self.new.room }
+        ensures ok { OnOk result (more ≤ self.new.room) }
+    {
+        self.ring.reserve(more)
     }
 
     /// Exchanges so many items from an index on for the ones to put, and puts them there in turn.

@@ -1,31 +1,28 @@
-//! Steps on one list, or on one message with its size: memory is asked for first, then each
-//! is carried out at the gap.
+//! Steps on one list, or on one message with its size: each is carried out at the gap, as far as they are on the list.
 
-ghost use Rattle.std.specs.Prelude.{◌≡◌, ◌+◌, ◌≤◌, [], length, List, is_ok, if◌then◌else◌, IfOk, OnErr, OnOk, IfSome, vec_len, vec_capacity};
-ghost use Rattle.std.specs.List.{AllByRecursion, AllZip, flat_map};
+ghost use Rattle.std.specs.Prelude.{◌≡◌, ◌+◌, ◌≤◌, List, length, is_ok, if◌then◌else◌, OnErr, OnOk, IfSome, vec_len};
+ghost use Rattle.std.specs.List.{flat_map};
 ghost use Rattle.mvt_document.specs.Kept.{IsKept};
-ghost use Rattle.mvt_document.specs.Splicing.{part};
-ghost use Rattle.mvt_splices.specs.Splices.{FindsRoom, FitAll, after_all, longest, spliced, turned_all};
+ghost use Rattle.mvt_document.specs.Lending.{held_in};
+ghost use Rattle.mvt_splices.specs.Splices.{CarriesOut, FindsRoom, FitRun, LeadBack, spliced};
 
 use crate::gap::Gap;
 use crate::splices::Splices;
 use mvt_document::{Items, Measured, Message, size_of_all};
 use std::alloc::{AllocError, Global};
 
-/// Carries the steps out on the list in one pass, and makes each the step that leads back. Memory is
-/// asked for before the first item moves: an `Err` changes nothing.
+/// Carries out the first steps that are on the list at this place, in one pass over it, and makes each the step that leads
+/// back. How many they are. An `Err` changes nothing but room.
 pub fn splice_items<T, S: Splices<T>>(
     alloc: Global,
     list: &mut Items<T>,
+    place: &S::Place,
     steps: &mut [S],
-) -> Result<(), AllocError>
-    requires { FitAll S.splice_of steps.old (length list.old.items) }
-    ensures items { list.new.items ≡ (if is_ok result then after_all S.splice_of steps.old list.old.items else list.old.items) }
-    ensures room { length list.old.items + list.old.room ≤ length list.new.items + list.new.room }
-    ensures longest { OnOk result (longest S.splice_of steps.old (length list.old.items) ≤ length list.new.items + list.new.room) }
-    ensures steps { (roomy : List S) × AllZip S.roomier steps.old roomy × (steps.new ≡ (if is_ok result then turned_all S.splice_of S.turned roomy list.old.items else roomy)) }
+) -> Result<usize, AllocError>
+    requires { FitRun (S.on_list place.now) S.splice_of steps.old (length list.old.items) }
+    ensures { CarriesOut (S.on_list place.now) S.splice_of S.turned S.roomier result steps.old steps.new list.old list.new }
 {
-    splice_vec(alloc, list.as_vec_mut(), steps)
+    splice_vec(alloc, list.as_vec_mut(), place, steps)
 }
 
 /// The same on a message. Its size, where it is known then, is the right one; that it stays known no
@@ -33,142 +30,155 @@ pub fn splice_items<T, S: Splices<T>>(
 pub fn splice_message<T: Measured, S: Splices<T>>(
     alloc: Global,
     list: &mut Message<T>,
+    place: &S::Place,
     steps: &mut [S],
-) -> Result<(), AllocError>
-    requires { FitAll S.splice_of steps.old (length list.old.items) }
-    ensures items { list.new.items ≡ (if is_ok result then after_all S.splice_of steps.old list.old.items else list.old.items) }
-    ensures room { length list.old.items + list.old.room ≤ length list.new.items + list.new.room }
-    ensures longest { OnOk result (longest S.splice_of steps.old (length list.old.items) ≤ length list.new.items + list.new.room) }
-    ensures steps { (roomy : List S) × AllZip S.roomier steps.old roomy × (steps.new ≡ (if is_ok result then turned_all S.splice_of S.turned roomy list.old.items else roomy)) }
+) -> Result<usize, AllocError>
+    requires { FitRun (S.on_list place.now) S.splice_of steps.old (length list.old.items) }
+    ensures { CarriesOut (S.on_list place.now) S.splice_of S.turned S.roomier result steps.old steps.new list.old list.new }
 {
-    let size = list.known_size();
-    match splice_measured(alloc, list.as_vec_mut(), size, steps) {
-        Ok(now) => {
-            list.know_size(now);
-            Ok(())
-        }
-        Err(error) => {
-            list.know_size(size);
-            Err(error)
-        }
-    }
+    let mut size = list.known_size();
+    let made = splice_measured(alloc, list.as_vec_mut(), &mut size, place, steps);
+    list.know_size(size);
+    made
 }
 
 fn splice_vec<T, S: Splices<T>>(
     alloc: Global,
     list: &mut Vec<T>,
+    place: &S::Place,
     steps: &mut [S],
-) -> Result<(), AllocError>
-    requires { FitAll S.splice_of steps.old (vec_len list.old) }
-    ensures items { list.new.items ≡ (if is_ok result then after_all S.splice_of steps.old list.old.items else list.old.items) }
-    ensures room { vec_capacity list.old ≤ vec_capacity list.new }
-    ensures longest { OnOk result (longest S.splice_of steps.old (vec_len list.old) ≤ vec_capacity list.new) }
-    ensures steps { (roomy : List S) × AllZip S.roomier steps.old roomy × (steps.new ≡ (if is_ok result then turned_all S.splice_of S.turned roomy list.old.items else roomy)) }
+) -> Result<usize, AllocError>
+    requires { FitRun (S.on_list place.now) S.splice_of steps.old (vec_len list.old) }
+    ensures { CarriesOut (S.on_list place.now) S.splice_of S.turned S.roomier result steps.old steps.new (held_in list.old) (held_in list.new) }
 {
-    let mut gap = open_for(alloc, list, steps)?;
-    exchange_all(&mut gap, steps);
+    let mut gap = Gap::open(alloc, list);
+    let made = exchange_all(&mut gap, place, steps);
     gap.close(list);
-    Ok(())
+    made
 }
 
 /// The same, where the list takes so many bytes, if that is known; and how many it takes then.
 fn splice_measured<T: Measured, S: Splices<T>>(
     alloc: Global,
     list: &mut Vec<T>,
-    size: Option<usize>,
+    size: &mut Option<usize>,
+    place: &S::Place,
     steps: &mut [S],
-) -> Result<Option<usize>, AllocError>
-    requires fit { FitAll S.splice_of steps.old (vec_len list.old) }
-    requires size { IsKept T.bytes list.old.items size }
-    ensures items { list.new.items ≡ (if is_ok result then after_all S.splice_of steps.old list.old.items else list.old.items) }
-    ensures room { vec_capacity list.old ≤ vec_capacity list.new }
-    ensures longest { OnOk result (longest S.splice_of steps.old (vec_len list.old) ≤ vec_capacity list.new) }
-    ensures steps { (roomy : List S) × AllZip S.roomier steps.old roomy × (steps.new ≡ (if is_ok result then turned_all S.splice_of S.turned roomy list.old.items else roomy)) }
-    ensures size { IfOk result (λ after. IsKept T.bytes list.new.items after) }
+) -> Result<usize, AllocError>
+    requires fit { FitRun (S.on_list place.now) S.splice_of steps.old (vec_len list.old) }
+    requires size { IsKept T.bytes list.old.items size.old }
+    ensures steps { CarriesOut (S.on_list place.now) S.splice_of S.turned S.roomier result steps.old steps.new (held_in list.old) (held_in list.new) }
+    ensures size { IsKept T.bytes list.new.items size.new }
 {
-    let mut gap = open_for(alloc, list, steps)?;
-    let after = exchange_measured(&mut gap, size, steps);
+    let mut gap = Gap::open(alloc, list);
+    let made = exchange_measured(&mut gap, size, place, steps);
     gap.close(list);
-    Ok(after)
+    made
 }
 
-/// Opens the list at a gap, with room for all that the steps do, in the list and in each step. The
-/// list is empty until the gap is closed. An `Err` changes nothing but room.
-fn open_for<T, S: Splices<T>>(
-    alloc: Global,
-    list: &mut Vec<T>,
+/// Carries out the first steps that are on the list at this place. Where memory runs out at one, those
+/// before it are taken back, for which there is room, and the gap goes back the way it came.
+fn exchange_all<T, S: Splices<T>>(
+    gap: &mut Gap<T>,
+    place: &S::Place,
     steps: &mut [S],
-) -> Result<Gap<T>, AllocError>
-    requires { FitAll S.splice_of steps.old (vec_len list.old) }
-    ensures items { IfOk result (λ gap. gap.items ≡ list.old.items) }
-    ensures room { IfOk result (λ gap. vec_capacity list.old ≤ length gap.items + gap.room) }
-    ensures longest { IfOk result (λ gap. longest S.splice_of steps.old (vec_len list.old) ≤ length gap.items + gap.room) }
-    ensures empty { OnOk result (list.new.items ≡ []) }
-    ensures err { OnErr result (list.new.items ≡ list.old.items) }
-    ensures err_room { OnErr result (vec_capacity list.old ≤ vec_capacity list.new) }
-    ensures steps { AllZip S.roomier steps.old steps.new }
-    ensures ready { OnOk result (AllByRecursion (λ s. FindsRoom (S.splice_of s)) steps.new) }
+) -> Result<usize, AllocError>
+    requires { FitRun (S.on_list place.now) S.splice_of steps.old (length gap.old.items) }
+    ensures { CarriesOut (S.on_list place.now) S.splice_of S.turned S.roomier result steps.old steps.new gap.old gap.new }
 {
-    let most = ready_all(list.len(), steps)?;
-    list.reserve(most - list.len())?;
-    Gap::open(alloc, list)
-}
-
-/// Makes room in each step for the items that it takes out. How long a list of so many items becomes
-/// at most.
-fn ready_all<T, S: Splices<T>>(length: usize, steps: &mut [S]) -> Result<usize, AllocError>
-    requires { FitAll S.splice_of steps.old length }
-    ensures same { AllZip S.roomier steps.old steps.new }
-    ensures longest { IfOk result (λ most. most ≡ longest S.splice_of steps.old length) }
-    ensures ready { OnOk result (AllByRecursion (λ s. FindsRoom (S.splice_of s)) steps.new) }
-{
-    let mut now = length;
-    let mut most = length;
-    for step in steps.iter_mut() {
-        let left = now - step.taken();
-        let Some(made) = left.checked_add(step.put().len()) else {
-            return Err(AllocError);
-        };
-        now = made;
-        most = most.max(now);
-        step.reserve()?;
+    let mut made = 0;
+    while made < steps.len() && steps[made].is_on(place) {
+        match exchange_next(gap, &mut steps[made]) {
+            Ok(()) => made += 1,
+            Err(error) => {
+                exchange_back(gap, &mut steps[..made]);
+                return Err(error);
+            }
+        }
     }
-    Ok(most)
+    Ok(made)
 }
 
-fn exchange_all<T, S: Splices<T>>(gap: &mut Gap<T>, steps: &mut [S])
-    requires fit { FitAll S.splice_of steps.old (length gap.old.items) }
-    requires room { longest S.splice_of steps.old (length gap.old.items) ≤ length gap.old.items + gap.old.room }
-    requires put_room { AllByRecursion (λ s. FindsRoom (S.splice_of s)) steps.old }
-    ensures items { gap.new.items ≡ after_all S.splice_of steps.old gap.old.items }
-    ensures room { length gap.new.items + gap.new.room ≡ length gap.old.items + gap.old.room }
-    ensures steps { steps.new ≡ turned_all S.splice_of S.turned steps.old gap.old.items }
-{
-    for step in steps.iter_mut() {
-        step.exchange(gap);
-    }
-}
-
-/// The same, where the list takes so many bytes, if that is known. How many it takes then.
+/// The same, where the list takes so many bytes, if that is known; and how many it takes then.
 fn exchange_measured<T: Measured, S: Splices<T>>(
     gap: &mut Gap<T>,
-    size: Option<usize>,
+    size: &mut Option<usize>,
+    place: &S::Place,
     steps: &mut [S],
-) -> Option<usize>
-    requires fit { FitAll S.splice_of steps.old (length gap.old.items) }
-    requires room { longest S.splice_of steps.old (length gap.old.items) ≤ length gap.old.items + gap.old.room }
-    requires put_room { AllByRecursion (λ s. FindsRoom (S.splice_of s)) steps.old }
-    requires size { IsKept T.bytes gap.old.items size }
-    ensures items { gap.new.items ≡ after_all S.splice_of steps.old gap.old.items }
-    ensures room { length gap.new.items + gap.new.room ≡ length gap.old.items + gap.old.room }
-    ensures steps { steps.new ≡ turned_all S.splice_of S.turned steps.old gap.old.items }
-    ensures size { IsKept T.bytes gap.new.items result }
+) -> Result<usize, AllocError>
+    requires fit { FitRun (S.on_list place.now) S.splice_of steps.old (length gap.old.items) }
+    requires size { IsKept T.bytes gap.old.items size.old }
+    ensures steps { CarriesOut (S.on_list place.now) S.splice_of S.turned S.roomier result steps.old steps.new gap.old gap.new }
+    ensures size { IsKept T.bytes gap.new.items size.new }
 {
-    let mut now = size;
-    for step in steps.iter_mut() {
-        now = exchange_one(gap, now, step);
+    let before = *size;
+    let mut made = 0;
+    while made < steps.len() && steps[made].is_on(place) {
+        match measure_next(gap, size, &mut steps[made]) {
+            Ok(()) => made += 1,
+            Err(error) => {
+                exchange_back(gap, &mut steps[..made]);
+                *size = before;
+                return Err(error);
+            }
+        }
     }
-    now
+    Ok(made)
+}
+
+/// Carries out steps that lead back, from the last to the first: each becomes the step that it was turned from.
+fn exchange_back<T, S: Splices<T>>(gap: &mut Gap<T>, steps: &mut [S])
+    requires { (first : List S) × (items : List T) × LeadBack S.splice_of S.turned steps.old gap.old first items }
+    ensures back { (first : List S) (items : List T) → LeadBack S.splice_of S.turned steps.old gap.old first items → (steps.new ≡ first) × (gap.new.items ≡ items) }
+    ensures room { length gap.new.items + gap.new.room ≡ length gap.old.items + gap.old.room }
+{
+    for at in (0..steps.len()).rev() {
+        steps[at].exchange(gap);
+    }
+}
+
+/// Carries out one step, with room for what it puts and for what it takes out. An `Err` changes nothing but room.
+fn exchange_next<T, S: Splices<T>>(gap: &mut Gap<T>, step: &mut S) -> Result<(), AllocError>
+    requires { (S.splice_of step.old).index + (S.splice_of step.old).taken ≤ length gap.old.items }
+    ensures items { gap.new.items ≡ (if is_ok result then spliced (S.splice_of step.old) gap.old.items else gap.old.items) }
+    ensures room { length gap.old.items + gap.old.room ≤ length gap.new.items + gap.new.room }
+    ensures turned { OnOk result ((roomy : S) × S.roomier step.old roomy × FindsRoom (S.splice_of roomy) × (step.new ≡ S.turned roomy gap.old.items)) }
+    ensures err { OnErr result (S.roomier step.old step.new) }
+{
+    make_room(gap, step)?;
+    step.exchange(gap);
+    Ok(())
+}
+
+/// The same, where the list takes so many bytes, if that is known; and how many it takes then.
+fn measure_next<T: Measured, S: Splices<T>>(
+    gap: &mut Gap<T>,
+    size: &mut Option<usize>,
+    step: &mut S,
+) -> Result<(), AllocError>
+    requires there { (S.splice_of step.old).index + (S.splice_of step.old).taken ≤ length gap.old.items }
+    requires size { IsKept T.bytes gap.old.items size.old }
+    ensures items { gap.new.items ≡ (if is_ok result then spliced (S.splice_of step.old) gap.old.items else gap.old.items) }
+    ensures room { length gap.old.items + gap.old.room ≤ length gap.new.items + gap.new.room }
+    ensures turned { OnOk result ((roomy : S) × S.roomier step.old roomy × FindsRoom (S.splice_of roomy) × (step.new ≡ S.turned roomy gap.old.items)) }
+    ensures err { OnErr result (S.roomier step.old step.new) }
+    ensures size { IsKept T.bytes gap.new.items size.new }
+{
+    make_room(gap, step)?;
+    *size = exchange_one(gap, *size, step);
+    Ok(())
+}
+
+/// Makes room in the list for the items that a step puts, and in the step for those that it takes out.
+fn make_room<T, S: Splices<T>>(gap: &mut Gap<T>, step: &mut S) -> Result<(), AllocError>
+    ensures items { gap.new.items ≡ gap.old.items }
+    ensures room { gap.old.room ≤ gap.new.room }
+    ensures step { S.roomier step.old step.new }
+    ensures comes { OnOk result (length (S.splice_of step.new).put.items ≤ gap.new.room + (S.splice_of step.new).taken) }
+    ensures goes { OnOk result (FindsRoom (S.splice_of step.new)) }
+{
+    gap.reserve(step.put().len().saturating_sub(step.taken()))?;
+    step.reserve()
 }
 
 /// Carries out one step, and measures what comes and what goes.

@@ -1,14 +1,16 @@
 //! What a step on a list has to say of itself, as a trait.
 
-ghost use Rattle.std.specs.Prelude.{◌≡◌, ◌+◌, ◌≤◌, List, length, OnOk};
-ghost use Rattle.mvt_document.specs.Splicing.{part};
-ghost use Rattle.mvt_splices.specs.Splices.{Splice, IsRoomier, FindsRoom, spliced};
+ghost use Rattle.std.specs.Prelude.{◌≡◌, ◌+◌, ◌≤◌, ◌↔◌, List, length, IsTrue, OnOk};
+ghost use Rattle.mvt_splices.specs.Splices.{Splice, IsRoomier, FindsRoom, splice_back, spliced};
 
 use crate::gap::Gap;
 use std::alloc::AllocError;
 
 /// A step that takes a part out of a list of such items, and puts items there.
 pub trait Splices<T> {
+    /// The name of a list. A step is on one, or on none.
+    type Place;
+
     ghost splice_of: { Self → Splice T };
 
     /// The step that leads back from what this one makes of a list.
@@ -16,6 +18,13 @@ pub trait Splices<T> {
 
     /// The same step with at least as much room.
     ghost roomier: { Self → Self → Type 0 };
+
+    /// The step is on the list at this place.
+    ghost on_list: { Self.Place → Self → Type 0 };
+
+    /// Whether it is on the list at this place.
+    fn is_on(&self, place: &Self::Place) -> bool
+        ensures { IsTrue result ↔ on_list place.now self.now };
 
     /// How many items it takes out.
     fn taken(&self) -> usize
@@ -43,5 +52,7 @@ pub trait Splices<T> {
 
     ghost as_roomy: { (s : Self) → roomier s s };
 
-    ghost turned_put: { (s : Self) (items : List T) → (splice_of (turned s items)).put.items ≡ part (splice_of s).index (splice_of s).taken items };
+    ghost turned_splice: { (s : Self) (items : List T) → splice_of (turned s items) ≡ splice_back (splice_of s) items };
+
+    ghost turned_twice: { (s : Self) (items : List T) → (splice_of s).index + (splice_of s).taken ≤ length items → FindsRoom (splice_of s) → turned (turned s items) (spliced (splice_of s) items) ≡ s };
 }

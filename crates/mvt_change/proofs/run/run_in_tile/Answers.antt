@@ -1,17 +1,22 @@
-use Rattle.std.proofs.Common.{is_ok, refl}
+use Rattle.std.proofs.Common.{refl}
 use Rattle.mvt_change.specs.Changes.{OfTheTile}
-use Rattle.mvt_change.specs.Runs.{tile_splice}
-use Rattle.mvt_change.proofs.Keeping.{tile_item_order}
-use Rattle.mvt_change.proofs.ListRuns.{all_fit, flipped, list_kept_or_same}
+use Rattle.mvt_change.proofs.ListRuns.{run_advanced, run_fits_there}
 use Rattle.mvt_change.proofs.run.run_in_tile.Goals as goal
 
 pub splice_message-requires : goal.splice_message-requires
-splice_message-requires c = all_fit OfTheTile c.args.steps.now c.args.document.now c.requires.some c.requires.tile c.requires.fits
+splice_message-requires c = run_fits_there OfTheTile c.args.steps.now c.args.document.now c.requires.some c.requires.first c.requires.fits
 
-pub returns : goal.returns
-returns c =
-    let met = c.splice_message.ensures in
-    let list = c.args.document.now.items in
-    let made = c.splice_message.new.list in
-    flipped OfTheTile (is_ok c.splice_message.result) c.args.steps.now c.splice_message.new.steps c.args.document.now (record { items = made }) c.requires.tile c.requires.fits
-    (made, record { kept = list_kept_or_same tile_item_order tile_splice c.splice_message.result c.args.steps.now list made (all_fit OfTheTile c.args.steps.now c.args.document.now c.requires.some c.requires.tile c.requires.fits) met.items met.room met.longest; are_made = met.steps }, refl)
+pub returns-clause-some : goal.returns-clause-some
+returns-clause-some c =
+    let list = c.splice_message.new.list in
+    (run_advanced OfTheTile c.args.steps.now c.splice_message.new.steps c.args.document.now (record { items = list }) c.requires.fits c.splice_message.result c.requires.some c.requires.first (list, c.splice_message.ensures, refl)).0
+
+pub returns-clause-within : goal.returns-clause-within
+returns-clause-within c =
+    let list = c.splice_message.new.list in
+    (run_advanced OfTheTile c.args.steps.now c.splice_message.new.steps c.args.document.now (record { items = list }) c.requires.fits c.splice_message.result c.requires.some c.requires.first (list, c.splice_message.ensures, refl)).1
+
+pub returns-clause-made : goal.returns-clause-made
+returns-clause-made c =
+    let list = c.splice_message.new.list in
+    (run_advanced OfTheTile c.args.steps.now c.splice_message.new.steps c.args.document.now (record { items = list }) c.requires.fits c.splice_message.result c.requires.some c.requires.first (list, c.splice_message.ensures, refl)).2

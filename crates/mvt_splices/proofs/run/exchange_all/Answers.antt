@@ -1,12 +1,65 @@
-use Rattle.std.proofs.Common.{◌+◌, ◌≤◌, length, get_or, arith}
-use Rattle.mvt_splices.proofs.Runs.{next_room}
+use Rattle.std.proofs.Common.{arith}
+use Rattle.mvt_splices.proofs.Runs.{ends_there, lead_back, next_there, one_more, read_again, refused, stops}
 use Rattle.mvt_splices.proofs.run.exchange_all.Goals as goal
 
-pub exchange-requires-clause-room : goal.exchange-requires-clause-room
-exchange-requires-clause-room g c =
-    let of = g.S.Splices.splice_of in
-    let step = get_or c.loop-step.steps c.loop-step.step-index c.step-item.result in
-    let count = length c.loop-step.gap.items in
-    let room = next_room of c.loop-step.steps c.loop-step.step-index count (count + c.loop-step.gap.room) c.step-item.result (omega arith) c.loop-step.invariant.fit c.loop-step.invariant.space in
-    let enough : length (of step).put.items ≤ c.loop-step.gap.room + (of step).taken = omega (arith, room) in
-    enough
+pub exchange_next-requires : goal.exchange_next-requires
+exchange_next-requires g c =
+    let of = g.S.Splices in
+    let l = c.loop-made in
+    let on = of.on_list c.args.place.now in
+    let given = c.args.steps.now in
+    let d = c.index-steps-made-in-loop-made.result in
+    let here = read_again on l.steps l.made c.index-steps-made.result d (omega arith) (c.is_on.ensures.0 c.if-is_on.true) in
+    next_there on of.splice_of of.turned of.roomier l.made given l.steps c.args.gap.now l.gap l.gap d l.invariant.made (omega arith) c.requires here
+
+pub loop-made-preserved : goal.loop-made-preserved
+loop-made-preserved g c =
+    let of = g.S.Splices in
+    let l = c.loop-made in
+    let on = of.on_list c.args.place.now in
+    let given = c.args.steps.now in
+    let d = c.index-steps-made-in-loop-made.result in
+    let here = read_again on l.steps l.made c.index-steps-made.result d (omega arith) (c.is_on.ensures.0 c.if-is_on.true) in
+    let met = c.in-Ok.ensures in
+    record {
+      made = one_more on of.splice_of of.turned of.roomier l.made given l.steps c.args.gap.now l.gap c.exchange_next.new.gap d l.invariant.made (omega arith) g.met.S.Splices.roomy_splice c.exchange_next.new.step c.requires here met.items met.room met.turned;
+    }
+
+pub exchange_back-requires : goal.exchange_back-requires
+exchange_back-requires g c =
+    let of = g.S.Splices in
+    let l = c.loop-made in
+    let on = of.on_list c.args.place.now in
+    let given = c.args.steps.now in
+    let d = c.index-steps-made-in-loop-made.result in
+    let met = c.in-Err.ensures in
+    (l.invariant.made.are_turned.0, c.args.gap.now.items, lead_back on of.splice_of of.turned of.roomier l.made given l.steps c.args.gap.now l.gap c.exchange_next.new.gap d l.invariant.made (omega arith) g.met.S.Splices.roomy_splice c.exchange_next.new.step met.items met.room c.requires)
+
+pub returns-in-Err : goal.returns-in-Err
+returns-in-Err g c =
+    let of = g.S.Splices in
+    let l = c.loop-made in
+    let on = of.on_list c.args.place.now in
+    let given = c.args.steps.now in
+    let d = c.index-steps-made-in-loop-made.result in
+    let met = c.in-Err.ensures in
+    let next = c.exchange_next.new.step in
+    let law = g.met.S.Splices.roomy_splice in
+    let back = c.exchange_back.ensures.back l.invariant.made.are_turned.0 c.args.gap.now.items (lead_back on of.splice_of of.turned of.roomier l.made given l.steps c.args.gap.now l.gap c.exchange_next.new.gap d l.invariant.made (omega arith) law next met.items met.room c.requires) in
+    record {
+      first = tt;
+      ends = tt;
+      refused = stops on of.splice_of of.turned of.roomier l.made given l.steps c.args.gap.now l.gap c.exchange_next.new.gap d l.invariant.made (omega arith) law next met.items met.room g.met.S.Splices.as_roomy met.err c.exchange_back.new.steps c.exchange_back.new.gap back.0 back.1 c.exchange_back.ensures.room;
+    }
+
+pub returns-else-is_on : goal.returns-else-is_on
+returns-else-is_on g c =
+    let of = g.S.Splices in
+    let l = c.loop-made in
+    let on = of.on_list c.args.place.now in
+    let given = c.args.steps.now in
+    record {
+      first = l.invariant.made;
+      ends = ends_there on of.splice_of of.turned of.roomier l.made given l.steps c.args.gap.now l.gap l.gap c.index-steps-made.result l.invariant.made (λ inside. refused c.is_on.result _ c.is_on.ensures.1 c.if-is_on.false);
+      refused = tt;
+    }

@@ -8,7 +8,7 @@ overflow_sub-result g c =
     let bytes = g.T.Measured.bytes in
     let items = c.args.gap.now.items in
     let of = g.S.Splices.splice_of in
-    let gone = c.put-2.ensures ∙ ap (λ s. (of s).put.items) c.exchange.ensures.turned ∙ g.met.S.Splices.turned_put c.args.step.now items in
+    let gone = c.put-2.ensures ∙ ap (λ s. (of s).put.items) c.exchange.ensures.turned ∙ ap (λ s. s.put.items) (g.met.S.Splices.turned_splice c.args.step.now items) in
     omega (
       arith,
       weighed bytes (of c.args.step.now) items c.put-2.result.now gone,
@@ -24,7 +24,7 @@ returns-clause-size g c =
     let bytes = g.T.Measured.bytes in
     let items = c.args.gap.now.items in
     let of = g.S.Splices.splice_of in
-    let gone = c.put-2.ensures ∙ ap (λ s. (of s).put.items) c.exchange.ensures.turned ∙ g.met.S.Splices.turned_put c.args.step.now items in
+    let gone = c.put-2.ensures ∙ ap (λ s. (of s).put.items) c.exchange.ensures.turned ∙ ap (λ s. s.put.items) (g.met.S.Splices.turned_splice c.args.step.now items) in
     omega (
       arith,
       weighed bytes (of c.args.step.now) items c.put-2.result.now gone,
