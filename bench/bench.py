@@ -12,7 +12,7 @@ from commands import LINES, commanded, commands
 from features import RUNS_OF_FEATURES, features, walked
 from figures import WholeRun, keep
 from generate import LAYERS
-from measure import (COUNTED_MILLISECONDS, RUNS, RUNS_OF_LARGE, Program, costliest, count_instructions, measure,
+from measure import (COUNTED_MILLISECONDS, FEWER_RUNS, LONG_TURN, RUNS, Program, costliest, count_instructions, measure,
                      measure_in_turns, run_once, script_of)
 from phases import phased, phases
 from report import (Listed, Result, Undone, comparison, endings, growth, instructions, memory, put_section, shown, table,
@@ -20,7 +20,7 @@ from report import (Listed, Result, Undone, comparison, endings, growth, instruc
 from sessions import sessions, stepped
 from targets import (ATTRIBUTES, COMPACTED, EMPTY, EXCLUDED, IDS, JOB, KEPT, MANY, OURS, SHIFTS, UNTAGGED, command_targets,
                      session_targets, targets, verdicts, walk_targets)
-from tiles import LARGE, MEBIBYTE, alternating_layers, generated_tiles, largest_map, points, real_tiles, smallest_map, smallest_maps
+from tiles import alternating_layers, generated_tiles, largest_map, points, real_tiles, smallest_map, smallest_maps
 
 RESULTS = peers.HERE / "RESULTS.md"
 
@@ -77,7 +77,7 @@ PHASES_TOLD = "Where the time of one rename goes, tileshell alone"
 
 SESSIONS = "Renames, and undos and redos over them, tileshell alone"
 
-RUNS_MEASURED = f"medians of {RUNS} runs in turns, and of {RUNS_OF_LARGE} on tiles of more than {LARGE // MEBIBYTE} MiB"
+RUNS_MEASURED = f"medians of {RUNS} runs in turns, and of {FEWER_RUNS} where one of each takes more than {LONG_TURN} s in all"
 
 DASHES = """\
 A dash: not done, or not measured.

@@ -13,9 +13,10 @@ from tiles import LARGE
 
 PROFILE = BUILD / "callgrind"
 
-# The median is taken of so many runs, and of so many of a large tile.
+# The median is taken of so many runs, and of fewer where one run of each program takes longer in all than that many seconds.
 RUNS = 9
-RUNS_OF_LARGE = 5
+FEWER_RUNS = 5
+LONG_TURN = 8
 
 # A run that takes more processor time than this is stopped, and its job is left out.
 # A large tile gets more, in proportion.
@@ -102,6 +103,11 @@ def first_replies(program):
         return ", ".join(line.strip() for line in itertools.islice(replies, REPLIES))
 
 
+def turns_of(first):
+    """How often programs are run whose first runs are these."""
+    return RUNS if sum(run.milliseconds for run in first) <= 1000 * LONG_TURN else FEWER_RUNS
+
+
 def seconds_for(tile):
     return math.ceil(SECONDS * max(1, tile.size / LARGE))
 
@@ -134,7 +140,7 @@ def measure(programs, tile, script):
     able = [program for program in programs if first[program].is_done]
     check_same([program for program in able if not program.only_copies], tile)
     runs = {program: [] for program in able}
-    for _ in range(RUNS_OF_LARGE if tile.is_large else RUNS):
+    for _ in range(turns_of(first[program] for program in able)):
         for program in able:
             runs[program].append(run(program))
     figures = {program.name: medians(done) for program, done in runs.items() if all(each.is_done for each in done)}
@@ -149,7 +155,7 @@ def measure_in_turns(tile, jobs):
     None for one of which a run did not do its job.
     """
     runs = [[] for _ in jobs]
-    for _ in range(RUNS_OF_LARGE if tile.is_large else RUNS):
+    for _ in range(RUNS):
         for done, (program, lines) in zip(runs, jobs):
             done.append(run_once(program, tile, script_of(lines, tile), seconds_for(tile)))
     return [medians(done) if all(run.is_done for run in done) else None for done in runs]

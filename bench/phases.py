@@ -4,7 +4,7 @@ import statistics
 import subprocess
 import time
 
-from measure import RUNS_OF_LARGE, script_of
+from measure import RUNS, script_of
 from peers import BUILD
 from report import Phase, shown, table
 
@@ -18,7 +18,7 @@ def phased(program, tile, lines):
     """The phases of a run, each the median of several runs."""
     print(f"bench: {tile.name}, phases", flush=True)
     script = script_of(lines, tile)
-    runs = [phases_of(program, tile, script) for _ in range(RUNS_OF_LARGE)]
+    runs = [phases_of(program, tile, script) for _ in range(RUNS)]
     return [Phase(name, *map(statistics.median, zip(*each))) for name, each in zip(NAMES, zip(*runs))]
 
 
@@ -42,7 +42,7 @@ def phases(tile, found):
     rows = [[each.name, *figures_of(each)] for each in found]
     whole = Phase("all", *(sum(part) for part in zip(*(each.parts for each in found))))
     rows.append([whole.name, *figures_of(whole)])
-    return f"{tile.name}, medians of {RUNS_OF_LARGE} runs.\n\n" + table(["Phase", "Milliseconds", "user", "system", "Page faults"], rows)
+    return f"{tile.name}, medians of {RUNS} runs.\n\n" + table(["Phase", "Milliseconds", "user", "system", "Page faults"], rows)
 
 
 def figures_of(phase):

@@ -10,7 +10,7 @@ SEED = 1
 MEBIBYTE = 1 << 20
 SIZES = [1, 4, 16, 64]
 
-# A tile of more bytes is large: it has fewer runs and jobs.
+# A tile of more bytes is large: it has fewer jobs.
 LARGE = 16 * MEBIBYTE
 
 # The kinds of tiles of groups, each at one size.
