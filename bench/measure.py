@@ -150,15 +150,19 @@ def measure(programs, tile, script):
 
 
 def measure_in_turns(tile, jobs):
-    """The figures of each job, a program with its lines, from runs in turns: what else the machine does meets all of them alike.
+    """The medians of each job, a program with its lines, from runs in turns: what else the machine does meets all of them alike.
 
     None for one of which a run did not do its job.
     """
+    return [done and medians(done) for done in run_in_turns(tile, jobs, RUNS)]
+
+
+def run_in_turns(tile, jobs, turns):
     runs = [[] for _ in jobs]
-    for _ in range(RUNS):
+    for _ in range(turns):
         for done, (program, lines) in zip(runs, jobs):
             done.append(run_once(program, tile, script_of(lines, tile), seconds_for(tile)))
-    return [medians(done) if all(run.is_done for run in done) else None for done in runs]
+    return [done if all(run.is_done for run in done) else None for done in runs]
 
 
 def last_ending(runs):
@@ -167,6 +171,10 @@ def last_ending(runs):
 
 def medians(runs):
     return Figures(statistics.median(run.milliseconds for run in runs), statistics.median(run.peak for run in runs))
+
+
+def least(runs):
+    return Figures(min(run.milliseconds for run in runs), min(run.peak for run in runs))
 
 
 def profile(program, tile, script):

@@ -1,12 +1,15 @@
 """The job `sessions`, of tileshell alone: what many steps take that undo and redo can go over."""
 import dataclasses
 
-from measure import measure_in_turns
+from measure import least, run_in_turns
 from report import Stepped, shown, table
 
 # So many renames are made, and then as many undos and as many redos, as far as each depth goes in turns.
 STEPS = 10_000
 DEPTHS = [100, 10_000]
+
+# What is told are differences of times, of which a slow second of the machine would make much: so the least of many runs.
+TURNS = 41
 
 RENAMES = 'rename-layer "{layer}" "renamed"\nrename-layer "renamed" "{layer}"\n' * (STEPS // 2)
 
@@ -26,7 +29,8 @@ def stepped_at(tileshell, tile, depth):
     program = dataclasses.replace(tileshell, words=(*tileshell.words, "--depth", str(depth)))
     # The first script is what the others are held against, at the depth that is not asked for.
     jobs = [(tileshell, ""), (program, RENAMES), (program, RENAMES + moves(depth))]
-    return Stepped(tile, depth, STEPS, 2 * STEPS, *measure_in_turns(tile, jobs))
+    runs = run_in_turns(tile, jobs, TURNS)
+    return Stepped(tile, depth, STEPS, 2 * STEPS, *(done and least(done) for done in runs))
 
 
 def sessions(steps):
