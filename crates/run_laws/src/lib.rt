@@ -11,9 +11,7 @@ pub use history_laws::{
     history_fits, history_of_documents, kept_within, redos_undo_undos, stays_sound, stays_valid,
     step_undoes_whole, stopped_goes_on, undo_after_end, undo_at_once, undos_undo_redos,
 };
-pub use tile_answer::laws::{
-    looks_leave_history, no_request_is_out_of_memory, requests_tell_lines,
-};
+pub use tile_told::laws::{looks_leave_history, no_request_is_out_of_memory, requests_tell_lines};
 
 /// The lines of a prefix of a script that is empty or ends with a line feed are the first lines of
 /// the script (`lines`). The run on it comes to where the whole run is after those lines, and the

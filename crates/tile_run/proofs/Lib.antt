@@ -1,3 +1,5 @@
+pub mod Stopping
+pub mod Telling
 pub mod Walks
 pub mod Running
 pub mod Feeding

@@ -16,10 +16,10 @@ ghost use Rattle.mvt_history_steps.specs.declared.TheConstants.{MAX_DEPTH};
 ghost use Rattle.tile_course.specs.Run.{Progress, at_first, is_over};
 ghost use Rattle.tile_run.specs.Steps.{AnswersLine, CarriesOut, CarriesOutLines, CarriesOutPieces, CarriesOutScript, ComesTo, IsAt, Moment, WasGiven, ends_line, moment_at, settled, told_in};
 
+use crate::answer::carry_out;
 use mvt_document::{Document, Items};
 use mvt_history::Session;
 use std::alloc::Global;
-use tile_answer::carry_out;
 use tile_course::{LineStop, MAX_SCRIPT, Options, ScriptStop};
 use tile_device::{Retries, Sink, Source, read_some};
 use tile_lines::{Cut, LineCutter};

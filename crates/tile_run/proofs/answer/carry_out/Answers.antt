@@ -1,7 +1,7 @@
 use Rattle.std.proofs.Common.{◌∙◌, ap, Err}
 use Rattle.std.proofs.lemmas.Result.{err_from_is_err_and}
-use Rattle.tile_answer.proofs.Stopping.{back_refused, cancel_refused}
-use Rattle.tile_answer.proofs.answer.carry_out.Goals as goal
+use Rattle.tile_run.proofs.Stopping.{back_refused, cancel_refused}
+use Rattle.tile_run.proofs.answer.carry_out.Goals as goal
 
 pub returns-in_err-back-in-Back-clause-answer : goal.returns-in_err-back-in-Back-clause-answer
 returns-in_err-back-in-Back-clause-answer c history stands =

@@ -16,7 +16,7 @@ use tile_reply::Refused;
 use tile_request::Request;
 
 /// Carries out a request, and gives the lines that it tells, each with its line feed.
-pub fn carry_out(
+pub(crate) fn carry_out(
     alloc: Global,
     session: &mut Session,
     request: &Request,

@@ -2,9 +2,9 @@ use Rattle.std.proofs.Common.{rules, ◌≡◌, ℤ, ◌++◌, ◌∙◌, ap, sy
 use mir.Val.{SFits}
 use Rattle.std.proofs.lemmas.Int.{to_z-of_z}
 use Rattle.tile_told.specs.Answering.{offset_line}
-use Rattle.tile_answer.proofs.Telling.{told_there, none_behind, lines_of_marks, all_told}
-use Rattle.tile_answer.proofs.told.mark_lines.Goals as goal
-use Rattle.tile_answer.proofs.told.mark_lines.Goals.{else-loop-index-test, then-loop-index-test+in_default}
+use Rattle.tile_run.proofs.Telling.{told_there, none_behind, lines_of_marks, all_told}
+use Rattle.tile_run.proofs.told.mark_lines.Goals as goal
+use Rattle.tile_run.proofs.told.mark_lines.Goals.{else-loop-index-test, then-loop-index-test+in_default}
 
 pub loop-index-preserved : goal.loop-index-preserved
 loop-index-preserved c =
