@@ -2,7 +2,7 @@
 from measure import measure_in_turns
 from report import Commanded, shown, table
 
-# A script has so many lines, so that what they take stands out of what the tile takes.
+# A script has this number of lines, so that what they take stands out of what the tile takes.
 LINES = 200_000
 
 # What the lines do, by a name or by an ordinal.

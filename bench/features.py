@@ -6,7 +6,7 @@ from report import Walked, shown, table
 
 FEATURES = 20_000
 
-# The median is taken of so many runs.
+# The median is taken of this number of runs.
 RUNS_OF_FEATURES = 3
 
 # A run that takes more processor time is stopped.

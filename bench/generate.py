@@ -18,7 +18,7 @@ GROUP, GROUP_END = b"\x0b", b"\x0c"
 # How many groups may be open at one place.
 MOST_OPEN = 100
 
-# A key or a value of large pools, with its share of a feature that has so many pairs, takes at most so many bytes.
+# A key or a value of large pools, with its share of a feature that has `PAIRS` pairs, takes at most this number of bytes.
 BYTES_OF_AN_ENTRY = 16
 PAIRS = 8
 
@@ -88,7 +88,7 @@ def layer(name, features, rest):
 
 
 def map_layer(draw, name, size, is_keyed):
-    """A layer of at most so many bytes; of one that is keyed each feature has the first key."""
+    """A layer of at most `size` bytes; of one that is keyed each feature has the first key."""
     kind = draw.choice([LINE, POLYGON])
     rest = pools(draw)
     room = size - len(layer(name, b"", rest)) - len(varint(size))
@@ -185,7 +185,7 @@ MAKERS = {
 
 
 def generate(kind, size, seed):
-    """A tile of this kind, of nearly so many bytes and no more."""
+    """A tile of this kind, of nearly `size` bytes and no more."""
     return MAKERS[kind](random.Random(seed), size - SPARE)
 
 

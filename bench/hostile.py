@@ -16,11 +16,11 @@ from tiles import MEBIBYTE, SIZES, Tile
 
 SCRIPT = 'rename-layer "a" "b"\nrename-layer #0 "b"\nundo\n'
 
-# A name to keep for so many bytes of a tile: a line holds as many as there are for the largest.
+# One name is kept for this number of bytes of a tile: a line holds as many as there are for the largest.
 BYTES_OF_A_NAME = 6400
 LETTERS = "abcdefghijklmnopqrstuvwxy"
 
-# A tile is run so often, and of the times the least counts.
+# How often a tile is run; of the times the least counts.
 TRIES = 5
 SECONDS = 60
 
@@ -51,7 +51,7 @@ NAMED_LAYER = bytes_field(3, bytes_field(1, b"zzz"))
 # The smallest fields: of those that keep no bytes, and of those that do.
 NUMBER, BYTE = number_field(1, 0), bytes_field(1, b"\0")
 
-# So many calls in one another are more than a stack has room for.
+# More calls in one another than a stack has room for.
 LEVELS = 100_000
 
 
@@ -89,13 +89,13 @@ def nested_bytes(levels):
 @dataclass(frozen=True)
 class Hostile:
     name: str
-    # A tile of at most so many bytes.
+    # Makes a tile of at most the number of bytes that it takes.
     make: Callable[[int], bytes]
     # The place of its fault, counted from its end where it is negative. None where it opens.
     place: int
     # Whether it is of fields that keep bytes each, be it one.
     keeps_bytes: bool = False
-    # What is run on a tile of so many bytes. No line of it is accepted.
+    # What is run on a tile of the size that it takes. No line of it is accepted.
     script: Callable[[int], str] = lambda size: SCRIPT
 
 
@@ -125,7 +125,7 @@ HOSTILE = [
 
 @dataclass(frozen=True)
 class Measured:
-    """Some runs on a tile of so many bytes, and the most memory that they may take."""
+    """Some runs on a tile of `size` bytes, and the most memory that they may take."""
     size: int
     runs: list
     bound: float

@@ -13,7 +13,7 @@ from tiles import LARGE
 
 PROFILE = BUILD / "callgrind"
 
-# The median is taken of so many runs, and of fewer where one run of each program takes longer in all than that many seconds.
+# The median is taken of `RUNS` runs, and of `FEWER_RUNS` where one run of each program takes longer in all than `LONG_TURN` seconds.
 RUNS = 9
 FEWER_RUNS = 5
 LONG_TURN = 8
@@ -22,7 +22,7 @@ LONG_TURN = 8
 # A large tile gets more, in proportion.
 SECONDS = 5
 
-# So many replies tell enough of a run.
+# This number of replies shows enough of a run.
 REPLIES = 3
 
 # Instructions are counted of runs that take less, since a run takes about fifty times as long then.

@@ -31,7 +31,7 @@ def world_map():
     return next((path for path in paths if path.is_file()), None)
 
 
-# Debian's packages, and how to tell that each is there.
+# Debian's packages, and how to see that each is there.
 NEEDED = {
     "g++": lambda: succeeds(["g++", "--version"]),
     "libprotozero-dev": lambda: has_header("protozero/pbf_reader.hpp"),

@@ -193,7 +193,7 @@ def exponent(small, large, program, value):
 
 
 def steepness(small, large, times):
-    """The exponent of what grows from the one number to the other where the tile grows so many times."""
+    """The exponent of what grows from the one number to the other where the tile grows by the factor `times`."""
     growth = divided(large, small)
     return None if growth is None else math.log(growth) / math.log(times)
 

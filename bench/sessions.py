@@ -4,11 +4,11 @@ import dataclasses
 from measure import least, run_in_turns
 from report import Stepped, shown, table
 
-# So many renames are made, and then as many undos and as many redos, as far as each depth goes in turns.
+# The number of renames that are made, and then as many undos and as many redos, as far as each depth goes in turns.
 STEPS = 10_000
 DEPTHS = [100, 10_000]
 
-# What is told are differences of times, of which a slow second of the machine would make much: so the least of many runs.
+# What is shown are differences of times, of which a slow second of the machine would make much: so the least of many runs.
 TURNS = 41
 
 RENAMES = 'rename-layer "{layer}" "renamed"\nrename-layer "renamed" "{layer}"\n' * (STEPS // 2)

@@ -47,7 +47,7 @@ def command_targets(commands):
 
 
 def walk_targets(walks):
-    """The same of lines that go over many features: by ordinal as GDAL, which goes over them once, and by id in so many seconds."""
+    """The same of lines that go over many features: by ordinal as GDAL, which goes over them once, and by id in two seconds."""
     found = {each.job: each for each in walks}
     listed = found[LISTED]
     return [
@@ -127,7 +127,7 @@ def time_to(result, peer):
 
 
 def highest_peak(results, tile):
-    """That of all jobs but those whose change holds so much. None where a job was not done."""
+    """That of all jobs but those of `HOLDING`. None where a job was not done."""
     multiples = [divided(result.figure(OURS, peak), tile.size)
                  for result in results if result.tile == tile and result.job not in HOLDING]
     return None if None in multiples else max(multiples)

@@ -46,7 +46,7 @@ def parts_of(text, extent):
     return [[(x, extent - y) for x, y in part] for part in points]
 
 
-def as_told(value, kind):
+def as_written(value, kind):
     """The value as it is written in a column of this kind, where a whole number has 64 bits and a sign."""
     if isinstance(value, int):
         value = (value + 2**63) % 2**64 - 2**63
@@ -57,18 +57,18 @@ def as_told(value, kind):
 
 def plain(text, kind):
     """What GDAL wrote: a NaN without a sign, and 1 of a short float for 1.0."""
-    return as_told(float(text), kind) if kind == "Real(Float32)" or text == "-nan" else text
+    return as_written(float(text), kind) if kind == "Real(Float32)" or text == "-nan" else text
 
 
 def with_kinds(layer, kinds):
     """The layer with its values as they are written in columns of these kinds."""
-    features = [replace(feature, attributes=Counter({(key, as_told(value, kinds.get(key))): count
+    features = [replace(feature, attributes=Counter({(key, as_written(value, kinds.get(key))): count
                                                      for (key, value), count in feature.attributes.items()}))
                 for feature in layer.features]
     return replace(layer, features=features)
 
 
-def told_by_gdal(tile):
+def printed_by_gdal(tile):
     """What GDAL says of a tile, which it reads under a name that is no zoom, column and row."""
     with tempfile.TemporaryDirectory() as folder:
         plain = Path(folder) / "tile.pbf"
@@ -77,10 +77,10 @@ def told_by_gdal(tile):
         return subprocess.run(words, capture_output=True, text=True, check=True).stdout
 
 
-def layers_told(tile, extents):
-    told = told_by_gdal(tile)
+def layers_printed(tile, extents):
+    printed = printed_by_gdal(tile)
     layers = []
-    for line in told.split("\n"):
+    for line in printed.split("\n"):
         if line.startswith("Layer name: "):
             name = line.removeprefix("Layer name: ")
             layers.append(Layer(name, extents.get(name, 0), []))
@@ -148,8 +148,8 @@ def features_apart(our, their, where):
             yield f"{our.name} {ordinal}: another geometry: {one.kind} of {len(one.parts)}, {other.kind} of {len(other.parts)}"
 
 
-def is_told(tile, layers, found, done=""):
-    """Tells the differences that were found, and whether there are none."""
+def is_same(tile, layers, found, done=""):
+    """Prints the differences that were found, and returns whether there are none."""
     for line in found:
         print(f"{tile}: {line}")
     features = [feature for layer in layers for feature in layer.features]
@@ -161,10 +161,10 @@ def is_told(tile, layers, found, done=""):
 def compare(tileshell, tile, read=None, done=""):
     """Compares the tile, or what stands in its place."""
     ours = layers_listed(tileshell, read or tile)
-    theirs = layers_told(read or tile, {layer.name: layer.extent for layer in ours})
+    theirs = layers_printed(read or tile, {layer.name: layer.extent for layer in ours})
     kinds = {layer.name: layer.kinds for layer in theirs}
     ours = [with_kinds(layer, kinds.get(layer.name, {})) for layer in ours]
-    return is_told(tile, ours, list(differences(ours, theirs, "by GDAL")), done)
+    return is_same(tile, ours, list(differences(ours, theirs, "by GDAL")), done)
 
 
 def compare_edited(tileshell, tile, script):
@@ -178,7 +178,7 @@ def compare_edited(tileshell, tile, script):
 # ---- the same of a tile that is shifted
 
 def moved(layer, dx, dy):
-    """The layer with every point so much further."""
+    """The layer with every point further by `dx` and `dy`."""
     further = [[[(x + dx, y + dy) for x, y in part] for part in feature.parts] for feature in layer.features]
     return replace(layer, features=[replace(feature, parts=parts) for feature, parts in zip(layer.features, further)])
 
@@ -186,12 +186,12 @@ def moved(layer, dx, dy):
 def compare_shifted(tileshell, tile, dx, dy):
     heads = heads_listed(tileshell, tile)
     extents = {name_of(head): extent_of(head) for head in heads}
-    before = layers_told(tile, extents)
+    before = layers_printed(tile, extents)
     with tempfile.NamedTemporaryFile() as out:
         run(tileshell, tile, [f"shift {each} {dx} {dy}" for each in selected(heads)], out.name)
-        after = layers_told(out.name, extents)
+        after = layers_printed(out.name, extents)
     found = list(differences([moved(layer, dx, dy) for layer in before], after, "shifted"))
-    return is_told(tile, before, found, f" moved by {dx},{dy}")
+    return is_same(tile, before, found, f" moved by {dx},{dy}")
 
 
 def main():

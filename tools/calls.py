@@ -3,8 +3,8 @@ import re
 
 from tables import CALLS, NO_MEMORY, UNREAD, texts
 
-# Calls that read many tiles, and do not tell a tile that there was no memory to read from one that is none.
-UNTOLD = ["wire cuts"]
+# Calls that read many tiles, and do not distinguish a tile that there was no memory to read from one that is none.
+UNDISTINGUISHED = ["wire cuts"]
 
 # A piece that comes a thousand times or more: a row with one makes too many growths to refuse each.
 MANY = re.compile(r"\b\d{4,}\*")
@@ -12,12 +12,12 @@ MANY = re.compile(r"\b\d{4,}\*")
 # What the program says of a row that cannot be tried, as its tile or what it is given cannot be read.
 UNTRIED = ["the tile does not open, or lacks what is looked at", "the call cannot be given this"]
 
-# What becomes of a row: it is answered as ever, or with want of memory, or is not come to.
-ANSWERED, WANTING, NOT_COME_TO = "answered", "wanting", "not come to"
+# What becomes of a row: it is answered as ever, or is out of memory, or is not come to.
+ANSWERED, OUT_OF_MEMORY, NOT_COME_TO = "answered", "out of memory", "not come to"
 
 
 def tables():
-    """Tables of one row: of each call the first row of each kind of answer, which its first word tells."""
+    """Tables of one row: of each call the first row of each kind of answer, which its first word says."""
     found, pieces = {}, {}
     for text in texts(CALLS):
         call, tile, given = "", "", ""
@@ -35,7 +35,7 @@ def tables():
                 kind = rest.partition(" ")[0].partition("(")[0]
                 found.setdefault((call, kind), [call, tile, given, line])
     return {" ".join([*call.split()[1:], kind]): table_of(lines, pieces)
-            for (call, kind), lines in found.items() if call.partition(" ")[2] not in UNTOLD}
+            for (call, kind), lines in found.items() if call.partition(" ")[2] not in UNDISTINGUISHED}
 
 
 def table_of(lines, pieces):
@@ -49,18 +49,18 @@ def table_of(lines, pieces):
     return "\n".join([*needed, *filter(None, lines), ""])
 
 
-def judged(status, told, complaint):
+def judged(status, printed, complaint):
     """What became of the row of a table, by what the program printed; None where it is none of the known."""
-    if (status, told, complaint) == (0, "1 rows, 0 differ\n", ""):
+    if (status, printed, complaint) == (0, "1 rows, 0 differ\n", ""):
         return ANSWERED
     lines = complaint.splitlines()
     if status != 1 or not lines:
         return None
-    if told == "" and complaint == NO_MEMORY or lines[0].startswith(UNREAD):
+    if printed == "" and complaint == NO_MEMORY or lines[0].startswith(UNREAD):
         return NOT_COME_TO
-    if told != "1 rows, 1 differ\n" or not lines[0].startswith("call "):
+    if printed != "1 rows, 1 differ\n" or not lines[0].startswith("call "):
         return None
     if lines[-1] in UNTRIED:
         return NOT_COME_TO
     answers = [line for line in lines if line.startswith("answers: ")]
-    return WANTING if lines[-1] == "out of memory" or answers and "NoMemory" in answers[0] else None
+    return OUT_OF_MEMORY if lines[-1] == "out of memory" or answers and "NoMemory" in answers[0] else None

@@ -3,7 +3,7 @@
 A wrong body is put into the place of what it turns, or beside it: behind the function that it turns comes a further one, which has
 the same contract and the same proof files under a name of its own. What a function has to prove goes by the contracts of those that
 it calls, and not by their proofs. So a copy can be lean: the other functions have no proof there, and the prover spends no time on
-one. Whether a goal of a turned function is proved is the same in it, but whether the function is proved, it cannot tell.
+one. Whether a goal of a turned function is proved is the same in it, but whether the function is proved, it cannot say.
 """
 import contextlib
 import functools

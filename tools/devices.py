@@ -29,7 +29,7 @@ INTERRUPTED = -errno.EINTR
 
 @dataclass(frozen=True)
 class Trouble:
-    """What so many calls of one kind on a device meet, from one on, counted from 1."""
+    """What `count` calls of one kind on a device meet, from `first` on, which is counted from 1."""
     device: str
     call: str
     first: int
@@ -81,7 +81,7 @@ class Devices:
         self.held = b""
 
     def call(self, device, call, size=0):
-        """Makes a call, and gives how many of so many bytes it gives or takes, or a negative error."""
+        """Makes a call, and returns how many of `size` bytes it gives or takes, or a negative error."""
         self.made[device, call] += 1
         met = [trouble.answer for trouble in self.troubles if trouble.meets(device, call, self.made[device, call])]
         return min(size, self.most.get(device, size), *met)
@@ -115,14 +115,14 @@ class Devices:
         return given
 
     def write_some(self, device, data):
-        """Writes once. Gives what is left to write, and the answer."""
+        """Writes once. Returns what is left to write, and the answer."""
         answer = self.call(device, "write", len(data))
         taken = max(answer, 0)
         self.taken[device] += data[:taken]
         return data[taken:], answer
 
     def write(self, device, data, least=1):
-        """Writes as long as so many bytes are left, and gives those that are then."""
+        """Writes as long as `least` bytes are left, and returns those that are left then."""
         while len(data) >= least:
             data, answer = self.write_some(device, data)
             if answer <= 0:
@@ -239,7 +239,7 @@ def lines_of(devices, device):
 
 def reply(devices, answer):
     text = answer.reply.encode()
-    told = 0 if answer.refusal else len(text) - len("ok\n")
-    devices.hold(text[:told])
-    devices.hold(text[told:])
+    printed = 0 if answer.refusal else len(text) - len("ok\n")
+    devices.hold(text[:printed])
+    devices.hold(text[printed:])
     devices.pass_on()

@@ -31,7 +31,7 @@ def without_parameters(text):
 
 
 def words_of(text):
-    """Returns a type's words without lifetimes and type parameters, the last of each path: `From<io::Error>` gives From and Error."""
+    """Returns a type's words without lifetimes and type parameters, the last of each path: `From<io::Error>` becomes From and Error."""
     return [it.split("::")[-1] for it in re.findall(r"(?<!')\b[A-Za-z_][\w:]*", text) if not re.fullmatch("[A-Z]", it)]
 
 
@@ -79,7 +79,7 @@ def inside(lines, function):
 def functions_in(text, file, above, homes):
     """Returns the functions with a body in one file, whose own path is `above`. A trait's own are proved at each impl alone.
 
-    A method without a trait has the path of the file that its type is in, which `homes` tells.
+    A method without a trait has the path of the file that its type is in, which `homes` says.
     """
     lines, found, inside = text.split("\n"), [], []
     for number, line in enumerate(lines, 1):

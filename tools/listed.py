@@ -29,7 +29,7 @@ class Layer:
     name: str
     extent: int
     features: list
-    # The kinds of its columns by their keys, where another program told them.
+    # The kinds of its columns by their keys, where another program printed them.
     kinds: dict = field(default_factory=dict)
 
 
@@ -44,9 +44,9 @@ def run(tileshell, tile, lines, out, statuses=(0,)):
 def replies(tileshell, tile, lines):
     """The lines before `ok` of the reply to each line of a script, of which none is refused."""
     with tempfile.NamedTemporaryFile() as out:
-        told = run(tileshell, tile, lines, out.name)
+        printed = run(tileshell, tile, lines, out.name)
     reply = []
-    for line in told.split("\n"):
+    for line in printed.split("\n"):
         if line == "ok":
             yield reply
             reply = []
@@ -73,7 +73,7 @@ def value_of(words):
 
 
 def parts_of(words):
-    """The lists of points that these words tell."""
+    """The lists of points that these words say."""
     parts = [[]]
     for word in words:
         if word == "/":

@@ -1,4 +1,4 @@
-"""What `list` tells of a tile, as docs/FORMATS.md has it."""
+"""What `list` prints of a tile, as docs/FORMATS.md has it."""
 import tiles
 from opening import fault_place
 from tiles import (EXTENT, FEATURE, ID, KEY, KIND, KINDS, LAYER, NAME, VALUE, VERSION, integers_of, last, number_at, pairs_in,
@@ -62,11 +62,11 @@ def attribute_lines(layer, fields):
 
 
 def numbered(shown):
-    """What a number is told as, by its bytes."""
+    """What a number is shown as, by its bytes."""
     return lambda content: shown(number_at(content, 0)[0])
 
 
-# How the content of a value is told, by the tag of its one field.
+# How the content of a value is shown, by the tag of its one field.
 SHOWN = {
     1 << 3 | 2: ("string", quoted), 2 << 3 | 5: ("float", bytes.hex), 3 << 3 | 1: ("double", bytes.hex),
     4 << 3: ("int", numbered(lambda number: number - 2**64 if number >= 2**63 else number)), 5 << 3: ("uint", numbered(int)),

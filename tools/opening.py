@@ -52,7 +52,7 @@ def whole_tag(data, at):
 
 
 def whole_body(data, at, key, opened):
-    """Where the content begins of the field whose tag ends there, and where it ends; so many groups are open around it."""
+    """Where the content begins of the field whose tag ends there, and where it ends; `opened` groups are open around it."""
     wire_type = key & 7
     if wire_type == VARINT:
         return at, whole_number(data, at)[1]
@@ -66,7 +66,7 @@ def whole_body(data, at, key, opened):
 
 
 def whole_group(data, at, key, opened):
-    """Where the end tag ends of the group with this tag whose first field begins there; so many are open, it among them."""
+    """Where the end tag ends of the group with this tag whose first field begins there; `opened` groups are open, it among them."""
     if opened > MOST_OPEN:
         raise Broken
     inner, behind = whole_tag(data, at)

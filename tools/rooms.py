@@ -54,8 +54,8 @@ class Room:
     def printed(self, words, given, typed=os.devnull):
         """The status of a program with this typed in, and what it prints on its outputs, which are files."""
         replies, complaint = self.file("replies"), self.file("complaint")
-        with open(typed, "rb") as typed, replies.open("wb") as told, complaint.open("wb") as complained:
-            how = {"env": {"LD_PRELOAD": self.library, **given}, "stdin": typed, "stdout": told, "stderr": complained}
+        with open(typed, "rb") as typed, replies.open("wb") as printed, complaint.open("wb") as complained:
+            how = {"env": {"LD_PRELOAD": self.library, **given}, "stdin": typed, "stdout": printed, "stderr": complained}
             try:
                 status = subprocess.run(words, **how, timeout=LIMIT).returncode
             except subprocess.TimeoutExpired:

@@ -10,7 +10,7 @@ RUNS, CALLS = ".rows", ".calls"
 # What the program says of a line of a table for which there was no memory.
 UNREAD = "no line of a table: "
 
-# What it says where it wants memory itself.
+# What it says where it is out of memory itself.
 NO_MEMORY = "row_tests: out of memory\n"
 
 

@@ -26,7 +26,7 @@ class Refused(Exception):
     def __init__(self, number, behind=""):
         super().__init__(number)
         self.number = number
-        # What a reply tells behind the name of the refusal.
+        # What a reply prints behind the name of the refusal.
         self.behind = behind
 
 
@@ -140,7 +140,7 @@ def put_last(items, key, content):
 
 
 def layer_place(tile, chosen):
-    """The position of the layer that an ordinal or a name chooses."""
+    """The position of the layer that an ordinal or a name selects."""
     layers = places(tile, LAYER)
     if isinstance(chosen, int):
         return layers[chosen] if chosen < len(layers) else refuse(20)
@@ -149,7 +149,7 @@ def layer_place(tile, chosen):
 
 
 def feature_place(layer, chosen):
-    """The position of the feature that an ordinal, or the one item of a list as an id, chooses."""
+    """The position of the feature that an ordinal, or the one item of a list as an id, selects."""
     features = places(layer.content, FEATURE)
     if isinstance(chosen, int):
         return features[chosen] if chosen < len(features) else refuse(22)
@@ -269,7 +269,7 @@ def clear_id(tile, chosen, feature):
 
 
 def layer_places(tile, chosen):
-    """The positions of the layers that are meant: of all by None, else of the one that is chosen."""
+    """The positions of the selected layers: of all by None, else of the one that is named."""
     return places(tile, LAYER) if chosen is None else [layer_place(tile, chosen)]
 
 
@@ -319,11 +319,11 @@ def readable(tile, place, feature):
     try:
         return pairs_in(layer, layer[feature].content)
     except ValueError:
-        return refuse(30, told(tile, place, feature))
+        return refuse(30, feature_shown(tile, place, feature))
 
 
-def told(tile, place, feature):
-    """What a reply tells of the feature at this position of the layer at that one: the ordinals of both."""
+def feature_shown(tile, place, feature):
+    """What a reply prints of the feature at this position of the layer at that one: the ordinals of both."""
     at = places(tile, LAYER).index(place), places(tile[place].content, FEATURE).index(feature)
     return f" layer {at[0]} feature {at[1]}"
 
@@ -353,7 +353,7 @@ def set_attribute(tile, chosen, feature, key, value):
     of_key = [layer[at].content == key for at in places(layer, KEY)]
     times = sum(of_key[pair[0]] for pair in pairs)
     if times > 1:
-        refuse(31, told(tile, place, found))
+        refuse(31, feature_shown(tile, place, found))
     fields = layer[found].content
     if times:
         wanted = [number for pair in pairs for number in (pair[0], value_at if of_key[pair[0]] else pair[1])]
@@ -454,7 +454,7 @@ def command_at(numbers, at):
 
 
 def end_of_run(numbers, at, command, least, most):
-    """Where the command ends that is carried out there, so often, with its parameters."""
+    """Where the command ends that is carried out there, `least` to `most` times, with its parameters."""
     found, end = command_at(numbers, at) if at < len(numbers) else (None, 0)
     if found != command or not least <= numbers[at] >> 3 <= most or end > len(numbers):
         raise ValueError
@@ -484,7 +484,7 @@ def shift(tile, chosen, feature, dx, dy):
     try:
         command, x, y, *more = integers_of(fields)
     except ValueError:
-        refuse(32, told(tile, place, found))
+        refuse(32, feature_shown(tile, place, found))
     ways = [in_range(unzigzag(x) + dx), in_range(unzigzag(y) + dy)]
     return in_feature(tile, place, found, with_numbers(fields, [command, *map(zigzag, ways), *more], INTEGER, GEOMETRY))
 
@@ -503,7 +503,7 @@ def set_geometry(tile, chosen, feature, geometry):
 
 
 def quoted(text):
-    """A text as it is told."""
+    """A text as it is printed."""
     try:
         letters = text.decode()
     except UnicodeDecodeError:

@@ -2,7 +2,7 @@
 
 A plain walk answers each line as docs/FORMATS.md says. Where memory is refused a line may be answered otherwise: a
 line that is looked at for words by 60, with nothing changed, and a `back` or `cancel` by 54 with as many steps or
-commands taken as it tells. A state is the tile at the start and the commands since: its tile is made of these anew.
+commands taken as it says. A state is the tile at the start and the commands since: its tile is made of these anew.
 """
 import re
 import sys
@@ -273,30 +273,30 @@ def cancel(state):
     return refuse(56) if state.opened is None else replace(state, opened=None)
 
 
-# What changes the state and tells nothing.
+# What changes the state and prints nothing.
 MOVES = {"undo": (undo, []), "redo": (redo, []), "mark": (mark, [text]), "unmark": (unmark, [text]), "back": (back, [text]),
          "begin": (begin, []), "end": (end, []), "cancel": (cancel, [])}
 
 
-def marks_told(state):
+def marks_printed(state):
     return [f"mark {tiles.quoted(name)} {at - state.point}" for name, at in sorted(state.marks.items())]
 
 
-def history_told(state):
+def history_printed(state):
     ways = f"undo {state.point - state.floor} redo {len(state.steps) - state.point} depth {state.depth}"
     return [ways] if state.opened is None else [ways, f"open {len(state.opened)}"]
 
 
-def size_told(state):
+def size_printed(state):
     return [f"size {len(tiles.bytes_of(state.tile()))}"]
 
 
-# What tells something and changes nothing.
-VIEWS = {"marks": marks_told, "history": history_told, "size": size_told}
+# What prints something and changes nothing.
+VIEWS = {"marks": marks_printed, "history": history_printed, "size": size_printed}
 
 
 def carried_out(state, words):
-    """The state behind the request, and the lines that it tells."""
+    """The state behind the request, and the lines that it prints."""
     request, rest = words[0].text, words[1:]
     if words[0].is_quoted:
         refuse(12)
@@ -320,10 +320,10 @@ def refusal(line, state, reason, taken=None, behind=""):
 def plain(state, line, words):
     """What the line is answered where there is memory."""
     try:
-        after, told = carried_out(state, words)
+        after, printed = carried_out(state, words)
     except Refused as refused:
         return refusal(line, state, refused.number, behind=refused.behind)
-    return Answer("".join(f"{each}\n" for each in [*told, "ok"]), after)
+    return Answer("".join(f"{each}\n" for each in [*printed, "ok"]), after)
 
 
 def stops(state, line, request, after):

@@ -4,15 +4,15 @@ import re
 
 from runs import ended
 from tables import NO_MEMORY, UNREAD
-from wanting import PLAIN, RUN, Told, Wrong, judged_script
+from out_of_memory import PLAIN, RUN, Printed, Wrong, judged_script
 
 # What becomes of a growth that is none of the runs: the table is not read, or what came of a run is not compared.
 ELSEWHERE = "elsewhere"
 
-# A run as a call ends for want of memory behind so many lines of replies.
+# A run as a call ends out of memory: this, and behind how many lines of replies.
 CUT = "cut behind"
 
-# What the program tells of a run that is not as its row has it.
+# What the program prints of a run that is not as its row has it.
 DIFFERS = re.compile(r"is (.*), with the replies\n(.*)\nand (?:no tile|the tile ([0-9a-f]*))\nshould be .*"
                      r"differs, as (a call|streams|one byte a call): a run\n", re.DOTALL)
 
@@ -31,21 +31,21 @@ def count(replies):
 
 
 def lost(run, said):
-    """What is wrong with how much is replied by calls that end for want of memory: the later the growth, the more, up to all."""
+    """What is wrong with how much is replied by calls that end out of memory: the later the growth, the more, up to all."""
     found = [int(what.removeprefix(CUT)) for what in said if what.startswith(CUT)]
     most = count(ended(run.tile, run.script, run.depth, run.strict).replies)
     if found != sorted(found) or most not in found or not any(0 < lines < most for lines in found):
-        yield f"a call that ends for want of memory has so many lines of replies, growth by growth, of {most}: {found}"
+        yield f"the lines of replies of a call that ends out of memory, growth by growth, of {most}: {found}"
 
 
-def judged(run, status, told, complaint):
+def judged(run, status, printed, complaint):
     """To what the growth was refused; None where what the program printed is none of the known."""
-    if (status, told, complaint) == (0, "1 rows, 0 differ\n", ""):
+    if (status, printed, complaint) == (0, "1 rows, 0 differ\n", ""):
         return PLAIN
-    if (status, told, complaint) == (1, "", NO_MEMORY) or status == 1 and complaint.startswith(UNREAD):
+    if (status, printed, complaint) == (1, "", NO_MEMORY) or status == 1 and complaint.startswith(UNREAD):
         return ELSEWHERE
     found = DIFFERS.fullmatch(complaint)
-    if not found or (status, told) != (1, "1 rows, 1 differ\n"):
+    if not found or (status, printed) != (1, "1 rows, 1 differ\n"):
         return None
     outcome, replies, tile, way = found.groups()
     return judged_way(run, way, outcome, replies, None if tile is None else bytes.fromhex(tile))
@@ -64,4 +64,4 @@ def judged_way(run, way, outcome, replies, tile):
     if replies and not replies.endswith("\n"):
         raise Wrong(f"a reply is cut short: {replies}")
     script = run.script.decode().split("\n")
-    return judged_script(Told(outcome, run.depth, run.tile, script, replies.splitlines(), tile))
+    return judged_script(Printed(outcome, run.depth, run.tile, script, replies.splitlines(), tile))

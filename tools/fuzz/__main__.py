@@ -28,7 +28,7 @@ from trials import by_model, by_program, random_trial
 
 PROGRAM = TOP / "build" / "tileshell"
 
-# Behind so many trials each request was accepted once, and each refusal given; but these tell of memory that was refused.
+# Behind this number of trials each request was accepted once, and each refusal given; but these say that memory was refused.
 ENOUGH = 2000
 NEVER = {54, 60}
 
@@ -53,13 +53,13 @@ class Counts:
                 self.accepted[request] += 1
 
     def faults(self):
-        """What should have come in so many trials, and did not."""
+        """What should have come in these trials, and did not."""
         if self.trials < ENOUGH:
             return []
         return ([f"no {request} was accepted" for request in REQUESTS if not self.accepted[request]]
                 + [f"no line was refused with {number}" for number in refusals() if not self.refused[number]])
 
-    def told(self):
+    def shown(self):
         accepted = ", ".join(f"{self.accepted[request]} {request}" for request in REQUESTS)
         refused = ", ".join(f"{self.refused[number]} {walks.NAMES[number]}" for number in refusals())
         return (f"accepted: {accepted}\nrefused: {refused}\nfuzz: {self.trials} runs, {self.tiles} of them on tiles that open, {self.lines} lines"
@@ -80,24 +80,24 @@ def pieces(data):
     return " ".join(data[at:at + 32].hex() for at in range(0, len(data), 32))
 
 
-def lines_told(front, text):
+def lines_shown(front, text):
     """The lines of a script or of replies, as a row has them."""
     for line in text.split(b"\n")[:-1] if text.endswith(b"\n") else text.split(b"\n"):
         is_plain = line.isascii() and line.decode().isprintable()
         yield f"{front} {line.decode()}" if is_plain else f"{front}{front} {(line + bytes([10])).hex()}"
 
 
-def row_told(trial):
+def row_shown(trial):
     yield "row a difference"
     yield from [f"depth {int(trial.depth)}"] if trial.depth else []
     yield from ["strict"] if trial.strict else []
     yield f"tile {pieces(trial.tile)}"
-    yield from lines_told(">", trial.script)
+    yield from lines_shown(">", trial.script)
 
 
-def end_told(name, end):
+def end_shown(name, end):
     yield f"{name}: status {end.status}{', ' + end.complaint.decode(errors='replace').strip() if end.complaint else ''}"
-    yield from lines_told("<", end.replies)
+    yield from lines_shown("<", end.replies)
     yield f"OUT {pieces(end.tile)}"
 
 
@@ -105,9 +105,9 @@ def show_difference(trial, program_ends):
     """Prints the trial, made smaller, and how both end."""
     small = smaller(trial, lambda other: by_model(other) != program_ends(other))
     words = [*small.words(), *["--script FILE"] * small.is_file, *["with OUT the file TILE"] * small.is_in_place]
-    print(*row_told(small), "", sep="\n")
-    print(*end_told(" ".join(["the program", *words]), program_ends(small)), "", sep="\n")
-    print(*end_told("the model", by_model(small)), sep="\n")
+    print(*row_shown(small), "", sep="\n")
+    print(*end_shown(" ".join(["the program", *words]), program_ends(small)), "", sep="\n")
+    print(*end_shown("the model", by_model(small)), sep="\n")
 
 
 def drawn(seed, place):
@@ -121,7 +121,7 @@ def drawn(seed, place):
 
 
 def run(arguments):
-    """Runs trials up to the first difference, and gives the status."""
+    """Runs trials up to the first difference, and returns the status."""
     counts, ends = Counts(), time.monotonic() + arguments.seconds
     print(f"fuzz: seed {arguments.seed}", flush=True)
     with tempfile.TemporaryDirectory(prefix="fuzz-") as name:
@@ -136,7 +136,7 @@ def run(arguments):
                 return 1
             place += 1
     faults = counts.faults()
-    print(counts.told() + ", 0 differences", *faults, sep="\n")
+    print(counts.shown() + ", 0 differences", *faults, sep="\n")
     return 1 if faults else 0
 
 

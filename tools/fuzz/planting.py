@@ -42,7 +42,7 @@ def fault_of(path, top, arguments):
 
 
 def self_test(top, arguments):
-    """Has each mistake found, and gives the status."""
+    """Has each mistake found, and returns the status."""
     print(f"fuzz: seed {arguments.seed}", flush=True)
     edits = sorted(FOLDER.glob("*.edit"))
     faults = [fault for path in edits if (fault := fault_of(path, top, arguments))]

@@ -87,7 +87,7 @@ def fields_of_numbers(draw, numbers, single, packed):
 
 
 def tags(draw, keys, values):
-    """The numbers of a feature's tags, where the layer has so many keys and values."""
+    """The numbers of a feature's tags, where the layer has `keys` keys and `values` values."""
     count = min(draw.choice([0, 1, 1, 2, 3, 4]), keys if values else 0)
     named = draw.choices(range(min(keys, 2)), k=count) if one_in(draw, 3) else draw.sample(range(keys), count)
     found = [each for key in named for each in (key, draw.randrange(values))]
@@ -125,10 +125,10 @@ def times(draw):
 
 def feature(draw, keys, values):
     kind = draw.randint(1, 3)
-    told = kind if not one_in(draw, 10) else draw.choice([0, 1, 2, 3, 4, 300])
+    shown = kind if not one_in(draw, 10) else draw.choice([0, 1, 2, 3, 4, 300])
     groups = [[field(draw, ID, number(draw, draw.choice(IDS))) for _ in range(times(draw))],
               fields_of_numbers(draw, tags(draw, keys, values), TAG, TAGS),
-              [field(draw, KIND, number(draw, told)) for _ in range(times(draw))],
+              [field(draw, KIND, number(draw, shown)) for _ in range(times(draw))],
               fields_of_numbers(draw, geometry(draw, kind), INTEGER, GEOMETRY) if not one_in(draw, 10) else []]
     return field(draw, FEATURE, b"".join(mixed(draw, groups)))
 

@@ -22,15 +22,15 @@ use Rattle.mvt_meaning.specs.declared.refusal.Refusal.TheVariants.{BadTags, NoKe
 use Rattle.mvt_meaning.proofs.Given.{number_given}
 use Rattle.mvt_meaning.proofs.Removals.{flat, head_same, pairs_short}
 use Rattle.command_laws.specs.Kept.{ChangesFeature}
-use Rattle.command_laws.proofs.Accepted.{accepted, feature_meant, not_refused}
+use Rattle.command_laws.proofs.Accepted.{accepted, feature_selects, not_refused}
 use Rattle.command_laws.proofs.OtherFields.{others_stay}
 use Rattle.command_laws.proofs.Parts.{changes_feature, changes_layer, fields_found, items_there, with_fields, with_items}
 use Rattle.command_laws.proofs.ReadValues.{value_list}
 use Rattle.attribute_laws.specs.Laws.{ExcludeExcludes, ExcludesKey, LosesAttribute, UnsetUnsets, of_other_keys}
 use Rattle.attribute_laws.proofs.EachFeature.{features_changed, fields_stay, positions_stay}
-use Rattle.attribute_laws.proofs.MeantLayers.{got_mapped, layers_change}
+use Rattle.attribute_laws.proofs.ChangedLayers.{got_mapped, layers_change}
 use Rattle.attribute_laws.proofs.PairsRead.{pairs_again, pairs_read}
-use Rattle.attribute_laws.proofs.Readable.{meant_read}
+use Rattle.attribute_laws.proofs.Readable.{selected_read}
 
 -- ---- the pairs of other keys
 
@@ -113,7 +113,7 @@ loses key layer present feature same readable =
       others = others_stay 2 (removals key layer.items feature.fields) feature.fields;
     }
 
--- ---- the feature that is meant
+-- ---- the selected feature
 
 pub pairs_found : (document : Document) (ordinal index : ℕ) (layer : Layer) (feature : Feature) → slice_get (layers document) ordinal ≡ Some layer → slice_get (features layer) index ≡ Some feature → pairs_among (items_of ordinal document) (fields_of ordinal index document) ≡ pairs_of layer feature
 pairs_found document ordinal index layer feature there is =
@@ -126,25 +126,25 @@ read_there document ordinal index layer feature there is has =
 
 -- the fields of a layer that are no features stay where one feature changes
 fields_kept : (choice : FeatureChoice) (change : List Field → List Field) (layer : Layer) (ordinal : ℕ) → selected_feature choice layer ≡ Ok ordinal → plain_fields (change_nth is_feature (in_feature change) ordinal layer.items) ≡ plain_fields layer.items
-fields_kept choice change layer ordinal meant = (changes_feature choice (λ former present. Unit {0}) change layer ordinal meant (λ former was. tt)).alone.fields
+fields_kept choice change layer ordinal selects = (changes_feature choice (λ former present. Unit {0}) change layer ordinal selects (λ former was. tt)).alone.fields
 
 pub unset_unsets : UnsetUnsets
 unset_unsets choice feature key old new e =
     let change : ℕ → List Field → List Field = λ ordinal. without_attribute key (items_of ordinal old) in
-    let meant = accepted (selected choice old) (λ ordinal. selected_in feature ordinal old >>= λ meant. refuse_if (not (has_key key ordinal old)) NoKey >>= λ there. refuse_if (not (has_pairs ordinal meant old)) (BadTags ordinal meant) >>= λ readable. Ok (change_feature (change ordinal) ordinal meant old)) new e in
-    let found = accepted (selected_in feature meant.0 old) (λ found. refuse_if (not (has_key key meant.0 old)) NoKey >>= λ there. refuse_if (not (has_pairs meant.0 found old)) (BadTags meant.0 found) >>= λ readable. Ok (change_feature (change meant.0) meant.0 found old)) new meant.2 in
-    let there = accepted (refuse_if (not (has_key key meant.0 old)) NoKey) (λ there. refuse_if (not (has_pairs meant.0 found.0 old)) (BadTags meant.0 found.0) >>= λ readable. Ok (change_feature (change meant.0) meant.0 found.0 old)) new found.2 in
-    let readable = accepted (refuse_if (not (has_pairs meant.0 found.0 old)) (BadTags meant.0 found.0)) (λ readable. Ok (change_feature (change meant.0) meant.0 found.0 old)) new there.2 in
-    let has = not-false (has_pairs meant.0 found.0 old) (not_refused (not (has_pairs meant.0 found.0 old)) (BadTags meant.0 found.0) readable.0 readable.1) in
-    let made : change_feature (change meant.0) meant.0 found.0 old ≡ new = let same = readable.2 in cc in
-    changes_layer choice (λ former present. ChangesFeature feature (LosesAttribute key former present) former present) (change_nth is_feature (in_feature (change meant.0)) found.0) old new meant.0 meant.1 made (λ layer is.
-    let chosen = feature_meant feature old layer meant.0 found.0 is found.1 in
-    let present : Layer = with_items (change_nth is_feature (in_feature (change meant.0)) found.0) layer in
-    changes_feature feature (LosesAttribute key layer present) (change meant.0) layer found.0 chosen (λ former was.
-    subst (λ (items : List LayerItem). LosesAttribute key layer present former (with_fields (without_attribute key items) former)) (sym (items_there old meant.0 layer is))
-    (loses key layer present former (fields_kept feature (change meant.0) layer found.0 chosen) (read_there old meant.0 found.0 layer former is was has))))
+    let selects = accepted (selected choice old) (λ ordinal. selected_in feature ordinal old >>= λ selects. refuse_if (not (has_key key ordinal old)) NoKey >>= λ there. refuse_if (not (has_pairs ordinal selects old)) (BadTags ordinal selects) >>= λ readable. Ok (change_feature (change ordinal) ordinal selects old)) new e in
+    let found = accepted (selected_in feature selects.0 old) (λ found. refuse_if (not (has_key key selects.0 old)) NoKey >>= λ there. refuse_if (not (has_pairs selects.0 found old)) (BadTags selects.0 found) >>= λ readable. Ok (change_feature (change selects.0) selects.0 found old)) new selects.2 in
+    let there = accepted (refuse_if (not (has_key key selects.0 old)) NoKey) (λ there. refuse_if (not (has_pairs selects.0 found.0 old)) (BadTags selects.0 found.0) >>= λ readable. Ok (change_feature (change selects.0) selects.0 found.0 old)) new found.2 in
+    let readable = accepted (refuse_if (not (has_pairs selects.0 found.0 old)) (BadTags selects.0 found.0)) (λ readable. Ok (change_feature (change selects.0) selects.0 found.0 old)) new there.2 in
+    let has = not-false (has_pairs selects.0 found.0 old) (not_refused (not (has_pairs selects.0 found.0 old)) (BadTags selects.0 found.0) readable.0 readable.1) in
+    let made : change_feature (change selects.0) selects.0 found.0 old ≡ new = let same = readable.2 in cc in
+    changes_layer choice (λ former present. ChangesFeature feature (LosesAttribute key former present) former present) (change_nth is_feature (in_feature (change selects.0)) found.0) old new selects.0 selects.1 made (λ layer is.
+    let chosen = feature_selects feature old layer selects.0 found.0 is found.1 in
+    let present : Layer = with_items (change_nth is_feature (in_feature (change selects.0)) found.0) layer in
+    changes_feature feature (LosesAttribute key layer present) (change selects.0) layer found.0 chosen (λ former was.
+    subst (λ (items : List LayerItem). LosesAttribute key layer present former (with_fields (without_attribute key items) former)) (sym (items_there old selects.0 layer is))
+    (loses key layer present former (fields_kept feature (change selects.0) layer found.0 chosen) (read_there old selects.0 found.0 layer former is was has))))
 
--- ---- the features of the layers that are meant
+-- ---- the features of the selected layers
 
 excludes : (key : List ℕ) (layer : Layer) → ((index : ℕ) (feature : Feature) → slice_get (features layer) index ≡ Some feature → is_some (pairs_of layer feature) ≡ true) → ExcludesKey key layer (with_items (excluded key) layer)
 excludes key layer readable =
@@ -163,5 +163,5 @@ pub exclude_excludes : ExcludeExcludes
 exclude_excludes choice key old new e =
     let found = accepted (selected_layers choice old) (λ found. refuse_first (unreadable found) >>= λ readable. change_layers (excluded key) choice old) new e in
     let readable = accepted (refuse_first (unreadable found.0)) (λ readable. change_layers (excluded key) choice old) new found.2 in
-    layers_change (ExcludesKey key) (excluded key) choice old new readable.2 (λ ordinal layer meant there.
-    excludes key layer (meant_read choice old found.0 readable.0 found.1 readable.1 ordinal layer meant there))
+    layers_change (ExcludesKey key) (excluded key) choice old new readable.2 (λ ordinal layer selects there.
+    excludes key layer (selected_read choice old found.0 readable.0 found.1 readable.1 ordinal layer selects there))

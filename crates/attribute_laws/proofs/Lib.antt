@@ -1,4 +1,4 @@
-pub mod MeantLayers
+pub mod ChangedLayers
 pub mod EachFeature
 pub mod Untagged
 pub mod Renamed
@@ -6,7 +6,7 @@ pub mod Readable
 pub mod PairsRead
 pub mod Excluded
 pub mod Ids
-pub mod SameMeant
+pub mod SameSelected
 pub mod Twice
 pub mod UnsetTwice
 pub mod MoreTags

@@ -1,4 +1,4 @@
--- The features of the layers that are meant have attributes, where none of them is unreadable.
+-- The features of the selected layers have attributes, where none of them is unreadable.
 use Rattle.std.proofs.Common.{◌≡◌, ℕ, zero, suc, ◌+◌, ◌==◌, Bool, true, not, is_some, Option, Some, None, option_map, Ok, List, [], ◌∷◌, ◌++◌, map, filter, slice_get, refl, ap, ◌∙◌, inl, inr, subst, arith}
 use Rattle.std.proofs.lemmas.Bool.{cases_Bool, eq-eqb}
 use Rattle.std.specs.List.{AllByRecursion, cons_option, enumerate_from, filter_map, flat_map}
@@ -11,7 +11,7 @@ use Rattle.mvt_meaning.specs.Selection.{selected_layers}
 use Rattle.mvt_meaning.specs.Tagging.{unreadable}
 use Rattle.mvt_meaning.specs.Meaning.{refuse_first}
 use Rattle.command_laws.proofs.Elements.{got_holds}
-use Rattle.attribute_laws.specs.MeantLayers.{IsMeant}
+use Rattle.attribute_laws.specs.ChangedLayers.{IsSelected}
 
 -- ---- lists of which nothing is made
 
@@ -75,7 +75,7 @@ found_there document ordinal layer is =
     let at = placed layer_in 0 document ordinal layer is in
     (at.0, numbered 0 (placed_from layer_in 0 document) ordinal ordinal (at.0, layer) (omega arith) at.1)
 
--- ---- the features of a layer that is meant
+-- ---- the features of a selected layer
 
 -- the features of a found layer that are unreadable
 abbrev unreadable_of : ℕ × (ℕ × Layer) → List (ℕ × ℕ)
@@ -91,18 +91,18 @@ none_first : (found : List (ℕ × ℕ)) (nothing : Unit {0}) → refuse_first f
 none_first [] nothing e = refl
 none_first (at ∷ found) nothing e = absurd cc
 
-none_of_layer : (choice : LayersChoice) (document : Document) (found : List (ℕ × (ℕ × Layer))) (ordinal position : ℕ) (layer : Layer) → selected_layers choice document ≡ Ok found → unreadable found ≡ [] → IsMeant choice ordinal document → slice_get (found_layers document) ordinal ≡ Some (ordinal, (position, layer)) → unreadable_of (ordinal, (position, layer)) ≡ []
-none_of_layer (TheLayer choice) document found ordinal position layer selected_so none meant there =
-    let filtered : filter (λ (at : ℕ × (ℕ × Layer)). at.0 == ordinal) (found_layers document) ≡ found = let same = rw meant at selected_so in cc in
+none_of_layer : (choice : LayersChoice) (document : Document) (found : List (ℕ × (ℕ × Layer))) (ordinal position : ℕ) (layer : Layer) → selected_layers choice document ≡ Ok found → unreadable found ≡ [] → IsSelected choice ordinal document → slice_get (found_layers document) ordinal ≡ Some (ordinal, (position, layer)) → unreadable_of (ordinal, (position, layer)) ≡ []
+none_of_layer (TheLayer choice) document found ordinal position layer selected_so none selects there =
+    let filtered : filter (λ (at : ℕ × (ℕ × Layer)). at.0 == ordinal) (found_layers document) ≡ found = let same = rw selects at selected_so in cc in
     let each = none_made_of unreadable_of (λ (at : ℕ × (ℕ × Layer)). at.0 == ordinal) (found_layers document) (ap unreadable filtered ∙ none) in
     got_holds (λ (at : ℕ × (ℕ × Layer)). (at.0 == ordinal) ≡ true → unreadable_of at ≡ []) (found_layers document) ordinal (ordinal, (position, layer)) there each (eq-eqb ordinal ordinal refl)
-none_of_layer EachLayer document found ordinal position layer selected_so none meant there =
+none_of_layer EachLayer document found ordinal position layer selected_so none selects there =
     let all : found_layers document ≡ found = cc in
     let each = none_made unreadable_of (found_layers document) (ap unreadable all ∙ none) in
     got_holds (λ (at : ℕ × (ℕ × Layer)). unreadable_of at ≡ []) (found_layers document) ordinal (ordinal, (position, layer)) there each
 
--- each feature of a layer that is meant makes pairs
-pub meant_read : (choice : LayersChoice) (document : Document) (found : List (ℕ × (ℕ × Layer))) (nothing : Unit {0}) → selected_layers choice document ≡ Ok found → refuse_first (unreadable found) ≡ Ok nothing → (ordinal : ℕ) (layer : Layer) → IsMeant choice ordinal document → slice_get (layers document) ordinal ≡ Some layer → (index : ℕ) (feature : Feature) → slice_get (features layer) index ≡ Some feature → is_some (pairs_of layer feature) ≡ true
-meant_read choice document found nothing selected_so readable ordinal layer meant there =
+-- each feature of a selected layer makes pairs
+pub selected_read : (choice : LayersChoice) (document : Document) (found : List (ℕ × (ℕ × Layer))) (nothing : Unit {0}) → selected_layers choice document ≡ Ok found → refuse_first (unreadable found) ≡ Ok nothing → (ordinal : ℕ) (layer : Layer) → IsSelected choice ordinal document → slice_get (layers document) ordinal ≡ Some layer → (index : ℕ) (feature : Feature) → slice_get (features layer) index ≡ Some feature → is_some (pairs_of layer feature) ≡ true
+selected_read choice document found nothing selected_so readable ordinal layer selects there =
     let at = found_there document ordinal layer there in
-    all_read ordinal at.0 layer (none_of_layer choice document found ordinal at.0 layer selected_so (none_first (unreadable found) nothing readable) meant at.1)
+    all_read ordinal at.0 layer (none_of_layer choice document found ordinal at.0 layer selected_so (none_first (unreadable found) nothing readable) selects at.1)

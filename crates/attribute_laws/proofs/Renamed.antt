@@ -214,10 +214,10 @@ pub rename_key_renames : RenameKeyRenames
 rename_key_renames choice former present old new is =
     let made_of : ℕ → Document = λ ordinal. change_layer (renamed_keys former present) ordinal old in
     let taken : ℕ → Bool = λ ordinal. has_key present ordinal old && not (bytes_eq former present) in
-    let meant = accepted (selected choice old) (λ ordinal. refuse_if (not (has_key former ordinal old)) NoKey >>= λ there. refuse_if (taken ordinal) KeyTaken >>= λ free. within_limit (made_of ordinal)) new is in
-    let there = accepted (refuse_if (not (has_key former meant.0 old)) NoKey) (λ there. refuse_if (taken meant.0) KeyTaken >>= λ free. within_limit (made_of meant.0)) new meant.2 in
-    let free = accepted (refuse_if (taken meant.0) KeyTaken) (λ free. within_limit (made_of meant.0)) new there.2 in
-    let made = within_is (made_of meant.0) new free.2 in
-    let untaken = not_refused (taken meant.0) KeyTaken free.0 free.1 in
-    changes_layer choice (RenamesKey former present) (renamed_keys former present) old new meant.0 meant.1 made (λ layer at.
-    renames former present layer (subst (λ (items : List LayerItem). (list_any (is_key present) items && not (bytes_eq former present)) ≡ false) (items_there old meant.0 layer at) untaken))
+    let selects = accepted (selected choice old) (λ ordinal. refuse_if (not (has_key former ordinal old)) NoKey >>= λ there. refuse_if (taken ordinal) KeyTaken >>= λ free. within_limit (made_of ordinal)) new is in
+    let there = accepted (refuse_if (not (has_key former selects.0 old)) NoKey) (λ there. refuse_if (taken selects.0) KeyTaken >>= λ free. within_limit (made_of selects.0)) new selects.2 in
+    let free = accepted (refuse_if (taken selects.0) KeyTaken) (λ free. within_limit (made_of selects.0)) new there.2 in
+    let made = within_is (made_of selects.0) new free.2 in
+    let untaken = not_refused (taken selects.0) KeyTaken free.0 free.1 in
+    changes_layer choice (RenamesKey former present) (renamed_keys former present) old new selects.0 selects.1 made (λ layer at.
+    renames former present layer (subst (λ (items : List LayerItem). (list_any (is_key present) items && not (bytes_eq former present)) ≡ false) (items_there old selects.0 layer at) untaken))

@@ -131,10 +131,10 @@ set_then_unset choice feature key given old between e =
     let value = encoded_value given in
     let c = set_sets choice feature key given old between e in
     let s = c.changed in
-    let meant : selected choice between ≡ Ok c.ordinal =
-    layer_again choice old between c.ordinal c.former c.present c.was c.is c.alone.others (name_same c.former c.present s.more s.fields s.entries) ∙ c.meant in
+    let selects : selected choice between ≡ Ok c.ordinal =
+    layer_again choice old between c.ordinal c.former c.present c.was c.is c.alone.others (name_same c.former c.present s.more s.fields s.entries) ∙ c.selects in
     let chosen : selected_feature feature c.present ≡ Ok s.ordinal =
-    feature_again feature c.former c.present s.ordinal s.former s.present s.was s.is s.others (id_same s.former s.present s.becomes.changed.others) ∙ s.meant in
+    feature_again feature c.former c.present s.ordinal s.former s.present s.was s.is s.others (id_same s.former s.present s.becomes.changed.others) ∙ s.selects in
     let found : selected_in feature c.ordinal between ≡ Ok s.ordinal = ap (λ (there : Option Layer). option_map_or (selected_feature feature) there (Err NoLayer)) c.is ∙ chosen in
     let there : has_key key c.ordinal between ≡ true =
     ap (list_any (is_key key)) (items_there between c.ordinal c.present c.is) ∙ key_among key c.present.items ∙ ap (list_any (bytes_eq key)) s.keys_so ∙ entry_among key (keys c.former) in
@@ -142,18 +142,18 @@ set_then_unset choice feature key given old between e =
     ap (λ (pairs : Option (List (ℕ × ℕ))). is_some pairs) (pairs_found between c.ordinal s.ordinal c.present s.present c.is s.is)
     ∙ some_pairs c.present (pairs_of c.present s.present) (with_value key value s.becomes.changed.found) s.becomes.changed.has in
     let new = change_feature (without_attribute key (items_of c.ordinal between)) c.ordinal s.ordinal between in
-    let accepted : applied (UnsetAttribute choice feature key) between ≡ Ok new = rw (meant, found, there, readable) refl in
+    let accepted : applied (UnsetAttribute choice feature key) between ≡ Ok new = rw (selects, found, there, readable) refl in
     let u = unset_unsets choice feature key between new accepted in
-    let ordinal : u.ordinal ≡ c.ordinal = one_ordinal (selected choice between) c.ordinal u.ordinal meant u.meant in
+    let ordinal : u.ordinal ≡ c.ordinal = one_ordinal (selected choice between) c.ordinal u.ordinal selects u.selects in
     let layer : u.former ≡ c.present = one_item (layers between) c.ordinal u.ordinal c.present u.former ordinal c.is u.was in
     let f = u.changed in
-    let index : f.ordinal ≡ s.ordinal = one_ordinal (selected_feature feature c.present) s.ordinal f.ordinal chosen (ap (selected_feature feature) (sym layer) ∙ f.meant) in
+    let index : f.ordinal ≡ s.ordinal = one_ordinal (selected_feature feature c.present) s.ordinal f.ordinal chosen (ap (selected_feature feature) (sym layer) ∙ f.selects) in
     let gained : f.former ≡ s.present = one_item (features c.present) s.ordinal f.ordinal s.present f.former index s.is (ap (λ (l : Layer). slice_get (features l) f.ordinal) (sym layer) ∙ f.was) in (
       new,
       accepted,
       record {
         ordinal = c.ordinal;
-        meant = c.meant;
+        selects = c.selects;
         former = c.former;
         was = c.was;
         present = u.present;
@@ -162,7 +162,7 @@ set_then_unset choice feature key given old between e =
         width = u.width ∙ ap (λ (l : Layer). l.width) layer ∙ c.width;
         changed = record {
           ordinal = s.ordinal;
-          meant = s.meant;
+          selects = s.selects;
           former = s.former;
           was = s.was;
           present = f.present;

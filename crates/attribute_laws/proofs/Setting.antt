@@ -38,7 +38,7 @@ use Rattle.mvt_meaning.proofs.Positions.{later_any, no_positions, positions_from
 use Rattle.mvt_meaning.proofs.Removals.{flat, head_same}
 use Rattle.mvt_meaning.proofs.Replacements.{replacements_short}
 use Rattle.mvt_meaning.proofs.Selecting.{selected_within}
-use Rattle.command_laws.proofs.Accepted.{accepted, feature_meant, not_refused, within_is}
+use Rattle.command_laws.proofs.Accepted.{accepted, feature_selects, not_refused, within_is}
 use Rattle.command_laws.proofs.Around.{around}
 use Rattle.command_laws.proofs.EntryOrdinals.{entry_low, plain_stay, value_short}
 use Rattle.command_laws.proofs.OtherFields.{others_stay}
@@ -142,33 +142,33 @@ positions_front n (x ∷ xs) ys e =
 -- ---- pairs with another value
 
 abbrev revalue : (ℕ → Bool) → ℕ → ℕ × ℕ → ℕ × ℕ
-revalue meant value pair = (pair.0, cond (meant pair.0) value pair.1)
+revalue selects value pair = (pair.0, cond (selects pair.0) value pair.1)
 
-values_revalued : (meant : ℕ → Bool) (value : ℕ) (pairs : List (ℕ × ℕ)) (list : List Number) → value_list list ≡ flat pairs → value_list (renumbered (revalued meant value pairs) list) ≡ flat (map (revalue meant value) pairs)
-values_revalued meant value [] list is = is
-values_revalued meant value (pair ∷ pairs) [] is = absurd cc
-values_revalued meant value (pair ∷ pairs) (first ∷ []) is = let tails = head_same first.value pair.0 [] (pair.1 ∷ flat pairs) is in absurd (let none = tails.1 in cc)
-values_revalued meant value (pair ∷ pairs) (first ∷ next ∷ list) is =
+values_revalued : (selects : ℕ → Bool) (value : ℕ) (pairs : List (ℕ × ℕ)) (list : List Number) → value_list list ≡ flat pairs → value_list (renumbered (revalued selects value pairs) list) ≡ flat (map (revalue selects value) pairs)
+values_revalued selects value [] list is = is
+values_revalued selects value (pair ∷ pairs) [] is = absurd cc
+values_revalued selects value (pair ∷ pairs) (first ∷ []) is = let tails = head_same first.value pair.0 [] (pair.1 ∷ flat pairs) is in absurd (let none = tails.1 in cc)
+values_revalued selects value (pair ∷ pairs) (first ∷ next ∷ list) is =
     let one = head_same first.value pair.0 (next.value ∷ value_list list) (pair.1 ∷ flat pairs) is in
     let two = head_same next.value pair.1 (value_list list) (flat pairs) one.1 in
-    let second = cond (meant pair.0) value pair.1 in
-    ap (λ (n : ℕ). n ∷ (with_number second next).value ∷ value_list (renumbered (revalued meant value pairs) list)) (number_given pair.0 first)
-    ∙ ap (λ (n : ℕ). pair.0 ∷ n ∷ value_list (renumbered (revalued meant value pairs) list)) (number_given second next)
-    ∙ ap (λ (rest : List ℕ). pair.0 ∷ second ∷ rest) (values_revalued meant value pairs list two.1)
+    let second = cond (selects pair.0) value pair.1 in
+    ap (λ (n : ℕ). n ∷ (with_number second next).value ∷ value_list (renumbered (revalued selects value pairs) list)) (number_given pair.0 first)
+    ∙ ap (λ (n : ℕ). pair.0 ∷ n ∷ value_list (renumbered (revalued selects value pairs) list)) (number_given second next)
+    ∙ ap (λ (rest : List ℕ). pair.0 ∷ second ∷ rest) (values_revalued selects value pairs list two.1)
 
-still_ordinal : (meant : Bool) (count value other : ℕ) → is_ordinal count value ≡ true → is_ordinal count other ≡ true → is_ordinal count (cond meant value other) ≡ true
+still_ordinal : (selects : Bool) (count value other : ℕ) → is_ordinal count value ≡ true → is_ordinal count other ≡ true → is_ordinal count (cond selects value other) ≡ true
 still_ordinal true count value other first second = first
 still_ordinal false count value other first second = second
 
-revalued_pairs : (key_count value_count : ℕ) (meant : ℕ → Bool) (value : ℕ) → is_ordinal value_count value ≡ true → (pairs : List (ℕ × ℕ)) → list_all (is_pair key_count value_count) pairs ≡ true → list_all (is_pair key_count value_count) (map (revalue meant value) pairs) ≡ true
-revalued_pairs key_count value_count meant value within [] is = refl
-revalued_pairs key_count value_count meant value within (pair ∷ pairs) is =
+revalued_pairs : (key_count value_count : ℕ) (selects : ℕ → Bool) (value : ℕ) → is_ordinal value_count value ≡ true → (pairs : List (ℕ × ℕ)) → list_all (is_pair key_count value_count) pairs ≡ true → list_all (is_pair key_count value_count) (map (revalue selects value) pairs) ≡ true
+revalued_pairs key_count value_count selects value within [] is = refl
+revalued_pairs key_count value_count selects value within (pair ∷ pairs) is =
     let parts = and_parts (is_pair key_count value_count pair) (list_all (is_pair key_count value_count) pairs) is in
     let both = and_parts (is_ordinal key_count pair.0) (is_ordinal value_count pair.1) parts.0 in
-    let second = still_ordinal (meant pair.0) value_count value pair.1 within both.1 in
-    and_from (is_pair key_count value_count (revalue meant value pair)) (list_all (is_pair key_count value_count) (map (revalue meant value) pairs))
-    (and_from (is_ordinal key_count pair.0) (is_ordinal value_count (revalue meant value pair).1) both.0 second)
-    (revalued_pairs key_count value_count meant value within pairs parts.1)
+    let second = still_ordinal (selects pair.0) value_count value pair.1 within both.1 in
+    and_from (is_pair key_count value_count (revalue selects value pair)) (list_all (is_pair key_count value_count) (map (revalue selects value) pairs))
+    (and_from (is_ordinal key_count pair.0) (is_ordinal value_count (revalue selects value pair).1) both.0 second)
+    (revalued_pairs key_count value_count selects value within pairs parts.1)
 
 -- ---- how many attributes have the key
 
@@ -413,16 +413,16 @@ module _ (key value : List ℕ) (index : ℕ) (layer : Layer) (within : weigh la
       filter_map-append _ present missing ∙ ap (λ (more : List Feature). features_in present ++ more) (lacks_features key value has_the_key has_the_value) ∙ append-nil (features_in present)
 
   sets : (choice : FeatureChoice) → selected_feature choice layer ≡ Ok index → ((feature : Feature) → slice_get (features layer) index ≡ Some feature → (is_some (pairs_of layer feature) ≡ true) × (nat_lt 1 (pairs_with key layer.items feature.fields) ≡ false)) → SetsAttribute choice key value layer set_layer
-  sets choice meant readable =
+  sets choice selects readable =
       let change = with_attribute key value layer.items in
       let way : Feature → Feature → Type 0 = GetsAttribute key value layer set_layer in
-      let c = changes_feature choice way change layer index meant (λ former was.
+      let c = changes_feature choice way change layer index selects (λ former was.
       let read = readable former was in
       let pairs = some_of (pairs_of layer former) read.0 in
       gets former pairs.0 pairs.1 read.1) in
       record {
         ordinal = c.ordinal;
-        meant = c.meant;
+        selects = c.selects;
         former = c.former;
         was = c.was;
         present = c.present;
@@ -451,7 +451,7 @@ layer_weighs (OfLayer first ∷ document) (suc ordinal) layer is =
 layer_weighs (PlainInTile field ∷ document) ordinal layer is =
     omega (arith, layer_weighs document ordinal layer is, length-append (tile_item_bytes (PlainInTile field)) (flat_map tile_item_bytes document))
 
--- how often the key is there, in the feature that is meant
+-- how often the key is there, in the selected feature
 once_there : (key : List ℕ) (document : Document) (ordinal index : ℕ) (layer : Layer) (feature : Feature) → slice_get (layers document) ordinal ≡ Some layer → slice_get (features layer) index ≡ Some feature → repeats_key key ordinal index document ≡ false → nat_lt 1 (pairs_with key layer.items feature.fields) ≡ false
 once_there key document ordinal index layer feature there is once =
     sym
@@ -483,14 +483,14 @@ pub set_sets : SetSets
 set_sets choice feature key given old new e =
     let value = encoded_value given in
     let made_of : ℕ → ℕ → Document = λ ordinal index. change_layer (attributed key value index) ordinal old in
-    let meant = accepted (selected choice old) (λ ordinal. selected_in feature ordinal old >>= λ index. refuse_if (not (has_pairs ordinal index old)) (BadTags ordinal index) >>= λ readable. refuse_if (repeats_key key ordinal index old) (RepeatedKey ordinal index) >>= λ once. within_limit (made_of ordinal index)) new e in
-    let found = accepted (selected_in feature meant.0 old) (λ index. refuse_if (not (has_pairs meant.0 index old)) (BadTags meant.0 index) >>= λ readable. refuse_if (repeats_key key meant.0 index old) (RepeatedKey meant.0 index) >>= λ once. within_limit (made_of meant.0 index)) new meant.2 in
-    let readable = accepted (refuse_if (not (has_pairs meant.0 found.0 old)) (BadTags meant.0 found.0)) (λ readable. refuse_if (repeats_key key meant.0 found.0 old) (RepeatedKey meant.0 found.0) >>= λ once. within_limit (made_of meant.0 found.0)) new found.2 in
-    let once = accepted (refuse_if (repeats_key key meant.0 found.0 old) (RepeatedKey meant.0 found.0)) (λ once. within_limit (made_of meant.0 found.0)) new readable.2 in
-    let made = within_is (made_of meant.0 found.0) new once.2 in
-    let short = limit_kept (made_of meant.0 found.0) new once.2 in
-    let has = not-false (has_pairs meant.0 found.0 old) (not_refused (not (has_pairs meant.0 found.0 old)) (BadTags meant.0 found.0) readable.0 readable.1) in
-    let single = not_refused (repeats_key key meant.0 found.0 old) (RepeatedKey meant.0 found.0) once.0 once.1 in
-    changes_layer choice (SetsAttribute feature key value) (attributed key value found.0) old new meant.0 meant.1 made (λ layer there.
-    sets key value found.0 layer (set_within key value found.0 meant.0 old layer (selected_within choice old meant.0 meant.1) there short) feature (feature_meant feature old layer meant.0 found.0 there found.1) (λ former was.
-    (read_there old meant.0 found.0 layer former there was has, once_there key old meant.0 found.0 layer former there was single)))
+    let selects = accepted (selected choice old) (λ ordinal. selected_in feature ordinal old >>= λ index. refuse_if (not (has_pairs ordinal index old)) (BadTags ordinal index) >>= λ readable. refuse_if (repeats_key key ordinal index old) (RepeatedKey ordinal index) >>= λ once. within_limit (made_of ordinal index)) new e in
+    let found = accepted (selected_in feature selects.0 old) (λ index. refuse_if (not (has_pairs selects.0 index old)) (BadTags selects.0 index) >>= λ readable. refuse_if (repeats_key key selects.0 index old) (RepeatedKey selects.0 index) >>= λ once. within_limit (made_of selects.0 index)) new selects.2 in
+    let readable = accepted (refuse_if (not (has_pairs selects.0 found.0 old)) (BadTags selects.0 found.0)) (λ readable. refuse_if (repeats_key key selects.0 found.0 old) (RepeatedKey selects.0 found.0) >>= λ once. within_limit (made_of selects.0 found.0)) new found.2 in
+    let once = accepted (refuse_if (repeats_key key selects.0 found.0 old) (RepeatedKey selects.0 found.0)) (λ once. within_limit (made_of selects.0 found.0)) new readable.2 in
+    let made = within_is (made_of selects.0 found.0) new once.2 in
+    let short = limit_kept (made_of selects.0 found.0) new once.2 in
+    let has = not-false (has_pairs selects.0 found.0 old) (not_refused (not (has_pairs selects.0 found.0 old)) (BadTags selects.0 found.0) readable.0 readable.1) in
+    let single = not_refused (repeats_key key selects.0 found.0 old) (RepeatedKey selects.0 found.0) once.0 once.1 in
+    changes_layer choice (SetsAttribute feature key value) (attributed key value found.0) old new selects.0 selects.1 made (λ layer there.
+    sets key value found.0 layer (set_within key value found.0 selects.0 old layer (selected_within choice old selects.0 selects.1) there short) feature (feature_selects feature old layer selects.0 found.0 there found.1) (λ former was.
+    (read_there old selects.0 found.0 layer former there was has, once_there key old selects.0 found.0 layer former there was single)))

@@ -25,14 +25,14 @@ use Rattle.mvt_meaning.proofs.Removals.{flat, make_pairs}
 use Rattle.command_laws.proofs.Accepted.{accepted}
 use Rattle.command_laws.proofs.Parts.{with_items}
 use Rattle.command_laws.proofs.ReadValues.{value_list}
-use Rattle.mvt_select.proofs.Chosen.{the_one_meant}
+use Rattle.mvt_select.proofs.Chosen.{the_one_selected}
 use Rattle.attribute_laws.specs.Laws.{ExcludeAgainChangesNothing}
-use Rattle.attribute_laws.specs.MeantLayers.{IsMeant}
+use Rattle.attribute_laws.specs.ChangedLayers.{IsSelected}
 use Rattle.attribute_laws.proofs.EachFeature.{fields_stay}
 use Rattle.attribute_laws.proofs.Excluded.{pairs_staying, some_of, staying}
-use Rattle.attribute_laws.proofs.MeantLayers.{layers_change, some_same}
-use Rattle.attribute_laws.proofs.Readable.{meant_read}
-use Rattle.attribute_laws.proofs.SameMeant.{same_layer}
+use Rattle.attribute_laws.proofs.ChangedLayers.{layers_change, some_same}
+use Rattle.attribute_laws.proofs.Readable.{selected_read}
+use Rattle.attribute_laws.proofs.SameSelected.{same_layer}
 
 -- ---- the fields of a feature
 
@@ -145,7 +145,7 @@ all_found_read k n (OfLayer layer ∷ document) read =
     found_read k n layer (enumerate_from (k + 1) (filter_map (with_position layer_in) (enumerate_from (n + 1) document))) read.0 (all_found_read (k + 1) (n + 1) document read.1)
 all_found_read k n (PlainInTile field ∷ document) read = all_found_read k (n + 1) document read
 
--- ---- the same layer is meant
+-- ---- the same layer is selected
 
 -- the fields of the layers that are no features
 abbrev pub fields_of_layers : Document → List (List Field)
@@ -155,8 +155,8 @@ fields_of_layers document = map (λ (layer : Layer). plain_fields layer.items) (
 abbrev name_among : List Field → Option (List ℕ)
 name_among fields = last_or None (contents 1 fields)
 
-pub same_meant : (choice : LayerChoice) (one other : Document) → fields_of_layers one ≡ fields_of_layers other → selected choice one ≡ selected choice other
-same_meant choice one other same =
+pub same_selected : (choice : LayerChoice) (one other : Document) → fields_of_layers one ≡ fields_of_layers other → selected choice one ≡ selected choice other
+same_selected choice one other same =
     let view = λ (layer : Layer). plain_fields layer.items in
     same_layer choice one other (sym (map-map name_among view (layers one)) ∙ ap (map name_among) same ∙ map-map name_among view (layers other))
 
@@ -188,16 +188,16 @@ module _ (key : List ℕ) where
   IsStill choice document = applied (Exclude choice key) document ≡ Ok document
 
   one_still : (choice : LayerChoice) (old new : Document) (ordinal : ℕ) → selected choice old ≡ Ok ordinal → change_layer (excluded key) ordinal old ≡ new → ((layer : Layer) → slice_get (layers old) ordinal ≡ Some layer → IsRead layer) → IsStill (TheLayer choice) new
-  one_still choice old new ordinal meant made read =
-      let was = the_one_meant choice old ordinal meant in
+  one_still choice old new ordinal selects made read =
+      let was = the_one_selected choice old ordinal selects in
       let there_was = layer_found old ordinal was.position was.layer was.placed was.there in
       let former_read = read was.layer there_was in
-      let became = layers_change (λ former present. present ≡ with_items (excluded key) former) (excluded key) (TheLayer choice) old new (rw meant (ap Ok made)) (λ ordinal layer meant there. refl) in
-      let present = became.meant ordinal was.layer meant there_was in
+      let became = layers_change (λ former present. present ≡ with_items (excluded key) former) (excluded key) (TheLayer choice) old new (rw selects (ap Ok made)) (λ ordinal layer selects there. refl) in
+      let present = became.selects ordinal was.layer selects there_was in
       let placed = change_layer_found old ordinal was.position was.layer was.placed was.there (excluded key) in
       let still : selected choice new ≡ Ok ordinal =
-      ap (selected choice) (sym made ∙ placed) ∙ same_meant choice (change_at (in_layer (excluded key)) was.position old) old (fields_beside (excluded key) kept was.position old) ∙ meant in
-      let is = the_one_meant choice new ordinal still in
+      ap (selected choice) (sym made ∙ placed) ∙ same_selected choice (change_at (in_layer (excluded key)) was.position old) old (fields_beside (excluded key) kept was.position old) ∙ selects in
+      let is = the_one_selected choice new ordinal still in
       let same : is.layer ≡ with_items (excluded key) was.layer =
       some_same is.layer present.0 (slice_get (layers new) ordinal) (layer_found new ordinal is.position is.layer is.placed is.there) present.1 ∙ present.2.changed in
       let none : unreadable ((ordinal, (is.position, is.layer)) ∷ []) ≡ [] = found_read ordinal is.position is.layer [] (subst IsRead (sym same) (excluded_read key was.layer former_read)) refl in
@@ -227,10 +227,10 @@ module _ (key : List ℕ) where
       let new = map (in_layer (excluded key)) old in
       ap (λ bad. refuse_first bad >>= λ readable. change_layers (excluded key) EachLayer new) (all_found_read 0 0 new (each_read old read)) ∙ ap Ok (each_once old read)
 
-  still : (choice : LayersChoice) (old new : Document) → change_layers (excluded key) choice old ≡ Ok new → ((ordinal : ℕ) (layer : Layer) → IsMeant choice ordinal old → slice_get (layers old) ordinal ≡ Some layer → IsRead layer) → IsStill choice new
+  still : (choice : LayersChoice) (old new : Document) → change_layers (excluded key) choice old ≡ Ok new → ((ordinal : ℕ) (layer : Layer) → IsSelected choice ordinal old → slice_get (layers old) ordinal ≡ Some layer → IsRead layer) → IsStill choice new
   still (TheLayer choice) old new is read =
-      let meant = accepted (selected choice old) (λ ordinal. Ok (change_layer (excluded key) ordinal old)) new is in
-      one_still choice old new meant.0 meant.1 (let same = meant.2 in cc) (λ layer there. read meant.0 layer meant.1 there)
+      let selects = accepted (selected choice old) (λ ordinal. Ok (change_layer (excluded key) ordinal old)) new is in
+      one_still choice old new selects.0 selects.1 (let same = selects.2 in cc) (λ layer there. read selects.0 layer selects.1 there)
   still EachLayer old new is read =
       let made : map (in_layer (excluded key)) old ≡ new = cc in
       subst (IsStill EachLayer) made (each_still old (all_of IsRead (layers old) (λ ordinal layer there. read ordinal layer tt there)))
@@ -239,5 +239,5 @@ pub exclude_again_changes_nothing : ExcludeAgainChangesNothing
 exclude_again_changes_nothing choice key old new e =
     let found = accepted (selected_layers choice old) (λ found. refuse_first (unreadable found) >>= λ readable. change_layers (excluded key) choice old) new e in
     let readable = accepted (refuse_first (unreadable found.0)) (λ readable. change_layers (excluded key) choice old) new found.2 in
-    still key choice old new readable.2 (λ ordinal layer meant there.
-    all_of (λ (feature : Feature). is_some (pairs_of layer feature) ≡ true) (features_in layer.items) (meant_read choice old found.0 readable.0 found.1 readable.1 ordinal layer meant there))
+    still key choice old new readable.2 (λ ordinal layer selects there.
+    all_of (λ (feature : Feature). is_some (pairs_of layer feature) ≡ true) (features_in layer.items) (selected_read choice old found.0 readable.0 found.1 readable.1 ordinal layer selects there))

@@ -21,12 +21,12 @@ use Rattle.mvt_meaning.proofs.Selecting.{selected_feature_within}
 use Rattle.command_laws.proofs.Accepted.{accepted, not_refused}
 use Rattle.command_laws.proofs.OtherFields.{others_stay}
 use Rattle.command_laws.proofs.Parts.{changes_feature, with_fields}
-use Rattle.mvt_select.proofs.Chosen.{the_one_meant}
-use Rattle.mvt_select.proofs.Meant.{stands}
+use Rattle.mvt_select.proofs.Chosen.{the_one_selected}
+use Rattle.mvt_select.proofs.Selected.{stands}
 use Rattle.attribute_laws.specs.Laws.{UnsetAgainChangesNothing}
 use Rattle.attribute_laws.proofs.Ids.{id_same}
-use Rattle.attribute_laws.proofs.SameMeant.{same_feature}
-use Rattle.attribute_laws.proofs.Twice.{done, fields_beside, pairs_by_fields, same_meant, stays_at, without_by_fields}
+use Rattle.attribute_laws.proofs.SameSelected.{same_feature}
+use Rattle.attribute_laws.proofs.Twice.{done, fields_beside, pairs_by_fields, same_selected, stays_at, without_by_fields}
 
 -- ---- the id of a feature
 
@@ -64,7 +64,7 @@ module _ (change : List Field → List Field) where
       ap (λ first. in_feature change (in_feature change first) ∷ items) here ∙ ap (λ fields. with_these fields ∷ items) once ∙ ap (λ first. in_feature change first ∷ items) (sym here)
   at_twice (suc position) (item ∷ items) feature is once = ap (λ rest. item ∷ rest) (at_twice position items feature is once)
 
--- the feature that is meant, where it stands
+-- the selected feature, where it stands
 record TheFeature (layer : Layer) (index : ℕ) : Type 0 where
   item : ℕ
   feature : Feature
@@ -77,9 +77,9 @@ feature_there (Some (OfFeature there)) feature e = let same : there ≡ feature 
 feature_there (Some (PlainInLayer field)) feature e = absurd cc
 
 the_feature : (choice : FeatureChoice) (layer : Layer) (index : ℕ) → selected_feature choice layer ≡ Ok index → TheFeature layer index
-the_feature choice layer index meant =
+the_feature choice layer index selects =
     let count = found_count feature_in layer.items in
-    let within : index < length (found_features layer.items) = omega (arith, selected_feature_within choice layer index meant, count) in
+    let within : index < length (found_features layer.items) = omega (arith, selected_feature_within choice layer index selects, count) in
     let found = get_or (found_features layer.items) index (0, (0, record { tag = record { value = 0; width = 0 }; width = 0; fields = [] })) in
     let at = stands feature_in layer.items index found (slice_get-get_or (found_features layer.items) index _ within) in
     record {
@@ -94,16 +94,16 @@ the_feature choice layer index meant =
 pub unset_again_changes_nothing : UnsetAgainChangesNothing
 unset_again_changes_nothing choice feature key old new e =
     let by_old : ℕ → List Field → List Field = λ ordinal. without_attribute key (items_of ordinal old) in
-    let meant = accepted (selected choice old) (λ ordinal. selected_in feature ordinal old >>= λ meant. refuse_if (not (has_key key ordinal old)) NoKey >>= λ there. refuse_if (not (has_pairs ordinal meant old)) (BadTags ordinal meant) >>= λ readable. Ok (change_feature (by_old ordinal) ordinal meant old)) new e in
-    let ordinal = meant.0 in
-    let found = accepted (selected_in feature ordinal old) (λ found. refuse_if (not (has_key key ordinal old)) NoKey >>= λ there. refuse_if (not (has_pairs ordinal found old)) (BadTags ordinal found) >>= λ readable. Ok (change_feature (by_old ordinal) ordinal found old)) new meant.2 in
+    let selects = accepted (selected choice old) (λ ordinal. selected_in feature ordinal old >>= λ selects. refuse_if (not (has_key key ordinal old)) NoKey >>= λ there. refuse_if (not (has_pairs ordinal selects old)) (BadTags ordinal selects) >>= λ readable. Ok (change_feature (by_old ordinal) ordinal selects old)) new e in
+    let ordinal = selects.0 in
+    let found = accepted (selected_in feature ordinal old) (λ found. refuse_if (not (has_key key ordinal old)) NoKey >>= λ there. refuse_if (not (has_pairs ordinal found old)) (BadTags ordinal found) >>= λ readable. Ok (change_feature (by_old ordinal) ordinal found old)) new selects.2 in
     let index = found.0 in
     let there = accepted (refuse_if (not (has_key key ordinal old)) NoKey) (λ there. refuse_if (not (has_pairs ordinal index old)) (BadTags ordinal index) >>= λ readable. Ok (change_feature (by_old ordinal) ordinal index old)) new found.2 in
     let readable = accepted (refuse_if (not (has_pairs ordinal index old)) (BadTags ordinal index)) (λ readable. Ok (change_feature (by_old ordinal) ordinal index old)) new there.2 in
     let key_there = not-false (has_key key ordinal old) (not_refused (not (has_key key ordinal old)) NoKey there.0 there.1) in
     let pairs_there = not-false (has_pairs ordinal index old) (not_refused (not (has_pairs ordinal index old)) (BadTags ordinal index) readable.0 readable.1) in
     let made_so : change_feature (by_old ordinal) ordinal index old ≡ new = let same = readable.2 in cc in
-    let was = the_one_meant choice old ordinal meant.1 in
+    let was = the_one_selected choice old ordinal selects.1 in
     let layer = was.layer in
     let chosen : selected_feature feature layer ≡ Ok index = sym (selected_in_found old ordinal was.position layer was.placed was.there feature) ∙ found.1 in
     let at = the_feature feature layer index chosen in
@@ -118,11 +118,11 @@ unset_again_changes_nothing choice feature key old new e =
     let nth : List LayerItem → List LayerItem = change_nth is_feature (in_feature change) index in
     let nth_there : nth layer.items ≡ inner layer.items = change_nth_found is_feature (in_feature change) layer.items index at.item at.placed in
     let moved : new ≡ change_at (in_layer inner) was.position old = sym made ∙ change_feature_found old ordinal was.position layer was.placed was.there index at.item at.feature at.placed at.there change in
-    let still : selected choice new ≡ Ok ordinal = ap (selected choice) moved ∙ same_meant choice (change_at (in_layer inner) was.position old) old (fields_beside inner (plain_at change at.item) was.position old) ∙ meant.1 in
+    let still : selected choice new ≡ Ok ordinal = ap (selected choice) moved ∙ same_selected choice (change_at (in_layer inner) was.position old) old (fields_beside inner (plain_at change at.item) was.position old) ∙ selects.1 in
     let new_items : items_of ordinal new ≡ inner layer.items = ap (items_of ordinal) (sym made) ∙ items_changed old ordinal was.position layer was.placed was.there nth ∙ nth_there in
     let new_fields : fields_of ordinal index new ≡ change fields = ap (fields_of ordinal index) (sym made) ∙ fields_changed old ordinal was.position layer was.placed was.there index at.item at.feature at.placed at.there change in
     let same_plain : plain_fields (items_of ordinal new) ≡ plain_fields layer.items = ap (λ list. plain_fields list) new_items ∙ plain_at change at.item layer.items in
-    let is = the_one_meant choice new ordinal still in
+    let is = the_one_selected choice new ordinal still in
     let is_items : is.layer.items ≡ inner layer.items = sym (items_of_found new ordinal is.position is.layer is.placed is.there) ∙ new_items in
     let ids : map id_of (features is.layer) ≡ map id_of (features layer) = ap (λ list. map id_of (features_in list)) is_items ∙ ids_at change (id_stays key layer.items) at.item layer.items in
     let still_in : selected_in feature ordinal new ≡ Ok index = selected_in_found new ordinal is.position is.layer is.placed is.there feature ∙ same_feature feature is.layer layer ids ∙ chosen in

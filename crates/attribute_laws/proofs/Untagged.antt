@@ -11,7 +11,7 @@ use Rattle.command_laws.proofs.OtherFields.{none_of}
 use Rattle.command_laws.proofs.Parts.{with_fields, with_items}
 use Rattle.attribute_laws.specs.Laws.{ExcludeAllExcludes, LosesAttributes}
 use Rattle.attribute_laws.proofs.EachFeature.{features_changed, fields_stay, positions_stay}
-use Rattle.attribute_laws.proofs.MeantLayers.{layers_change}
+use Rattle.attribute_laws.proofs.ChangedLayers.{layers_change}
 
 -- ---- no numbers of tags are left
 
@@ -43,4 +43,4 @@ loses layer = record {
 }
 
 pub exclude_all_excludes : ExcludeAllExcludes
-exclude_all_excludes choice old new is = layers_change LosesAttributes untagged choice old new is (λ ordinal layer meant there. loses layer)
+exclude_all_excludes choice old new is = layers_change LosesAttributes untagged choice old new is (λ ordinal layer selects there. loses layer)

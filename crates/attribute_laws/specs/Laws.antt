@@ -13,7 +13,7 @@ use Rattle.mvt_meaning.specs.Selection.{feature_positions, selected_feature}
 use Rattle.mvt_meaning.specs.Tagging.{is_key, without_tags}
 use Rattle.mvt_meaning.specs.Meaning.{applied}
 use Rattle.command_laws.specs.Kept.{ChangesFeature, ChangesLayer}
-use Rattle.attribute_laws.specs.MeantLayers.{ChangesLayers}
+use Rattle.attribute_laws.specs.ChangedLayers.{ChangesLayers}
 
 -- ---- a key of another name
 
@@ -105,7 +105,7 @@ pub record GetsAttribute (key value : List ℕ) (former present : Layer) (old ne
 -- positions of its features are as they were (tiles 4.1, 4.2, 4.4)
 pub record SetsAttribute (choice : FeatureChoice) (key value : List ℕ) (old new : Layer) : Type 0 where
   pub ordinal : ℕ
-  pub meant : selected_feature choice old ≡ Ok ordinal
+  pub selects : selected_feature choice old ≡ Ok ordinal
   pub former : Feature
   pub was : slice_get (features old) ordinal ≡ Some former
   pub present : Feature
@@ -127,7 +127,7 @@ SetSets = (choice : LayerChoice) (feature : FeatureChoice) (key : List ℕ) (val
 -- the selected feature loses the attributes of the key
 pub record SelectedLoses (choice : FeatureChoice) (key : List ℕ) (old new : Layer) : Type 0 where
   pub ordinal : ℕ
-  pub meant : selected_feature choice old ≡ Ok ordinal
+  pub selects : selected_feature choice old ≡ Ok ordinal
   pub former : Feature
   pub was : slice_get (features old) ordinal ≡ Some former
   pub present : Feature
@@ -149,8 +149,8 @@ pub record ExcludesKey (key : List ℕ) (old new : Layer) : Type 0 where
   pub fields : plain_fields new.items ≡ plain_fields old.items
   pub positions : feature_positions new.items ≡ feature_positions old.items
 
--- where it is accepted that a key is excluded, each feature of each layer that is meant loses the attributes of that
--- key, and nothing else differs
+-- where it is accepted that a key is excluded, each feature of each selected layer loses the attributes of that key,
+-- and nothing else differs
 abbrev pub ExcludeExcludes : Type 0
 ExcludeExcludes = (choice : LayersChoice) (key : List ℕ) (old new : Document) → applied (Exclude choice key) old ≡ Ok new → ChangesLayers choice (ExcludesKey key) old new
 
@@ -172,7 +172,7 @@ pub record LosesAttributes (old new : Layer) : Type 0 where
   pub fields : plain_fields new.items ≡ plain_fields old.items
   pub positions : feature_positions new.items ≡ feature_positions old.items
 
--- where it is accepted that all attributes are excluded, each layer that is meant loses those of its features, and
--- nothing else differs
+-- where it is accepted that all attributes are excluded, each selected layer loses those of its features, and nothing
+-- else differs
 abbrev pub ExcludeAllExcludes : Type 0
 ExcludeAllExcludes = (choice : LayersChoice) (old new : Document) → applied (ExcludeAll choice) old ≡ Ok new → ChangesLayers choice LosesAttributes old new

@@ -1,2 +1,2 @@
-pub mod MeantLayers
+pub mod ChangedLayers
 pub mod Laws

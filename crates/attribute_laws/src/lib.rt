@@ -38,7 +38,7 @@ pub fn rename_key_renames()
     ensures { RenameKeyRenames }
 {}
 
-/// Where it is accepted that a key is excluded, each feature of the layers that are meant has its
+/// Where it is accepted that a key is excluded, each feature of the selected layers has its
 /// attributes of other keys, in their order, and all its fields that are no tags. The keys, the
 /// values and the other layers are as they were.
 pub fn exclude_excludes()
@@ -51,8 +51,8 @@ pub fn exclude_again_changes_nothing()
     ensures { ExcludeAgainChangesNothing }
 {}
 
-/// Where it is accepted that all attributes are excluded, no feature of the layers that are meant has
-/// an attribute; all fields that are no tags, the keys, the values and the other layers are as they
+/// Where it is accepted that all attributes are excluded, no feature of the selected layers has an
+/// attribute; all fields that are no tags, the keys, the values and the other layers are as they
 /// were.
 pub fn exclude_all_excludes()
     ensures { ExcludeAllExcludes }

@@ -1,4 +1,4 @@
--- What the steps of an accepted command gave.
+-- What the steps of an accepted command returned.
 use Rattle.std.proofs.Common.{◌≡◌, ℕ, ◌<◌, Bool, true, false, Result, Ok, Err, IfOk, Some, List, [], ◌∷◌, length, slice_get, nat_lt, refl, ap, subst, inl, inr, arith}
 use Rattle.std.proofs.lemmas.Bool.{cases_Bool}
 use Rattle.std.proofs.lemmas.Bool.Decides.{nat_tests}
@@ -22,7 +22,7 @@ pub then_so : {A B : Type 0} (P : B → Type 0) (r : Result A Refusal) (f : A �
 then_so P (Ok x) f all = all x
 then_so P (Err e) f all = tt
 
--- the same, where it is known what the first step gave
+-- the same, where it is known what the first step returned
 pub then_given : {A B : Type 0} (P : B → Type 0) (r : Result A Refusal) (f : A → Result B Refusal) → ((x : A) → r ≡ Ok x → IfOk (f x) P) → IfOk (r >>= f) P
 then_given P (Ok x) f all = all x refl
 then_given P (Err e) f all = tt
@@ -52,5 +52,5 @@ feature_within (FeatureAtOrdinal n) layer ordinal e = grind (arith, nat_tests)
 feature_within (WithId id) layer ordinal e = let bounds = positions_within (has_id id) 0 (features layer) 0 ordinal (one_first _ _ (ordinals_of (has_id id) (features layer)) ordinal e) in omega arith
 
 -- which layer a feature is selected in
-pub feature_meant : (choice : FeatureChoice) (document : Document) (layer : Layer) (ordinal feature : ℕ) → slice_get (layers document) ordinal ≡ Some layer → selected_in choice ordinal document ≡ Ok feature → selected_feature choice layer ≡ Ok feature
-feature_meant choice document layer ordinal feature there e = rw there at e
+pub feature_selects : (choice : FeatureChoice) (document : Document) (layer : Layer) (ordinal feature : ℕ) → slice_get (layers document) ordinal ≡ Some layer → selected_in choice ordinal document ≡ Ok feature → selected_feature choice layer ≡ Ok feature
+feature_selects choice document layer ordinal feature there e = rw there at e

@@ -267,25 +267,25 @@ made_valid (DropFeature choice feature) document fits valid =
     then_so IsDocument (selected_in feature ordinal document) _ (λ going. layer_valid (without is_feature going) (all_without IsLayerItem is_feature going) ordinal document valid))
 made_valid (SetId choice feature id) document fits valid =
     then_so IsDocument (selected choice document) _ (λ ordinal.
-    then_so IsDocument (selected_in feature ordinal document) _ (λ meant.
-    limited_valid (change_feature (identified id) ordinal meant document)
-    (feature_valid (identified id) (all_put IsField is_id (with_field_value id) (new_number 8 id) (field_value_valid id fits) (new_id id fits)) ordinal meant document valid)))
+    then_so IsDocument (selected_in feature ordinal document) _ (λ selects.
+    limited_valid (change_feature (identified id) ordinal selects document)
+    (feature_valid (identified id) (all_put IsField is_id (with_field_value id) (new_number 8 id) (field_value_valid id fits) (new_id id fits)) ordinal selects document valid)))
 made_valid (ClearId choice feature) document fits valid =
     then_so IsDocument (selected choice document) _ (λ ordinal.
-    then_so IsDocument (selected_in feature ordinal document) _ (λ meant. feature_valid without_id (all_filtered IsField (λ field. not (is_id field))) ordinal meant document valid))
+    then_so IsDocument (selected_in feature ordinal document) _ (λ selects. feature_valid without_id (all_filtered IsField (λ field. not (is_id field))) ordinal selects document valid))
 made_valid (SetAttribute choice feature key value) document fits valid =
     then_so IsDocument (selected choice document) _ (λ ordinal.
-    then_so IsDocument (selected_in feature ordinal document) _ (λ meant.
-    then_so IsDocument (refuse_if (not (has_pairs ordinal meant document)) (BadTags ordinal meant)) _ (λ readable.
-    then_so IsDocument (refuse_if (repeats_key key ordinal meant document) (RepeatedKey ordinal meant)) _ (λ once.
-    within_valid (change_layer (attributed key (encoded_value value) meant) ordinal document)
-    (all_changed_within IsTileItem tile_item_bytes MAX_FILE is_layer (in_layer (attributed key (encoded_value value) meant)) (layer_attributed key (encoded_value value) meant) ordinal document valid)))))
+    then_so IsDocument (selected_in feature ordinal document) _ (λ selects.
+    then_so IsDocument (refuse_if (not (has_pairs ordinal selects document)) (BadTags ordinal selects)) _ (λ readable.
+    then_so IsDocument (refuse_if (repeats_key key ordinal selects document) (RepeatedKey ordinal selects)) _ (λ once.
+    within_valid (change_layer (attributed key (encoded_value value) selects) ordinal document)
+    (all_changed_within IsTileItem tile_item_bytes MAX_FILE is_layer (in_layer (attributed key (encoded_value value) selects)) (layer_attributed key (encoded_value value) selects) ordinal document valid)))))
 made_valid (UnsetAttribute choice feature key) document fits valid =
     then_so IsDocument (selected choice document) _ (λ ordinal.
-    then_so IsDocument (selected_in feature ordinal document) _ (λ meant.
+    then_so IsDocument (selected_in feature ordinal document) _ (λ selects.
     then_so IsDocument (refuse_if (not (has_key key ordinal document)) NoKey) _ (λ there.
-    then_so IsDocument (refuse_if (not (has_pairs ordinal meant document)) (BadTags ordinal meant)) _ (λ readable.
-    feature_valid (without_attribute key (items_of ordinal document)) (unset_valid key (items_of ordinal document)) ordinal meant document valid))))
+    then_so IsDocument (refuse_if (not (has_pairs ordinal selects document)) (BadTags ordinal selects)) _ (λ readable.
+    feature_valid (without_attribute key (items_of ordinal document)) (unset_valid key (items_of ordinal document)) ordinal selects document valid))))
 made_valid (RenameKey choice old new) document fits valid =
     then_so IsDocument (selected choice document) _ (λ ordinal.
     then_so IsDocument (refuse_if (not (has_key old ordinal document)) NoKey) _ (λ there.
@@ -295,22 +295,22 @@ made_valid (Exclude choice key) document fits valid = readable_valid (excluded k
 made_valid (ExcludeAll choice) document fits valid = layers_valid untagged untagged_valid choice document valid
 made_valid (Shift choice feature dx dy) document fits valid =
     then_so IsDocument (selected choice document) _ (λ ordinal.
-    then_so IsDocument (selected_in feature ordinal document) _ (λ meant.
-    let bad = not (is_drawn ordinal meant document) in
-    let far = not (can_shift dx dy ordinal meant document) in
-    then_given IsDocument (refuse_if bad (BadGeometry ordinal meant)) _ (λ readable drawn.
+    then_so IsDocument (selected_in feature ordinal document) _ (λ selects.
+    let bad = not (is_drawn ordinal selects document) in
+    let far = not (can_shift dx dy ordinal selects document) in
+    then_given IsDocument (refuse_if bad (BadGeometry ordinal selects)) _ (λ readable drawn.
     then_given IsDocument (refuse_if far OutOfRange) _ (λ short can.
-    limited_valid (change_feature (shifted dx dy) ordinal meant document)
-    (feature_valid_at (shifted dx dy) ordinal meant document (λ fields is all.
+    limited_valid (change_feature (shifted dx dy) ordinal selects document)
+    (feature_valid_at (shifted dx dy) ordinal selects document (λ fields is all.
     shifted_valid dx dy fields
-    (subst (λ (fs : List Field). is_some (geometry_among fs) ≡ true) is (not-false (is_drawn ordinal meant document) (not_refused bad (BadGeometry ordinal meant) readable drawn)))
-    (subst (λ (fs : List Field). can_move dx dy fs ≡ true) is (not-false (can_shift dx dy ordinal meant document) (not_refused far OutOfRange short can)))
+    (subst (λ (fs : List Field). is_some (geometry_among fs) ≡ true) is (not-false (is_drawn ordinal selects document) (not_refused bad (BadGeometry ordinal selects) readable drawn)))
+    (subst (λ (fs : List Field). can_move dx dy fs ≡ true) is (not-false (can_shift dx dy ordinal selects document) (not_refused far OutOfRange short can)))
     all) valid)))))
 made_valid (SetGeometry choice feature geometry) document fits valid =
     then_so IsDocument (selected choice document) _ (λ ordinal.
-    then_so IsDocument (selected_in feature ordinal document) _ (λ meant.
+    then_so IsDocument (selected_in feature ordinal document) _ (λ selects.
     then_so IsDocument (refuse_if (not (is_in_range geometry)) OutOfRange) _ (λ short.
-    limited_valid (change_feature (with_geometry geometry) ordinal meant document) (feature_valid (with_geometry geometry) (geometry_valid geometry) ordinal meant document valid))))
+    limited_valid (change_feature (with_geometry geometry) ordinal selects document) (feature_valid (with_geometry geometry) (geometry_valid geometry) ordinal selects document valid))))
 made_valid (CompactKeys choice) document fits valid =
     readable_valid (compacted is_key_used is_any) (compacted_valid is_key_used is_any) choice document valid
 made_valid (CompactValues choice) document fits valid =

@@ -24,11 +24,11 @@ is_moved from to document there within =
 
 pub move_layer_moves : MoveLayerMoves
 move_layer_moves choice index old new e =
-    let meant = accepted (selected choice old) (λ ordinal. refuse_if (not (nat_lt index (layer_count old))) BadPlace >>= λ there. Ok (move_nth is_layer ordinal index old)) new e in
-    let there = accepted (refuse_if (not (nat_lt index (layer_count old))) BadPlace) (λ there. Ok (move_nth is_layer meant.0 index old)) new meant.2 in
+    let selects = accepted (selected choice old) (λ ordinal. refuse_if (not (nat_lt index (layer_count old))) BadPlace >>= λ there. Ok (move_nth is_layer ordinal index old)) new e in
+    let there = accepted (refuse_if (not (nat_lt index (layer_count old))) BadPlace) (λ there. Ok (move_nth is_layer selects.0 index old)) new selects.2 in
     let within = ltb-true index (layer_count old) (not-false (nat_lt index (layer_count old)) (not_refused (not (nat_lt index (layer_count old))) BadPlace there.0 there.1)) in
-    let made : move_nth is_layer meant.0 index old ≡ new = let same = there.2 in cc in
-    (meant.0, meant.1, subst (IsMoved meant.0 index old) made (is_moved meant.0 index old (selected_within choice old meant.0 meant.1) within))
+    let made : move_nth is_layer selects.0 index old ≡ new = let same = there.2 in cc in
+    (selects.0, selects.1, subst (IsMoved selects.0 index old) made (is_moved selects.0 index old (selected_within choice old selects.0 selects.1) within))
 
 is_dropped : (ordinal : ℕ) (document : Document) → ordinal < length (layers document) → IsDropped ordinal document (without is_layer ordinal document)
 is_dropped ordinal document within =
@@ -37,9 +37,9 @@ is_dropped ordinal document within =
 
 pub drop_layer_drops : DropLayerDrops
 drop_layer_drops choice old new e =
-    let meant = accepted (selected choice old) (λ ordinal. Ok (without is_layer ordinal old)) new e in
-    let made : without is_layer meant.0 old ≡ new = let same = meant.2 in cc in
-    (meant.0, meant.1, subst (IsDropped meant.0 old) made (is_dropped meant.0 old (selected_within choice old meant.0 meant.1)))
+    let selects = accepted (selected choice old) (λ ordinal. Ok (without is_layer ordinal old)) new e in
+    let made : without is_layer selects.0 old ≡ new = let same = selects.2 in cc in
+    (selects.0, selects.1, subst (IsDropped selects.0 old) made (is_dropped selects.0 old (selected_within choice old selects.0 selects.1)))
 
 -- ---- layers that are kept
 

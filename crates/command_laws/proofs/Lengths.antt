@@ -49,7 +49,7 @@ module _ {A : Type 0} (bytes : A → List ℕ) where
   second_with new (x ∷ xs) =
       omega (arith, front_with new xs, length-append (bytes x) (flat_map bytes (new ∷ xs)), length-append (bytes x) (flat_map bytes xs))
 
-  -- a change of the rest that brings no more than so many bytes
+  -- a change of the rest that brings no more than `more` bytes
   from_nth_weighs : (passes : A → Bool) (change : List A → List A) (more : ℕ) → ((xs : List A) → weigh bytes (change xs) ≤ weigh bytes xs + more) → (ordinal : ℕ) (xs : List A) → weigh bytes (from_nth passes change ordinal xs) ≤ weigh bytes xs + more
   from_nth_weighs passes change more brings ordinal [] = omega arith
   from_nth_weighs passes change more brings ordinal (x ∷ xs) =
@@ -232,14 +232,14 @@ kept_no_longer (DropFeature choice feature) document valid kind =
 kept_no_longer (SetId choice feature id) document valid kind = absurd cc
 kept_no_longer (ClearId choice feature) document valid kind =
     then_so (IsNoLonger document) (selected choice document) _ (λ ordinal.
-    then_so (IsNoLonger document) (selected_in feature ordinal document) _ (λ meant. feature_no_longer without_id (λ fields. filter_no_longer field_bytes (λ field. not (is_id field)) fields) ordinal meant document))
+    then_so (IsNoLonger document) (selected_in feature ordinal document) _ (λ selects. feature_no_longer without_id (λ fields. filter_no_longer field_bytes (λ field. not (is_id field)) fields) ordinal selects document))
 kept_no_longer (SetAttribute choice feature key value) document valid kind = absurd cc
 kept_no_longer (UnsetAttribute choice feature key) document valid kind =
     then_so (IsNoLonger document) (selected choice document) _ (λ ordinal.
-    then_so (IsNoLonger document) (selected_in feature ordinal document) _ (λ meant.
+    then_so (IsNoLonger document) (selected_in feature ordinal document) _ (λ selects.
     then_so (IsNoLonger document) (refuse_if (not (has_key key ordinal document)) NoKey) _ (λ there.
-    then_so (IsNoLonger document) (refuse_if (not (has_pairs ordinal meant document)) (BadTags ordinal meant)) _ (λ readable.
-    feature_no_longer (without_attribute key (items_of ordinal document)) (unset_no_longer key (items_of ordinal document)) ordinal meant document))))
+    then_so (IsNoLonger document) (refuse_if (not (has_pairs ordinal selects document)) (BadTags ordinal selects)) _ (λ readable.
+    feature_no_longer (without_attribute key (items_of ordinal document)) (unset_no_longer key (items_of ordinal document)) ordinal selects document))))
 kept_no_longer (RenameKey choice old new) document valid kind = absurd cc
 kept_no_longer (Exclude choice key) document valid kind = readable_no_longer (excluded key) (λ items _. excluded_no_longer key items) choice document valid
 kept_no_longer (ExcludeAll choice) document valid kind = layers_no_longer untagged (λ items _. untagged_no_longer items) choice document valid
@@ -279,13 +279,13 @@ lengthens_within (InsertFeature choice index geometry) document kind =
 lengthens_within (MoveFeature choice feature index) document kind = absurd cc
 lengthens_within (DropFeature choice feature) document kind = absurd cc
 lengthens_within (SetId choice feature id) document kind =
-    then_so IsWithin (selected choice document) _ (λ ordinal. then_so IsWithin (selected_in feature ordinal document) _ (λ meant. limited (change_feature (identified id) ordinal meant document)))
+    then_so IsWithin (selected choice document) _ (λ ordinal. then_so IsWithin (selected_in feature ordinal document) _ (λ selects. limited (change_feature (identified id) ordinal selects document)))
 lengthens_within (ClearId choice feature) document kind = absurd cc
 lengthens_within (SetAttribute choice feature key value) document kind =
     then_so IsWithin (selected choice document) _ (λ ordinal.
-    then_so IsWithin (selected_in feature ordinal document) _ (λ meant.
-    then_so IsWithin (refuse_if (not (has_pairs ordinal meant document)) (BadTags ordinal meant)) _ (λ readable.
-    then_so IsWithin (refuse_if (repeats_key key ordinal meant document) (RepeatedKey ordinal meant)) _ (λ once. limited (change_layer (attributed key (encoded_value value) meant) ordinal document)))))
+    then_so IsWithin (selected_in feature ordinal document) _ (λ selects.
+    then_so IsWithin (refuse_if (not (has_pairs ordinal selects document)) (BadTags ordinal selects)) _ (λ readable.
+    then_so IsWithin (refuse_if (repeats_key key ordinal selects document) (RepeatedKey ordinal selects)) _ (λ once. limited (change_layer (attributed key (encoded_value value) selects) ordinal document)))))
 lengthens_within (UnsetAttribute choice feature key) document kind = absurd cc
 lengthens_within (RenameKey choice old new) document kind =
     then_so IsWithin (selected choice document) _ (λ ordinal.
@@ -295,13 +295,13 @@ lengthens_within (Exclude choice key) document kind = absurd cc
 lengthens_within (ExcludeAll choice) document kind = absurd cc
 lengthens_within (Shift choice feature dx dy) document kind =
     then_so IsWithin (selected choice document) _ (λ ordinal.
-    then_so IsWithin (selected_in feature ordinal document) _ (λ meant.
-    then_so IsWithin (refuse_if (not (is_drawn ordinal meant document)) (BadGeometry ordinal meant)) _ (λ readable.
-    then_so IsWithin (refuse_if (not (can_shift dx dy ordinal meant document)) OutOfRange) _ (λ short. limited (change_feature (shifted dx dy) ordinal meant document)))))
+    then_so IsWithin (selected_in feature ordinal document) _ (λ selects.
+    then_so IsWithin (refuse_if (not (is_drawn ordinal selects document)) (BadGeometry ordinal selects)) _ (λ readable.
+    then_so IsWithin (refuse_if (not (can_shift dx dy ordinal selects document)) OutOfRange) _ (λ short. limited (change_feature (shifted dx dy) ordinal selects document)))))
 lengthens_within (SetGeometry choice feature geometry) document kind =
     then_so IsWithin (selected choice document) _ (λ ordinal.
-    then_so IsWithin (selected_in feature ordinal document) _ (λ meant.
-    then_so IsWithin (refuse_if (not (is_in_range geometry)) OutOfRange) _ (λ short. limited (change_feature (with_geometry geometry) ordinal meant document))))
+    then_so IsWithin (selected_in feature ordinal document) _ (λ selects.
+    then_so IsWithin (refuse_if (not (is_in_range geometry)) OutOfRange) _ (λ short. limited (change_feature (with_geometry geometry) ordinal selects document))))
 lengthens_within (CompactKeys choice) document kind = absurd cc
 lengthens_within (CompactValues choice) document kind = absurd cc
 lengthens_within (Compact choice) document kind = absurd cc

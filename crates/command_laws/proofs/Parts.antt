@@ -40,14 +40,14 @@ layers_between change ordinal document a =
 pub items_there : (document : Document) (ordinal : ℕ) (layer : Layer) → slice_get (layers document) ordinal ≡ Some layer → items_of ordinal document ≡ layer.items
 items_there document ordinal layer there = rw there refl
 
--- a change of the items of the layer that is meant
+-- a change of the items of the selected layer
 pub changes_layer : (choice : LayerChoice) (way : Layer → Layer → Type 0) (change : List LayerItem → List LayerItem) (old new : Document) (ordinal : ℕ) → selected choice old ≡ Ok ordinal → change_layer change ordinal old ≡ new → ((layer : Layer) → slice_get (layers old) ordinal ≡ Some layer → way layer (with_items change layer)) → ChangesLayer choice way old new
-changes_layer choice way change old new ordinal meant made changed =
-    let a = around layer_in old ordinal (selected_within choice old ordinal meant) in
+changes_layer choice way change old new ordinal selects made changed =
+    let a = around layer_in old ordinal (selected_within choice old ordinal selects) in
     let d = layer_differs change ordinal old a in
     subst (ChangesLayer choice way old) made (record {
       ordinal = ordinal;
-      meant = meant;
+      selects = selects;
       former = a.value;
       was = d.was;
       present = with_items change a.value;
@@ -71,14 +71,14 @@ feature_given : (change : List Field → List Field) (item : LayerItem) (feature
 feature_given change (OfFeature feature) other e = let same : feature ≡ other = cc in ap (λ (f : Feature). Some (with_fields change f)) same
 feature_given change (PlainInLayer field) other e = absurd cc
 
--- a change of the fields of the feature that is meant
+-- a change of the fields of the selected feature
 pub changes_feature : (choice : FeatureChoice) (way : Feature → Feature → Type 0) (change : List Field → List Field) (layer : Layer) (ordinal : ℕ) → selected_feature choice layer ≡ Ok ordinal → ((feature : Feature) → slice_get (features layer) ordinal ≡ Some feature → way feature (with_fields change feature)) → ChangesFeature choice way layer (with_items (change_nth is_feature (in_feature change) ordinal) layer)
-changes_feature choice way change layer ordinal meant changed =
-    let a = around feature_in layer.items ordinal (feature_within choice layer ordinal meant) in
+changes_feature choice way change layer ordinal selects changed =
+    let a = around feature_in layer.items ordinal (feature_within choice layer ordinal selects) in
     let d = one_differs feature_in plain_in feature_apart (in_feature change) ordinal layer.items a (with_fields change a.value) (feature_given change a.item a.value a.has) in
     record {
       ordinal = ordinal;
-      meant = meant;
+      selects = selects;
       former = a.value;
       was = d.was;
       present = with_fields change a.value;

@@ -109,8 +109,8 @@ is_renamed name ordinal old within free =
 
 pub rename_names : RenameNames
 rename_names choice name old new e =
-    let meant = accepted (selected choice old) (λ ordinal. refuse_if (is_taken name ordinal old) NameTaken >>= λ free. within_limit (change_layer (named_items name) ordinal old)) new e in
-    let free = accepted (refuse_if (is_taken name meant.0 old) NameTaken) (λ free. within_limit (change_layer (named_items name) meant.0 old)) new meant.2 in
-    let made = within_is (change_layer (named_items name) meant.0 old) new free.2 in
-    let within = selected_within choice old meant.0 meant.1 in
-    (meant.0, meant.1, subst (IsRenamed name meant.0 old) made (is_renamed name meant.0 old within (not_refused (is_taken name meant.0 old) NameTaken free.0 free.1)))
+    let selects = accepted (selected choice old) (λ ordinal. refuse_if (is_taken name ordinal old) NameTaken >>= λ free. within_limit (change_layer (named_items name) ordinal old)) new e in
+    let free = accepted (refuse_if (is_taken name selects.0 old) NameTaken) (λ free. within_limit (change_layer (named_items name) selects.0 old)) new selects.2 in
+    let made = within_is (change_layer (named_items name) selects.0 old) new free.2 in
+    let within = selected_within choice old selects.0 selects.1 in
+    (selects.0, selects.1, subst (IsRenamed name selects.0 old) made (is_renamed name selects.0 old within (not_refused (is_taken name selects.0 old) NameTaken free.0 free.1)))

@@ -41,7 +41,7 @@ InsertFeatureInserts = (choice : LayerChoice) (index : ℕ) (geometry : Geometry
 -- their order (tiles 4.2)
 pub record MovesFeature (choice : FeatureChoice) (index : ℕ) (old new : Layer) : Type 0 where
   pub ordinal : ℕ
-  pub meant : selected_feature choice old ≡ Ok ordinal
+  pub selects : selected_feature choice old ≡ Ok ordinal
   pub there : slice_get (features new) index ≡ slice_get (features old) ordinal
   pub others : remove (features new) index ≡ remove (features old) ordinal
   pub fields : plain_fields new.items ≡ plain_fields old.items
@@ -57,7 +57,7 @@ MoveFeatureMoves = (choice : LayerChoice) (feature : FeatureChoice) (index : ℕ
 -- order (tiles 4.2)
 pub record DropsFeature (choice : FeatureChoice) (old new : Layer) : Type 0 where
   pub ordinal : ℕ
-  pub meant : selected_feature choice old ≡ Ok ordinal
+  pub selects : selected_feature choice old ≡ Ok ordinal
   pub others : features new ≡ remove (features old) ordinal
   pub fields : plain_fields new.items ≡ plain_fields old.items
   pub items : Some new.items ≡ without_feature ordinal old

@@ -31,7 +31,7 @@ pub record LayerAloneDiffers (ordinal : ℕ) (old new : Document) : Type 0 where
 -- the selected layer has become another in this way, with its tag and its stored width, and it alone differs
 pub record ChangesLayer (choice : LayerChoice) (way : Layer → Layer → Type 0) (old new : Document) : Type 0 where
   pub ordinal : ℕ
-  pub meant : selected choice old ≡ Ok ordinal
+  pub selects : selected choice old ≡ Ok ordinal
   pub former : Layer
   pub was : slice_get (layers old) ordinal ≡ Some former
   pub present : Layer
@@ -58,7 +58,7 @@ pub record FeatureAloneDiffers (ordinal : ℕ) (old new : Layer) : Type 0 where
 -- layer
 pub record ChangesFeature (choice : FeatureChoice) (way : Feature → Feature → Type 0) (old new : Layer) : Type 0 where
   pub ordinal : ℕ
-  pub meant : selected_feature choice old ≡ Ok ordinal
+  pub selects : selected_feature choice old ≡ Ok ordinal
   pub former : Feature
   pub was : slice_get (features old) ordinal ≡ Some former
   pub present : Feature

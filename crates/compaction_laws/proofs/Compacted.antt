@@ -1,4 +1,4 @@
--- What an accepted compaction makes of the layers that are meant.
+-- What an accepted compaction makes of the selected layers.
 use Rattle.std.proofs.Common.{◌≡◌, ℕ, suc, ◌<◌, ◌==◌, Bool, true, false, ◌||◌, not, is_some, Option, Some, None, option_map, Ok, List, [], ◌∷◌, length, map, filter, slice_get, refl, sym, ap, ◌∙◌, subst}
 use Rattle.std.proofs.lemmas.Bool.{or_left, or_right}
 use Rattle.std.specs.List.{AllByRecursion}
@@ -16,10 +16,10 @@ use Rattle.command_laws.proofs.Elements.{got_holds}
 use Rattle.command_laws.proofs.OtherFields.{others_stay}
 use Rattle.command_laws.proofs.Parts.{with_fields, with_items}
 use Rattle.compaction_laws.proofs.Staying.{all_staying, filter-apart, filter-staying, kept, kept_filtered, map-staying}
-use Rattle.attribute_laws.specs.MeantLayers.{ChangesLayers}
+use Rattle.attribute_laws.specs.ChangedLayers.{ChangesLayers}
 use Rattle.attribute_laws.proofs.Excluded.{some_of}
-use Rattle.attribute_laws.proofs.MeantLayers.{got_mapped, layers_change}
-use Rattle.attribute_laws.proofs.Readable.{meant_read}
+use Rattle.attribute_laws.proofs.ChangedLayers.{got_mapped, layers_change}
+use Rattle.attribute_laws.proofs.Readable.{selected_read}
 use Rattle.attribute_laws.proofs.Twice.{all_of}
 use Rattle.compaction_laws.specs.Laws.{CompactCompacts, CompactKeysCompacts, CompactValuesCompacts, EachKeepsAttributes, IsLeftOf, LosesBoth, LosesKeys, LosesUnused, LosesValues, entries, is_entry_in, is_entry_of, key_of, outline, used_ones, value_of}
 use Rattle.compaction_laws.proofs.Left.{left_staying, left_twice}
@@ -208,8 +208,8 @@ readable_changes : (change : List LayerItem → List LayerItem) (way : Layer →
 readable_changes change way so choice old new e =
     let found = accepted (selected_layers choice old) (λ found. refuse_first (unreadable found) >>= λ readable. change_layers change choice old) new e in
     let readable = accepted (refuse_first (unreadable found.0)) (λ readable. change_layers change choice old) new found.2 in
-    layers_change way change choice old new readable.2 (λ ordinal layer meant there.
-    so layer (meant_read choice old found.0 readable.0 found.1 readable.1 ordinal layer meant there))
+    layers_change way change choice old new readable.2 (λ ordinal layer selects there.
+    so layer (selected_read choice old found.0 readable.0 found.1 readable.1 ordinal layer selects there))
 
 pub compact_keys_compacts : CompactKeysCompacts
 compact_keys_compacts choice old new e = readable_changes (compacted is_key_used is_any) LosesKeys loses_keys choice old new e

@@ -12,11 +12,11 @@ use Rattle.mvt_meaning.specs.Meaning.{◌>>=◌, change_layer, change_layers, ch
 use Rattle.mvt_meaning.specs.declared.refusal.Refusal.{Refusal}
 use Rattle.mvt_meaning.proofs.Found.{layer_found}
 use Rattle.command_laws.proofs.Parts.{with_items}
-use Rattle.mvt_select.proofs.Chosen.{the_one_meant}
-use Rattle.attribute_laws.specs.MeantLayers.{IsMeant}
-use Rattle.attribute_laws.proofs.MeantLayers.{layers_change, some_same}
-use Rattle.attribute_laws.proofs.Readable.{meant_read}
-use Rattle.attribute_laws.proofs.SameMeant.{same_layer}
+use Rattle.mvt_select.proofs.Chosen.{the_one_selected}
+use Rattle.attribute_laws.specs.ChangedLayers.{IsSelected}
+use Rattle.attribute_laws.proofs.ChangedLayers.{layers_change, some_same}
+use Rattle.attribute_laws.proofs.Readable.{selected_read}
+use Rattle.attribute_laws.proofs.SameSelected.{same_layer}
 use Rattle.attribute_laws.proofs.Twice.{AreRead, IsRead, all_found_read, all_of, found_read}
 use Rattle.compaction_laws.proofs.Compacted.{EachIsRead}
 
@@ -73,15 +73,15 @@ module _ (first second both : List LayerItem → List LayerItem)
   made_at ordinal (PlainInTile field ∷ document) read = ap (λ rest. PlainInTile field ∷ rest) (made_at ordinal document read)
 
   one_in_turn : (choice : LayerChoice) (old : Document) (ordinal : ℕ) → selected choice old ≡ Ok ordinal → ((layer : Layer) → slice_get (layers old) ordinal ≡ Some layer → IsReadLayer layer) → change_readable second (TheLayer choice) (change_layer first ordinal old) ≡ Ok (change_layer both ordinal old)
-  one_in_turn choice old ordinal meant read =
+  one_in_turn choice old ordinal selects read =
       let new = change_layer first ordinal old in
-      let was = the_one_meant choice old ordinal meant in
+      let was = the_one_selected choice old ordinal selects in
       let there_was = layer_found old ordinal was.position was.layer was.placed was.there in
-      let made : change_layers first (TheLayer choice) old ≡ Ok new = ap (λ (r : Result ℕ Refusal). r >>= λ ordinal. Ok (change_layer first ordinal old)) meant in
-      let became = layers_change (λ former present. present ≡ with_items first former) first (TheLayer choice) old new made (λ ordinal layer meant there. refl) in
-      let present = became.meant ordinal was.layer meant there_was in
-      let still : selected choice new ≡ Ok ordinal = same_layer choice new old (names_stay ordinal old) ∙ meant in
-      let is = the_one_meant choice new ordinal still in
+      let made : change_layers first (TheLayer choice) old ≡ Ok new = ap (λ (r : Result ℕ Refusal). r >>= λ ordinal. Ok (change_layer first ordinal old)) selects in
+      let became = layers_change (λ former present. present ≡ with_items first former) first (TheLayer choice) old new made (λ ordinal layer selects there. refl) in
+      let present = became.selects ordinal was.layer selects there_was in
+      let still : selected choice new ≡ Ok ordinal = same_layer choice new old (names_stay ordinal old) ∙ selects in
+      let is = the_one_selected choice new ordinal still in
       let same : is.layer ≡ with_items first was.layer =
       some_same is.layer present.0 (slice_get (layers new) ordinal) (layer_found new ordinal is.position is.layer is.placed is.there) present.1 ∙ present.2.changed in
       let none : unreadable ((ordinal, (is.position, is.layer)) ∷ []) ≡ [] =
@@ -91,10 +91,10 @@ module _ (first second both : List LayerItem → List LayerItem)
       ∙ ap (λ chosen. chosen >>= λ ordinal. Ok (change_layer second ordinal new)) still
       ∙ ap Ok (made_at ordinal old read)
 
-  -- ---- the layers that are meant
+  -- ---- the selected layers
 
   module _ (old : Document) where
-    one_by : (choice : LayerChoice) (meant : Result ℕ Refusal) → selected choice old ≡ meant → ((ordinal : ℕ) (layer : Layer) → selected choice old ≡ Ok ordinal → slice_get (layers old) ordinal ≡ Some layer → IsReadLayer layer) → change_layers both (TheLayer choice) old ≡ (change_layers first (TheLayer choice) old >>= λ new. change_readable second (TheLayer choice) new)
+    one_by : (choice : LayerChoice) (selects : Result ℕ Refusal) → selected choice old ≡ selects → ((ordinal : ℕ) (layer : Layer) → selected choice old ≡ Ok ordinal → slice_get (layers old) ordinal ≡ Some layer → IsReadLayer layer) → change_layers both (TheLayer choice) old ≡ (change_layers first (TheLayer choice) old >>= λ new. change_readable second (TheLayer choice) new)
     one_by choice (Err refusal) is read =
         ap (λ (r : Result ℕ Refusal). r >>= λ ordinal. Ok (change_layer both ordinal old)) is
         ∙ sym (ap (λ (r : Result ℕ Refusal). (r >>= λ ordinal. Ok (change_layer first ordinal old)) >>= λ new. change_readable second (TheLayer choice) new) is)
@@ -103,20 +103,20 @@ module _ (first second both : List LayerItem → List LayerItem)
         ∙ sym (ap (λ (r : Result ℕ Refusal). (r >>= λ ordinal. Ok (change_layer first ordinal old)) >>= λ new. change_readable second (TheLayer choice) new) is
         ∙ one_in_turn choice old ordinal is (λ layer there. read ordinal layer is there))
 
-    layers_in_turn : (choice : LayersChoice) → ((ordinal : ℕ) (layer : Layer) → IsMeant choice ordinal old → slice_get (layers old) ordinal ≡ Some layer → IsReadLayer layer) → change_layers both choice old ≡ (change_layers first choice old >>= λ new. change_readable second choice new)
+    layers_in_turn : (choice : LayersChoice) → ((ordinal : ℕ) (layer : Layer) → IsSelected choice ordinal old → slice_get (layers old) ordinal ≡ Some layer → IsReadLayer layer) → change_layers both choice old ≡ (change_layers first choice old >>= λ new. change_readable second choice new)
     layers_in_turn (TheLayer choice) read = one_by choice (selected choice old) refl read
     layers_in_turn EachLayer read = sym (each_in_turn old (all_of IsReadLayer (layers old) (λ ordinal layer there. read ordinal layer tt there)))
 
     module _ (choice : LayersChoice) where
       by_readable : (found : List (ℕ × (ℕ × Layer))) (readable : Result (Unit {0}) Refusal) → selected_layers choice old ≡ Ok found → refuse_first (unreadable found) ≡ readable → (readable >>= λ nothing. change_layers both choice old) ≡ ((readable >>= λ nothing. change_layers first choice old) >>= λ new. change_readable second choice new)
-      by_readable found (Err refusal) meant is = refl
-      by_readable found (Ok nothing) meant is =
-          layers_in_turn choice (λ ordinal layer chosen there. meant_read choice old found nothing meant is ordinal layer chosen there)
+      by_readable found (Err refusal) selects is = refl
+      by_readable found (Ok nothing) selects is =
+          layers_in_turn choice (λ ordinal layer chosen there. selected_read choice old found nothing selects is ordinal layer chosen there)
 
-      by_meant : (meant : Result (List (ℕ × (ℕ × Layer))) Refusal) → selected_layers choice old ≡ meant → (meant >>= λ layers. refuse_first (unreadable layers) >>= λ readable. change_layers both choice old) ≡ ((meant >>= λ layers. refuse_first (unreadable layers) >>= λ readable. change_layers first choice old) >>= λ new. change_readable second choice new)
-      by_meant (Err refusal) is = refl
-      by_meant (Ok found) is = by_readable found (refuse_first (unreadable found)) is refl
+      by_selected : (selects : Result (List (ℕ × (ℕ × Layer))) Refusal) → selected_layers choice old ≡ selects → (selects >>= λ layers. refuse_first (unreadable layers) >>= λ readable. change_layers both choice old) ≡ ((selects >>= λ layers. refuse_first (unreadable layers) >>= λ readable. change_layers first choice old) >>= λ new. change_readable second choice new)
+      by_selected (Err refusal) is = refl
+      by_selected (Ok found) is = by_readable found (refuse_first (unreadable found)) is refl
 
   -- both changes, one after the other, are the one, with its refusals
   pub changes_in_turn : (choice : LayersChoice) (old : Document) → change_readable both choice old ≡ (change_readable first choice old >>= λ new. change_readable second choice new)
-  changes_in_turn choice old = by_meant old choice (selected_layers choice old) refl
+  changes_in_turn choice old = by_selected old choice (selected_layers choice old) refl

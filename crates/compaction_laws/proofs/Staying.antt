@@ -109,7 +109,7 @@ module _ {A : Type 0} (stays : ℕ → Bool) where
             )
       ]
 
-  -- the entries that stay, told by a filter
+  -- the entries that stay, by a filter
   pub kept_filtered : (n : ℕ) (xs : List A) → kept stays n xs ≡ map (λ (entry : ℕ × A). entry.1) (filter (λ (entry : ℕ × A). stays entry.0) (enumerate_from n xs))
   kept_filtered n [] = refl
   kept_filtered n (x ∷ xs) =
@@ -191,7 +191,7 @@ module _ {A : Type 0} (passes : A → Bool) (stays : ℕ → Bool) where
           | inr skip ↦ rw skip (ap (cons_option (pick x)) (filter_map-apart apart n xs))
         ]
 
-  -- the same of each item, where what passes is told by what it becomes
+  -- the same of each item, where what passes follows from what it becomes
   pub map-staying : {B : Type 0} (f : A → B) (also : B → Bool) → ((x : A) → also (f x) ≡ passes x) → (n : ℕ) (xs : List A) → map f (staying passes stays n xs) ≡ staying also stays n (map f xs)
   map-staying f also same n [] = refl
   map-staying f also same n (x ∷ xs) =

@@ -10,7 +10,7 @@ use Rattle.mvt_messages.specs.Views.{content_in, features, key_field, plain_fiel
 use Rattle.mvt_meaning.specs.Tagging.{without_tags}
 use Rattle.mvt_meaning.specs.Meaning.{◌>>=◌, applied}
 use Rattle.attribute_laws.specs.Laws.{FeatureBecomes}
-use Rattle.attribute_laws.specs.MeantLayers.{ChangesLayers}
+use Rattle.attribute_laws.specs.ChangedLayers.{ChangesLayers}
 
 -- ---- what is used
 
@@ -98,15 +98,15 @@ pub record LosesBoth (old new : Layer) : Type 0 where
   pub others : filter (λ item. not (is_entry_in key_field item || is_entry_in value_field item)) (outline new) ≡ filter (λ item. not (is_entry_in key_field item || is_entry_in value_field item)) (outline old)
   pub unmoved : IsLeftOf (Option Field) (outline new) (outline old)
 
--- where it is accepted that unused keys go, each layer that is meant loses them, and nothing else differs
+-- where it is accepted that unused keys go, each selected layer loses them, and nothing else differs
 abbrev pub CompactKeysCompacts : Type 0
 CompactKeysCompacts = (choice : LayersChoice) (old new : Document) → applied (CompactKeys choice) old ≡ Ok new → ChangesLayers choice LosesKeys old new
 
--- where it is accepted that unused values go, each layer that is meant loses them, and nothing else differs
+-- where it is accepted that unused values go, each selected layer loses them, and nothing else differs
 abbrev pub CompactValuesCompacts : Type 0
 CompactValuesCompacts = (choice : LayersChoice) (old new : Document) → applied (CompactValues choice) old ≡ Ok new → ChangesLayers choice LosesValues old new
 
--- where it is accepted that unused keys and values go, each layer that is meant loses them, and nothing else differs
+-- where it is accepted that unused keys and values go, each selected layer loses them, and nothing else differs
 abbrev pub CompactCompacts : Type 0
 CompactCompacts = (choice : LayersChoice) (old new : Document) → applied (Compact choice) old ≡ Ok new → ChangesLayers choice LosesBoth old new
 

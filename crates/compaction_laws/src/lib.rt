@@ -5,10 +5,10 @@
 ghost use Rattle.mvt_command.specs.Command.{Compact, CompactKeys, CompactValues, LayersChoice};
 ghost use Rattle.compaction_laws.specs.Laws.{AgainChangesNothing, CompactCompacts, CompactIsBoth, CompactKeysCompacts, CompactValuesCompacts};
 
-/// Where it is accepted that the unused keys go, each key of the layers that are meant is used by a
+/// Where it is accepted that the unused keys go, each key of the selected layers is used by a
 /// feature, and each that was used has stayed, in its order and to the byte. Each feature has its
-/// attributes and its fields that are no tags. The features, all other fields of these layers and the
-/// other layers stand as they did.
+/// attributes and its fields that are no tags. The features, all other fields of these layers and
+/// the other layers stand as they did.
 pub fn compact_keys_compacts()
     ensures { CompactKeysCompacts }
 {}

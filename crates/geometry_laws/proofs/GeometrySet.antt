@@ -28,7 +28,7 @@ use Rattle.mvt_meaning.specs.Selection.{is_feature, selected, selected_in}
 use Rattle.mvt_meaning.specs.declared.refusal.Refusal.TheVariants.{OutOfRange}
 use Rattle.mvt_meaning.proofs.Given.{value_given}
 use Rattle.command_laws.specs.Kept.{ChangesFeature}
-use Rattle.command_laws.proofs.Accepted.{accepted, feature_meant, not_refused, within_is}
+use Rattle.command_laws.proofs.Accepted.{accepted, feature_selects, not_refused, within_is}
 use Rattle.command_laws.proofs.LastPut.{last_put, others_put, parts_put}
 use Rattle.command_laws.proofs.OtherFields.{none_of, values_stay}
 use Rattle.command_laws.proofs.Parts.{changes_feature, changes_layer, with_fields}
@@ -152,10 +152,10 @@ pub set_geometry_sets : SetGeometrySets
 set_geometry_sets choice feature geometry old new valid e =
     let change : List Field → List Field = with_geometry geometry in
     let far = not (is_in_range geometry) in
-    let meant = accepted (selected choice old) (λ ordinal. selected_in feature ordinal old >>= λ meant. refuse_if far OutOfRange >>= λ short. within_limit (change_feature change ordinal meant old)) new e in
-    let found = accepted (selected_in feature meant.0 old) (λ found. refuse_if far OutOfRange >>= λ short. within_limit (change_feature change meant.0 found old)) new meant.2 in
-    let short = accepted (refuse_if far OutOfRange) (λ short. within_limit (change_feature change meant.0 found.0 old)) new found.2 in
-    let made = within_is (change_feature change meant.0 found.0 old) new short.2 in
+    let selects = accepted (selected choice old) (λ ordinal. selected_in feature ordinal old >>= λ selects. refuse_if far OutOfRange >>= λ short. within_limit (change_feature change ordinal selects old)) new e in
+    let found = accepted (selected_in feature selects.0 old) (λ found. refuse_if far OutOfRange >>= λ short. within_limit (change_feature change selects.0 found old)) new selects.2 in
+    let short = accepted (refuse_if far OutOfRange) (λ short. within_limit (change_feature change selects.0 found.0 old)) new found.2 in
+    let made = within_is (change_feature change selects.0 found.0 old) new short.2 in
     let range = (in_range-Decides geometry).0 (not-false (is_in_range geometry) (not_refused far OutOfRange short.0 short.1)) in
-    changes_layer choice (ChangesFeature feature (SetsGeometry geometry)) (change_nth is_feature (in_feature change) found.0) old new meant.0 meant.1 made (λ layer is.
-    changes_feature feature (SetsGeometry geometry) change layer found.0 (feature_meant feature old layer meant.0 found.0 is found.1) (λ former was. sets geometry valid range former))
+    changes_layer choice (ChangesFeature feature (SetsGeometry geometry)) (change_nth is_feature (in_feature change) found.0) old new selects.0 selects.1 made (λ layer is.
+    changes_feature feature (SetsGeometry geometry) change layer found.0 (feature_selects feature old layer selects.0 found.0 is found.1) (λ former was. sets geometry valid range former))

@@ -33,7 +33,7 @@ use Rattle.mvt_meaning.specs.declared.refusal.Refusal.TheVariants.{BadGeometry, 
 use Rattle.mvt_meaning.proofs.Given.{number_given}
 use Rattle.mvt_meaning.proofs.Moving.{moves_short}
 use Rattle.command_laws.specs.Kept.{ChangesFeature}
-use Rattle.command_laws.proofs.Accepted.{accepted, feature_meant, not_refused, within_is}
+use Rattle.command_laws.proofs.Accepted.{accepted, feature_selects, not_refused, within_is}
 use Rattle.command_laws.proofs.OtherFields.{others_stay, values_stay}
 use Rattle.command_laws.proofs.Parts.{changes_feature, changes_layer, fields_found, with_fields}
 use Rattle.command_laws.proofs.ReadValues.{numbers_of_values, value_list, values_of_read}
@@ -161,7 +161,7 @@ module _ (dx dy : ℤ) where
 -- what an accepted shift was asked of, and what it made
 pub record IsShift (choice : LayerChoice) (feature : FeatureChoice) (dx dy : ℤ) (old new : Document) : Type 0 where
   pub ordinal : ℕ
-  pub meant : selected choice old ≡ Ok ordinal
+  pub selects : selected choice old ≡ Ok ordinal
   pub index : ℕ
   pub found : selected_in feature ordinal old ≡ Ok index
   pub drawn : is_drawn ordinal index old ≡ true
@@ -171,28 +171,28 @@ pub record IsShift (choice : LayerChoice) (feature : FeatureChoice) (dx dy : ℤ
 pub is_shift : (choice : LayerChoice) (feature : FeatureChoice) (dx dy : ℤ) (old new : Document) → applied (Shift choice feature dx dy) old ≡ Ok new → IsShift choice feature dx dy old new
 is_shift choice feature dx dy old new e =
     let change : List Field → List Field = shifted dx dy in
-    let meant = accepted (selected choice old) (λ ordinal. selected_in feature ordinal old >>= λ meant. refuse_if (not (is_drawn ordinal meant old)) (BadGeometry ordinal meant) >>= λ readable. refuse_if (not (can_shift dx dy ordinal meant old)) OutOfRange >>= λ short. within_limit (change_feature change ordinal meant old)) new e in
-    let found = accepted (selected_in feature meant.0 old) (λ found. refuse_if (not (is_drawn meant.0 found old)) (BadGeometry meant.0 found) >>= λ readable. refuse_if (not (can_shift dx dy meant.0 found old)) OutOfRange >>= λ short. within_limit (change_feature change meant.0 found old)) new meant.2 in
-    let bad = not (is_drawn meant.0 found.0 old) in
-    let far = not (can_shift dx dy meant.0 found.0 old) in
-    let readable = accepted (refuse_if bad (BadGeometry meant.0 found.0)) (λ readable. refuse_if far OutOfRange >>= λ short. within_limit (change_feature change meant.0 found.0 old)) new found.2 in
-    let short = accepted (refuse_if far OutOfRange) (λ short. within_limit (change_feature change meant.0 found.0 old)) new readable.2 in
+    let selects = accepted (selected choice old) (λ ordinal. selected_in feature ordinal old >>= λ selects. refuse_if (not (is_drawn ordinal selects old)) (BadGeometry ordinal selects) >>= λ readable. refuse_if (not (can_shift dx dy ordinal selects old)) OutOfRange >>= λ short. within_limit (change_feature change ordinal selects old)) new e in
+    let found = accepted (selected_in feature selects.0 old) (λ found. refuse_if (not (is_drawn selects.0 found old)) (BadGeometry selects.0 found) >>= λ readable. refuse_if (not (can_shift dx dy selects.0 found old)) OutOfRange >>= λ short. within_limit (change_feature change selects.0 found old)) new selects.2 in
+    let bad = not (is_drawn selects.0 found.0 old) in
+    let far = not (can_shift dx dy selects.0 found.0 old) in
+    let readable = accepted (refuse_if bad (BadGeometry selects.0 found.0)) (λ readable. refuse_if far OutOfRange >>= λ short. within_limit (change_feature change selects.0 found.0 old)) new found.2 in
+    let short = accepted (refuse_if far OutOfRange) (λ short. within_limit (change_feature change selects.0 found.0 old)) new readable.2 in
     record {
-      ordinal = meant.0;
-      meant = meant.1;
+      ordinal = selects.0;
+      selects = selects.1;
       index = found.0;
       found = found.1;
-      drawn = not-false (is_drawn meant.0 found.0 old) (not_refused bad (BadGeometry meant.0 found.0) readable.0 readable.1);
-      can = not-false (can_shift dx dy meant.0 found.0 old) (not_refused far OutOfRange short.0 short.1);
-      made = within_is (change_feature change meant.0 found.0 old) new short.2;
+      drawn = not-false (is_drawn selects.0 found.0 old) (not_refused bad (BadGeometry selects.0 found.0) readable.0 readable.1);
+      can = not-false (can_shift dx dy selects.0 found.0 old) (not_refused far OutOfRange short.0 short.1);
+      made = within_is (change_feature change selects.0 found.0 old) new short.2;
     }
 
 pub shift_shifts : ShiftShifts
 shift_shifts choice feature dx dy old new valid within e =
     let s = is_shift choice feature dx dy old new e in
     let change : List Field → List Field = shifted dx dy in
-    changes_layer choice (ChangesFeature feature (Shifts dx dy)) (change_nth is_feature (in_feature change) s.index) old new s.ordinal s.meant s.made (λ layer is.
-    changes_feature feature (Shifts dx dy) change layer s.index (feature_meant feature old layer s.ordinal s.index is s.found) (λ former was.
+    changes_layer choice (ChangesFeature feature (Shifts dx dy)) (change_nth is_feature (in_feature change) s.index) old new s.ordinal s.selects s.made (λ layer is.
+    changes_feature feature (Shifts dx dy) change layer s.index (feature_selects feature old layer s.ordinal s.index is s.found) (λ former was.
     let fields = fields_found old s.ordinal s.index layer former is was in
     shifts dx dy former
     (subst (λ (fs : List Field). is_some (geometry_among fs) ≡ true) fields s.drawn)

@@ -158,8 +158,8 @@ shift_back choice feature dx dy old between valid within shortest e =
     let i = is_shift choice feature dx dy old between e in
     let there : List Field → List Field = shifted dx dy in
     let back : List Field → List Field = shifted (neg_ℤ dx) (neg_ℤ dy) in
-    let chosen_then : selected_in feature c.ordinal old ≡ Ok f.ordinal = ap (λ (layer : Option Layer). option_map_or (selected_feature feature) layer (Err NoLayer)) c.was ∙ f.meant in
-    let ordinal : i.ordinal ≡ c.ordinal = ok_same (selected choice old) i.ordinal c.ordinal i.meant c.meant in
+    let chosen_then : selected_in feature c.ordinal old ≡ Ok f.ordinal = ap (λ (layer : Option Layer). option_map_or (selected_feature feature) layer (Err NoLayer)) c.was ∙ f.selects in
+    let ordinal : i.ordinal ≡ c.ordinal = ok_same (selected choice old) i.ordinal c.ordinal i.selects c.selects in
     let index : i.index ≡ f.ordinal = ok_same (selected_in feature c.ordinal old) i.index f.ordinal (ap (λ (n : ℕ). selected_in feature n old) (sym ordinal) ∙ i.found) chosen_then in
     let made : change_feature there c.ordinal f.ordinal old ≡ between =
     ap (λ (n : ℕ). change_feature there n f.ordinal old) (sym ordinal) ∙ ap (λ (n : ℕ). change_feature there i.ordinal n old) (sym index) ∙ i.made in
@@ -169,7 +169,7 @@ shift_back choice feature dx dy old between valid within shortest e =
     ap (λ (n : ℕ). can_shift dx dy n f.ordinal old) (sym ordinal) ∙ ap (λ (n : ℕ). can_shift dx dy i.ordinal n old) (sym index) ∙ i.can in
     let fields_then : fields_of c.ordinal f.ordinal old ≡ f.former.fields = fields_found old c.ordinal f.ordinal c.former f.former c.was f.was in
     let read : read_numbers 4 (fields_of c.ordinal f.ordinal old) ≡ Some (s.command ∷ s.along ∷ s.down ∷ s.more) = ap (read_numbers 4) fields_then ∙ s.were in
-    let short = shortest c.ordinal f.ordinal s.command s.along s.down s.more c.meant chosen_then read in
+    let short = shortest c.ordinal f.ordinal s.command s.along s.down s.more c.selects chosen_then read in
     let same : (fields : List Field) → fields_of c.ordinal f.ordinal old ≡ fields → back (there fields) ≡ fields = λ fields are.
     fields_back dx dy fields s.command s.along s.down s.more
     (subst (λ (fs : List Field). is_some (geometry_among fs) ≡ true) are drawn_then)
@@ -178,11 +178,11 @@ shift_back choice feature dx dy old between valid within shortest e =
     let returned : change_feature (shifted (neg_ℤ dx) (neg_ℤ dy)) c.ordinal f.ordinal between ≡ old =
     ap (change_feature back c.ordinal f.ordinal) (sym made) ∙ document_back there back c.ordinal f.ordinal old same in
     let name : name_of c.present ≡ name_of c.former = ap (λ (fields : List Field). last_or None (contents 1 fields)) f.alone.fields in
-    let meant : selected choice between ≡ Ok c.ordinal = layer_again choice old between c.ordinal c.former c.present c.was c.is c.alone.others name ∙ c.meant in
+    let selects : selected choice between ≡ Ok c.ordinal = layer_again choice old between c.ordinal c.former c.present c.was c.is c.alone.others name ∙ c.selects in
     let id : id_of f.present ≡ id_of f.former = ap (last_or None) (values_stay 4 1 (λ e. omega (arith, e)) f.former.fields f.present.fields s.others) in
-    let chosen : selected_feature feature c.present ≡ Ok f.ordinal = feature_again feature c.former c.present f.ordinal f.former f.present f.was f.is f.alone.others id ∙ f.meant in
+    let chosen : selected_feature feature c.present ≡ Ok f.ordinal = feature_again feature c.former c.present f.ordinal f.former f.present f.was f.is f.alone.others id ∙ f.selects in
     let found : selected_in feature c.ordinal between ≡ Ok f.ordinal = ap (λ (layer : Option Layer). option_map_or (selected_feature feature) layer (Err NoLayer)) c.is ∙ chosen in
     let fields : fields_of c.ordinal f.ordinal between ≡ f.present.fields = fields_found between c.ordinal f.ordinal c.present f.present c.is f.is in
     let drawn : is_drawn c.ordinal f.ordinal between ≡ true = ap (λ (fs : List Field). is_some (geometry_among fs)) fields ∙ drawn_again f.present (moved dx dy s.geometry) s.has in
     let can : can_shift (neg_ℤ dx) (neg_ℤ dy) c.ordinal f.ordinal between ≡ true = ap (can_move (neg_ℤ dx) (neg_ℤ dy)) fields ∙ can_back dx dy f.former f.present s in
-    rw (meant, found, drawn, can) (within_so (change_feature (shifted (neg_ℤ dx) (neg_ℤ dy)) c.ordinal f.ordinal between) old returned within)
+    rw (selects, found, drawn, can) (within_so (change_feature (shifted (neg_ℤ dx) (neg_ℤ dy)) c.ordinal f.ordinal between) old returned within)

@@ -101,8 +101,8 @@ ShiftByNothing = (choice : LayerChoice) (feature : FeatureChoice) (old new : Doc
 -- of the first two parameters of the geometry of the selected feature, the first is in its shortest spelling where dx is
 -- not 0, and the second where dy is not 0 (tiles 4.3.2)
 abbrev pub IsShortIfMoved : ℤ → ℤ → LayerChoice → FeatureChoice → Document → Type 0
-IsShortIfMoved dx dy choice feature document = (ordinal meant : ℕ) (command along down : Number) (more : List Number) → selected choice document ≡ Ok ordinal → selected_in feature ordinal document ≡ Ok meant
-    → read_numbers 4 (fields_of ordinal meant document) ≡ Some (command ∷ along ∷ down ∷ more) → (dx ≢ pos 0 → along ≡ minimal along.value) × (dy ≢ pos 0 → down ≡ minimal down.value)
+IsShortIfMoved dx dy choice feature document = (ordinal found : ℕ) (command along down : Number) (more : List Number) → selected choice document ≡ Ok ordinal → selected_in feature ordinal document ≡ Ok found
+    → read_numbers 4 (fields_of ordinal found document) ≡ Some (command ∷ along ∷ down ∷ more) → (dx ≢ pos 0 → along ≡ minimal along.value) × (dy ≢ pos 0 → down ≡ minimal down.value)
 
 -- where a shift of a valid document of at most 67,108,864 bytes is accepted, and the parameters that it changes were in
 -- their shortest spelling, the shift back is accepted then and leaves the document as it was

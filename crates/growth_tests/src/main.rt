@@ -1,7 +1,7 @@
 //! Changes that are prepared and carried out, and scripts that are run, while one growth is refused.
 //!
 //! A line of standard input names a trial. Of a change the answer says to which call of the trial a
-//! growth was refused, and of a script what was replied and which tile it gave.
+//! growth was refused, and of a script what was replied and which tile it wrote.
 //! `tools/refused-growths` has each growth of each trial refused in turn.
 #![tactic(auto)]
 
@@ -72,7 +72,7 @@ fn no_trial<R: Eprint>(rt: &R, line: &str) -> io::Result<u8> {
     Ok(NO_TRIAL)
 }
 
-/// Runs the trial of a change, and tells to which call a growth was refused.
+/// Runs the trial of a change, and prints to which call a growth was refused.
 fn trial_status<R: Print + Eprint + AllocGlobal>(rt: &R, trial: Trial) -> io::Result<u8> {
     match trial.run(rt.alloc()) {
         Ok(refused) => {

@@ -1,7 +1,7 @@
 //! The trials of scripts, whole or up to one of their lines.
 //!
-//! A script is run on a tile by the public call. What came of it is told, with what was run, so that
-//! `tools/refused-growths` can hold it against what each line may be answered.
+//! A script is run on a tile by the public call. What came of it is printed, with what was run, so
+//! that `tools/refused-growths` can hold it against what each line may be answered.
 
 ghost use Rattle.std.specs.Prelude.{◌≤◌};
 
@@ -152,7 +152,7 @@ pub struct Front {
     count: Option<usize>,
 }
 
-/// The script of this name, or as many of its lines as are told behind `@`.
+/// The script of this name, or its first lines, as many as the number behind `@`.
 pub fn front_named(name: &str) -> Option<Front> {
     let Some((script, count)) = name.split_once('@') else {
         let script = script_named(name)?;
@@ -186,8 +186,8 @@ impl Front {
         }
     }
 
-    /// Runs the lines, and tells what was run and what came of it. Only the run itself takes memory:
-    /// there is room for its replies and its tile.
+    /// Runs the lines, and prints what was run and what came of it. Only the run itself takes
+    /// memory: there is room for its replies and its tile.
     pub fn run<R: Print + AllocGlobal>(self, rt: &R) -> io::Result<()> {
         let tile = self.script.tile();
         let lines = self.lines();
@@ -208,9 +208,9 @@ impl Front {
         println!(rt; "{self}: {outcome:?}")?;
         println!(rt; "depth {}", options.depth)?;
         println!(rt; "tile {}", Hex(tile))?;
-        tell_lines(rt, "script", lines)?;
+        print_lines(rt, "script", lines)?;
         let replies = replies.into_inner();
-        tell_lines(
+        print_lines(
             rt,
             "reply",
             str::from_utf8(written(&replies)).unwrap_or("no UTF-8"),
@@ -223,7 +223,7 @@ impl Front {
     }
 }
 
-/// So many lines of the text, or all.
+/// The first `count` lines of the text, or all.
 fn first_lines(text: &str, count: usize) -> &str {
     let mut rest = text;
     for _ in 0..count {
@@ -242,8 +242,8 @@ fn written(sink: &Cursor<[u8; ROOM]>) -> &[u8] {
     &room[..count]
 }
 
-/// Tells each line of the text behind the word.
-fn tell_lines<R: Print>(rt: &R, word: &str, text: &str) -> io::Result<()> {
+/// Prints each line of the text behind the word.
+fn print_lines<R: Print>(rt: &R, word: &str, text: &str) -> io::Result<()> {
     for line in text.lines() {
         println!(rt; "{word} {line}")?;
     }

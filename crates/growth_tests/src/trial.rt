@@ -236,7 +236,7 @@ fn a_series(alloc: Global) -> Result<Edit, Fault> {
     with_steps(series.into_edit(), 7)
 }
 
-/// The edit, where its change has so many steps.
+/// The edit, where its change has `count` steps.
 fn with_steps(edit: Edit, count: usize) -> Result<Edit, Fault> {
     if edit.change().steps.len() == count {
         Ok(edit)

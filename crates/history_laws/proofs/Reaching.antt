@@ -16,7 +16,7 @@ use Rattle.mvt_history_steps.proofs.Joined.{between_commands, lead_out_along}
 
 -- ---- where they lead
 
--- so many of them lead to the document within the open step
+-- `count` of them lead to the document within the open step
 within_along : (group : Option (List Command)) (document : Document) (pending : Option (List Change)) (count : ℕ) → LeadOut group document pending → count ≤ length (commands_in group) → go_along (take count (changes_in pending)) (after_all (commands_in group) document) ≡ after_all (take (length (commands_in group) - count) (commands_in group)) document
 within_along None document None zero lead within = refl
 within_along None document None (suc count) lead within = absurd (omega (arith, within))

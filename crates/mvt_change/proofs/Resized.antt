@@ -17,7 +17,7 @@ use Rattle.mvt_document.specs.Places.{change_items, fields_in, fields_in_at, in_
 use Rattle.mvt_change.specs.Changes.{Place, OfTheTile, OfTheLayer, OfTheFeature, change_list}
 use Rattle.mvt_change.proofs.Changed.{map-splice}
 
-pub fits_so : (limit : ℕ) (told : Option ℕ) (n : ℕ) → SomeIff told (n ≤ limit) n → is_some told ≡ not (ltb limit n)
+pub fits_so : (limit : ℕ) (answered : Option ℕ) (n : ℕ) → SomeIff answered (n ≤ limit) n → is_some answered ≡ not (ltb limit n)
 fits_so limit None n none = grind (arith, nat_tests)
 fits_so limit (Some m) n some = grind (arith, nat_tests)
 

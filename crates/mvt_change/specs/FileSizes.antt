@@ -1,7 +1,7 @@
--- How many bytes something takes, where a file may have so many.
+-- How many bytes something takes, where that is within the limit of a file.
 use Rattle.std.specs.Prelude.{ℕ, ◌≤◌, Option, SomeIff}
 use Rattle.mvt_document.specs.declared.TheConstants.{MAX_FILE}
 
--- what is told is this size, where a file may have so many bytes, and none where it may not
+-- the answer is this size, where that is within the limit of a file, and none where it is not
 abbrev pub IsFileSize : Option ℕ → ℕ → Type 0
-IsFileSize told size = SomeIff told (size ≤ MAX_FILE) size
+IsFileSize answer size = SomeIff answer (size ≤ MAX_FILE) size

@@ -22,7 +22,7 @@ pub record IsUnderway (change : Change) (start : plain.Document) (made rest : Li
   pub turns : map step_of made ≡ turn first start
   pub room : HaveRoom made document
 
--- of a change that is under way so many of the steps that are left are made, and turned; the others are left
+-- of a change that is under way the first `n` of the steps that are left are made, and turned; the others are left
 abbrev pub Advances : ℕ → List Step → List Step → Document → Document → Type 0
 Advances n steps new document after =
     (change : Change) (start : plain.Document) (made : List Step) → IsUnderway change start made steps document → IsUnderway change start (reverse (take n new) ++ made) (drop n new) after

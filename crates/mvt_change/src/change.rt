@@ -15,8 +15,8 @@ pub enum Place {
     Feature { layer: usize, item: usize },
 }
 
-/// One step of a change. So many items of a list from an index on are taken out, and the ones to
-/// put come there; or the item at one position moves to another.
+/// One step of a change. `take` items of a list from `index` are taken out, and the ones to put
+/// come there; or the item at one position moves to another.
 #[derive(Debug, Drop)]
 pub enum Step {
     InTile {

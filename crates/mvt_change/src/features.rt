@@ -56,7 +56,7 @@ fn flip_features(
     flipped
 }
 
-/// The same, one step after the other. Behind so few steps the size of the items is no longer known.
+/// The same, one step after the other. Behind `few` steps the size of the items is no longer known.
 fn flip_each(
     items: &mut Message<LayerItem>,
     layer: usize,
@@ -104,7 +104,7 @@ fn few_of(steps: &[Step], layer: usize, items: usize) -> usize {
     }
 }
 
-/// Gives up the size of the items where so few steps are made, and no more.
+/// Gives up the size of the items where `few` steps are made, and no more.
 fn forget_size_behind(items: &mut Message<LayerItem>, few: usize, made: usize)
     ensures { items.new ≡ items.old }
 {
@@ -136,8 +136,8 @@ fn flip_fields(items: &mut Message<LayerItem>, step: &mut Step) -> Result<(), Al
     Ok(())
 }
 
-/// In the feature at a position of a layer with these items, so many fields from an index on change
-/// places with the ones to put.
+/// In the feature at position `item` of a layer with these items, `taken` fields from `index`
+/// change places with the ones to put.
 fn exchange_fields(
     items: &mut Message<LayerItem>,
     item: usize,

@@ -8,13 +8,14 @@
 //!   first one last, and the list is then empty. Where memory runs out the list has what it had,
 //!   which it does for no list of one change or none: `join`.
 //! - The bytes of all items that a change puts are counted: `weight`.
-//! - Whether a file can hold a tile once a step is carried out on it is told before that, exactly,
-//!   for every document and each step that fits it: also for a tile that no file can hold, and
-//!   where the length of a layer or of a feature comes to take more bytes or fewer: `fits_after`.
-//! - For a change of several steps in one layer this is told by the size of what they make: whether
-//!   a file can hold the tile where the layer has items of a size, whichever they are, and which
-//!   size its items have where one feature has fields of a size and items of another come at the
-//!   end: `fits_with_items`, `size_with_fields`.
+//! - Whether a file can hold a tile once a step is carried out on it is answered before that,
+//!   exactly, for every document and each step that fits it: also for a tile that no file can hold,
+//!   and where the length of a layer or of a feature comes to take more bytes or fewer:
+//!   `fits_after`.
+//! - For a change of several steps in one layer this follows from the size of what they make:
+//!   whether a file can hold the tile where the layer has items of a size, whichever they are, and
+//!   which size its items have where one feature has fields of a size and items of another come
+//!   at the end: `fits_with_items`, `size_with_fields`.
 //! - Conditions: the change fits the document (`flip`), or the step does (`fits_after`); there is a
 //!   layer at the position (`fits_with_items`), or a feature (`size_with_fields`); the sum is below
 //!   2^64 (`weight`).

@@ -68,7 +68,7 @@ fn move_in_feature(document: &mut Document, layer: usize, item: usize, from: usi
     );
 }
 
-/// In the layer at a position of the tile, so many items from an index on change places with the
+/// In the layer at position `layer` of the tile, `taken` items from `index` change places with the
 /// ones to put.
 pub(crate) fn exchange_in_layer(
     document: &mut Document,
@@ -91,8 +91,8 @@ pub(crate) fn exchange_in_layer(
     )
 }
 
-/// In the feature at a position of the layer at a position of the tile, so many fields from an
-/// index on change places with the ones to put.
+/// In the feature at position `item` of the layer at position `layer` of the tile, `taken` fields
+/// from `index` change places with the ones to put.
 pub(crate) fn exchange_in_feature(
     document: &mut Document,
     layer: usize,

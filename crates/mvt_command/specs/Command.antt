@@ -8,7 +8,7 @@ pub data LayerChoice : Type 0 where
   AtOrdinal : (ordinal : ℕ) → LayerChoice
   Named : (name : List ℕ) → LayerChoice
 
--- which layers are meant: the selected one, or each
+-- which layers are selected: one, or each
 pub data LayersChoice : Type 0 where
   TheLayer : (layer : LayerChoice) → LayersChoice
   EachLayer : LayersChoice

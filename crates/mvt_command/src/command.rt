@@ -7,7 +7,7 @@ use mvt_document::Items;
 use mvt_geometry::Geometry;
 use mvt_value::NewValue;
 
-/// The layer that is meant.
+/// The selected layer.
 #[derive(Debug, Drop)]
 pub enum LayerChoice {
     /// The ordinal among the layers, from 0.
@@ -16,14 +16,14 @@ pub enum LayerChoice {
     Name(Items<u8>),
 }
 
-/// The layers that are meant.
+/// The selected layers.
 #[derive(Debug, Drop)]
 pub enum LayersChoice {
     One(LayerChoice),
     All,
 }
 
-/// The feature of a layer that is meant.
+/// The selected feature of a layer.
 #[derive(Debug, Drop)]
 pub enum FeatureChoice {
     /// The ordinal among the features of the layer, from 0.

@@ -67,7 +67,7 @@ fewer_put index taken given list put swapped got all fewer within is got_is =
 
 -- ---- an item that moves
 
--- a front, an item, the items that it goes past, and those behind
+-- a prefix, an item, the items that it goes past, and those behind
 pub moved_on : {A : Type 0} (a x b c : List A) (from to : ℕ) → length x ≡ 1 → from ≡ length a → to ≡ from + length b → moved from to (a ++ (x ++ (b ++ c))) ≡ a ++ (b ++ (x ++ c))
 moved_on a x b c from to one start stop =
     let whole = a ++ (x ++ (b ++ c)) in

@@ -32,6 +32,6 @@ module _ {X : Type 0} where
   if_kept None P x same holds = tt
   if_kept (Some kept) P x same holds = subst P (sym same) holds
 
-  pub if_told : (kept told : Option X) (P : X → Type 0) → IfSome kept (λ x. told ≡ Some x) → IfSome told P → IfSome kept P
-  if_told None told P same holds = tt
-  if_told (Some kept) told P same holds = subst (λ o. IfSome o P) same holds
+  pub if_known : (kept known : Option X) (P : X → Type 0) → IfSome kept (λ x. known ≡ Some x) → IfSome known P → IfSome kept P
+  if_known None known P same holds = tt
+  if_known (Some kept) known P same holds = subst (λ o. IfSome o P) same holds

@@ -10,7 +10,7 @@ use Rattle.mvt_document.specs.Groups.{IsNumber, wire_type, IsWholeBodyWith, IsWh
 use Rattle.mvt_document.specs.Parts.{IsWholeField}
 use Rattle.mvt_document.proofs.Spelling.{length-spell, one_spelling, spelling_some}
 
--- two fronts of one length are equal, and so is what follows them
+-- two prefixes of one length are equal, and so is what follows them
 pub same_fronts : (a b x y : List ℕ) → length a ≡ length b → a ++ x ≡ b ++ y → (a ≡ b) × (x ≡ y)
 same_fronts [] [] x y l e = (refl, e)
 same_fronts [] (h ∷ b) x y l e = absurd (omega (arith, l))

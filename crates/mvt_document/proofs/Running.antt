@@ -165,7 +165,7 @@ known_parts run behind rest items until is =
       is = is ∙ sym (append_assoc F (C ++ B) rest ∙ ap (λ t. F ++ t) (append_assoc C B rest));
     }
 
--- so many of the same and then as many more
+-- `n` of the same and then `m` more
 same_joined : (n m : ℕ) (y : Bool) (rest : List Bool) → replicate n y ++ (replicate m y ++ rest) ≡ replicate (n + m) y ++ rest
 same_joined n m y rest = sym (append_assoc (replicate n y) (replicate m y) rest) ∙ ap (λ t. t ++ rest) (replicate-append-replicate n m y)
 

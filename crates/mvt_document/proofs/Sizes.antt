@@ -8,11 +8,11 @@ use Rattle.std.proofs.lemmas.List.Concat.{flat_map-append}
 use Rattle.mvt_document.specs.Wire.{spell, minimal_width, delimited}
 use Rattle.mvt_document.proofs.Spelling.{length-spell, width_within_grows}
 
--- a front and the item behind it are no longer than all items
+-- a prefix and the item behind it are no longer than all items
 pub item_within : {T : Type 0} (f : T → List ℕ) (xs : List T) (i : ℕ) (x : T) → i < length xs → x ≡ get_or xs i x → length (flat_map f (take i xs)) + length (f x) ≤ length (flat_map f xs)
 item_within f xs i x inside is = rw is (length-flat_map-take f xs i x inside)
 
--- a back and the item before it are no longer than all items
+-- a suffix and the item before it are no longer than all items
 pub item_within_back : {T : Type 0} (f : T → List ℕ) (xs : List T) (i k : ℕ) (x : T) → k ≡ i + 1 → i < length xs → x ≡ get_or xs i x → length (f x) + length (flat_map f (drop k xs)) ≤ length (flat_map f xs)
 item_within_back f xs i k x next inside is =
     let whole : length (flat_map f (take i xs)) + length (flat_map f (drop i xs)) ≡ length (flat_map f xs) =
@@ -32,6 +32,6 @@ pub length-message_grows : (value tag_width width : ℕ) (short long : List ℕ)
 length-message_grows value tag_width width short long less =
     omega (arith, length-message value tag_width width short, length-message value tag_width width long, width_within_grows 9 (length short) (length long) less)
 
--- what is told of a number within a limit is told of an equal one
-pub told_so : (limit : ℕ) (told : Option ℕ) (n m : ℕ) → n ≡ m → SomeIff told (n ≤ limit) n → SomeIff told (m ≤ limit) m
-told_so limit told n m same = subst (λ k. SomeIff told (k ≤ limit) k) same
+-- what is answered of a number within a limit is answered of an equal one
+pub same_size : (limit : ℕ) (answered : Option ℕ) (n m : ℕ) → n ≡ m → SomeIff answered (n ≤ limit) n → SomeIff answered (m ≤ limit) m
+same_size limit answered n m same = subst (λ k. SomeIff answered (k ≤ limit) k) same

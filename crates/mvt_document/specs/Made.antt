@@ -10,7 +10,7 @@ module _ {F L W R : Type 0} (g : Once F (MutBor L × (MutBor W × Unit {0})) (R 
   abbrev pub TakesList : L → W → Type 0
   TakesList list beside = (p : MutBor L) (q : MutBor W) → p.now ≡ list → q.now ≡ beside → g.pre change (p, (q, tt))
 
-  -- such a call may give `r`, and leave `made` in place of the list and `left` beside it
+  -- such a call may return `r`, and leave `made` in place of the list and `left` beside it
   pub record Makes (list : L) (beside : W) (r : R) (made : L) (left : W) : Type 0 where
     pub shown : MutBor L
     pub given : MutBor W

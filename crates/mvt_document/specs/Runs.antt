@@ -5,7 +5,7 @@ use Rattle.mvt_document.specs.declared.run.Kind.TheVariants as kind
 use Rattle.mvt_document.specs.declared.run.Run.{Run}
 use Rattle.mvt_document.specs.declared.run.Runs.{Runs}
 
--- so many false values, then so many true ones, then so many false ones
+-- `before` false values, then `count` true ones, then `behind` false ones
 abbrev pub one_run : ℕ → ℕ → ℕ → List Bool
 one_run before count behind = replicate before false ++ (replicate count true ++ replicate behind false)
 

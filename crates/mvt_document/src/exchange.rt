@@ -6,8 +6,7 @@ ghost use Rattle.mvt_document.specs.Splicing.{moved, part, splice};
 
 use std::alloc::AllocError;
 
-/// Exchanges so many items of the list from an index on for the ones to put. An `Err` changes
-/// nothing.
+/// Exchanges `taken` items of the list from `index` for the ones to put. An `Err` changes nothing.
 pub(crate) fn exchange<T>(
     list: &mut Vec<T>,
     index: usize,
@@ -34,7 +33,7 @@ pub(crate) fn exchange<T>(
     Ok(())
 }
 
-/// The items behind so many go into the list, at an index. It has room for them.
+/// The items of `put` behind the first `kept` go into the list, at `index`. It has room for them.
 fn insert_tail<T>(list: &mut Vec<T>, index: usize, put: &mut Vec<T>, kept: usize)
     requires within { index ≤ vec_len list.old }
     requires there { kept ≤ vec_len put.old }
@@ -49,7 +48,7 @@ fn insert_tail<T>(list: &mut Vec<T>, index: usize, put: &mut Vec<T>, kept: usize
     turn_behind(list.as_mut_slice(), index, rest);
 }
 
-/// So many items of the list from an index on go behind the others. There is room for them.
+/// `count` items of the list from `index` go behind those of `to`, which has room for them.
 fn remove_part<T>(list: &mut Vec<T>, index: usize, count: usize, to: &mut Vec<T>)
     requires within { index + count ≤ vec_len list.old }
     requires room { vec_len to.old + count ≤ vec_capacity to.old }
@@ -63,7 +62,7 @@ fn remove_part<T>(list: &mut Vec<T>, index: usize, count: usize, to: &mut Vec<T>
     move_tail(list, to, left);
 }
 
-/// The items behind so many go to the end of another list, which has room for them.
+/// The items behind the first `left` go to the end of another list, which has room for them.
 fn move_tail<T>(from: &mut Vec<T>, to: &mut Vec<T>, left: usize)
     requires there { left ≤ vec_len from.old }
     requires room { vec_len to.old + (vec_len from.old - left) ≤ vec_capacity to.old }
@@ -79,7 +78,7 @@ fn move_tail<T>(from: &mut Vec<T>, to: &mut Vec<T>, left: usize)
     reverse_behind(to.as_mut_slice(), start);
 }
 
-/// So many items from an index on come behind all others.
+/// `count` items from `index` come behind all others.
 fn turn_behind<T>(items: &mut [T], index: usize, count: usize)
     requires { index + count ≤ length items.old }
     ensures { items.new ≡ take index items.old ++ (drop (index + count) items.old ++ part index count items.old) }
@@ -94,7 +93,7 @@ fn reverse_behind<T>(items: &mut [T], index: usize)
     items[index..].reverse();
 }
 
-/// So many items from an index on change places with the first of another list.
+/// `count` items from `index` change places with the first `count` of another list.
 fn swap_part<T>(items: &mut [T], index: usize, other: &mut [T], count: usize)
     requires within { index + count ≤ length items.old }
     requires there { count ≤ length other.old }

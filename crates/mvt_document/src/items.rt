@@ -65,7 +65,7 @@ impl<T> Items<T> {
         self.inner.len()
     }
 
-    /// Makes room for so many more items, and for no more than those. An `Err` changes nothing.
+    /// Makes room for `more` items, and for no more than those. An `Err` changes nothing.
     pub fn reserve_exact(&mut self, more: usize) -> Result<(), AllocError>
         ensures items { self.new.items ≡ self.old.items }
         ensures ok { OnOk result (self.new.room ≡ max self.old.room more) }
@@ -84,10 +84,9 @@ impl<T> Items<T> {
         self.inner.push(item)
     }
 
-    /// Exchanges so many items from an index on for the ones to put, and puts them there in turn.
-    /// As many items as are taken change places where they stand. Items that are more or fewer
-    /// move the ones behind them, and need room in the one list or the other. An `Err` changes
-    /// nothing.
+    /// Exchanges `taken` items from `index` for the ones to put, and puts them there in turn. As
+    /// many items as are taken change places where they stand. Items that are more or fewer move
+    /// the ones behind them, and need room in the one list or the other. An `Err` changes nothing.
     pub fn exchange(
         &mut self,
         index: usize,

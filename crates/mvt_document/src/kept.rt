@@ -162,7 +162,7 @@ impl Kept {
         };
     }
 
-    /// Keeps the hashes of so many items at the front, and no more.
+    /// Keeps the hashes of the first `count` items, and no more.
     pub(crate) fn cut_hashes(&mut self, count: usize)
         ensures size { self.new.size ≡ self.old.size }
         ensures runs { self.new.runs ≡ self.old.runs }
@@ -228,7 +228,7 @@ impl Kept {
         }
     }
 
-    /// Keeps the hashes once so many items from an index on are exchanged for others.
+    /// Keeps the hashes once `taken` items from `index` are exchanged for others.
     pub(crate) fn exchange_hashes<T: Measured>(&mut self, index: usize, taken: usize, come: &[T])
         ensures size { self.new.size ≡ self.old.size }
         ensures runs { self.new.runs ≡ self.old.runs }
@@ -275,8 +275,8 @@ fn push_hashes<T: Measured>(hashes: &mut Vec<u32>, items: &[T], until: usize)
     }
 }
 
-/// Exchanges the hashes of so many items from an index on for those of others. Where there is no memory for that, those
-/// before the index stay.
+/// Exchanges the hashes of `taken` items from `index` for those of others. Where there is no memory
+/// for that, those before `index` stay.
 fn splice_hashes<T: Measured>(hashes: &mut Vec<u32>, index: usize, taken: usize, come: &[T])
     requires { index + taken ≤ length hashes.old.items }
     ensures { (items : List T) → AreHashes T.id_hash hashes.old.items items → AreHashes T.id_hash hashes.new.items (splice index taken come.now items) }

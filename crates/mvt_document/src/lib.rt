@@ -6,17 +6,18 @@
 //!   has as many bytes, or behind the bytes of a vector: `put_number`, `Varint::put`. The shortest
 //!   spelling of a number is the least width in which it fits: `Varint::minimal`. A signed number has
 //!   one ZigZag, and each ZigZag is that of one: `to_zigzag`, `from_zigzag`.
-//! - The tag of a field is a number below 2^32, in half the memory of a number, and gives that number
-//!   back: `Tag`. That of a layer or of a feature is below 2^8, and takes two bytes: `MessageTag`.
-//! - A field holds its tag and its body in four words, and up to 23 bytes that were read in these; it gives both,
-//!   the body with its bytes where they lie, and is made of a body with a list, or with bytes that are copied, or
-//!   of a LEN body's bytes in a vector, which keep it where they are more than 23: `Field::tag`, `body`, `new`,
-//!   `copied`, `delimited`.
+//! - The tag of a field is a number below 2^32, in half the memory of a number, and returns that
+//!   number: `Tag`. That of a layer or of a feature is below 2^8, and takes two bytes:
+//!   `MessageTag`.
+//! - A field holds its tag and its body in four words, and up to 23 bytes that were read in these;
+//!   it returns both, the body with its bytes where they lie, and is made of a body with a list, or
+//!   with bytes that are copied, or of a LEN body's bytes in a vector, which keep it where they are
+//!   more than 23: `Field::tag`, `body`, `new`, `copied`, `delimited`.
 //! - The value of a VARINT field of a number, and that of the last one in a list, are those of the definitions:
 //!   `value_in`, `last_value`. The id of a feature is kept beside its fields, and is the right one after every
 //!   change, which their type keeps: `Feature::id`.
-//! - How many bytes a value takes, where a file may have as many, or where they are within any
-//!   limit: `Measured::size` and `size_within`, those of `Message`, and `size_of_all`. So are those
+//! - How many bytes a value takes, where they are within the limit of a file, or within any limit:
+//!   `Measured::size` and `size_within`, those of `Message`, and `size_of_all`. So are those
 //!   beside a part of a list (`size_beside_part`), and those of a message with a content of a given
 //!   length (`message_size`). A message may keep that number; where it does, it is the right one
 //!   after every change, which its type keeps (`IsKept`).
@@ -31,15 +32,16 @@
 //!   and an item moves within its list: `exchange` and `move_item` of `Items` and of `Message`.
 //!   Where memory runs out nothing has changed, and it does not where both lists have the room
 //!   (`succeeds`).
-//! - What changes places with a part of a list holds one item in the value itself, and more in a vector: it is
-//!   made of either and gives either out, has the room of that vector, and makes room for more (`Put`).
+//! - What changes places with a part of a list holds one item in the value itself, and more in a
+//!   vector: it is made of either and returns either, has the room of that vector, and makes room
+//!   for more (`Put`).
 //! - The list of a layer, or of a feature, is changed where it stands, all else is kept, and the
 //!   sizes are right after it: `Document::change_items`, `Document::change_fields`, and in the items of
 //!   a layer `change_fields_in`.
 //! - A list makes room for a number of items and for no more, or lends the vector that it is in,
 //!   and ends as what that does (`writes_back`): `reserve_exact` and `as_vec_mut` of `Items`, and
 //!   `as_vec_mut`, `known_size` and `know_size` of `Message`, whose size is given back with it.
-//! - A list that is made of a vector has the room of that vector and gives it back, and none is lost
+//! - A list that is made of a vector has the room of that vector and returns it, and none is lost
 //!   as an item comes, which a list with room never refuses: `from_vec`, `into_vec` and `push` of
 //!   `Items` (`room`, `succeeds`).
 //! - The bytes of a group are fields, groups among them, and then an end tag of its own number,

@@ -35,7 +35,7 @@ pub trait Measured {
     fn size_within(&self, limit: usize) -> Option<usize>
         ensures { SomeIff result (length (bytes self.now) ≤ limit) (length (bytes self.now)) };
 
-    /// The same, where a file may have so many.
+    /// The same, where that is within the limit of a file.
     fn size(&self) -> Option<usize>
         ensures { SomeIff result (length (bytes self.now) ≤ MAX_FILE) (length (bytes self.now)) }
     {
@@ -72,7 +72,7 @@ pub fn size_of_all<T: Measured>(items: &[T], limit: usize) -> Option<usize>
     Some(size)
 }
 
-/// The size of the items beside so many from an index on, where it is within the limit.
+/// The size of the items beside `count` of them from `index`, where it is within the limit.
 pub fn size_beside_part<T: Measured>(
     items: &[T],
     index: usize,
@@ -87,7 +87,7 @@ pub fn size_beside_part<T: Measured>(
     sum_within(front, behind, limit)
 }
 
-/// The size of so many bytes behind their length, where it is within the limit.
+/// The size of `length` bytes behind their length, where it is within the limit.
 pub(crate) fn delimited_size(width: u8, length: usize, limit: usize) -> Option<usize>
     ensures { SomeIff result (max width (minimal_width length) + length ≤ limit) (max width (minimal_width length) + length) }
 {
@@ -95,7 +95,7 @@ pub(crate) fn delimited_size(width: u8, length: usize, limit: usize) -> Option<u
     sum_within(usize::from(width), length, limit)
 }
 
-/// The size of a tag and so many bytes behind it under one length, where it is within the limit.
+/// The size of a tag and `length` bytes behind it under one length, where it is within the limit.
 pub fn message_size(tag: Tag, width: u8, length: usize, limit: usize) -> Option<usize>
     ensures { let size = tag.width + (max width (minimal_width length) + length) in SomeIff result (size ≤ limit) size }
 {

@@ -121,7 +121,7 @@ impl<T: Measured> Message<T> {
         }
     }
 
-    /// The same, where a file may have so many.
+    /// The same, where that is within the limit of a file.
     pub fn size(&self) -> Option<usize>
         ensures { SomeIff result (length (flat_map T.bytes self.now.items) ≤ MAX_FILE) (length (flat_map T.bytes self.now.items)) }
     {
@@ -137,8 +137,8 @@ impl<T: Measured> Message<T> {
         Some(sum - item.size()?)
     }
 
-    /// How many bytes the items beside so many from an index on take, where they are within the
-    /// limit. Where the size is known, those so many alone are measured.
+    /// How many bytes the items beside `count` of them from `index` take, where they are within the
+    /// limit. Where the size is known, those `count` alone are measured.
     pub fn size_beside_part(&self, index: usize, count: usize, limit: usize) -> Option<usize>
         requires { index + count ≤ length self.now.items }
         ensures { let size = length (flat_map T.bytes (splice index count [] self.now.items)) in SomeIff result (size ≤ limit) size }
@@ -251,8 +251,8 @@ impl<T: Measured> Message<T> {
         }
     }
 
-    /// How many bytes the items take once so many from an index on are exchanged for the ones to
-    /// put, where that is known.
+    /// How many bytes the items take once `taken` of them from `index` are exchanged for the ones
+    /// to put, where that is known.
     fn size_exchanged(&self, index: usize, taken: usize, put: &Put<T>) -> Option<usize>
         requires { index + taken ≤ length self.now.items }
         ensures { IsKept T.bytes (splice index taken put.now.items self.now.items) result }
@@ -263,8 +263,8 @@ impl<T: Measured> Message<T> {
         sum_within(sum - gone, come, usize::MAX)
     }
 
-    /// The run of the items of a kind once so many from an index on are exchanged for the ones to put, of
-    /// which that is the run.
+    /// The run of the items of a kind once `taken` items from `index` are exchanged for the ones to
+    /// put, whose run is `put_run`.
     fn run_exchanged(
         &self,
         kind: Kind,

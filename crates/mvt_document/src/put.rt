@@ -148,7 +148,8 @@ impl<T: Drop> Put<T> {
         mem::replace(&mut self.form, form).into_one()
     }
 
-    /// The item, if there is one, in a vector with room for so many more. None is left. An `Err` changes nothing.
+    /// The item, if there is one, in a vector with room for `more` items beside it. None is left.
+    /// An `Err` changes nothing.
     fn take_roomy(&mut self, more: usize) -> Result<Vec<T>, AllocError>
         requires { length self.old.items ≤ 1 }
         ensures items { IfOk result (λ items. items.items ≡ self.old.items) }
@@ -164,7 +165,7 @@ impl<T: Drop> Put<T> {
         Ok(items)
     }
 
-    /// Makes room for so many more items, and for no more than those. An `Err` changes nothing.
+    /// Makes room for `more` items, and for no more than those. An `Err` changes nothing.
     #[inline(always)]
     pub fn reserve_exact(&mut self, more: usize) -> Result<(), AllocError>
         ensures items { self.new.items ≡ self.old.items }
@@ -181,7 +182,7 @@ impl<T: Drop> Put<T> {
         Ok(())
     }
 
-    /// So many items of a vector from an index on change places with these. An `Err` changes nothing.
+    /// `taken` items of a vector from `index` change places with these. An `Err` changes nothing.
     pub(crate) fn exchange_in(
         &mut self,
         list: &mut Vec<T>,

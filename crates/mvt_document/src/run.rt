@@ -20,8 +20,8 @@ pub enum Kind {
     Value,
 }
 
-/// Of the items before `until`, those of one kind: so many from the first on. Of those behind nothing is
-/// known.
+/// Of the items before `until`, those of one kind: `count` items from `first`. Of those behind
+/// nothing is known.
 #[derive(Clone, Copy, Debug)]
 pub struct Run {
     pub first: usize,
@@ -64,7 +64,7 @@ impl Run {
         }
     }
 
-    /// That of so many items that are all of the kind, or none of them.
+    /// That of `count` items that are all of the kind, or none of them.
     #[inline(always)]
     fn of_same(count: usize, are_of_kind: bool) -> Run
         ensures { IsRun result (replicate count are_of_kind) }
@@ -119,7 +119,7 @@ impl Run {
         }
     }
 
-    /// That of the items from an index on, up to which all is known.
+    /// That of the items from `index` on, up to which all is known.
     #[tactic(auto, using(crate::proofs::Running::back_of))]
     fn back(self, index: usize) -> Run
         ensures { (items : List Bool) → IsRun self items → index ≤ self.until → IsRun result (drop index items) }
@@ -131,8 +131,8 @@ impl Run {
         }
     }
 
-    /// That of the list once so many items from an index on are exchanged for others, which are so many and
-    /// have a run of their own.
+    /// That of the list once `taken` items from `index` are exchanged for `given` others, whose run
+    /// is `put`.
     pub(crate) fn spliced(self, index: usize, taken: usize, put: Run, given: usize) -> Run
         ensures { (items come : List Bool) → IsRun self items → index ≤ length items → IsRun put come → given ≡ length come → IsRun result (splice index taken come items) }
     {
@@ -242,7 +242,8 @@ fn runs_of_whole<T: Measured>(part: &[T], kind: Kind) -> Runs
     }
 }
 
-/// The runs of each kind in the items and in a part behind them, where those of so many items are known.
+/// The runs of each kind in `seen` items and in a part behind them, where `runs` are those of the
+/// items alone.
 fn runs_with_part<T: Measured>(runs: Runs, seen: usize, part: &[T]) -> Runs
     ensures { (items : List T) → AreRunsOf T.of_kind runs items → seen ≡ length items → AreRunsOf T.of_kind result (items ++ part.now) }
 {

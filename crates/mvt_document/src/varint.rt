@@ -117,7 +117,7 @@ fn last_byte(bytes: &[u8]) -> Option<usize>
     bytes.iter().take(10).position(|byte| *byte < 128)
 }
 
-/// Writes the number at the end of the room, in so many bytes.
+/// Writes the number at the end of the room, in `width` bytes.
 pub fn put_number(value: u64, width: u8, room: &mut [u8]) -> usize
     requires some { 1 ≤ width }
     requires fits { width ≤ length room.old }

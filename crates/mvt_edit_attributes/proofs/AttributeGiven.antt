@@ -55,14 +55,14 @@ pub on_values : (key : List ℕ) (layer : Layer) (feature : Feature) (key_count 
     → option_map (revalued (λ ordinal. unwrap_or (slice_get named ordinal) false) value) (plain_pairs (tag_pairs key_count value_count (numbers 2 feature.fields))) ≡ Some decisions → option_map (count (λ pair. unwrap_or (slice_get named pair.0) false)) (plain_pairs (tag_pairs key_count value_count (numbers 2 feature.fields))) ≡ Some n
     → OnValues key value layer.items feature.fields decisions n
 on_values key layer feature key_count value_count named value decisions n is_named is_keys is_values is so_many =
-    let meant : ℕ → Bool = λ ordinal. unwrap_or (slice_get (map (bytes_eq key) (keys layer)) ordinal) false in
+    let selects : ℕ → Bool = λ ordinal. unwrap_or (slice_get (map (bytes_eq key) (keys layer)) ordinal) false in
     let found = pairs_among layer.items feature.fields in
     let same = sym (named_is key layer) in
-    let decided : option_map (revalued meant value) (plain_pairs (tag_pairs (length (keys layer)) (length (values layer)) (numbers 2 feature.fields))) ≡ Some decisions = rw (is_named, is_keys, is_values) at is in
-    let counted : option_map (count (λ pair. meant pair.0)) (plain_pairs (tag_pairs (length (keys layer)) (length (values layer)) (numbers 2 feature.fields))) ≡ Some n = rw (is_named, is_keys, is_values) at so_many in
+    let decided : option_map (revalued selects value) (plain_pairs (tag_pairs (length (keys layer)) (length (values layer)) (numbers 2 feature.fields))) ≡ Some decisions = rw (is_named, is_keys, is_values) at is in
+    let counted : option_map (count (λ pair. selects pair.0)) (plain_pairs (tag_pairs (length (keys layer)) (length (values layer)) (numbers 2 feature.fields))) ≡ Some n = rw (is_named, is_keys, is_values) at so_many in
     by_found key value layer.items feature.fields decisions n found refl
-    (ap (λ keys_meant. option_map (revalued keys_meant value) found) same ∙ ap (option_map (revalued meant value)) (sym (tags_are_pairs layer feature)) ∙ decided)
-    (ap (λ (keys_meant : ℕ → Bool). option_map (count (λ pair. keys_meant pair.0)) found) same ∙ ap (option_map (count (λ pair. meant pair.0))) (sym (tags_are_pairs layer feature)) ∙ counted)
+    (ap (λ keys_selected. option_map (revalued keys_selected value) found) same ∙ ap (option_map (revalued selects value)) (sym (tags_are_pairs layer feature)) ∙ decided)
+    (ap (λ (keys_selected : ℕ → Bool). option_map (count (λ pair. keys_selected pair.0)) found) same ∙ ap (option_map (count (λ pair. selects pair.0))) (sym (tags_are_pairs layer feature)) ∙ counted)
 
 -- ---- what is refused
 

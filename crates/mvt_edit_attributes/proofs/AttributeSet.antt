@@ -24,7 +24,7 @@ use Rattle.mvt_meaning.specs.Fields.{new_content}
 use Rattle.mvt_meaning.specs.Meaning.{◌>>=◌, applied, change_layer, fields_of, has_pairs, items_of, refuse_if, repeats_key, within_limit}
 use Rattle.mvt_meaning.specs.Selection.{feature_positions, is_feature, layer_positions, selected, selected_feature, selected_in}
 use Rattle.mvt_meaning.specs.Tagging.{attributed, missing_entries, missing_entry, pairs_among, pairs_with, with_attribute}
-use Rattle.mvt_meaning.specs.Weights.{of_meant, set_puts, set_takes, set_weight, weigh}
+use Rattle.mvt_meaning.specs.Weights.{of_selected, set_puts, set_takes, set_weight, weigh}
 use Rattle.mvt_meaning.specs.declared.refusal.Refusal.{Refusal}
 use Rattle.mvt_meaning.specs.declared.refusal.Refusal.TheVariants.{BadTags, RepeatedKey, TooLarge}
 use Rattle.mvt_meaning.proofs.Found.{change_layer_found, change_nth_found, fields_at_found, fields_of_found, items_at_found, items_of_found, selected_in_found}
@@ -161,24 +161,24 @@ module _ (choice : LayerChoice) (key : List ℕ) (value : Value) (document : Doc
   items_here : items_of ordinal document ≡ layer.items
   items_here = items_of_found document ordinal position layer placed there
 
-  -- where no feature is meant
+  -- where no feature is selected
   pub no_feature_gets : (feature : FeatureChoice) (refusal : Refusal) → selected_feature feature layer ≡ Err refusal → applied (SetAttribute choice feature key value) document ≡ Err refusal
   no_feature_gets feature refusal refused =
       let none = selected_in_found document ordinal position layer placed there feature ∙ refused in
       rw (chosen, none) refl
 
-  module _ (feature : FeatureChoice) (meant item : ℕ) (found : Feature) (selected_there : selected_feature feature layer ≡ Ok meant) (feature_placed : slice_get (feature_positions layer.items) meant ≡ Some item) (feature_there : slice_get layer.items item ≡ Some (OfFeature found)) where
-    selected_here : selected_in feature ordinal document ≡ Ok meant
+  module _ (feature : FeatureChoice) (selects item : ℕ) (found : Feature) (selected_there : selected_feature feature layer ≡ Ok selects) (feature_placed : slice_get (feature_positions layer.items) selects ≡ Some item) (feature_there : slice_get layer.items item ≡ Some (OfFeature found)) where
+    selected_here : selected_in feature ordinal document ≡ Ok selects
     selected_here = selected_in_found document ordinal position layer placed there feature ∙ selected_there
 
-    fields_here : fields_of ordinal meant document ≡ found.fields
-    fields_here = fields_of_found document ordinal position layer placed there meant item found feature_placed feature_there
+    fields_here : fields_of ordinal selects document ≡ found.fields
+    fields_here = fields_of_found document ordinal position layer placed there selects item found feature_placed feature_there
 
-    pairs_here : has_pairs ordinal meant document ≡ is_some (pairs_among layer.items found.fields)
-    pairs_here = ap (λ items. is_some (pairs_among items (fields_of ordinal meant document))) items_here ∙ ap (λ fields. is_some (pairs_among layer.items fields)) fields_here
+    pairs_here : has_pairs ordinal selects document ≡ is_some (pairs_among layer.items found.fields)
+    pairs_here = ap (λ items. is_some (pairs_among items (fields_of ordinal selects document))) items_here ∙ ap (λ fields. is_some (pairs_among layer.items fields)) fields_here
 
-    repeats_here : repeats_key key ordinal meant document ≡ nat_lt 1 (pairs_with key layer.items found.fields)
-    repeats_here = ap (λ items. nat_lt 1 (pairs_with key items (fields_of ordinal meant document))) items_here ∙ ap (λ fields. nat_lt 1 (pairs_with key layer.items fields)) fields_here
+    repeats_here : repeats_key key ordinal selects document ≡ nat_lt 1 (pairs_with key layer.items found.fields)
+    repeats_here = ap (λ items. nat_lt 1 (pairs_with key items (fields_of ordinal selects document))) items_here ∙ ap (λ fields. nat_lt 1 (pairs_with key layer.items fields)) fields_here
 
     abbrev given : List Field → List Field
     given = with_attribute key (encoded_value value) layer.items
@@ -189,22 +189,22 @@ module _ (choice : LayerChoice) (key : List ℕ) (value : Value) (document : Doc
     abbrev whole : List LayerItem → List LayerItem
     whole items = attributed_at key (encoded_value value) layer.items item items
 
-    made_there : change_layer (attributed key (encoded_value value) meant) ordinal document ≡ change_items whole position document
+    made_there : change_layer (attributed key (encoded_value value) selects) ordinal document ≡ change_items whole position document
     made_there =
-        let same : attributed key (encoded_value value) meant layer.items ≡ whole layer.items = ap (λ items. items ++ entries) (change_nth_found is_feature (in_feature given) layer.items meant item feature_placed) in
-        change_layer_found document ordinal position layer placed there (attributed key (encoded_value value) meant)
-        ∙ (of_the_layer position).alike (attributed key (encoded_value value) meant) whole document (subst (λ o. IfSome o (λ items. attributed key (encoded_value value) meant items ≡ whole items)) (sym (items_at_found document ordinal position layer placed there)) same)
+        let same : attributed key (encoded_value value) selects layer.items ≡ whole layer.items = ap (λ items. items ++ entries) (change_nth_found is_feature (in_feature given) layer.items selects item feature_placed) in
+        change_layer_found document ordinal position layer placed there (attributed key (encoded_value value) selects)
+        ∙ (of_the_layer position).alike (attributed key (encoded_value value) selects) whole document (subst (λ o. IfSome o (λ items. attributed key (encoded_value value) selects items ≡ whole items)) (sym (items_at_found document ordinal position layer placed there)) same)
 
-    checks : applied (SetAttribute choice feature key value) document ≡ (refuse_if (not (is_some (pairs_among layer.items found.fields))) (BadTags ordinal meant) >>= λ readable. (refuse_if (nat_lt 1 (pairs_with key layer.items found.fields)) (RepeatedKey ordinal meant) >>= λ once. within_limit (change_items whole position document)))
+    checks : applied (SetAttribute choice feature key value) document ≡ (refuse_if (not (is_some (pairs_among layer.items found.fields))) (BadTags ordinal selects) >>= λ readable. (refuse_if (nat_lt 1 (pairs_with key layer.items found.fields)) (RepeatedKey ordinal selects) >>= λ once. within_limit (change_items whole position document)))
     checks = rw (chosen, selected_here, pairs_here, repeats_here, made_there) refl
 
     -- where the tags are refused
-    pub tags_refused : (refusal : Refusal) → attribute_checked key ordinal meant layer.items found.fields ≡ Err refusal → applied (SetAttribute choice feature key value) document ≡ Err refusal
-    tags_refused refusal refused = checks ∙ first_check (refuse_if (not (is_some (pairs_among layer.items found.fields))) (BadTags ordinal meant)) (refuse_if (nat_lt 1 (pairs_with key layer.items found.fields)) (RepeatedKey ordinal meant)) (within_limit (change_items whole position document)) refusal refused
+    pub tags_refused : (refusal : Refusal) → attribute_checked key ordinal selects layer.items found.fields ≡ Err refusal → applied (SetAttribute choice feature key value) document ≡ Err refusal
+    tags_refused refusal refused = checks ∙ first_check (refuse_if (not (is_some (pairs_among layer.items found.fields))) (BadTags ordinal selects)) (refuse_if (nat_lt 1 (pairs_with key layer.items found.fields)) (RepeatedKey ordinal selects)) (within_limit (change_items whole position document)) refusal refused
 
-    module _ (checked : attribute_checked key ordinal meant layer.items found.fields ≡ Ok tt) where
+    module _ (checked : attribute_checked key ordinal selects layer.items found.fields ≡ Ok tt) where
       limited : applied (SetAttribute choice feature key value) document ≡ within_limit (change_items whole position document)
-      limited = checks ∙ both_checked (refuse_if (not (is_some (pairs_among layer.items found.fields))) (BadTags ordinal meant)) (refuse_if (nat_lt 1 (pairs_with key layer.items found.fields)) (RepeatedKey ordinal meant)) (within_limit (change_items whole position document)) checked
+      limited = checks ∙ both_checked (refuse_if (not (is_some (pairs_among layer.items found.fields))) (BadTags ordinal selects)) (refuse_if (nat_lt 1 (pairs_with key layer.items found.fields)) (RepeatedKey ordinal selects)) (within_limit (change_items whole position document)) checked
 
       -- where no file can hold the tile
       pub set_too_large : nat_lt MAX_FILE (length (bytes_of (change_items whole position document))) ≡ true → applied (SetAttribute choice feature key value) document ≡ Err TooLarge
@@ -212,9 +212,9 @@ module _ (choice : LayerChoice) (key : List ℕ) (value : Value) (document : Doc
 
       weight_here : (weight_of : List LayerItem → List Field → ℕ) → set_weight weight_of choice feature document ≡ weight_of layer.items found.fields
       weight_here weight_of =
-          ap (λ result. of_meant result (λ ordinal. of_meant (selected_in feature ordinal document) (λ meant. weight_of (items_of ordinal document) (fields_of ordinal meant document)))) chosen
-          ∙ ap (λ result. of_meant result (λ meant. weight_of (items_of ordinal document) (fields_of ordinal meant document))) selected_here
-          ∙ ap (λ items. weight_of items (fields_of ordinal meant document)) items_here
+          ap (λ result. of_selected result (λ ordinal. of_selected (selected_in feature ordinal document) (λ selects. weight_of (items_of ordinal document) (fields_of ordinal selects document)))) chosen
+          ∙ ap (λ result. of_selected result (λ selects. weight_of (items_of ordinal document) (fields_of ordinal selects document))) selected_here
+          ∙ ap (λ items. weight_of items (fields_of ordinal selects document)) items_here
           ∙ ap (weight_of layer.items) fields_here
 
       -- the steps, where one can
@@ -226,7 +226,7 @@ module _ (choice : LayerChoice) (key : List ℕ) (value : Value) (document : Doc
           let second = map (in_layer_at position) splices in
           let half = change_fields given position item document in
           let changed = change_at (in_feature given) item layer.items in
-          let fields_at_there = fields_at_found document ordinal position layer placed there meant item found feature_placed feature_there in
+          let fields_at_there = fields_at_found document ordinal position layer placed there selects item found feature_placed feature_there in
           let of_run = run_spliced key v layer.items found.fields run gives in
           let of_fields = in_the_feature position item in
           let a = carried of_fields document found.fields fields_at_there (cons_option run []) of_run.there of_run.valid in

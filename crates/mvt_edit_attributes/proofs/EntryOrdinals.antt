@@ -91,12 +91,12 @@ seen_there None = refl
 seen_there (Some entry) = refl
 
 module _ (bytes : List ℕ) (n : ℕ) (items : List LayerItem) (found : Option FoundEntry) (is_first : option_map found_entry_seen found ≡ first_equal bytes (found_entries n items)) where
-  pub told_ordinal : (count : ℕ) → count ≡ length (contents n (plain_fields items)) → option_map_or (λ (entry : FoundEntry). entry.ordinal) found count ≡ entry_ordinal bytes (contents n (plain_fields items))
-  told_ordinal count long =
+  pub ordinal_is : (count : ℕ) → count ≡ length (contents n (plain_fields items)) → option_map_or (λ (entry : FoundEntry). entry.ordinal) found count ≡ entry_ordinal bytes (contents n (plain_fields items))
+  ordinal_is count long =
       ap (option_map_or (λ (entry : FoundEntry). entry.ordinal) found) long
       ∙ seen_ordinal found (length (contents n (plain_fields items)))
       ∙ ap (λ seen. option_map_or (λ (entry : ℕ × (ℕ × List ℕ)). entry.0) seen (length (contents n (plain_fields items)))) is_first
       ∙ ordinal_found bytes n items
 
-  pub told_there : is_some found ≡ list_any (bytes_eq bytes) (contents n (plain_fields items))
-  told_there = seen_there found ∙ ap (λ seen. is_some seen) is_first ∙ entry_found bytes n items
+  pub entry_is_there : is_some found ≡ list_any (bytes_eq bytes) (contents n (plain_fields items))
+  entry_is_there = seen_there found ∙ ap (λ seen. is_some seen) is_first ∙ entry_found bytes n items

@@ -11,7 +11,7 @@ module _ (bytes : List ℕ) where
   abbrev first_of : ℕ → List (List ℕ) → ℕ → ℕ
   first_of k entries end = slice_index_or (map (λ (p : ℕ × List ℕ). p.0) (filter (λ (p : ℕ × List ℕ). bytes_eq bytes p.1) (enumerate_from k entries))) 0 end
 
-  -- so many that are not, and one that is, where there is one
+  -- `n` that are not, and one that is, where there is one
   abbrev pub and_one : ℕ → Bool → List Bool
   and_one n there = replicate n false ++ (if there then true ∷ [] else [])
 

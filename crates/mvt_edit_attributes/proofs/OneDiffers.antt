@@ -94,21 +94,21 @@ flat pair = pair.0 ∷ pair.1 ∷ []
 same_value : (value : ℕ) (n : Number) → n.value ≡ value → not (value == n.value) ≡ false
 same_value value n is = ap not (eq-eqb value n.value (sym is))
 
--- no more numbers change than pairs are meant
-few_numbers : (meant : ℕ → Bool) (value : ℕ) (list : List Number) (pairs : List (ℕ × ℕ)) → map (λ (n : Number). n.value) list ≡ flat_map flat pairs → length (filter is_changed (zip list (revalued meant value pairs))) ≤ length (filter (λ pair. meant pair.0) pairs)
-few_numbers meant value [] [] same = omega arith
-few_numbers meant value (n ∷ list) [] same = absurd cc
-few_numbers meant value [] (pair ∷ pairs) same = absurd cc
-few_numbers meant value (n ∷ []) (pair ∷ pairs) same = absurd cc
-few_numbers meant value (n ∷ m ∷ list) (pair ∷ pairs) same =
+-- no more numbers change than pairs are selected
+few_numbers : (selects : ℕ → Bool) (value : ℕ) (list : List Number) (pairs : List (ℕ × ℕ)) → map (λ (n : Number). n.value) list ≡ flat_map flat pairs → length (filter is_changed (zip list (revalued selects value pairs))) ≤ length (filter (λ pair. selects pair.0) pairs)
+few_numbers selects value [] [] same = omega arith
+few_numbers selects value (n ∷ list) [] same = absurd cc
+few_numbers selects value [] (pair ∷ pairs) same = absurd cc
+few_numbers selects value (n ∷ []) (pair ∷ pairs) same = absurd cc
+few_numbers selects value (n ∷ m ∷ list) (pair ∷ pairs) same =
     let key : n.value ≡ pair.0 = cc in
     let old : m.value ≡ pair.1 = cc in
     let rest : map (λ (n : Number). n.value) list ≡ flat_map flat pairs = cc in
-    let more = few_numbers meant value list pairs rest in
-    let others = zip list (revalued meant value pairs) in
-    let given : Number × Option ℕ = (m, Some (cond (meant pair.0) value pair.1)) in
-    let kept = λ (other : meant pair.0 ≡ false). ap (λ v. not (v == m.value)) (ap (λ b. cond b value pair.1) other) ∙ same_value pair.1 m old in
-    omega (arith, two_more is_changed (n, Some pair.0) given others (meant pair.0) (length (filter (λ pair. meant pair.0) pairs)) (same_value pair.0 n key) kept more, counted_first (λ (pair : ℕ × ℕ). meant pair.0) pair pairs)
+    let more = few_numbers selects value list pairs rest in
+    let others = zip list (revalued selects value pairs) in
+    let given : Number × Option ℕ = (m, Some (cond (selects pair.0) value pair.1)) in
+    let kept = λ (other : selects pair.0 ≡ false). ap (λ v. not (v == m.value)) (ap (λ b. cond b value pair.1) other) ∙ same_value pair.1 m old in
+    omega (arith, two_more is_changed (n, Some pair.0) given others (selects pair.0) (length (filter (λ pair. selects pair.0) pairs)) (same_value pair.0 n key) kept more, counted_first (λ (pair : ℕ × ℕ). selects pair.0) pair pairs)
 
 -- ---- the numbers that pairs are read of
 
@@ -135,10 +135,10 @@ read_values (Some placed) key_count value_count pairs is = (
   map-map (λ (n : Number). n.value) (λ (p : Placed). p.number) placed ∙ values_paired (map (λ (p : Placed). p.number.value) placed) pairs (found_pairs key_count value_count (in_pairs (map (λ (p : Placed). p.number.value) placed)) pairs is),
 )
 
--- where at most one pair is meant, at most one field changes
-pub one_differs : (meant : ℕ → Bool) (value key_count value_count : ℕ) (fields : List Field) (pairs : List (ℕ × ℕ)) → pairs_in key_count value_count (numbers 2 fields) ≡ Some pairs → length (filter (λ pair. meant pair.0) pairs) ≤ 1 → length (filter changes (field_fates 2 (revalued meant value pairs) fields)) ≤ 1
-one_differs meant value key_count value_count fields pairs is few =
+-- where at most one pair is selected, at most one field changes
+pub one_differs : (selects : ℕ → Bool) (value key_count value_count : ℕ) (fields : List Field) (pairs : List (ℕ × ℕ)) → pairs_in key_count value_count (numbers 2 fields) ≡ Some pairs → length (filter (λ pair. selects pair.0) pairs) ≤ 1 → length (filter changes (field_fates 2 (revalued selects value pairs) fields)) ≤ 1
+one_differs selects value key_count value_count fields pairs is few =
     let read = read_values (all_good (numbers 2 fields)) key_count value_count pairs is in
     let all = read_of_fields 2 fields read.0 read.1 in
-    let same = ap (λ list. length (filter is_changed (zip list (revalued meant value pairs)))) all in
-    omega (arith, few, few_fields (revalued meant value pairs) fields, same, few_numbers meant value read.0 pairs read.2)
+    let same = ap (λ list. length (filter is_changed (zip list (revalued selects value pairs)))) all in
+    omega (arith, few, few_fields (revalued selects value pairs) fields, same, few_numbers selects value read.0 pairs read.2)

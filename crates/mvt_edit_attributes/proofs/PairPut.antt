@@ -46,8 +46,8 @@ item_there xs position None item e is = absurd (let none = rw (slice_get-map fie
 item_there xs position (Some old) item e is = (let same : Some (field_of old.now) ≡ Some item = rw (slice_get-map field_of xs position, ← e) at is in let field : field_of old.now ≡ item = cc in ap is_packed (sym field))
 
 -- as the program sees it
-pub packed_told : (xs : List Field) (position : ℕ) (o : Option (Bor Field)) → last_of is_tags (map field_of xs) ≡ Some position → IsItemAt xs position o → is_packed_last (map field_of xs) ≡ option_map_or (λ old. is_packed (field_of old.now)) o false
-packed_told xs position o e lookup =
+pub packed_seen : (xs : List Field) (position : ℕ) (o : Option (Bor Field)) → last_of is_tags (map field_of xs) ≡ Some position → IsItemAt xs position o → is_packed_last (map field_of xs) ≡ option_map_or (λ old. is_packed (field_of old.now)) o false
+packed_seen xs position o e lookup =
     let last = last_tags (map field_of xs) position e in last.packed ∙ item_there xs position o last.item (item_seen xs position o lookup) last.there
 
 -- ---- the tags field with a pair more
@@ -137,7 +137,7 @@ module _ (xs : List Field) (last : Option ℕ) (last_is : last ≡ cond (is_pack
       elim (cases_Bool (is_packed_last (map field_of xs))) [
         | inl packed ↦ (
             let e : last_of is_tags (map field_of xs) ≡ Some index = sym (last_is ∙ ap (λ b. cond b (last_of is_tags (map field_of xs)) None) packed) ∙ some ∙ ap Some (sym at) in
-            either_way o (sym (packed_told xs index o e lookup) ∙ packed)
+            either_way o (sym (packed_seen xs index o e lookup) ∙ packed)
             )
         | inr other ↦ absurd (let none = sym some ∙ last_is ∙ ap (λ b. cond b (last_of is_tags (map field_of xs)) None) other in cc)
       ]

@@ -71,8 +71,8 @@ attribute_checked key ordinal feature items fields =
 
 -- ---- the entries of a layer
 
--- of these bytes the ordinal among entries is told, or the one that they get as a further entry; whether they are there;
--- and how many entries there are (tiles 4.1, 4.4)
+-- `sought` has the ordinal of these bytes among entries, or the one that they get as a further entry; whether they are
+-- there; and how many entries there are (tiles 4.1, 4.4)
 pub record IsSought (bytes : List ℕ) (entries : List (List ℕ)) (sought : Sought) : Type 0 where
   pub at : sought.ordinal ≡ entry_ordinal bytes entries
   pub there : sought.is_there ≡ list_any (bytes_eq bytes) entries
@@ -87,7 +87,7 @@ pub record AreFound (key value : List ℕ) (layer : Layer) (ordinals : Ordinals)
 abbrev pub entry_unless : Bool → ℕ → List ℕ → List LayerItem
 entry_unless there tag bytes = if there then [] else PlainInLayer (new_content tag bytes) ∷ []
 
--- the entries of the key and of the value that the layer lacks, as it is told (tiles 4.1)
+-- the entries of the key and of the value that the layer lacks, as `ordinals` says (tiles 4.1)
 abbrev pub entries_for : List ℕ → List ℕ → Ordinals → List LayerItem
 entries_for key value ordinals = entry_unless ordinals.key.is_there 26 key ++ entry_unless ordinals.value.is_there 34 value
 

@@ -40,7 +40,7 @@ pub(crate) struct Ordinals {
 impl Sought {
     ghost use Rattle.std.specs.Prelude.{◌≡◌, true, false};
 
-    /// That of an entry that is there, among so many.
+    /// That of an entry that is there, among `count` entries.
     fn there(found: FoundEntry<'_>, count: usize) -> Sought
         ensures { result ≡ record { ordinal = found.entry.ordinal; is_there = true; count = count } }
     {
@@ -51,7 +51,7 @@ impl Sought {
         }
     }
 
-    /// That of a further entry behind so many.
+    /// That of a further entry behind `count` entries.
     fn further(count: usize) -> Sought
         ensures { result ≡ record { ordinal = count; is_there = false; count = count } }
     {

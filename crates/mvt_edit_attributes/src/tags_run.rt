@@ -167,8 +167,8 @@ fn run_for(alloc: Global, index: usize, fate: Fate<Field>) -> Result<Option<Run<
     }))
 }
 
-/// How many bytes the fields take once the run, where there is one, is carried out, where a file
-/// may have so many.
+/// How many bytes the fields take once the run, where there is one, is carried out, where that is
+/// within the limit of a file.
 pub(crate) fn size_with(fields: &[Field], run: &Option<Run<Field>>) -> Option<usize>
     requires { IfSome run.now (λ run. run.index + run.take ≤ length fields.now) }
     ensures { IsFileSize result (length (flat_map field_bytes (fields_with (map field_of fields.now) (option_map (λ run. seen field_of (splice_of run)) run.now)))) }

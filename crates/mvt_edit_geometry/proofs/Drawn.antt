@@ -5,7 +5,7 @@ use Rattle.std.proofs.lemmas.List.{map-append, take_all}
 use Rattle.std.proofs.lemmas.List.Concat.{flat_map-append}
 use Rattle.std.proofs.lemmas.List.Elements.{filter-append}
 use Rattle.std.specs.List.{flat_map}
-use Rattle.mvt_document.proofs.Sizes.{told_so}
+use Rattle.mvt_document.proofs.Sizes.{same_size}
 use Rattle.mvt_document.specs.declared.TheConstants.{MAX_FILE}
 use Rattle.mvt_document.specs.Plain as plain
 use Rattle.mvt_document.specs.Splicing.{splice}
@@ -56,10 +56,10 @@ drawn_weighs index taken put fields drawing =
     omega (arith, whole, same, both_weigh (front ++ put) back, both_weigh front put)
 
 -- the size of the fields with another kind and geometry, from that of what the program puts
-pub drawn_size : (geometry : Geometry) (fields seen_fields : List plain.Field) (index taken : ℕ) (put : List plain.Field) (drawing : plain.Field) (told : Option ℕ) → seen_fields ≡ fields → splice index taken put seen_fields ≡ with_kind (kind_number geometry.kind) seen_fields → drawing ≡ new_content 34 (encoded geometry)
-    → IsFileSize told (length (flat_map field_bytes (put_once is_geometry_field drawing (splice index taken put seen_fields)))) → IsFileSize told (length (flat_map field_bytes (with_geometry geometry fields)))
-drawn_size geometry fields seen_fields index taken put drawing told seen makes draws =
-    told_so MAX_FILE told _ _
+pub drawn_size : (geometry : Geometry) (fields seen_fields : List plain.Field) (index taken : ℕ) (put : List plain.Field) (drawing : plain.Field) (answered : Option ℕ) → seen_fields ≡ fields → splice index taken put seen_fields ≡ with_kind (kind_number geometry.kind) seen_fields → drawing ≡ new_content 34 (encoded geometry)
+    → IsFileSize answered (length (flat_map field_bytes (put_once is_geometry_field drawing (splice index taken put seen_fields)))) → IsFileSize answered (length (flat_map field_bytes (with_geometry geometry fields)))
+drawn_size geometry fields seen_fields index taken put drawing answered seen makes draws =
+    same_size MAX_FILE answered _ _
     (ap (λ list. length (flat_map field_bytes list))
     (ap (put_once is_geometry_field drawing) (makes ∙ ap (with_kind (kind_number geometry.kind)) seen)
     ∙ ap (λ field. put_once is_geometry_field field (with_kind (kind_number geometry.kind) fields)) draws))

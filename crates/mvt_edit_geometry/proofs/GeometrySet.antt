@@ -24,7 +24,7 @@ use Rattle.mvt_meaning.specs.Geometries.{is_geometry_field, is_kind, with_geomet
 use Rattle.mvt_meaning.specs.Meaning.{after, applied, change_feature, fields_of, geometry_refusal, within_limit}
 use Rattle.mvt_meaning.specs.Ordinals.{put_once}
 use Rattle.mvt_meaning.specs.Selection.{feature_positions, layer_positions, selected, selected_feature, selected_in}
-use Rattle.mvt_meaning.specs.Weights.{geometry_weight, of_meant, put_by, taken_by, weigh, weigh_last}
+use Rattle.mvt_meaning.specs.Weights.{geometry_weight, of_selected, put_by, taken_by, weigh, weigh_last}
 use Rattle.mvt_meaning.specs.declared.refusal.Refusal.{Refusal}
 use Rattle.mvt_meaning.specs.declared.refusal.Refusal.TheVariants.{NoMemory, OutOfRange, TooLarge}
 use Rattle.mvt_meaning.proofs.Found.{change_feature_found, fields_at_found, fields_changed, fields_of_found, selected_in_found}
@@ -42,14 +42,14 @@ abbrev drawing_weight : List Field → ℕ
 drawing_weight fields = weigh_last field_bytes is_kind fields + weigh field_bytes (filter is_geometry_field fields)
 
 module _ (choice : LayerChoice) (geometry : Geometry) (document : Document) (ordinal position : ℕ) (layer : Layer) (chosen : selected choice document ≡ Ok ordinal) (placed : slice_get (layer_positions document) ordinal ≡ Some position) (there : slice_get document position ≡ Some (OfLayer layer)) where
-  -- where no feature is meant
+  -- where no feature is selected
   pub no_feature_drawn : (feature : FeatureChoice) (refusal : Refusal) → selected_feature feature layer ≡ Err refusal → applied (SetGeometry choice feature geometry) document ≡ Err refusal
   no_feature_drawn feature refusal refused =
       let none = selected_in_found document ordinal position layer placed there feature ∙ refused in
       rw (chosen, none) refl
 
-  module _ (feature : FeatureChoice) (meant item : ℕ) (found : Feature) (selected_there : selected_feature feature layer ≡ Ok meant) (feature_placed : slice_get (feature_positions layer.items) meant ≡ Some item) (feature_there : slice_get layer.items item ≡ Some (OfFeature found)) where
-    selected_here : selected_in feature ordinal document ≡ Ok meant
+  module _ (feature : FeatureChoice) (selects item : ℕ) (found : Feature) (selected_there : selected_feature feature layer ≡ Ok selects) (feature_placed : slice_get (feature_positions layer.items) selects ≡ Some item) (feature_there : slice_get layer.items item ≡ Some (OfFeature found)) where
+    selected_here : selected_in feature ordinal document ≡ Ok selects
     selected_here = selected_in_found document ordinal position layer placed there feature ∙ selected_there
 
     -- where the geometry has no bytes: as out of memory, or since it is out of range
@@ -72,8 +72,8 @@ module _ (choice : LayerChoice) (geometry : Geometry) (document : Document) (ord
     drawn fields = with_geometry geometry fields
 
     module _ (in_range : IsInRange geometry) where
-      drawn_there : change_feature drawn ordinal meant document ≡ change_fields drawn position item document
-      drawn_there = change_feature_found document ordinal position layer placed there meant item found feature_placed feature_there drawn
+      drawn_there : change_feature drawn ordinal selects document ≡ change_fields drawn position item document
+      drawn_there = change_feature_found document ordinal position layer placed there selects item found feature_placed feature_there drawn
 
       limited : applied (SetGeometry choice feature geometry) document ≡ within_limit (change_fields drawn position item document)
       limited =
@@ -84,10 +84,10 @@ module _ (choice : LayerChoice) (geometry : Geometry) (document : Document) (ord
       pub drawn_too_large : nat_lt MAX_FILE (length (bytes_of (change_fields drawn position item document))) ≡ true → applied (SetGeometry choice feature geometry) document ≡ Err TooLarge
       drawn_too_large large = limited ∙ rw large refl
 
-      weight_is : (seen : Document) (fields : List Field) → fields_of ordinal meant seen ≡ fields → geometry_weight choice feature document seen ≡ drawing_weight fields
+      weight_is : (seen : Document) (fields : List Field) → fields_of ordinal selects seen ≡ fields → geometry_weight choice feature document seen ≡ drawing_weight fields
       weight_is seen fields same =
-          ap (λ result. of_meant result (λ n. of_meant (selected_in feature n document) (λ m. drawing_weight (fields_of n m seen)))) chosen
-          ∙ ap (λ result. of_meant result (λ m. drawing_weight (fields_of ordinal m seen))) selected_here
+          ap (λ result. of_selected result (λ n. of_selected (selected_in feature n document) (λ m. drawing_weight (fields_of n m seen)))) chosen
+          ∙ ap (λ result. of_selected result (λ m. drawing_weight (fields_of ordinal m seen))) selected_here
           ∙ ap drawing_weight same
 
       -- the steps, where one can
@@ -96,13 +96,13 @@ module _ (choice : LayerChoice) (geometry : Geometry) (document : Document) (ord
         means = limited ∙ rw fits refl
 
         taken_is : taken_by (SetGeometry choice feature geometry) document ≡ drawing_weight found.fields
-        taken_is = weight_is document found.fields (fields_of_found document ordinal position layer placed there meant item found feature_placed feature_there)
+        taken_is = weight_is document found.fields (fields_of_found document ordinal position layer placed there selects item found feature_placed feature_there)
 
         put_is : put_by (SetGeometry choice feature geometry) document ≡ drawing_weight (drawn found.fields)
         put_is =
             weight_is (after (SetGeometry choice feature geometry) document) (drawn found.fields)
-            (ap (λ result. fields_of ordinal meant (result_unwrap_or result document)) (means ∙ ap Ok (sym drawn_there))
-            ∙ fields_changed document ordinal position layer placed there meant item found feature_placed feature_there drawn)
+            (ap (λ result. fields_of ordinal selects (result_unwrap_or result document)) (means ∙ ap Ok (sym drawn_there))
+            ∙ fields_changed document ordinal position layer placed there selects item found feature_placed feature_there drawn)
 
         pub geometry_set : (index taken : ℕ) (put : List Field) → ReplacesLast IsField field_bytes is_kind found.fields (kinded found.fields) index taken put → length put ≡ 1
             → 2 * length (filter is_geometry_field found.fields) ≤ length (flat_map field_bytes (filter is_geometry_field found.fields))
@@ -113,7 +113,7 @@ module _ (choice : LayerChoice) (geometry : Geometry) (document : Document) (ord
             let changed = kinded fields in
             let at = in_feature_at position item in
             let of_fields = in_the_feature position item in
-            let fields_there = fields_at_found document ordinal position layer placed there meant item found feature_placed feature_there in
+            let fields_there = fields_at_found document ordinal position layer placed there selects item found feature_placed feature_there in
             let s : Splice Field = record { index = index; taken = taken; put = put } in
             let half = change_fields kinded position item document in
             let a = carried of_fields document fields fields_there (s ∷ []) (is.can.within, tt) (subst (AllByRecursion IsField) (sym (append-nil put)) is.can.valid_put) in

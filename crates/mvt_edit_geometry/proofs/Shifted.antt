@@ -20,27 +20,27 @@ use Rattle.mvt_edit_pairs.proofs.FeatureRenumbered.{renumbers}
 use Rattle.mvt_edit_pairs.proofs.FieldsLeft.{FieldsLeft}
 
 module _ (choice : LayerChoice) (dx dy : ℤ) (document : Document) (ordinal position : ℕ) (layer : Layer) (chosen : selected choice document ≡ Ok ordinal) (placed : slice_get (layer_positions document) ordinal ≡ Some position) (there : slice_get document position ≡ Some (OfLayer layer)) where
-  -- where no feature is meant
+  -- where no feature is selected
   pub no_feature_moves : (feature : FeatureChoice) (refusal : Refusal) → selected_feature feature layer ≡ Err refusal → applied (Shift choice feature dx dy) document ≡ Err refusal
   no_feature_moves feature refusal refused =
       let none = selected_in_found document ordinal position layer placed there feature ∙ refused in
       rw (chosen, none) refl
 
-  module _ (feature : FeatureChoice) (meant item : ℕ) (found : Feature) (selected_there : selected_feature feature layer ≡ Ok meant) (feature_placed : slice_get (feature_positions layer.items) meant ≡ Some item) (feature_there : slice_get layer.items item ≡ Some (OfFeature found)) where
-    selected_here : selected_in feature ordinal document ≡ Ok meant
+  module _ (feature : FeatureChoice) (selects item : ℕ) (found : Feature) (selected_there : selected_feature feature layer ≡ Ok selects) (feature_placed : slice_get (feature_positions layer.items) selects ≡ Some item) (feature_there : slice_get layer.items item ≡ Some (OfFeature found)) where
+    selected_here : selected_in feature ordinal document ≡ Ok selects
     selected_here = selected_in_found document ordinal position layer placed there feature ∙ selected_there
 
-    fields_here : fields_of ordinal meant document ≡ found.fields
-    fields_here = fields_of_found document ordinal position layer placed there meant item found feature_placed feature_there
+    fields_here : fields_of ordinal selects document ≡ found.fields
+    fields_here = fields_of_found document ordinal position layer placed there selects item found feature_placed feature_there
 
-    drawn_here : is_drawn ordinal meant document ≡ is_some (geometry_among found.fields)
+    drawn_here : is_drawn ordinal selects document ≡ is_some (geometry_among found.fields)
     drawn_here = ap (λ fields. is_some (geometry_among fields)) fields_here
 
-    can_here : can_shift dx dy ordinal meant document ≡ can_move dx dy found.fields
+    can_here : can_shift dx dy ordinal selects document ≡ can_move dx dy found.fields
     can_here = ap (can_move dx dy) fields_here
 
     -- where the feature has no geometry
-    pub not_drawn : is_some (geometry_among found.fields) ≡ false → applied (Shift choice feature dx dy) document ≡ Err (BadGeometry ordinal meant)
+    pub not_drawn : is_some (geometry_among found.fields) ≡ false → applied (Shift choice feature dx dy) document ≡ Err (BadGeometry ordinal selects)
     not_drawn none = let no = drawn_here ∙ none in rw (chosen, selected_here, no) refl
 
     module _ (drawn : is_some (geometry_among found.fields) ≡ true) where
@@ -56,7 +56,7 @@ module _ (choice : LayerChoice) (dx dy : ℤ) (document : Document) (ordinal pos
         made_here =
             let yes = drawn_here ∙ drawn in
             let able = can_here ∙ can in
-            rw (chosen, selected_here, yes, able) (ap within_limit (change_feature_found document ordinal position layer placed there meant item found feature_placed feature_there (shifted dx dy)))
+            rw (chosen, selected_here, yes, able) (ap within_limit (change_feature_found document ordinal position layer placed there selects item found feature_placed feature_there (shifted dx dy)))
 
         -- where no file can hold the tile
         pub shift_too_large : nat_lt MAX_FILE (length (bytes_of (change_fields (shifted dx dy) position item document))) ≡ true → applied (Shift choice feature dx dy) document ≡ Err TooLarge
@@ -65,8 +65,8 @@ module _ (choice : LayerChoice) (dx dy : ℤ) (document : Document) (ordinal pos
         -- the steps, where one can
         pub shift_made : nat_lt MAX_FILE (length (bytes_of (change_fields (shifted dx dy) position item document))) ≡ false → FieldsLeft 4 (moves dx dy found.fields) found.fields → (change : Change) → change ≡ map (in_feature_at position item) (splices_of (field_fates 4 (moves dx dy found.fields) found.fields)) → IsPrepared (Shift choice feature dx dy) document change
         shift_made fits left change steps =
-            let all = renumbers document ordinal position layer placed there meant item found feature_placed feature_there 4 (moves dx dy found.fields) (shifted dx dy) refl left in
-            let made = all.makes ∙ change_feature_found document ordinal position layer placed there meant item found feature_placed feature_there (shifted dx dy) in
+            let all = renumbers document ordinal position layer placed there selects item found feature_placed feature_there 4 (moves dx dy found.fields) (shifted dx dy) refl left in
+            let made = all.makes ∙ change_feature_found document ordinal position layer placed there selects item found feature_placed feature_there (shifted dx dy) in
             let means : applied (Shift choice feature dx dy) document ≡ Ok (change_fields (shifted dx dy) position item document) = made_here ∙ rw fits refl in
             let fields = fields_here in
             let puts = all.puts_so in

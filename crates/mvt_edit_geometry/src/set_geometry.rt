@@ -90,7 +90,7 @@ fn geometry_field(bytes: Items<u8>) -> Field
 }
 
 /// How many bytes the fields take once the run of the kind is carried out and they have this
-/// geometry alone, where a file may have so many.
+/// geometry alone, where that is within the limit of a file.
 fn size_drawn(fields: &[Field], kind: &Run<Field>, drawing: &Field) -> Option<usize>
     requires { kind.now.index + kind.now.take ≤ length fields.now }
     ensures { IsFileSize result (length (flat_map field_bytes (put_once is_geometry_field (field_of drawing.now) (splice kind.now.index kind.now.take (map field_of kind.now.put.items) (map field_of fields.now))))) }
@@ -101,8 +101,8 @@ fn size_drawn(fields: &[Field], kind: &Run<Field>, drawing: &Field) -> Option<us
     and_others(size, &fields[kind.index + kind.take..])
 }
 
-/// So many bytes, and those of the fields that are no geometry fields, where a file may have so
-/// many.
+/// The sum of `bytes` and of how many bytes the fields that are no geometry fields take, where that
+/// is within the limit of a file.
 fn and_others(bytes: usize, fields: &[Field]) -> Option<usize>
     requires { bytes ≤ MAX_FILE }
     ensures { IsFileSize result (bytes + length (flat_map field_bytes (filter (λ field. not (is_geometry_field field)) (map field_of fields.now)))) }

@@ -139,7 +139,8 @@ fn further(parameter: u64, more: i64) -> Option<u64>
 }
 
 /// The steps by which the integers of the feature, in the layer at this position, become what is
-/// decided on them, and how many bytes the fields take then, where a file may have so many.
+/// decided on them, and how many bytes the fields take then, where that is within the limit of a
+/// file.
 fn moving(
     alloc: Global,
     layer: usize,

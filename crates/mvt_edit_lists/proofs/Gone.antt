@@ -64,8 +64,8 @@ module _ (choice : LayerChoice) (document : Document) (ordinal position : ℕ) (
         steps = omega arith;
       })
 
-  module _ (feature : FeatureChoice) (meant item : ℕ) (found : Feature) (selected_there : selected_feature feature layer ≡ Ok meant) (feature_placed : slice_get (feature_positions layer.items) meant ≡ Some item) (feature_there : slice_get layer.items item ≡ Some (OfFeature found)) where
-    selected_here : selected_in feature ordinal document ≡ Ok meant
+  module _ (feature : FeatureChoice) (selects item : ℕ) (found : Feature) (selected_there : selected_feature feature layer ≡ Ok selects) (feature_placed : slice_get (feature_positions layer.items) selects ≡ Some item) (feature_there : slice_get layer.items item ≡ Some (OfFeature found)) where
+    selected_here : selected_in feature ordinal document ≡ Ok selects
     selected_here = selected_in_found document ordinal position layer placed there feature ∙ selected_there
 
     -- where one step takes the feature out
@@ -75,9 +75,9 @@ module _ (choice : LayerChoice) (document : Document) (ordinal position : ℕ) (
         let at = items_at_found document ordinal position layer placed there in
         let out = one_out sits document layer.items at item (get_within item layer.items (OfFeature found) feature_there) in
         let puts = out.puts in
-        let rest = spliced_out item layer.items ∙ sym (from_nth_splits is_feature (λ rest. drop 1 rest) layer.items meant item feature_placed) in
-        let makes = out.makes ∙ makes_alike sits document layer.items at (without is_feature meant) (one item ∷ []) rest ∙ sym (change_layer_found document ordinal position layer placed there (without is_feature meant)) in
-        let same = ap (λ item. option_map_or (λ item. length (layer_item_bytes item)) item 0) (filtered_found is_feature layer.items meant item feature_placed) in
+        let rest = spliced_out item layer.items ∙ sym (from_nth_splits is_feature (λ rest. drop 1 rest) layer.items selects item feature_placed) in
+        let makes = out.makes ∙ makes_alike sits document layer.items at (without is_feature selects) (one item ∷ []) rest ∙ sym (change_layer_found document ordinal position layer placed there (without is_feature selects)) in
+        let same = ap (λ item. option_map_or (λ item. length (layer_item_bytes item)) item 0) (filtered_found is_feature layer.items selects item feature_placed) in
         let takes = out.takes ∙ one_weighs layer_item_bytes item layer.items ∙ sym same in
         let are = items_of_found document ordinal position layer placed there in
         rw step (record {
@@ -94,10 +94,10 @@ module _ (choice : LayerChoice) (document : Document) (ordinal position : ℕ) (
         let sits = in_the_feature position item in
         let splices = out is_id found.fields in
         let cut = takes_out is_id found.fields in
-        let at = fields_at_found document ordinal position layer placed there meant item found feature_placed feature_there in
-        let are = fields_of_found document ordinal position layer placed there meant item found feature_placed feature_there in
+        let at = fields_at_found document ordinal position layer placed there selects item found feature_placed feature_there in
+        let are = fields_of_found document ordinal position layer placed there selects item found feature_placed feature_there in
         let done = carried sits document found.fields at splices cut.there (subst (AllByRecursion IsField) (sym cut.puts) tt) in
-        let makes = done.makes ∙ makes_alike sits document found.fields at without_id splices cut.leaves ∙ sym (change_feature_found document ordinal position layer placed there meant item found feature_placed feature_there without_id) in
+        let makes = done.makes ∙ makes_alike sits document found.fields at without_id splices cut.leaves ∙ sym (change_feature_found document ordinal position layer placed there selects item found feature_placed feature_there without_id) in
         let few = cut.few in
         let puts = done.puts ∙ ap (λ new. length (flat_map field_bytes new)) cut.puts in
         let takes = done.takes ∙ ap (λ gone. length (flat_map field_bytes gone)) cut.takes in
@@ -109,7 +109,7 @@ module _ (choice : LayerChoice) (document : Document) (ordinal position : ℕ) (
           steps = rw (chosen, selected_here, are) (omega (arith, length-map splices (in_feature_at position item)));
         })
 
-  -- where no feature is meant
+  -- where no feature is selected
   module _ (feature : FeatureChoice) (refusal : Refusal) (refused : selected_feature feature layer ≡ Err refusal) where
     none_here : selected_in feature ordinal document ≡ Err refusal
     none_here = selected_in_found document ordinal position layer placed there feature ∙ refused

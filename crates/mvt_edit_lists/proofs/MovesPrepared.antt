@@ -64,12 +64,12 @@ module _ (choice : LayerChoice) (ordinal position : ℕ) (document : Document) (
 
   pub feature_refused : (feature : FeatureChoice) (index : ℕ) (refusal : Refusal) → selected_feature feature layer ≡ Err refusal → applied (MoveFeature choice feature index) document ≡ Err refusal
   feature_refused feature index refusal refused =
-      let meant = selected_in_found document ordinal position layer placed there feature ∙ refused in
-      rw (chosen, meant) refl
+      let selects = selected_in_found document ordinal position layer placed there feature ∙ refused in
+      rw (chosen, selects) refl
 
   pub feature_moves : (feature : FeatureChoice) (index moving from to : ℕ) → selected_feature feature layer ≡ Ok moving → slice_get (feature_positions layer.items) moving ≡ Some from → slice_get (feature_positions layer.items) index ≡ Some to → IsPrepared (MoveFeature choice feature index) document (MoveStep (OfTheLayer position) from to ∷ [])
-  feature_moves feature index moving from to meant_there at_from at_to =
-      let meant = selected_in_found document ordinal position layer placed there feature ∙ meant_there in
+  feature_moves feature index moving from to selects_there at_from at_to =
+      let selects = selected_in_found document ordinal position layer placed there feature ∙ selects_there in
       let below : index < feature_count ordinal document = omega (arith, position_inside is_feature layer.items index to at_to, count_features layer.items, feature_count_found) in
       let inside : nat_lt index (feature_count ordinal document) ≡ true = lt-ltb index (feature_count ordinal document) below in
       let low = (positions_within is_feature 0 layer.items moving from at_from).1 in
@@ -77,7 +77,7 @@ module _ (choice : LayerChoice) (ordinal position : ℕ) (document : Document) (
       let can : CanMove from to layer.items = record { there = omega arith; within = omega arith } in
       record {
         fits = (subst (λ items. IsSomeAnd items (CanMove from to)) (sym (items_at_found document ordinal position layer placed there)) can, tt);
-        means = rw (chosen, meant, inside) (
+        means = rw (chosen, selects, inside) (
             ap (λ d. Ok d) (
             change_layer_found document ordinal position layer placed there (move_nth is_feature moving index)
             ∙ change_items_same (move_nth is_feature moving index) (moved from to) position document layer there (move_is is_feature moving index from to layer.items at_from at_to)
@@ -89,8 +89,8 @@ module _ (choice : LayerChoice) (ordinal position : ℕ) (document : Document) (
       }
 
   pub feature_past : (feature : FeatureChoice) (index moving : ℕ) → selected_feature feature layer ≡ Ok moving → slice_get (feature_positions layer.items) index ≡ None → applied (MoveFeature choice feature index) document ≡ Err BadPlace
-  feature_past feature index moving meant_there past =
-      let meant = selected_in_found document ordinal position layer placed there feature ∙ meant_there in
+  feature_past feature index moving selects_there past =
+      let selects = selected_in_found document ordinal position layer placed there feature ∙ selects_there in
       let few = no_position_past feature_in 0 layer.items index past in
       let outside : nat_lt index (feature_count ordinal document) ≡ false = le-ltb index (feature_count ordinal document) (omega (arith, few, feature_count_found)) in
-      rw (chosen, meant, outside) refl
+      rw (chosen, selects, outside) refl

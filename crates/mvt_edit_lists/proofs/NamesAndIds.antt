@@ -9,7 +9,7 @@ use Rattle.mvt_change.specs.Changes.{FeatureStep, FitsStep, LayerStep, Step, go_
 use Rattle.mvt_command.specs.Command.{FeatureChoice, LayerChoice, RenameLayer, SetId}
 use Rattle.mvt_meaning.specs.Selection.{feature_positions, layer_positions, selected, selected_feature, selected_in}
 use Rattle.mvt_meaning.specs.Meaning.{after, applied, change_feature, change_layer, fields_of, identified, is_id, is_name, is_taken, items_of, named_items, within_limit}
-use Rattle.mvt_meaning.specs.Weights.{of_meant, put_by, taken_by, weigh_last}
+use Rattle.mvt_meaning.specs.Weights.{of_selected, put_by, taken_by, weigh_last}
 use Rattle.mvt_meaning.specs.declared.refusal.Refusal.{Refusal}
 use Rattle.mvt_meaning.specs.declared.refusal.Refusal.TheVariants.{TooLarge}
 use Rattle.mvt_meaning.proofs.Found.{change_feature_found, change_layer_found, fields_at_found, fields_changed, fields_of_found, items_at_found, items_changed, items_of_found, selected_in_found}
@@ -20,9 +20,9 @@ use Rattle.mvt_edit_steps.proofs.OneStep.{Carries, carries_in_feature, carries_i
 
 -- ---- a rename
 
-module _ (choice : LayerChoice) (name : List ℕ) (document : Document) (ordinal : ℕ) (meant : selected choice document ≡ Ok ordinal) where
+module _ (choice : LayerChoice) (name : List ℕ) (document : Document) (ordinal : ℕ) (selects : selected choice document ≡ Ok ordinal) where
   renamed : is_taken name ordinal document ≡ false → applied (RenameLayer choice name) document ≡ within_limit (change_layer (named_items name) ordinal document)
-  renamed free = rw (meant, free) refl
+  renamed free = rw (selects, free) refl
 
   module _ (free : is_taken name ordinal document ≡ false) (position : ℕ) (layer : Layer) (placed : slice_get (layer_positions document) ordinal ≡ Some position) (there : slice_get document position ≡ Some (OfLayer layer)) (step : Step) (puts : PutsLast IsLayerItem layer_item_bytes is_name (LayerStep position) layer.items (named_items name layer.items) step) where
     carries_name : Carries step document (change_layer (named_items name) ordinal document) (weigh_last layer_item_bytes is_name (named_items name layer.items)) (weigh_last layer_item_bytes is_name layer.items)
@@ -37,12 +37,12 @@ module _ (choice : LayerChoice) (name : List ℕ) (document : Document) (ordinal
 
     taken_name : taken_by (RenameLayer choice name) document ≡ weigh_last layer_item_bytes is_name layer.items
     taken_name =
-        ap (λ chosen. of_meant chosen (λ n. weigh_last layer_item_bytes is_name (items_of n document))) meant
+        ap (λ chosen. of_selected chosen (λ n. weigh_last layer_item_bytes is_name (items_of n document))) selects
         ∙ ap (weigh_last layer_item_bytes is_name) (items_of_found document ordinal position layer placed there)
 
     put_name : applied (RenameLayer choice name) document ≡ Ok (change_layer (named_items name) ordinal document) → put_by (RenameLayer choice name) document ≡ weigh_last layer_item_bytes is_name (named_items name layer.items)
     put_name made =
-        ap (λ chosen. of_meant chosen (λ n. weigh_last layer_item_bytes is_name (items_of n (after (RenameLayer choice name) document)))) meant
+        ap (λ chosen. of_selected chosen (λ n. weigh_last layer_item_bytes is_name (items_of n (after (RenameLayer choice name) document)))) selects
         ∙ ap (λ result. weigh_last layer_item_bytes is_name (items_of ordinal (result_unwrap_or result document))) made
         ∙ ap (weigh_last layer_item_bytes is_name) (items_changed document ordinal position layer placed there (named_items name))
 
@@ -62,19 +62,19 @@ module _ (choice : LayerChoice) (name : List ℕ) (document : Document) (ordinal
 
 -- ---- an id
 
-module _ (choice : LayerChoice) (feature_choice : FeatureChoice) (id : ℕ) (document : Document) (ordinal position : ℕ) (layer : Layer) (meant : selected choice document ≡ Ok ordinal) (placed : slice_get (layer_positions document) ordinal ≡ Some position) (there : slice_get document position ≡ Some (OfLayer layer)) where
+module _ (choice : LayerChoice) (feature_choice : FeatureChoice) (id : ℕ) (document : Document) (ordinal position : ℕ) (layer : Layer) (selects : selected choice document ≡ Ok ordinal) (placed : slice_get (layer_positions document) ordinal ≡ Some position) (there : slice_get document position ≡ Some (OfLayer layer)) where
   no_such_feature : (refusal : Refusal) → selected_in feature_choice ordinal document ≡ Err refusal → applied (SetId choice feature_choice id) document ≡ Err refusal
-  no_such_feature refusal none = rw (meant, none) refl
+  no_such_feature refusal none = rw (selects, none) refl
 
   pub feature_refused : (refusal : Refusal) → selected_feature feature_choice layer ≡ Err refusal → applied (SetId choice feature_choice id) document ≡ Err refusal
   feature_refused refusal none = no_such_feature refusal (selected_in_found document ordinal position layer placed there feature_choice ∙ none)
 
-  module _ (feature_ordinal item : ℕ) (feature : Feature) (feature_meant : selected_feature feature_choice layer ≡ Ok feature_ordinal) (feature_placed : slice_get (feature_positions layer.items) feature_ordinal ≡ Some item) (feature_there : slice_get layer.items item ≡ Some (OfFeature feature)) (step : Step) (puts : PutsLast IsField field_bytes is_id (FeatureStep position item) feature.fields (identified id feature.fields) step) where
+  module _ (feature_ordinal item : ℕ) (feature : Feature) (feature_selects : selected_feature feature_choice layer ≡ Ok feature_ordinal) (feature_placed : slice_get (feature_positions layer.items) feature_ordinal ≡ Some item) (feature_there : slice_get layer.items item ≡ Some (OfFeature feature)) (step : Step) (puts : PutsLast IsField field_bytes is_id (FeatureStep position item) feature.fields (identified id feature.fields) step) where
     within_layer : selected_in feature_choice ordinal document ≡ Ok feature_ordinal
-    within_layer = selected_in_found document ordinal position layer placed there feature_choice ∙ feature_meant
+    within_layer = selected_in_found document ordinal position layer placed there feature_choice ∙ feature_selects
 
     given_id : applied (SetId choice feature_choice id) document ≡ within_limit (change_feature (identified id) ordinal feature_ordinal document)
-    given_id = rw (meant, within_layer) refl
+    given_id = rw (selects, within_layer) refl
 
     carries_id : Carries step document (change_feature (identified id) ordinal feature_ordinal document) (weigh_last field_bytes is_id (identified id feature.fields)) (weigh_last field_bytes is_id feature.fields)
     carries_id =
@@ -86,10 +86,10 @@ module _ (choice : LayerChoice) (feature_choice : FeatureChoice) (id : ℕ) (doc
           takes = ap (λ s. step_weight (turn_step s document)) puts.parts ∙ made.takes ∙ puts.replaces.takes;
         }
 
-    id_weight_is : (seen : Document) (fields : ℕ) → weigh_last field_bytes is_id (fields_of ordinal feature_ordinal seen) ≡ fields → of_meant (selected choice document) (λ n. of_meant (selected_in feature_choice n document) (λ m. weigh_last field_bytes is_id (fields_of n m seen))) ≡ fields
+    id_weight_is : (seen : Document) (fields : ℕ) → weigh_last field_bytes is_id (fields_of ordinal feature_ordinal seen) ≡ fields → of_selected (selected choice document) (λ n. of_selected (selected_in feature_choice n document) (λ m. weigh_last field_bytes is_id (fields_of n m seen))) ≡ fields
     id_weight_is seen fields weighs =
-        ap (λ chosen. of_meant chosen (λ n. of_meant (selected_in feature_choice n document) (λ m. weigh_last field_bytes is_id (fields_of n m seen)))) meant
-        ∙ ap (λ chosen. of_meant chosen (λ m. weigh_last field_bytes is_id (fields_of ordinal m seen))) within_layer
+        ap (λ chosen. of_selected chosen (λ n. of_selected (selected_in feature_choice n document) (λ m. weigh_last field_bytes is_id (fields_of n m seen)))) selects
+        ∙ ap (λ chosen. of_selected chosen (λ m. weigh_last field_bytes is_id (fields_of ordinal m seen))) within_layer
         ∙ weighs
 
     taken_id : taken_by (SetId choice feature_choice id) document ≡ weigh_last field_bytes is_id feature.fields

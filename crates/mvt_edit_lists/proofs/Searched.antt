@@ -24,9 +24,9 @@ module _ {X : Type 0} (text_of : X → List ℕ) (text : List ℕ) where
   found [] place within equal = absurd (omega arith)
   found (x ∷ xs) place within equal = sym (list_any_at is_text (x ∷ xs) place x within (texts_ties (text_of (get_or (x ∷ xs) place x)) text ∙ ap is_eq (equal x)))
 
-  pub search_tells : (xs : List X) (place : Result ℕ ℕ) → IsSortedBy (λ first second. is_lt (slice_cmp nat_cmp (text_of first) (text_of second))) xs → IsSearchInRange place (length xs) → IsBinarySearchResult (λ x. slice_cmp nat_cmp (text_of x) text) xs place → is_ok place ≡ list_any (λ name. bytes_eq name text) (map text_of xs)
-  search_tells xs (Ok place) sorted within says = found xs place within says ∙ any_map text_of (λ name. bytes_eq name text) xs
-  search_tells xs (Err place) sorted within says =
+  pub search_finds : (xs : List X) (place : Result ℕ ℕ) → IsSortedBy (λ first second. is_lt (slice_cmp nat_cmp (text_of first) (text_of second))) xs → IsSearchInRange place (length xs) → IsBinarySearchResult (λ x. slice_cmp nat_cmp (text_of x) text) xs place → is_ok place ≡ list_any (λ name. bytes_eq name text) (map text_of xs)
+  search_finds xs (Ok place) sorted within says = found xs place within says ∙ any_map text_of (λ name. bytes_eq name text) xs
+  search_finds xs (Err place) sorted within says =
       let sides = says (searchable_from_sorted nat_list_cmp_total text_of xs text sorted) in
       let none : list_any is_text xs ≡ false = list_any_none is_text xs (λ k other inside.
       let ties = texts_ties (text_of (get_or xs k other)) text in

@@ -36,7 +36,7 @@ pub fn rename_layer(
     one_step_within_limit(alloc, document, step)
 }
 
-/// The layer that is meant, where no other layer has the name.
+/// The selected layer, where no other layer has the name.
 fn layer_to_rename<'a>(
     document: &'a Document,
     choice: &LayerChoice,

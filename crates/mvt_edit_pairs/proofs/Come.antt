@@ -22,8 +22,8 @@ use Rattle.mvt_edit_pairs.proofs.Leading.{both_lead}
 use Rattle.mvt_fates.proofs.ListPlaces.{of_the_layer}
 use Rattle.mvt_edit_pairs.specs.EachFeature.{layer_steps}
 
--- the steps fit the document and make this of it; they put fields of so many bytes, and take out such, and they are at
--- most half as many as these bytes together
+-- the steps fit the document and make `made` of it; they put as many bytes as the fields of `puts` have, and take out
+-- as many as those of `takes`, and they are at most half as many as these bytes together
 pub record Come (steps : Change) (document made : Document) (puts takes : List Field) : Type 0 where
   pub fits : Fits steps document
   pub makes : go steps document ≡ made

@@ -16,7 +16,7 @@ counted_first test x xs = elim (cases_Bool (test x)) [ inl pass ↦ rw pass (ome
 -- ---- one pair more
 
 module _ (said : ℕ × ℕ → Option ℕ × Option ℕ × Bool) where
-  -- behind what is decided so far, of which so many pairs count
+  -- these pairs behind what is decided so far, of which `n` pairs count
   abbrev pub decided_behind : List (Option ℕ) → List (ℕ × ℕ) → List (Option ℕ)
   decided_behind front pairs = front ++ decided_by said pairs
 

@@ -1,4 +1,4 @@
--- The layers that are meant, each changed by steps of its own.
+-- The selected layers, each changed by steps of its own.
 use Rattle.std.proofs.Common.{◌≡◌, ℕ, ◌+◌, zero, suc, Some, Result, Ok, Err, List, [], ◌∷◌, ◌++◌, length, append_assoc, map, slice_get, refl, sym, ap, ◌∙◌, subst, arith}
 use Rattle.std.specs.List.{AllByRecursion, enumerate_from, filter_map, flat_map}
 use Rattle.mvt_document.specs.Plain.{Field, Layer, LayerItem, TileItem, OfLayer, PlainInTile, Document}
@@ -13,7 +13,7 @@ use Rattle.mvt_meaning.specs.Selection.{selected, selected_layers}
 use Rattle.mvt_meaning.specs.declared.refusal.Refusal.{Refusal}
 use Rattle.mvt_meaning.proofs.Between.{get_between}
 use Rattle.mvt_meaning.proofs.Found.{change_layer_found}
-use Rattle.mvt_select.proofs.Chosen.{the_one_meant}
+use Rattle.mvt_select.proofs.Chosen.{the_one_selected}
 use Rattle.mvt_edit_pairs.proofs.Come.{Come, both_come, change_between, none_come, numbered, one_longer}
 
 -- what holds of a layer, where the item is one
@@ -43,7 +43,7 @@ module _ (steps_of : ℕ × Layer → Change) (change : List LayerItem → List 
   abbrev pub Comes : Type 0
   Comes = (position : ℕ) (layer : Layer) (document : Document) → slice_get document position ≡ Some (OfLayer layer) → Holds layer → Come (steps_of (position, layer)) document (change_items change position document) (puts_of (position, layer)) (takes_of (position, layer))
 
-  -- what the steps make of the document is what the change of the layers that are meant makes
+  -- what the steps make of the document is what the change of the selected layers makes
   pub record Made (choice : LayersChoice) (document : Document) (found : List (ℕ × (ℕ × Layer))) : Type 0 where
     pub made : Document
     pub means : change_layers change choice document ≡ Ok made
@@ -89,21 +89,21 @@ module _ (steps_of : ℕ × Layer → Change) (change : List LayerItem → List 
         }
 
     one_made : (choice : LayerChoice) (document : Document) (found : List (ℕ × (ℕ × Layer))) (ordinal : ℕ) → selected choice document ≡ Ok ordinal → selected_layers (TheLayer choice) document ≡ Ok found → AllByRecursion (InTile Holds) document → Made (TheLayer choice) document found
-    one_made choice document found ordinal meant is all =
-        let one = the_one_meant choice document ordinal meant in
+    one_made choice document found ordinal selects is all =
+        let one = the_one_selected choice document ordinal selects in
         let at : ℕ × (ℕ × Layer) = (ordinal, (one.position, one.layer)) in
         let here : at ∷ [] ≡ found = same_list (at ∷ []) found (selected_layers (TheLayer choice) document) one.alone is in
         let changed = change_items change one.position document in
         let come = comes one.position one.layer document one.there (holds_at (InTile Holds) document one.position (OfLayer one.layer) one.there all) in
         subst (Made (TheLayer choice) document) here (record {
           made = changed;
-          means = rw meant (ap Ok (change_layer_found document ordinal one.position one.layer one.placed one.there change));
+          means = rw selects (ap Ok (change_layer_found document ordinal one.position one.layer one.placed one.there change));
           come = both_come (steps_of at.1) [] document changed changed (puts_of at.1) [] (takes_of at.1) [] come (none_come changed);
         })
 
     chosen_made : (choice : LayerChoice) (document : Document) (found : List (ℕ × (ℕ × Layer))) (r : Result ℕ Refusal) → selected choice document ≡ r → selected_layers (TheLayer choice) document ≡ Ok found → AllByRecursion (InTile Holds) document → Made (TheLayer choice) document found
-    chosen_made choice document found (Ok ordinal) meant is all = one_made choice document found ordinal meant is all
-    chosen_made choice document found (Err refusal) meant is all = absurd (let refused = rw meant at is in cc)
+    chosen_made choice document found (Ok ordinal) selects is all = one_made choice document found ordinal selects is all
+    chosen_made choice document found (Err refusal) selects is all = absurd (let refused = rw selects at is in cc)
 
     pub layers_made : (choice : LayersChoice) (document : Document) (found : List (ℕ × (ℕ × Layer))) → selected_layers choice document ≡ Ok found → AllByRecursion (InTile Holds) document → Made choice document found
     layers_made (TheLayer choice) document found is all = chosen_made choice document found (selected choice document) refl is all
@@ -113,8 +113,8 @@ module _ (steps_of : ℕ × Layer → Change) (change : List LayerItem → List 
 -- where no layer is selected a change is refused
 module _ (change : List LayerItem → List LayerItem) where
   none_chosen : (choice : LayerChoice) (document : Document) (refusal : Refusal) (r : Result ℕ Refusal) → selected choice document ≡ r → selected_layers (TheLayer choice) document ≡ Err refusal → change_layers change (TheLayer choice) document ≡ Err refusal
-  none_chosen choice document refusal (Ok ordinal) meant is = absurd (let chosen = rw meant at is in cc)
-  none_chosen choice document refusal (Err other) meant is = let same : other ≡ refusal = (let refused = rw meant at is in cc) in rw meant (ap Err same)
+  none_chosen choice document refusal (Ok ordinal) selects is = absurd (let chosen = rw selects at is in cc)
+  none_chosen choice document refusal (Err other) selects is = let same : other ≡ refusal = (let refused = rw selects at is in cc) in rw selects (ap Err same)
 
   pub none_made : (choice : LayersChoice) (document : Document) (refusal : Refusal) → selected_layers choice document ≡ Err refusal → change_layers change choice document ≡ Err refusal
   none_made (TheLayer choice) document refusal is = none_chosen choice document refusal (selected choice document) refl is

@@ -25,18 +25,18 @@ pub record Renumbers (number : ℕ) (decisions : List (Option ℕ)) (fields : Li
   pub takes_so : weight (turn change document) ≡ length (flat_map field_bytes (as_before (renumbered_fields number decisions fields)))
   pub few : 2 * length change ≤ length (flat_map field_bytes (as_before (renumbered_fields number decisions fields)))
 
-module _ (document : Document) (ordinal position : ℕ) (layer : Layer) (placed : slice_get (layer_positions document) ordinal ≡ Some position) (there : slice_get document position ≡ Some (OfLayer layer)) (meant item : ℕ) (feature : Feature) (feature_placed : slice_get (feature_positions layer.items) meant ≡ Some item) (feature_there : slice_get layer.items item ≡ Some (OfFeature feature)) where
+module _ (document : Document) (ordinal position : ℕ) (layer : Layer) (placed : slice_get (layer_positions document) ordinal ≡ Some position) (there : slice_get document position ≡ Some (OfLayer layer)) (selects item : ℕ) (feature : Feature) (feature_placed : slice_get (feature_positions layer.items) selects ≡ Some item) (feature_there : slice_get layer.items item ≡ Some (OfFeature feature)) where
   pub renumbers : (number : ℕ) (decisions : List (Option ℕ)) (change : List Field → List Field) → renumber number decisions feature.fields ≡ change feature.fields → FieldsLeft number decisions feature.fields
-      → Renumbers number decisions feature.fields document (change_feature change ordinal meant document) (map (in_feature_at position item) (splices_of (field_fates number decisions feature.fields)))
+      → Renumbers number decisions feature.fields document (change_feature change ordinal selects document) (map (in_feature_at position item) (splices_of (field_fates number decisions feature.fields)))
   renumbers number decisions change same left =
       let sits = in_the_feature position item in
       let splices = splices_of (field_fates number decisions feature.fields) in
-      let at = fields_at_found document ordinal position layer placed there meant item feature feature_placed feature_there in
+      let at = fields_at_found document ordinal position layer placed there selects item feature feature_placed feature_there in
       let done = carried sits document feature.fields at splices left.there left.valid in
       let few = left.few in
       record {
         fits = done.fits;
-        makes = done.makes ∙ makes_alike sits document feature.fields at change splices (left.leaves ∙ same) ∙ sym (change_feature_found document ordinal position layer placed there meant item feature feature_placed feature_there change);
+        makes = done.makes ∙ makes_alike sits document feature.fields at change splices (left.leaves ∙ same) ∙ sym (change_feature_found document ordinal position layer placed there selects item feature feature_placed feature_there change);
         puts_so = done.puts ∙ ap (λ new. length (flat_map field_bytes new)) left.puts;
         takes_so = done.takes ∙ ap (λ old. length (flat_map field_bytes old)) left.takes;
         few = omega (arith, few, length-map splices (in_feature_at position item));

@@ -6,7 +6,7 @@ use Rattle.mvt_document.specs.Plain.{Document}
 use Rattle.mvt_change.specs.Changes.{Change, Fits, go, step_weight, turn, weight}
 use Rattle.mvt_change.proofs.Turning.{fits_joined, go_joined, turn_joined}
 
--- the steps fit the document and make this of it; what they put has so many bytes, and what they take out so many
+-- the steps fit the document and make `made` of it; what they put has `puts` bytes, and what they take out `takes`
 pub record Leads (steps : Change) (document made : Document) (puts takes : ℕ) : Type 0 where
   pub fits : Fits steps document
   pub makes : go steps document ≡ made

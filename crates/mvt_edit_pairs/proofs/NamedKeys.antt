@@ -7,24 +7,24 @@ use Rattle.mvt_fates.specs.Decided.{decided_by, pair_decided, pairs_decided, sai
 
 -- ---- one pair more
 
-first_decided : (meant : ℕ → Bool) (to : Option ℕ) (pair : ℕ × ℕ) (more : List (ℕ × ℕ)) → pairs_decided meant to (pair ∷ more) ≡ (pair_decided (meant pair.0) to pair).0 ∷ (pair_decided (meant pair.0) to pair).1 ∷ pairs_decided meant to more
-first_decided meant None pair more = elim (cases_Bool (meant pair.0)) [ inl gone ↦ rw gone refl | inr stays ↦ rw stays refl ]
-first_decided meant (Some value) pair more = elim (cases_Bool (meant pair.0)) [ inl is ↦ rw is refl | inr stays ↦ rw stays refl ]
+first_decided : (selects : ℕ → Bool) (to : Option ℕ) (pair : ℕ × ℕ) (more : List (ℕ × ℕ)) → pairs_decided selects to (pair ∷ more) ≡ (pair_decided (selects pair.0) to pair).0 ∷ (pair_decided (selects pair.0) to pair).1 ∷ pairs_decided selects to more
+first_decided selects None pair more = elim (cases_Bool (selects pair.0)) [ inl gone ↦ rw gone refl | inr stays ↦ rw stays refl ]
+first_decided selects (Some value) pair more = elim (cases_Bool (selects pair.0)) [ inl is ↦ rw is refl | inr stays ↦ rw stays refl ]
 
-none_decided : (meant : ℕ → Bool) (to : Option ℕ) → pairs_decided meant to [] ≡ []
-none_decided meant None = refl
-none_decided meant (Some value) = refl
+none_decided : (selects : ℕ → Bool) (to : Option ℕ) → pairs_decided selects to [] ≡ []
+none_decided selects None = refl
+none_decided selects (Some value) = refl
 
 -- what is said of each pair is what is decided on all
-said_list : (meant : ℕ → Bool) (to : Option ℕ) (pairs : List (ℕ × ℕ)) → decided_by (said_of meant to) pairs ≡ pairs_decided meant to pairs
-said_list meant to [] = sym (none_decided meant to)
-said_list meant to (pair ∷ pairs) =
-    let two = pair_decided (meant pair.0) to pair in
-    ap (λ more. two.0 ∷ two.1 ∷ more) (said_list meant to pairs) ∙ sym (first_decided meant to pair pairs)
+said_list : (selects : ℕ → Bool) (to : Option ℕ) (pairs : List (ℕ × ℕ)) → decided_by (said_of selects to) pairs ≡ pairs_decided selects to pairs
+said_list selects to [] = sym (none_decided selects to)
+said_list selects to (pair ∷ pairs) =
+    let two = pair_decided (selects pair.0) to pair in
+    ap (λ more. two.0 ∷ two.1 ∷ more) (said_list selects to pairs) ∙ sym (first_decided selects to pair pairs)
 
-pub said_pairs : (meant : ℕ → Bool) (to : Option ℕ) (found : Option (List (ℕ × ℕ))) → option_map (pairs_decided meant to) found ≡ option_map (decided_by (said_of meant to)) found
-said_pairs meant to None = refl
-said_pairs meant to (Some pairs) = ap Some (sym (said_list meant to pairs))
+pub said_pairs : (selects : ℕ → Bool) (to : Option ℕ) (found : Option (List (ℕ × ℕ))) → option_map (pairs_decided selects to) found ≡ option_map (decided_by (said_of selects to)) found
+said_pairs selects to None = refl
+said_pairs selects to (Some pairs) = ap Some (sym (said_list selects to pairs))
 
 -- ---- keys that have these bytes
 

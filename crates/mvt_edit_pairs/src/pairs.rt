@@ -14,7 +14,7 @@ ghost use Rattle.mvt_messages.specs.Tags.{plain_pairs, tag_pairs};
 ghost use Rattle.mvt_layers.specs.Seen.{feature_seen, found_feature_seen, pair_seen};
 ghost use Rattle.mvt_fates.specs.Decided.{IsDecided, IsSizeBeside, field_fates};
 ghost use Rattle.mvt_edit_pairs.specs.EachFeature.{feature_steps};
-ghost use Rattle.mvt_fates.specs.Fates.{Tells};
+ghost use Rattle.mvt_fates.specs.Fates.{Means};
 
 use mvt_change::Step;
 use mvt_fates::renumber_fields;
@@ -31,7 +31,7 @@ fn decide_all<D: Fn(Pair) -> (Option<u64>, Option<u64>, bool)>(
     decisions: &mut Vec<Option<u64>>,
 ) -> Result<usize, PairsError>
     requires { D.IsAlwaysCallable decide.now }
-    ensures decided { (said : ℕ × ℕ → Option ℕ × Option ℕ × Bool) → Tells (λ pair made. FnReturns D.Fn decide.now (pair, tt) made) (λ made. made) (λ pair. said (pair_seen pair)) →
+    ensures decided { (said : ℕ × ℕ → Option ℕ × Option ℕ × Bool) → Means (λ pair made. FnReturns D.Fn decide.now (pair, tt) made) (λ made. made) (λ pair. said (pair_seen pair)) →
         IfOk result (λ n. IsDecided said (plain_pairs (tag_pairs sizes.keys sizes.values (numbers 2 (feature_seen feature.entry).fields))) decisions.new.items n) }
     ensures bad_tags { IsErrOf result PairsError.BadTags → plain_pairs (tag_pairs sizes.keys sizes.values (numbers 2 (feature_seen feature.entry).fields)) ≡ None }
 {
@@ -58,7 +58,7 @@ pub fn decide_pairs<D: Fn(Pair) -> (Option<u64>, Option<u64>, bool)>(
     decisions: &mut Vec<Option<u64>>,
 ) -> Result<usize, Refusal>
     requires { D.IsAlwaysCallable decide }
-    ensures decided { (said : ℕ × ℕ → Option ℕ × Option ℕ × Bool) → Tells (λ pair made. FnReturns D.Fn decide (pair, tt) made) (λ made. made) (λ pair. said (pair_seen pair)) →
+    ensures decided { (said : ℕ × ℕ → Option ℕ × Option ℕ × Bool) → Means (λ pair made. FnReturns D.Fn decide (pair, tt) made) (λ made. made) (λ pair. said (pair_seen pair)) →
         IfOk result (λ n. IsDecided said (plain_pairs (tag_pairs sizes.keys sizes.values (numbers 2 (found_feature_seen found.entry).1.1.fields))) decisions.new.items n) }
     ensures refused { IfErr result (λ refusal. (refusal ≡ NoMemory) ⊎ ((refusal ≡ BadTags layer found.entry.ordinal) × (plain_pairs (tag_pairs sizes.keys sizes.values (numbers 2 (found_feature_seen found.entry).1.1.fields)) ≡ None))) }
 {
@@ -73,8 +73,9 @@ pub fn decide_pairs<D: Fn(Pair) -> (Option<u64>, Option<u64>, bool)>(
 }
 
 /// Puts the steps by which the numbers in the fields of this number of the feature, in the layer at
-/// this position, become what is decided on them behind the others. How many bytes the fields take
-/// then beside so many, where a file may have as many; none where none is given.
+/// this position, become what is decided on them behind the others. Returns the sum of `beside` and
+/// of how many bytes the fields take then, where that is within the limit of a file; none where
+/// `beside` is none.
 pub fn renumber_feature(
     alloc: Global,
     layer: usize,

@@ -1,4 +1,4 @@
--- Keys and values go from the layers that are meant, where no feature uses them.
+-- Keys and values go from the selected layers, where no feature uses them.
 use Rattle.std.proofs.Common.{◌≡◌, ℕ, ◌+◌, ◌≤◌, ◌/◌, ◌==◌, Bool, true, false, cond, not, is_some, None, Ok, Err, Result, List, [], ◌∷◌, ◌++◌, length, length-append, append-nil, map, refl, sym, ap, ◌∙◌, arith}
 use Rattle.std.proofs.lemmas.List.Concat.{flat_map-append}
 use Rattle.std.proofs.lemmas.List.Sums.{sum_by-cons}
@@ -90,15 +90,15 @@ module _ (keys values : List plain.LayerItem → ℕ → Bool) where
       → put_by command (document_of document) ≡ layers_weight (compact_puts keys values) choice (document_of document)
       → taken_by command (document_of document) ≡ layers_weight (compact_takes keys values) choice (document_of document)
       → selected_layers choice (document_of document) ≡ Ok found → unreadable found ≡ [] → steps ≡ flat_map (compacting keys values) found → IsPrepared command (document_of document) steps
-  prepared command choice document found steps is puts takes meant readable are =
+  prepared command choice document found steps is puts takes selects readable are =
       let made = layers_made (λ at. compacting keys values (0, at)) (compacted keys values) (puts_of keys values) (takes_of keys values) (Holds keys values)
-      (λ position layer tile there holds. comes keys values position layer tile there holds) choice (document_of document) found meant (layers_hold document.items.items) in
+      (λ position layer tile there holds. comes keys values position layer tile there holds) choice (document_of document) found selects (layers_hold document.items.items) in
       let come = made.come in
-      let put : layers_weight (compact_puts keys values) choice (document_of document) ≡ sum_by (λ (at : ℕ × (ℕ × plain.Layer)). compact_puts keys values at.1.1) found = rw meant refl in
-      let taken : layers_weight (compact_takes keys values) choice (document_of document) ≡ sum_by (λ (at : ℕ × (ℕ × plain.Layer)). compact_takes keys values at.1.1) found = rw meant refl in
+      let put : layers_weight (compact_puts keys values) choice (document_of document) ≡ sum_by (λ (at : ℕ × (ℕ × plain.Layer)). compact_puts keys values at.1.1) found = rw selects refl in
+      let taken : layers_weight (compact_takes keys values) choice (document_of document) ≡ sum_by (λ (at : ℕ × (ℕ × plain.Layer)). compact_takes keys values at.1.1) found = rw selects refl in
       let all_put = all_weigh (puts_of keys values) (compact_puts keys values) (layer_puts keys values) found in
       let all_taken = all_weigh (takes_of keys values) (compact_takes keys values) (layer_takes keys values) found in
-      let means : change_readable (compacted keys values) choice (document_of document) ≡ Ok made.made = rw (meant, readable) made.means in
+      let means : change_readable (compacted keys values) choice (document_of document) ≡ Ok made.made = rw (selects, readable) made.means in
       rw are (record {
         fits = come.fits;
         means = is ∙ means ∙ ap Ok (sym come.makes);
@@ -110,20 +110,20 @@ module _ (keys values : List plain.LayerItem → ℕ → Bool) where
 -- ---- the commands
 
 pub compacts : (pools : Pools) (choice : LayersChoice) (document : Document) (found : List (ℕ × (ℕ × plain.Layer))) (steps : Change) → selected_layers choice (document_of document) ≡ Ok found → unreadable found ≡ [] → steps ≡ flat_map (compacting (keys_stay pools) (values_stay pools)) found → IsPrepared (compaction pools choice) (document_of document) steps
-compacts Keys choice document found steps meant readable are = prepared is_key_used is_any (compaction Keys choice) choice document found steps refl refl refl meant readable are
-compacts Values choice document found steps meant readable are = prepared is_any is_value_used (compaction Values choice) choice document found steps refl refl refl meant readable are
-compacts Both choice document found steps meant readable are = prepared is_key_used is_value_used (compaction Both choice) choice document found steps refl refl refl meant readable are
+compacts Keys choice document found steps selects readable are = prepared is_key_used is_any (compaction Keys choice) choice document found steps refl refl refl selects readable are
+compacts Values choice document found steps selects readable are = prepared is_any is_value_used (compaction Values choice) choice document found steps refl refl refl selects readable are
+compacts Both choice document found steps selects readable are = prepared is_key_used is_value_used (compaction Both choice) choice document found steps refl refl refl selects readable are
 
 -- ---- what is refused
 
-meant_by : (pools : Pools) (choice : LayersChoice) (document : plain.Document) (r : Result plain.Document Refusal) → change_readable (compacted (keys_stay pools) (values_stay pools)) choice document ≡ r → applied (compaction pools choice) document ≡ r
-meant_by Keys choice document r is = is
-meant_by Values choice document r is = is
-meant_by Both choice document r is = is
+selected_by : (pools : Pools) (choice : LayersChoice) (document : plain.Document) (r : Result plain.Document Refusal) → change_readable (compacted (keys_stay pools) (values_stay pools)) choice document ≡ r → applied (compaction pools choice) document ≡ r
+selected_by Keys choice document r is = is
+selected_by Values choice document r is = is
+selected_by Both choice document r is = is
 
 -- where no layer is selected
-pub none_meant : (pools : Pools) (choice : LayersChoice) (document : plain.Document) (refusal : Refusal) → selected_layers choice document ≡ Err refusal → applied (compaction pools choice) document ≡ Err refusal
-none_meant pools choice document refusal is = meant_by pools choice document (Err refusal) (rw is refl)
+pub none_selected : (pools : Pools) (choice : LayersChoice) (document : plain.Document) (refusal : Refusal) → selected_layers choice document ≡ Err refusal → applied (compaction pools choice) document ≡ Err refusal
+none_selected pools choice document refusal is = selected_by pools choice document (Err refusal) (rw is refl)
 
 front_refused : (bad rest : List (ℕ × ℕ)) (refusal : Refusal) → refuse_first bad ≡ Err refusal → refuse_first (bad ++ rest) ≡ Err refusal
 front_refused [] rest refusal is = absurd cc
@@ -135,10 +135,10 @@ bad_of at = map (λ (feature : ℕ). (at.0, feature)) (ordinals_of (λ (feature 
 
 -- where a feature of the next layer is refused
 pub layer_refused : (pools : Pools) (choice : LayersChoice) (document : plain.Document) (found : List (ℕ × (ℕ × plain.Layer))) (at : ℕ × (ℕ × plain.Layer)) (rest : List (ℕ × (ℕ × plain.Layer))) (refusal : Refusal) → selected_layers choice document ≡ Ok found → unreadable (at ∷ rest) ≡ unreadable found → refuse_first (unreadable (at ∷ [])) ≡ Err refusal → applied (compaction pools choice) document ≡ Err refusal
-layer_refused pools choice document found at rest refusal meant left is =
+layer_refused pools choice document found at rest refusal selects left is =
     let front : refuse_first (bad_of at) ≡ Err refusal = ap refuse_first (sym (append-nil (bad_of at))) ∙ is in
     let all : refuse_first (unreadable found) ≡ Err refusal = ap refuse_first (sym left) ∙ front_refused (bad_of at) (unreadable rest) refusal front in
-    meant_by pools choice document (Err refusal) (rw (meant, all) refl)
+    selected_by pools choice document (Err refusal) (rw (selects, all) refl)
 
 -- behind a layer of which none is refused
 pub readable_behind : (at : ℕ × (ℕ × plain.Layer)) (rest : List (ℕ × (ℕ × plain.Layer))) → unreadable (at ∷ []) ≡ [] → unreadable (at ∷ rest) ≡ unreadable rest

@@ -99,7 +99,7 @@ IsHeavy (OfFeature feature) = Unit {0}
 IsHeavy (PlainInLayer field) = (number : ℕ) → is_some (content_in number field) ≡ true → 2 ≤ length (field_bytes field)
 
 module _ (keys values : ℕ → Bool) where
-  -- ---- the marks of all keys and values of a layer tell which go
+  -- ---- the marks of all keys and values of a layer show which go
 
   abbrev key_marks : ℕ → List LayerItem → List Bool
   key_marks key items = stays_from keys key (length (contents key_field (plain_fields items)))

@@ -3,7 +3,7 @@ mod KeptPairs
 mod Numbering
 mod Repointed
 mod Gone
-mod Told
+mod EntryRuns
 mod SeenMarks
 mod Steps
 mod LayerCompacted

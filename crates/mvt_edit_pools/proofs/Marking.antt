@@ -172,9 +172,9 @@ is_readable layer feature key_count value_count before after is_keys is_values i
 
 -- ---- which entries stay
 
-pub marked_all : (meant : ℕ → Bool) (all : Bool) (m count : ℕ) → marked meant m (replicate count all) ≡ stays_from (λ n. meant n || all) m count
-marked_all meant all m zero = refl
-marked_all meant all m (suc count) = ap (λ rest. (meant m || all) ∷ rest) (marked_all meant all (m + 1) count)
+pub marked_all : (selects : ℕ → Bool) (all : Bool) (m count : ℕ) → marked selects m (replicate count all) ≡ stays_from (λ n. selects n || all) m count
+marked_all selects all m zero = refl
+marked_all selects all m (suc count) = ap (λ rest. (selects m || all) ∷ rest) (marked_all selects all (m + 1) count)
 
 stays_alike : (one other : ℕ → Bool) → ((n : ℕ) → one n ≡ other n) → (m count : ℕ) → stays_from one m count ≡ stays_from other m count
 stays_alike one other same m zero = refl

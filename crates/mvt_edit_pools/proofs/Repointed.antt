@@ -41,9 +41,9 @@ module _ (keys_stay values_stay : ℕ → Bool) (items : List LayerItem) where
   abbrev value_ordinals : List ℕ
   value_ordinals = ordinals_by (stays_from values_stay 0 value_count)
 
-  pairs_as_meant : (pairs : List (ℕ × ℕ)) → list_all (is_pair key_count value_count) pairs ≡ true → decided_by (pair_repointed key_ordinals value_ordinals) pairs ≡ repointed keys_stay values_stay pairs
-  pairs_as_meant [] is = refl
-  pairs_as_meant (pair ∷ pairs) is =
+  pairs_as_selected : (pairs : List (ℕ × ℕ)) → list_all (is_pair key_count value_count) pairs ≡ true → decided_by (pair_repointed key_ordinals value_ordinals) pairs ≡ repointed keys_stay values_stay pairs
+  pairs_as_selected [] is = refl
+  pairs_as_selected (pair ∷ pairs) is =
       let parts = and_parts (is_pair key_count value_count pair) (list_all (is_pair key_count value_count) pairs) is in
       let both = and_parts (is_ordinal key_count pair.0) (is_ordinal value_count pair.1) parts.0 in
       let key = and_parts (nat_lt pair.0 key_count) (nat_lt pair.0 (2 ^ 32)) both.0 in
@@ -51,25 +51,25 @@ module _ (keys_stay values_stay : ℕ → Bool) (items : List LayerItem) where
       let rest = decided_by (pair_repointed key_ordinals value_ordinals) pairs in
       ap (λ (n : Option ℕ). n ∷ slice_get value_ordinals pair.1 ∷ rest) (got_numbered keys_stay key_count pair.0 (ltb-true pair.0 key_count key.0) (ltb-true pair.0 (2 ^ 32) key.1))
       ∙ ap (λ (n : Option ℕ). Some (new_ordinal keys_stay pair.0) ∷ n ∷ rest) (got_numbered values_stay value_count pair.1 (ltb-true pair.1 value_count value.0) (ltb-true pair.1 (2 ^ 32) value.1))
-      ∙ ap (λ (more : List (Option ℕ)). Some (new_ordinal keys_stay pair.0) ∷ Some (new_ordinal values_stay pair.1) ∷ more) (pairs_as_meant pairs parts.1)
+      ∙ ap (λ (more : List (Option ℕ)). Some (new_ordinal keys_stay pair.0) ∷ Some (new_ordinal values_stay pair.1) ∷ more) (pairs_as_selected pairs parts.1)
 
-  found_as_meant : (fields : List Field) (found : Option (List (ℕ × ℕ))) → pairs_among items fields ≡ found → option_map_or (decided_by (pair_repointed key_ordinals value_ordinals)) found [] ≡ option_map_or (repointed keys_stay values_stay) found []
-  found_as_meant fields None is = refl
-  found_as_meant fields (Some pairs) is = pairs_as_meant pairs (make_pairs key_count value_count (numbers 2 fields) pairs is).each
+  found_as_selected : (fields : List Field) (found : Option (List (ℕ × ℕ))) → pairs_among items fields ≡ found → option_map_or (decided_by (pair_repointed key_ordinals value_ordinals)) found [] ≡ option_map_or (repointed keys_stay values_stay) found []
+  found_as_selected fields None is = refl
+  found_as_selected fields (Some pairs) is = pairs_as_selected pairs (make_pairs key_count value_count (numbers 2 fields) pairs is).each
 
-  pub ordinals_as_meant : (fields : List Field) → ordinals_in key_ordinals value_ordinals items fields ≡ new_ordinals keys_stay values_stay items fields
-  ordinals_as_meant fields = found_as_meant fields (pairs_among items fields) refl
+  pub ordinals_as_selected : (fields : List Field) → ordinals_in key_ordinals value_ordinals items fields ≡ new_ordinals keys_stay values_stay items fields
+  ordinals_as_selected fields = found_as_selected fields (pairs_among items fields) refl
 
   steps_each : (layer : ℕ) (found : List (ℕ × (ℕ × Feature))) → flat_map (feature_steps (pairs_repointed key_ordinals value_ordinals items) layer) found ≡ flat_map (feature_steps (λ fields. field_fates 2 (new_ordinals keys_stay values_stay items fields) fields) layer) found
   steps_each layer [] = refl
   steps_each layer (at ∷ found) =
-      ap (λ decisions. feature_steps (λ fields. field_fates 2 decisions fields) layer at ++ flat_map (feature_steps (pairs_repointed key_ordinals value_ordinals items) layer) found) (ordinals_as_meant at.1.1.fields)
+      ap (λ decisions. feature_steps (λ fields. field_fates 2 decisions fields) layer at ++ flat_map (feature_steps (pairs_repointed key_ordinals value_ordinals items) layer) found) (ordinals_as_selected at.1.1.fields)
       ∙ ap (λ rest. feature_steps (λ fields. field_fates 2 (new_ordinals keys_stay values_stay items fields) fields) layer at ++ rest) (steps_each layer found)
 
 -- the steps of the features of a layer
-pub features_as_meant : (keys_stay values_stay : List LayerItem → ℕ → Bool) (at : ℕ × (ℕ × Layer)) (key_ordinals value_ordinals : List ℕ) → key_ordinals ≡ ordinals_by (stays_from (keys_stay at.1.1.items) 0 (length (keys at.1.1))) → value_ordinals ≡ ordinals_by (stays_from (values_stay at.1.1.items) 0 (length (values at.1.1)))
+pub features_as_selected : (keys_stay values_stay : List LayerItem → ℕ → Bool) (at : ℕ × (ℕ × Layer)) (key_ordinals value_ordinals : List ℕ) → key_ordinals ≡ ordinals_by (stays_from (keys_stay at.1.1.items) 0 (length (keys at.1.1))) → value_ordinals ≡ ordinals_by (stays_from (values_stay at.1.1.items) 0 (length (values at.1.1)))
     → layer_steps (pairs_repointed key_ordinals value_ordinals) at ≡ layer_steps (ordinal_fates keys_stay values_stay) at
-features_as_meant keys_stay values_stay at key_ordinals value_ordinals are_keys are_values =
+features_as_selected keys_stay values_stay at key_ordinals value_ordinals are_keys are_values =
     let layer = at.1.1 in
     ap (λ ordinals. layer_steps (pairs_repointed ordinals value_ordinals) at) are_keys
     ∙ ap (λ ordinals. layer_steps (pairs_repointed (ordinals_by (stays_from (keys_stay layer.items) 0 (length (keys layer)))) ordinals) at) are_values
@@ -119,7 +119,7 @@ module _ (key_ordinals value_ordinals : List ℕ) where
   decided_found None = refl
   decided_found (Some pairs) = refl
 
-  -- what is decided on the pairs of a feature is what is meant
+  -- what is decided on the pairs of a feature is what the definition decides
   pub as_ordinals : (items : List LayerItem) (at : ℕ × (ℕ × Feature)) (own : List (ℕ × ℕ)) → own ≡ pairs_at items at → decided_by said own ≡ ordinals_in key_ordinals value_ordinals items at.1.1.fields
   as_ordinals items at own is = ap (decided_by said) is ∙ decided_found (pairs_among items at.1.1.fields)
 

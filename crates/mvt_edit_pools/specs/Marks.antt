@@ -13,17 +13,17 @@ use Rattle.mvt_renumber.specs.declared.fate.Fate.{Fate}
 
 -- ---- marks
 
--- for each of so many entries, of which the first has this ordinal, whether it stays
+-- for each of a number of entries, of which the first has this ordinal, whether it stays
 abbrev pub stays_from : (ℕ → Bool) → ℕ → ℕ → List Bool
 stays_from stays ordinal zero = []
 stays_from stays ordinal (suc count) = stays ordinal ∷ stays_from stays (ordinal + 1) count
 
--- the marks of entries, of which the first has this ordinal, and those of the ordinals that are meant besides
+-- the marks of entries, of which the first has this ordinal, where the selected ordinals are marked besides
 abbrev pub marked : (ℕ → Bool) → ℕ → List Bool → List Bool
-marked meant ordinal [] = []
-marked meant ordinal (mark ∷ marks) = (meant ordinal || mark) ∷ marked meant (ordinal + 1) marks
+marked selects ordinal [] = []
+marked selects ordinal (mark ∷ marks) = (selects ordinal || mark) ∷ marked selects (ordinal + 1) marks
 
--- this ordinal is meant
+-- the ordinal is this one
 abbrev pub is_one : ℕ → ℕ → Bool
 is_one one ordinal = one == ordinal
 
@@ -47,7 +47,7 @@ pair_counts items found = map (λ at. length (pairs_at items at)) found
 
 -- ---- new ordinals
 
--- for each entry how many of those before it stay, by their marks, where so many stay before the first
+-- for each entry how many of those before it stay, by their marks, where `next` stay before the first
 abbrev pub numbered_from : ℕ → List Bool → List ℕ
 numbered_from next [] = []
 numbered_from next (stays ∷ marks) = next ∷ numbered_from (next + (if stays then 1 else 0)) marks

@@ -51,8 +51,8 @@ impl Pools {
     }
 }
 
-/// Each layer that is meant loses the keys and values that none of its features uses, those of the
-/// pools that are meant. Each number of tags becomes the new ordinal of what it named.
+/// Each selected layer loses the keys and values of `pools` that none of its features uses. Each
+/// number of tags becomes the new ordinal of what it named.
 pub fn compact(
     alloc: Global,
     document: &Document,

@@ -90,7 +90,7 @@ fn item_goes<'a>(
 }
 
 /// The item at this index is one of the entries that are LEN fields of this number, where this is the run of the
-/// first of them. The item is read only where the run does not tell.
+/// first of them. The item is read only where the run does not show it.
 fn is_entry_at(items: &[LayerItem], index: usize, entries: Run, number: u64) -> bool
     requires run { IsRunOf (is_entry_of number) entries items.now }
     requires there { index < length items.now }

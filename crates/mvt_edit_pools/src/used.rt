@@ -139,7 +139,7 @@ fn mark(marks: &mut Vec<bool>, ordinal: u32)
     }
 }
 
-/// So many marks, each of them this one.
+/// `count` marks, each of them this one.
 pub(crate) fn same_marks(alloc: Global, count: usize, mark: bool) -> Result<Vec<bool>, AllocError>
     ensures { IfOk result (λ marks. marks.items ≡ replicate count mark) }
 {
@@ -169,8 +169,8 @@ pub(crate) fn number(alloc: Global, marks: &[bool]) -> Result<Vec<u32>, AllocErr
     Ok(ordinals)
 }
 
-/// How many entries stay before the one that follows, where so many stay before an entry that stays or
-/// not.
+/// How many entries stay before the next one, where `ordinal` of them stay before this one, and
+/// `stays` says whether this one does.
 fn next_ordinal(ordinal: u64, stays: bool) -> u64
     requires fits { ordinal < 18446744073709551615 }
     ensures { result ≡ ordinal + (if stays then 1 else 0) }

@@ -13,7 +13,7 @@ limit_kept made within = let fits : nat_lt MAX_FILE (length (bytes_of made)) ≡
 pub limit_passed : (made : Document) → MAX_FILE < length (bytes_of made) → within_limit made ≡ Err TooLarge
 limit_passed made past = let large : nat_lt MAX_FILE (length (bytes_of made)) ≡ true = lt-ltb MAX_FILE (length (bytes_of made)) past in rw large refl
 
--- ---- what is told of a check by its opposite
+-- ---- what follows for a check from its opposite
 
 pub not_true : (b : Bool) → not b ≡ true → b ≡ false
 not_true true e = absurd cc

@@ -22,7 +22,7 @@ use Rattle.mvt_meaning.specs.declared.refusal.Refusal.TheVariants.{NoMemory, Too
 use Rattle.mvt_meaning.proofs.Found.{change_fields_same, change_items_same}
 use Rattle.mvt_edit_steps.specs.Prepared.{IsPrepared, Prepares}
 
--- the step makes this document; it puts so many bytes and takes so many out
+-- the step makes `after` of the document; it puts `put` bytes and takes `taken` out
 pub record Carries (step : Step) (document after : Document) (put taken : ℕ) : Type 0 where
   pub fits : FitsStep step document
   pub makes : go_step step document ≡ after

@@ -6,9 +6,9 @@ use Rattle.mvt_document.specs.Lists.{CanSplice}
 use Rattle.mvt_change.specs.Changes.{Step}
 use Rattle.mvt_meaning.specs.Weights.{weigh_last}
 
--- so many items from this index of `items` can be taken out, and these put there, and that makes `after` of them; the
--- bytes that are put are those of the last item that passes in `after`, and those that are taken out are those of the
--- last that passes in `items`
+-- `taken` items from `index` of `items` can be taken out, and those of `put` put there, and that makes `after` of them;
+-- the bytes that are put are those of the last item that passes in `after`, and those that are taken out are those of
+-- the last that passes in `items`
 pub record ReplacesLast {A : Type 0} (valid : A → Type 0) (bytes : A → List ℕ) (passes : A → Bool) (items after : List A) (index taken : ℕ) (put : List A) : Type 0 where
   pub can : CanSplice valid index taken put items
   pub makes : splice index taken put items ≡ after

@@ -1,4 +1,4 @@
--- The layers that are meant, each feature of them changed.
+-- The selected layers, each feature of them changed.
 use Rattle.std.proofs.Common.{◌≡◌, ℕ, Ok, Err, List}
 use Rattle.std.specs.List.{AllByRecursion}
 use Rattle.mvt_document.specs.Plain.{Field, Layer, LayerItem, TileItem, Document}

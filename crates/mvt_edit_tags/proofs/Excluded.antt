@@ -82,16 +82,16 @@ module _ (key : List ℕ) where
   -- ---- the command
 
   pub excludes : (choice : LayersChoice) (document : Document) (found : List (ℕ × (ℕ × plain.Layer))) (change : Change) → selected_layers choice (document_of document) ≡ Ok found → unreadable found ≡ [] → change ≡ flat_map (layer_steps (pairs_go key)) found → IsPrepared (Exclude choice key) (document_of document) change
-  excludes choice document found change meant readable steps =
-      let made = layers_made (pairs_go key) (without_attribute key) choice (document_of document) found meant (layers_carry document.items.items) in
+  excludes choice document found change selects readable steps =
+      let made = layers_made (pairs_go key) (without_attribute key) choice (document_of document) found selects (layers_carry document.items.items) in
       let come = made.come in
       let weight_of = λ (fields : List plain.Field). length (flat_map field_bytes fields) in
       let puts = come.puts_so ∙ ap weight_of (all_put found) in
       let takes = come.takes_so ∙ ap weight_of (all_taken found) in
       rw steps (record {
         fits = come.fits;
-        means = rw (meant, readable) (made.means ∙ ap Ok (sym come.makes));
-        puts = rw meant (omega (arith, puts));
-        takes = rw meant (omega (arith, takes));
-        steps = rw meant (omega (arith, come.few_so, come.takes_so, come.puts_so, takes, puts));
+        means = rw (selects, readable) (made.means ∙ ap Ok (sym come.makes));
+        puts = rw selects (omega (arith, puts));
+        takes = rw selects (omega (arith, takes));
+        steps = rw selects (omega (arith, come.few_so, come.takes_so, come.puts_so, takes, puts));
       })

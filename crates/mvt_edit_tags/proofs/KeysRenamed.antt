@@ -18,7 +18,7 @@ use Rattle.mvt_meaning.specs.Fields.{with_content, with_text}
 use Rattle.mvt_meaning.specs.Meaning.{after, applied, change_layer, has_key, items_of, within_limit}
 use Rattle.mvt_meaning.specs.Selection.{layer_positions, selected}
 use Rattle.mvt_meaning.specs.Tagging.{is_key, renamed_keys}
-use Rattle.mvt_meaning.specs.Weights.{of_meant, put_by, taken_by, weigh}
+use Rattle.mvt_meaning.specs.Weights.{of_selected, put_by, taken_by, weigh}
 use Rattle.mvt_meaning.specs.declared.refusal.Refusal.TheVariants.{KeyTaken, NoKey, TooLarge}
 use Rattle.mvt_meaning.proofs.Found.{change_layer_found, items_at_found, items_changed, items_of_found}
 use Rattle.mvt_renumber.specs.Fates.{changes, left_of_fate}
@@ -128,12 +128,12 @@ module _ (choice : LayerChoice) (old new : List ℕ) (document : Document) (ordi
 
         taken_keys : taken_by (RenameKey choice old new) document ≡ length (flat_map layer_item_bytes (filter (is_key old) layer.items))
         taken_keys =
-            ap (λ meant. of_meant meant (λ n. weigh layer_item_bytes (filter (is_key old) (items_of n document)))) chosen
+            ap (λ selects. of_selected selects (λ n. weigh layer_item_bytes (filter (is_key old) (items_of n document)))) chosen
             ∙ ap (λ items. weigh layer_item_bytes (filter (is_key old) items)) (items_of_found document ordinal position layer placed there)
 
         put_keys : put_by (RenameKey choice old new) document ≡ length (flat_map layer_item_bytes (filter (is_key new) (renamed_keys old new layer.items)))
         put_keys =
-            ap (λ meant. of_meant meant (λ n. weigh layer_item_bytes (filter (is_key new) (items_of n (after (RenameKey choice old new) document))))) chosen
+            ap (λ selects. of_selected selects (λ n. weigh layer_item_bytes (filter (is_key new) (items_of n (after (RenameKey choice old new) document))))) chosen
             ∙ ap (λ result. weigh layer_item_bytes (filter (is_key new) (items_of ordinal (result_unwrap_or result document)))) made
             ∙ ap (λ items. weigh layer_item_bytes (filter (is_key new) items)) (items_changed document ordinal position layer placed there (renamed_keys old new))
 

@@ -24,21 +24,21 @@ module _ (choice : LayerChoice) (key : List ℕ) (document : Document) (ordinal 
   has_here : has_key key ordinal document ≡ list_any (is_key key) layer.items
   has_here = ap (list_any (is_key key)) items_here
 
-  -- where no feature is meant
+  -- where no feature is selected
   pub no_feature_loses : (feature : FeatureChoice) (refusal : Refusal) → selected_feature feature layer ≡ Err refusal → applied (UnsetAttribute choice feature key) document ≡ Err refusal
   no_feature_loses feature refusal refused =
       let none = selected_in_found document ordinal position layer placed there feature ∙ refused in
       rw (chosen, none) refl
 
-  module _ (feature : FeatureChoice) (meant item : ℕ) (found : Feature) (selected_there : selected_feature feature layer ≡ Ok meant) (feature_placed : slice_get (feature_positions layer.items) meant ≡ Some item) (feature_there : slice_get layer.items item ≡ Some (OfFeature found)) where
-    selected_here : selected_in feature ordinal document ≡ Ok meant
+  module _ (feature : FeatureChoice) (selects item : ℕ) (found : Feature) (selected_there : selected_feature feature layer ≡ Ok selects) (feature_placed : slice_get (feature_positions layer.items) selects ≡ Some item) (feature_there : slice_get layer.items item ≡ Some (OfFeature found)) where
+    selected_here : selected_in feature ordinal document ≡ Ok selects
     selected_here = selected_in_found document ordinal position layer placed there feature ∙ selected_there
 
-    fields_here : fields_of ordinal meant document ≡ found.fields
-    fields_here = fields_of_found document ordinal position layer placed there meant item found feature_placed feature_there
+    fields_here : fields_of ordinal selects document ≡ found.fields
+    fields_here = fields_of_found document ordinal position layer placed there selects item found feature_placed feature_there
 
-    pairs_here : has_pairs ordinal meant document ≡ is_some (pairs_among layer.items found.fields)
-    pairs_here = ap (λ items. is_some (pairs_among items (fields_of ordinal meant document))) items_here ∙ ap (λ fields. is_some (pairs_among layer.items fields)) fields_here
+    pairs_here : has_pairs ordinal selects document ≡ is_some (pairs_among layer.items found.fields)
+    pairs_here = ap (λ items. is_some (pairs_among items (fields_of ordinal selects document))) items_here ∙ ap (λ fields. is_some (pairs_among layer.items fields)) fields_here
 
     -- where the layer lacks the key
     pub key_lacks : list_any (is_key key) layer.items ≡ false → applied (UnsetAttribute choice feature key) document ≡ Err NoKey
@@ -46,7 +46,7 @@ module _ (choice : LayerChoice) (key : List ℕ) (document : Document) (ordinal 
 
     module _ (has : list_any (is_key key) layer.items ≡ true) where
       -- where the tags make no pairs
-      pub pairs_lack : is_some (pairs_among layer.items found.fields) ≡ false → applied (UnsetAttribute choice feature key) document ≡ Err (BadTags ordinal meant)
+      pub pairs_lack : is_some (pairs_among layer.items found.fields) ≡ false → applied (UnsetAttribute choice feature key) document ≡ Err (BadTags ordinal selects)
       pairs_lack none =
           let yes = has_here ∙ has in
           let no = pairs_here ∙ none in
@@ -57,7 +57,7 @@ module _ (choice : LayerChoice) (key : List ℕ) (document : Document) (ordinal 
       tags_lose readable left change steps =
           let yes = has_here ∙ has in
           let pairs = pairs_here ∙ readable in
-          let all = renumbers document ordinal position layer placed there meant item found feature_placed feature_there 2 (removals key layer.items found.fields) (without_attribute key layer.items) refl left in
+          let all = renumbers document ordinal position layer placed there selects item found feature_placed feature_there 2 (removals key layer.items found.fields) (without_attribute key layer.items) refl left in
           let items = items_here in
           let fields = fields_here in
           let puts = all.puts_so in

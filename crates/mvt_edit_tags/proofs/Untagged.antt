@@ -114,8 +114,8 @@ tags_taken (at ∷ found) = ap (λ first. first ++ flat_map taken found) (tags_t
 -- ---- the command
 
 pub untags : (choice : LayersChoice) (document : Document) (found : List (ℕ × (ℕ × plain.Layer))) (change : Change) → selected_layers choice (document_of document) ≡ Ok found → change ≡ flat_map (layer_steps (λ items. tags_go)) found → IsPrepared (ExcludeAll choice) (document_of document) change
-untags choice document found change meant steps =
-    let made = layers_made (λ items. tags_go) (λ items. without_tags) choice (document_of document) found meant (layers_carry document.items.items) in
+untags choice document found change selects steps =
+    let made = layers_made (λ items. tags_go) (λ items. without_tags) choice (document_of document) found selects (layers_carry document.items.items) in
     let come = made.come in
     let puts = come.puts_so ∙ ap (λ fields. length (flat_map field_bytes fields)) (none_put found) in
     let takes = come.takes_so ∙ ap (λ fields. length (flat_map field_bytes fields)) (tags_taken found) in
@@ -123,8 +123,8 @@ untags choice document found change meant steps =
       fits = come.fits;
       means = made.means ∙ ap Ok (sym come.makes);
       puts = omega arith;
-      takes = rw meant (omega arith);
-      steps = rw meant (omega (arith, come.few_so, come.takes_so, come.puts_so, takes));
+      takes = rw selects (omega arith);
+      steps = rw selects (omega (arith, come.few_so, come.takes_so, come.puts_so, takes));
     })
 
 pub no_layer_untagged : (choice : LayersChoice) (document : plain.Document) (refusal : Refusal) → selected_layers choice document ≡ Err refusal → applied (ExcludeAll choice) document ≡ Err refusal

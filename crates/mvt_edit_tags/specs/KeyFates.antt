@@ -1,4 +1,4 @@
--- What becomes of the items of a layer whose keys are renamed, and what a walk over them tells of two keys.
+-- What becomes of the items of a layer whose keys are renamed, and what a walk over them finds of two keys.
 use Rattle.std.specs.Prelude.{◌≡◌, ℕ, List, length, if◌then◌else◌}
 use Rattle.std.specs.List.{flat_map, list_any}
 use Rattle.mvt_document.specs.Plain.{LayerItem}
@@ -16,7 +16,7 @@ key_fate old new item = if is_key old item then Becomes (with_text new item) els
 
 -- whether the old key and the new one are among the items, and which size the items have with the one in place of the
 -- other (tiles 4.1)
-pub record TellsOfKeys (old new : List ℕ) (items : List LayerItem) (keys : Keys) : Type 0 where
+pub record FindsKeys (old new : List ℕ) (items : List LayerItem) (keys : Keys) : Type 0 where
   pub old_there : keys.there ≡ list_any (is_key old) items
   pub new_there : keys.taken ≡ list_any (is_key new) items
   pub renamed_size : IsFileSize keys.size (length (flat_map layer_item_bytes (renamed_keys old new items)))

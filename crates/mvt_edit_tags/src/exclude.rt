@@ -26,8 +26,8 @@ use mvt_layers::{FeatureView, PoolSizes};
 use mvt_select::{FoundFeature, FoundLayer, LayersChoice, Refusal, find_layers};
 use std::alloc::Global;
 
-/// Each feature of the layers that are meant loses each pair of the key, whichever of its layer's
-/// keys of these bytes it names.
+/// Each feature of the selected layers loses each pair of the key, whichever of its layer's keys of
+/// these bytes it names.
 pub fn exclude(
     alloc: Global,
     document: &Document,

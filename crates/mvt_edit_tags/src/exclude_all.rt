@@ -17,7 +17,7 @@ use mvt_fates::{carry_out, goes_if};
 use mvt_select::{FoundFeature, FoundLayer, LayersChoice, Refusal, find_layers};
 use std::alloc::{AllocError, Global};
 
-/// Each feature of the layers that are meant loses all its tags fields.
+/// Each feature of the selected layers loses all its tags fields.
 pub fn exclude_all(
     alloc: Global,
     document: &Document,

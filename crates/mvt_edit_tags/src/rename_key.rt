@@ -15,7 +15,7 @@ ghost use Rattle.mvt_meaning.specs.Tagging.{is_key, renamed_keys};
 ghost use Rattle.mvt_renumber.specs.Fates.{fate_seen};
 ghost use Rattle.mvt_fates.specs.Fates.{splices_of};
 ghost use Rattle.mvt_edit_steps.specs.Prepared.{Prepares};
-ghost use Rattle.mvt_edit_tags.specs.KeyFates.{TellsOfKeys, key_fate};
+ghost use Rattle.mvt_edit_tags.specs.KeyFates.{FindsKeys, key_fate};
 
 use mvt_change::{Change, fits_with_items};
 use mvt_document::tags::KEYS;
@@ -56,9 +56,9 @@ pub fn rename_key(
     Ok(renaming(alloc, found.position, items, old, new)?)
 }
 
-/// What a walk over the items of a layer tells of an old key and of a new one: whether they are
-/// there, and how many bytes the items take with the one in place of the other, where a file may
-/// have so many.
+/// What a walk over the items of a layer finds of an old key and of a new one: whether they are
+/// there, and how many bytes the items take with the new one in place of the old one, where that is
+/// within the limit of a file.
 #[derive(Clone, Copy, Debug)]
 struct Keys {
     there: bool,
@@ -67,7 +67,7 @@ struct Keys {
 }
 
 fn look_for(items: &[LayerItem], old: &[u8], new: &[u8]) -> Keys
-    ensures { TellsOfKeys old.now new.now (map layer_item_of items.now) result }
+    ensures { FindsKeys old.now new.now (map layer_item_of items.now) result }
 {
     let mut keys = Keys {
         there: false,
@@ -82,7 +82,7 @@ fn look_for(items: &[LayerItem], old: &[u8], new: &[u8]) -> Keys
 
 /// The same with one more item.
 fn and_item(keys: Keys, item: &LayerItem, old: &[u8], new: &[u8]) -> Keys
-    ensures { (items : List plain.LayerItem) → TellsOfKeys old.now new.now items keys → TellsOfKeys old.now new.now (items ++ layer_item_of item.now ∷ []) result }
+    ensures { (items : List plain.LayerItem) → FindsKeys old.now new.now items keys → FindsKeys old.now new.now (items ++ layer_item_of item.now ∷ []) result }
 {
     Keys {
         there: keys.there || key_field(item, old).is_some(),
@@ -91,15 +91,15 @@ fn and_item(keys: Keys, item: &LayerItem, old: &[u8], new: &[u8]) -> Keys
     }
 }
 
-/// The sum of both sizes, where a file may have so many bytes.
+/// The sum of both sizes, where that is within the limit of a file.
 fn and_size(size: Option<usize>, more: Option<usize>) -> Option<usize>
     ensures { (first second : ℕ) → IsFileSize size first → IsFileSize more second → IsFileSize result (first + second) }
 {
     sum_within(size?, more?, MAX_FILE)
 }
 
-/// How many bytes the item takes, a key that is the old one with the new one, where a file may have
-/// so many.
+/// How many bytes the item takes, a key that is the old one with the new one, where that is within
+/// the limit of a file.
 fn size_renamed(item: &LayerItem, old: &[u8], new: &[u8]) -> Option<usize>
     ensures { IsFileSize result (length (flat_map layer_item_bytes (renamed_keys old.now new.now (layer_item_of item.now ∷ [])))) }
 {

@@ -32,7 +32,7 @@ abbrev pub AreThere : {A : Type 0} → List (Splice A) → List A → Type 0
 AreThere [] items = Unit {0}
 AreThere (s ∷ splices) items = HasPart s.index s.taken items × AreThere splices (splice s.index s.taken s.put items)
 
--- ---- a splice behind the front of a list
+-- ---- a splice behind a prefix of a list
 
 drop_behind : {A : Type 0} (front ys : List A) (n t : ℕ) → length front ≡ n → drop (n + t) (front ++ ys) ≡ drop t ys
 drop_behind front ys n t e = sym (drop-drop t n (front ++ ys)) ∙ ap (drop t) (drop_at front ys n e)

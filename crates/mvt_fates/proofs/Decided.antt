@@ -37,31 +37,31 @@ pub all_decided : (number : ℕ) (decisions left : List (Option ℕ)) (fields : 
 all_decided number decisions left fields fates decided =
     sym (append-nil (map (fate_seen field_of) fates)) ∙ decided [] ∙ ap (field_fates number decisions) (append-nil (map field_of fields))
 
--- what is left of the first fields takes so many bytes, which are told beside those before, and by the decisions that are
--- left that of any others follows
+-- what is left of the first fields takes `bytes` bytes, which `size` has beside those before; with what is left of any
+-- others by the decisions that are left, they are what is left of all
 pub record Sized (number : ℕ) (decisions left : List (Option ℕ)) (fields : List Field) (beside size : Option ℕ) : Type 0 where
   pub bytes : ℕ
-  pub told : IsSizeBeside beside bytes size
+  pub answered : IsSizeBeside beside bytes size
   pub behind : (more : List plain.Field) → bytes + length (flat_map field_bytes (renumber number left more)) ≡ length (flat_map field_bytes (renumber number decisions (map field_of fields ++ more)))
 
 pub sized_none : (number : ℕ) (decisions : List (Option ℕ)) (beside : Option ℕ) → Sized number decisions decisions [] beside beside
 sized_none number decisions beside = record {
   bytes = 0;
-  told = λ before fits. (let same : before ≡ before + 0 = omega arith in subst (IsFileSize beside) same fits);
+  answered = λ before fits. (let same : before ≡ before + 0 = omega arith in subst (IsFileSize beside) same fits);
   behind = λ more. omega arith;
 }
 
 pub sized_more : (number : ℕ) (decisions left behind : List (Option ℕ)) (fields : List Field) (index : ℕ) (field : Field) (beside size next : Option ℕ) (made : List plain.Field) → index < length fields → field ≡ get_or fields index field
     → Sized number decisions left (take index fields) beside size → made ≡ renumbered_field number left (field_of field) → IsSizeBeside size (length (flat_map field_bytes made)) next → behind ≡ drop (length (field_numbers number (field_of field))) left
     → Sized number decisions behind (take (index + 1) fields) beside next
-sized_more number decisions left behind fields index field beside size next made within is so_far leaves told rest =
+sized_more number decisions left behind fields index field beside size next made within is so_far leaves answered rest =
     let first = take index fields in
     let here = field_of field in
     let fields_then = take_more fields index field within ∙ ap (λ x. first ++ x ∷ []) (sym is) in
     let weigh = λ (all : List plain.Field). length (flat_map field_bytes all) in
     record {
       bytes = so_far.bytes + weigh made;
-      told = λ before fits. (let same : before + so_far.bytes + weigh made ≡ before + (so_far.bytes + weigh made) = omega arith in subst (IsFileSize next) same (told (before + so_far.bytes) (so_far.told before fits)));
+      answered = λ before fits. (let same : before + so_far.bytes + weigh made ≡ before + (so_far.bytes + weigh made) = omega arith in subst (IsFileSize next) same (answered (before + so_far.bytes) (so_far.answered before fits)));
       behind = λ more. (
           let joined : weigh (renumber number left (here ∷ more)) ≡ weigh made + weigh (renumber number behind more) =
           ap (λ d. weigh (renumbered_field number left here ++ renumber number d more)) (sym rest)
@@ -80,4 +80,4 @@ pub all_sized : (number : ℕ) (decisions left : List (Option ℕ)) (fields : Li
 all_sized number decisions left fields beside size sized =
     let all : sized.bytes ≡ length (flat_map field_bytes (renumber number decisions (map field_of fields))) =
     (let none = sized.behind [] in omega (arith, none, ap (λ list. length (flat_map field_bytes (renumber number decisions list))) (append-nil (map field_of fields)))) in
-    subst (λ n. IsSizeBeside beside n size) all sized.told
+    subst (λ n. IsSizeBeside beside n size) all sized.answered

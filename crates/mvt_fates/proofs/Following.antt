@@ -56,15 +56,15 @@ all_zip_more R (z ∷ xs) [] x y all new = absurd all
 all_zip_more R (z ∷ xs) (v ∷ ys) x y all new = (all.0, all_zip_more R xs ys x y all.1 new)
 
 -- what each of the items so far was answered
-pub told_more : {T B : Type 0} (answers : T → B → Type 0) (items : List T) (index : ℕ) (x : T) (fates : List B) (fate : B) → index < length items → x ≡ get_or items index x → AllZip answers (take index items) fates → answers x fate → AllZip answers (take (index + 1) items) (fates ++ fate ∷ [])
-told_more answers items index x fates fate within is told says =
-    subst (λ all. AllZip answers all (fates ++ fate ∷ [])) (sym (take_more items index x within ∙ ap (λ y. take index items ++ y ∷ []) (sym is))) (all_zip_more answers (take index items) fates x fate told says)
+pub one_more_answered : {T B : Type 0} (answers : T → B → Type 0) (items : List T) (index : ℕ) (x : T) (fates : List B) (fate : B) → index < length items → x ≡ get_or items index x → AllZip answers (take index items) fates → answers x fate → AllZip answers (take (index + 1) items) (fates ++ fate ∷ [])
+one_more_answered answers items index x fates fate within is answered says =
+    subst (λ all. AllZip answers all (fates ++ fate ∷ [])) (sym (take_more items index x within ∙ ap (λ y. take index items ++ y ∷ []) (sym is))) (all_zip_more answers (take index items) fates x fate answered says)
 
 -- the fates so far, of which this was said, and the steps behind those that were given, whichever fates follow
-pub record SoFar {T : Type 0} (told : List (Fate T) → Type 0) (tells : (Splice T → plain.Step) → Type 0) (given steps : List Step) (walk : Walk T) (index : ℕ) : Type 0 where
+pub record SoFar {T : Type 0} (answered : List (Fate T) → Type 0) (means : (Splice T → plain.Step) → Type 0) (given steps : List Step) (walk : Walk T) (index : ℕ) : Type 0 where
   pub fates : List (Fate T)
-  pub said : told fates
-  pub so_far : (step_with : Splice T → plain.Step) → tells step_with → (rest : List (Fate T)) → map step_of given ++ map step_with (splices_from 0 (fates ++ rest)) ≡ steps_then step_with (map step_of steps) walk rest
+  pub said : answered fates
+  pub so_far : (step_with : Splice T → plain.Step) → means step_with → (rest : List (Fate T)) → map step_of given ++ map step_with (splices_from 0 (fates ++ rest)) ≡ steps_then step_with (map step_of steps) walk rest
   pub ends : IfSome walk.last (λ run. run.index + length run.put.items ≡ walk.at)
   pub taken : IfSome walk.last (λ run. run.take ≤ index)
   pub short : walk.at ≤ index
@@ -76,21 +76,21 @@ counted_more fates fate =
     ap length (filter-append changes fates (fate ∷ [])) ∙ length-append (filter changes fates) (filter changes (fate ∷ []))
     ∙ elim (cases_Bool (changes fate)) [ inl so ↦ rw so refl | inr not_so ↦ rw not_so refl ]
 
-pub goes_on : {T : Type 0} {told told_then : List (Fate T) → Type 0} {tells : (Splice T → plain.Step) → Type 0} {given steps : List Step} {walk : Walk T} {index : ℕ} (kept : SoFar told tells given steps walk index) (fate : Fate T) (steps_next : List Step) (next : Walk T)
-    → told_then (kept.fates ++ fate ∷ [])
-    → ((step_with : Splice T → plain.Step) → tells step_with → (rest : List (Fate T)) → steps_then step_with (map step_of steps) walk (fate ∷ rest) ≡ steps_then step_with (map step_of steps_next) next rest)
+pub goes_on : {T : Type 0} {answered answered_then : List (Fate T) → Type 0} {means : (Splice T → plain.Step) → Type 0} {given steps : List Step} {walk : Walk T} {index : ℕ} (kept : SoFar answered means given steps walk index) (fate : Fate T) (steps_next : List Step) (next : Walk T)
+    → answered_then (kept.fates ++ fate ∷ [])
+    → ((step_with : Splice T → plain.Step) → means step_with → (rest : List (Fate T)) → steps_then step_with (map step_of steps) walk (fate ∷ rest) ≡ steps_then step_with (map step_of steps_next) next rest)
     → IfSome next.last (λ run. run.index + length run.put.items ≡ next.at) → IfSome next.last (λ run. run.take ≤ index + 1) → next.at ≤ walk.at + 1 → next.changed ≡ walk.changed + cond (changes fate) 1 0
-    → SoFar told_then tells given steps_next next (index + 1)
+    → SoFar answered_then means given steps_next next (index + 1)
 goes_on {given = given} kept fate steps_next next said passes ends taken further counted =
     let short = kept.short in
     let few = kept.few in
     record {
       fates = kept.fates ++ fate ∷ [];
       said = said;
-      so_far = λ step_with tells_so rest.
+      so_far = λ step_with means_so rest.
           ap (λ all. map step_of given ++ map step_with (splices_from 0 all)) (append_assoc kept.fates (fate ∷ []) rest)
-          ∙ kept.so_far step_with tells_so (fate ∷ rest)
-          ∙ passes step_with tells_so rest;
+          ∙ kept.so_far step_with means_so (fate ∷ rest)
+          ∙ passes step_with means_so rest;
       ends = ends;
       taken = taken;
       short = omega arith;
@@ -115,10 +115,10 @@ alone_last None = refl
 alone_last (Some run) = refl
 
 -- all steps, once the last run is one
-pub all_steps : {T : Type 0} {told : List (Fate T) → Type 0} {tells : (Splice T → plain.Step) → Type 0} {given steps : List Step} {walk : Walk T} {index : ℕ} (kept : SoFar told tells given steps walk index) (steps_next : List Step) (step_with : Splice T → plain.Step) → tells step_with → map step_of steps_next ≡ steps_then step_with (map step_of steps) walk [] → map step_of steps_next ≡ map step_of given ++ map step_with (splices_from 0 kept.fates)
-all_steps {given = given} kept steps_next step_with tells_so ended =
+pub all_steps : {T : Type 0} {answered : List (Fate T) → Type 0} {means : (Splice T → plain.Step) → Type 0} {given steps : List Step} {walk : Walk T} {index : ℕ} (kept : SoFar answered means given steps walk index) (steps_next : List Step) (step_with : Splice T → plain.Step) → means step_with → map step_of steps_next ≡ steps_then step_with (map step_of steps) walk [] → map step_of steps_next ≡ map step_of given ++ map step_with (splices_from 0 kept.fates)
+all_steps {given = given} kept steps_next step_with means_so ended =
     ended
-    ∙ sym (kept.so_far step_with tells_so [])
+    ∙ sym (kept.so_far step_with means_so [])
     ∙ ap (λ all. map step_of given ++ map step_with (splices_from 0 all)) (append-nil kept.fates)
 
 -- where no steps were given

@@ -65,6 +65,6 @@ module _ {T A : Type 0} (view : T → A) (goes : A → Bool) (answers : T → Fa
   changes_picked [] = refl
   changes_picked (y ∷ ys) = elim (cases_Bool (goes y)) [ inl gone ↦ rw gone (ap (λ n. suc n) (changes_picked ys)) | inr stays ↦ rw stays (changes_picked ys) ]
 
-  -- and so many go
+  -- and as many items change as go
   pub count_seen : (xs : List T) (fates : List (Fate T)) → AllZip answers xs fates → length (filter changes fates) ≡ length (filter goes (map view xs))
   count_seen xs fates all = count_planned view (λ y. goes_if (goes y)) answers each_seen xs fates all ∙ changes_picked (map view xs)

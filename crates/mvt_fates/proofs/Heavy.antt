@@ -1,4 +1,4 @@
--- Items of two bytes or more: how many go is told by their bytes.
+-- Items of two bytes or more: how many go is bounded by their bytes.
 use Rattle.std.proofs.Common.{◌≡◌, ℕ, ◌*◌, ◌≤◌, Bool, true, max, List, [], ◌∷◌, ◌++◌, length, length-append, map, filter, inl, inr, arith}
 use Rattle.std.proofs.lemmas.Bool.{cases_Bool}
 use Rattle.std.specs.List.{flat_map}

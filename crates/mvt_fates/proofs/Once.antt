@@ -9,7 +9,7 @@ use Rattle.mvt_meaning.specs.Ordinals.{put_once}
 use Rattle.mvt_fates.specs.Fates.{Splice, and_splices, seen, splices_from, splices_of}
 use Rattle.mvt_fates.specs.Once.{at_end, left_once, once_fate, once_fates, once_splices}
 use Rattle.mvt_fates.proofs.CarriedOut.{AreThere, carries_beside, new_in, put_all, spliced_all, taken_all}
-use Rattle.mvt_fates.proofs.Following.{told_more}
+use Rattle.mvt_fates.proofs.Following.{one_more_answered}
 use Rattle.mvt_fates.proofs.Planned.{splices_seen}
 use Rattle.mvt_fates.proofs.PutLast.{end_spliced, none_filtered}
 
@@ -18,7 +18,7 @@ use Rattle.mvt_fates.proofs.PutLast.{end_spliced, none_filtered}
 -- each of these items was picked or not, these are the fates, and this is left of the new one
 pub record Once {T : Type 0} (answers : T → Bool → Type 0) (items : List T) (new left : Option T) (fates : List (Fate T)) : Type 0 where
   pub picked : List Bool
-  pub told : AllZip answers items picked
+  pub answered : AllZip answers items picked
   pub fates_so : fates ≡ once_fates picked new
   pub left_so : left ≡ left_once picked new
 
@@ -33,7 +33,7 @@ left_more (first ∷ picked) is new = left_more picked is (cond first None new)
 pub once_more : {T : Type 0} (answers : T → Bool → Type 0) (items : List T) (index : ℕ) (x : T) (is : Bool) (new left behind : Option T) (fates : List (Fate T)) (fate : Fate T) → index < length items → x ≡ get_or items index x → Once answers (take index items) new left fates → answers x is → fate ≡ once_fate is left → behind ≡ cond is None left → Once answers (take (index + 1) items) new behind (fates ++ fate ∷ [])
 once_more answers items index x is new left behind fates fate within at so_far says becomes rest = record {
   picked = so_far.picked ++ is ∷ [];
-  told = told_more answers items index x so_far.picked is within at so_far.told says;
+  answered = one_more_answered answers items index x so_far.picked is within at so_far.answered says;
   fates_so =
       ap (λ all. all ++ fate ∷ []) so_far.fates_so
       ∙ ap (λ next. once_fates so_far.picked new ++ next ∷ []) (becomes ∙ ap (once_fate is) so_far.left_so)

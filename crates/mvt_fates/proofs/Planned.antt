@@ -37,16 +37,16 @@ module _ {T A : Type 0} (view : T → A) where
 
   -- where each answer of the program is what is planned for the plain value of its item
   module _ (plan : A → Fate A) (answers : T → Fate T → Type 0) (each : (x : T) (fate : Fate T) → answers x fate → fate_seen view fate ≡ plan (view x)) where
-    told : (xs : List T) (fates : List (Fate T)) → AllZip answers xs fates → map (fate_seen view) fates ≡ map plan (map view xs)
-    told [] [] all = refl
-    told [] (fate ∷ fates) all = absurd all
-    told (x ∷ xs) [] all = absurd all
-    told (x ∷ xs) (fate ∷ fates) all = ap (λ f. f ∷ map (fate_seen view) fates) (each x fate all.0) ∙ ap (λ fs. plan (view x) ∷ fs) (told xs fates all.1)
+    answered : (xs : List T) (fates : List (Fate T)) → AllZip answers xs fates → map (fate_seen view) fates ≡ map plan (map view xs)
+    answered [] [] all = refl
+    answered [] (fate ∷ fates) all = absurd all
+    answered (x ∷ xs) [] all = absurd all
+    answered (x ∷ xs) (fate ∷ fates) all = ap (λ f. f ∷ map (fate_seen view) fates) (each x fate all.0) ∙ ap (λ fs. plan (view x) ∷ fs) (answered xs fates all.1)
 
     -- the splices that the program makes are those that are planned
     pub splices_planned : (xs : List T) (fates : List (Fate T)) → AllZip answers xs fates → map (seen view) (splices_of fates) ≡ splices_of (map plan (map view xs))
-    splices_planned xs fates all = splices_seen 0 fates ∙ ap (splices_from 0) (told xs fates all)
+    splices_planned xs fates all = splices_seen 0 fates ∙ ap (splices_from 0) (answered xs fates all)
 
-    -- and so many items change
+    -- and as many items change as is planned
     pub count_planned : (xs : List T) (fates : List (Fate T)) → AllZip answers xs fates → length (filter changes fates) ≡ length (filter changes (map plan (map view xs)))
-    count_planned xs fates all = count_fates fates ∙ ap (λ fs. length (filter changes fs)) (told xs fates all)
+    count_planned xs fates all = count_fates fates ∙ ap (λ fs. length (filter changes fs)) (answered xs fates all)

@@ -16,9 +16,9 @@ abbrev pub field_fates : ℕ → List (Option ℕ) → List Field → List (Fate
 field_fates number decisions [] = []
 field_fates number decisions (field ∷ more) = field_fate number decisions field ∷ field_fates number (drop (length (field_numbers number field)) decisions) more
 
--- where a number of bytes was told rightly, and so many come behind them, the number that is told then is right too
+-- where `beside` is the size of some bytes, the other is the size of these and of `more` bytes behind them
 abbrev pub IsSizeBeside : Option ℕ → ℕ → Option ℕ → Type 0
-IsSizeBeside beside more told = (before : ℕ) → IsFileSize beside before → IsFileSize told (before + more)
+IsSizeBeside beside more answer = (before : ℕ) → IsFileSize beside before → IsFileSize answer (before + more)
 
 -- some number goes, by a decision for each
 abbrev pub is_any_gone : List (Option ℕ) → Bool
@@ -33,22 +33,22 @@ decided_by said pairs = flat_map (λ pair. (said pair).0 ∷ (said pair).1 ∷ [
 abbrev pub counted_by : (ℕ × ℕ → Option ℕ × Option ℕ × Bool) → List (ℕ × ℕ) → ℕ
 counted_by said pairs = count (λ pair. (said pair).2) pairs
 
--- there are pairs, of which this is said: so is decided on their numbers, and so many count
+-- there are pairs, of which this is said: so is decided on their numbers, and `n` of them count
 pub record IsDecided (said : ℕ × ℕ → Option ℕ × Option ℕ × Bool) (pairs : Option (List (ℕ × ℕ))) (decisions : List (Option ℕ)) (n : ℕ) : Type 0 where
   pub decided : option_map (decided_by said) pairs ≡ Some decisions
   pub counted : option_map (counted_by said) pairs ≡ Some n
 
--- what is decided on the two numbers of a pair: they stay, and where the pair is meant both go, or the second becomes
--- this one (tiles 4.4)
+-- what is decided on the two numbers of a pair: they stay, and where the pair is selected both go, or the second
+-- becomes this one (tiles 4.4)
 abbrev pub pair_decided : Bool → Option ℕ → ℕ × ℕ → Option ℕ × Option ℕ
-pair_decided meant to pair = if meant then option_map_or (λ value. (Some pair.0, Some value)) to (None, None) else (Some pair.0, Some pair.1)
+pair_decided selects to pair = if selects then option_map_or (λ value. (Some pair.0, Some value)) to (None, None) else (Some pair.0, Some pair.1)
 
--- the same by the key of the pair, and whether the pair is meant (tiles 4.4)
+-- the same by the key of the pair, and whether the pair is selected (tiles 4.4)
 abbrev pub said_of : (ℕ → Bool) → Option ℕ → ℕ × ℕ → Option ℕ × Option ℕ × Bool
-said_of meant to pair = ((pair_decided (meant pair.0) to pair).0, (pair_decided (meant pair.0) to pair).1, meant pair.0)
+said_of selects to pair = ((pair_decided (selects pair.0) to pair).0, (pair_decided (selects pair.0) to pair).1, selects pair.0)
 
 -- what is decided on each number of these pairs, where the pairs of some keys go, or get this value, and all others stay
 -- (tiles 4.4)
 abbrev pub pairs_decided : (ℕ → Bool) → Option ℕ → List (ℕ × ℕ) → List (Option ℕ)
-pairs_decided meant None pairs = without_pairs meant pairs
-pairs_decided meant (Some value) pairs = revalued meant value pairs
+pairs_decided selects None pairs = without_pairs selects pairs
+pairs_decided selects (Some value) pairs = revalued selects value pairs

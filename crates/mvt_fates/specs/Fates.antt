@@ -8,7 +8,7 @@ use Rattle.mvt_renumber.specs.Fates.{changes}
 use Rattle.mvt_renumber.specs.declared.fate.Fate.{Fate}
 use Rattle.mvt_renumber.specs.declared.fate.Fate.TheVariants.{Stays, Goes, Becomes}
 
--- so many items from an index of a list are taken out, and these come there
+-- `taken` items from `index` of a list are taken out, and those of `put` come there
 pub record Splice (A : Type 0) : Type 0 where
   pub index : ℕ
   pub taken : ℕ
@@ -59,11 +59,11 @@ goes_if picked = if picked then Goes else Stays
 abbrev pub steps_then : {T : Type 0} → (Splice T → plain.Step) → plain.Change → Walk T → List (Fate T) → plain.Change
 steps_then step_with steps walk rest = steps ++ map step_with (and_last (option_map splice_of walk.last) (splices_from walk.at rest))
 
--- behind the steps that were given come those of the splices, and so many items change
+-- behind the steps that were given come those of the splices, and `changed` items change
 pub record IsCarriedOut {A : Type 0} (step_with : Splice A → plain.Step) (fates : List (Fate A)) (given steps : plain.Change) (changed : ℕ) : Type 0 where
   pub behind : steps ≡ given ++ map step_with (splices_of fates)
   pub counted : changed ≡ length (filter changes fates)
 
 -- each answer of the code is what is said of it
-abbrev pub Tells : {A B C : Type 0} → (A → B → Type 0) → (B → C) → (A → C) → Type 0
-Tells {A} {B} answers meant said = (item : A) (answer : B) → answers item answer → meant answer ≡ said item
+abbrev pub Means : {A B C : Type 0} → (A → B → Type 0) → (B → C) → (A → C) → Type 0
+Means {A} {B} answers meant said = (item : A) (answer : B) → answers item answer → meant answer ≡ said item

@@ -11,7 +11,7 @@ use Rattle.mvt_geometry.proofs.Parts.{ways_apart, ways_together, with}
 
 -- ---- points
 
--- so many points are left, of all from the first on
+-- of the points in `all` those in `left` are yet to be put, behind `last`
 pub record Putting (from : Point) (all : List Point) (old : List ℕ) (last : Point) (left : List Point) (now : List ℕ) : Type 0 where
   pub put : now ++ packed (parameters last left) ≡ old ++ packed (parameters from all)
   pub short : AllByRecursion IsWay (ways last left) → AllByRecursion IsWay (ways from all)

@@ -34,7 +34,7 @@ abbrev pub parts_of : Kind → List ℕ → List (List Point)
 parts_of Dots numbers = points_in origin (drop 1 numbers) ∷ []
 parts_of kind numbers = parts_in (length (closing_of kind)) (length numbers) origin numbers
 
--- the kind with this number; any number but 1 and 2 gives areas
+-- the kind with this number; for any number but 1 and 2 it is areas
 abbrev pub kind_numbered : ℕ → Kind
 kind_numbered number = if number == 1 then Dots else if number == 2 then Lines else Areas
 

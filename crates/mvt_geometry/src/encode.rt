@@ -37,7 +37,7 @@ pub fn encode_geometry(alloc: Global, geometry: &Geometry) -> Result<Items<u8>, 
     Ok(Items::from_vec(bytes))
 }
 
-/// Adds the integers of a part, and gives its last point.
+/// Adds the integers of a part, and returns its last point.
 fn put_part(
     bytes: &mut Vec<u8>,
     kind: Kind,
@@ -86,7 +86,7 @@ fn put_path(bytes: &mut Vec<u8>, from: Point, points: &[Point]) -> Result<Point,
     put_points(bytes, first, &points[1..])
 }
 
-/// Adds the ways to the points, from this one on, and gives the last point. There are two to each
+/// Adds the ways to the points, from this one on, and returns the last point. There are two to each
 /// point, and each takes at least one byte.
 fn put_points(bytes: &mut Vec<u8>, from: Point, points: &[Point]) -> Result<Point, EncodeError>
     ensures bytes { OnOk result (bytes.new.items ≡ bytes.old.items ++ packed (parameters from points.now)) }

@@ -25,7 +25,7 @@ pub(crate) struct Front<'a> {
     pub(crate) rest: &'a [u32],
 }
 
-/// The part of at least so many points whose path the numbers begin with.
+/// The part of at least `least` points whose path the numbers begin with.
 pub(crate) fn path_at_front(
     alloc: Global,
     least: usize,

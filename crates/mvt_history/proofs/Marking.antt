@@ -189,7 +189,7 @@ way_within : (direction : Direction) (count to : ℕ) (session : Standing) → L
 way_within Undo count to session way within = omega (arith, way)
 way_within Redo count to session way within = omega (arith, way, within)
 
--- so many steps in a direction lead to the point of a mark, and as many changes lie ahead
+-- `count` steps in a direction lead to the point of a mark, and as many changes lie ahead
 pub record IsWayToMark (name : List ℕ) (point : ℕ) (direction : Direction) (count : ℕ) (session : Standing) : Type 0 where
   pub found : point_of name session.marks ≡ Some point
   pub way : LeadsAlong direction count (length session.undo) point
@@ -221,7 +221,7 @@ back_answers name direction point count session new history (Err taken) answer i
     } in
     rw is (inr (taken, between, refl, stops, subst (λ new. StandsFor new between) (sym err.1) (walked_stands direction taken part.0 session history closed ready (let enough = mark.enough in omega (arith, less, enough)) part.1 stands)))
 
--- what `map_err` gives
+-- what `map_err` returns
 pub stopped_from : (ended : Result (Unit {0}) ℕ) (answer : Result (Unit {0}) HistoryError) (Gives : ℕ → HistoryError → Type 0) → ((taken : ℕ) (error : HistoryError) → Gives taken error → error ≡ Stopped taken) → MatchResult ended (λ done. answer ≡ Ok done) (λ taken. IsErrAnd answer (Gives taken)) → MatchResult ended (λ done. answer ≡ Ok done) (λ taken. answer ≡ Err (Stopped taken))
 stopped_from (Ok done) answer Gives says is = is
 stopped_from (Err taken) (Ok done) Gives says is = absurd is

@@ -189,7 +189,7 @@ closed_here session seen same closed = ap (λ session. session.pending) same ∙
 pub enough_here : (given direction : Direction) (count : ℕ) (session seen : Standing) → given ≡ direction → session ≡ seen → count ≤ length (walk_in given seen).ahead → count ≤ length (walk_in direction session).ahead
 enough_here given direction count session seen is same enough = subst (λ direction. count ≤ length (walk_in direction session).ahead) is (subst (λ session. count ≤ length (walk_in given session).ahead) (sym same) enough)
 
--- wherever a walk ended the session is held, and has come so many steps
+-- wherever a walk of `count` steps ended, at its end or before, the session is held
 pub ended_held : (direction : Direction) (undo_room redo_room count : ℕ) (session : Standing) (walk : Track) (ended : Result (Unit {0}) ℕ) → session.pending ≡ None → count ≤ length (walk_in direction session).ahead → OnOk ended (walk ≡ walked count (walk_in direction session)) → IfErr ended (λ taken. (taken < count) × (walk ≡ walked taken (walk_in direction session))) → IsHeld undo_room redo_room session → IsHeld undo_room redo_room (with_walk direction walk session)
 ended_held direction undo_room redo_room count session walk (Ok done) closed enough ok err held =
     subst (λ walk. IsHeld undo_room redo_room (with_walk direction walk session)) (sym ok) (walked_held direction undo_room redo_room count session closed enough held)

@@ -60,7 +60,7 @@ impl Model for Session {
 }
 
 impl Session {
-    /// A session of a document that no command has edited, in which undo goes back so many steps at
+    /// A session of a document that no command has edited, in which undo goes back `depth` steps at
     /// most. An error hands the document back: it is too large for a file, or there is no memory.
     pub fn start(alloc: Global, document: Document, depth: u32) -> Result<Session, StartError>
         requires valid { IsDocument (document_of document) }
@@ -214,7 +214,7 @@ impl Session {
         }
     }
 
-    /// Makes so many steps in a direction. An `Err` says how many were made; these stand.
+    /// Makes `count` steps in a direction. An `Err` says how many were made; these stand.
     fn walk(&mut self, direction: Direction, count: usize) -> Result<(), usize>
         requires closed { self.old.pending ≡ None }
         requires enough { count ≤ length (walk_in direction self.old).ahead }

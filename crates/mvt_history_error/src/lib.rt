@@ -22,8 +22,8 @@ pub enum HistoryError {
     /// The name is a new one, and `MAX_MARKS` names are marked.
     #[error("there are too many marks")]
     TooManyMarks,
-    /// Memory was refused on the way. So many undos or redos of a `back` were made, or so many
-    /// commands of the open step, the last ones, were taken back by a `cancel`; that stands.
+    /// Memory was refused on the way. `taken` undos or redos of a `back` were made, or the last
+    /// `taken` commands of the open step were taken back by a `cancel`; that stands.
     #[error("out of memory after {taken} steps")]
     Stopped { taken: usize },
     /// A step is open, and this has to wait for its end.

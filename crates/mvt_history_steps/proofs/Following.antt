@@ -56,7 +56,7 @@ lead_back_dropped steps start (suc point) (suc count) (change ∷ changes) leads
     let same : point - count ≡ suc point - suc count = omega arith in
     subst (λ p. LeadBack steps start p (drop count changes)) same (lead_back_dropped steps start point count changes leads.1)
 
--- so many of them lead so many steps down
+-- `count` of them lead `count` steps down
 pub back_along : (steps : List (List Command)) (start : Document) (point count : ℕ) (changes : List Change) → point ≤ length steps → count ≤ length changes → LeadBack steps start point changes → go_along (take count changes) (after_steps (take point steps) start) ≡ after_steps (take (point - count) steps) start
 back_along steps start point zero changes inside enough leads =
     let same : point ≡ point - 0 = omega arith in ap (λ p. after_steps (take p steps) start) same
@@ -71,7 +71,7 @@ back_along steps start (suc point) (suc count) (change ∷ changes) inside enoug
 
 -- ---- changes that lead on
 
--- so many of them lead so many steps up
+-- `count` of them lead `count` steps up
 pub on_along : (steps : List (List Command)) (start : Document) (point count : ℕ) (changes : List Change) → point + count ≤ length steps → count ≤ length changes → LeadOn steps start point changes → go_along (take count changes) (after_steps (take point steps) start) ≡ after_steps (take (point + count) steps) start
 on_along steps start point zero changes inside enough leads =
     let same : point ≡ point + 0 = omega arith in ap (λ p. after_steps (take p steps) start) same

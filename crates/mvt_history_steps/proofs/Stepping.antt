@@ -103,7 +103,7 @@ on_refusal (Err error) accepted refused err = refl
 
 -- ---- steps
 
--- after so many steps the changes ahead fit, and as many have come behind
+-- after `taken` steps the changes ahead fit, and as many have come behind
 pub record IsOnTheWay (before : Track) (taken : ℕ) (now : Track) : Type 0 where
   pub is : now ≡ walked taken before
   pub fit : FitAlong now.ahead now.document
@@ -138,13 +138,13 @@ next_on (first ∷ changes) rest zero change document is =
     (ap (λ c. go c document) same, others)
 next_on (first ∷ changes) rest (suc taken) change document is = next_on changes rest taken change (go first document) is
 
--- the next one after so many is carried out
+-- the next one after `taken` changes is carried out
 pub one_more : (changes rest : List plain.Change) (taken : ℕ) (change : plain.Change) (document : Document) → drop taken changes ≡ change ∷ rest → (go_along (take (taken + 1) changes) document ≡ go change (go_along (take taken changes) document)) × (drop (taken + 1) changes ≡ rest)
 one_more changes rest taken change document is =
     let one : suc taken ≡ taken + 1 = omega arith in
     subst (λ n. (go_along (take n changes) document ≡ go change (go_along (take taken changes) document)) × (drop n changes ≡ rest)) one (next_on changes rest taken change document is)
 
--- after so many were carried out and let go, the others are left
+-- after `taken` changes were carried out and let go, the others are left
 pub record IsTakenBack (all : List plain.Change) (before : Document) (taken : ℕ) (left : List plain.Change) (now : Document) : Type 0 where
   pub document : now ≡ go_along (take taken all) before
   pub rest : left ≡ drop taken all
@@ -170,7 +170,7 @@ left_before changes held left change flipped is held_is left_is =
     let same : left ≡ front = left_is ∙ ap (λ all. take (length all - 1) all) ends ∙ before_pushed front flipped in
     from_last_ends changes change is ∙ ap (λ rest. change_of change ∷ from_last rest) (sym same)
 
--- the last item as a list of so many shows it
+-- the last item as a list of `count` items shows it
 pub shown_last : (changes : List Change) (count : ℕ) (change : Change) → count ≡ length changes → 0 < count → change ≡ get_or changes (count - 1) change → slice_get changes (length changes - 1) ≡ Some change
 shown_last changes count change long some is =
     ap (λ n. slice_get changes (n - 1)) (sym long) ∙ slice_get_read changes count (count - 1) change long (omega (arith, some)) is

@@ -44,7 +44,7 @@ with_walk Redo walk session = record session { document = walk.document; undo = 
 abbrev pub moved_along : Direction → ℕ → Standing → Standing
 moved_along direction count session = with_walk direction (walked count (walk_in direction session)) session
 
--- so many steps in the direction lead from one point to another
+-- `count` steps in the direction lead from one point to another
 abbrev pub LeadsAlong : Direction → ℕ → ℕ → ℕ → Type 0
 LeadsAlong Undo count from to = to + count ≡ from
 LeadsAlong Redo count from to = from + count ≡ to

@@ -26,7 +26,7 @@ step_allowance commands document = 2 * length commands + all_taken_by commands d
 
 -- ---- one change
 
--- the change leads from one document to another, holds at most so many bytes, and turned at most so many; twice its
+-- the change leads from one document to another, holds at most `held` bytes, and turned at most `turned`; twice its
 -- steps are within the allowance
 pub record Leads (change : Change) (from to : Document) (held turned allowance : ℕ) : Type 0 where
   pub fits : Fits change from

@@ -105,5 +105,5 @@ NotStarted document (start.NoMemory refused) = refused ≡ document
 -- what is returned of a mark, where there is one: its name, and its point less the present one
 abbrev pub SeesMark : ℕ → Option (Bor (List ℕ) × ℤ) → Option Mark → Type 0
 SeesMark present None None = Unit {0}
-SeesMark present (Some told) (Some mark) = (told.0.now ≡ mark.name) × (told.1 ≡ pos mark.point -ℤ pos present)
-SeesMark present told mark = ⊥
+SeesMark present (Some seen) (Some mark) = (seen.0.now ≡ mark.name) × (seen.1 ≡ pos mark.point -ℤ pos present)
+SeesMark present seen mark = ⊥

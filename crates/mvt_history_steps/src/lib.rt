@@ -9,8 +9,8 @@
 //!   (`no_memory`), and an `Err` changes nothing.
 //! - A new change is kept for undo, and none for redo any more. Where there is no room for one more
 //!   the oldest goes, and marks stay as far as their points are still reached: `keep`.
-//! - In which direction one point lies from another, and by how many steps: `way`. So many steps
-//!   carry a change of the one list out each, and keep what leads back in the other: `walk`. The
+//! - In which direction one point lies from another, and by how many steps: `way`. Each step
+//!   carries a change of the one list out, and keeps what leads back in the other: `walk`. The
 //!   changes of an open step are carried out and let go: `take_back`. Where memory runs out on the
 //!   way, both say how far they came, and that stands (`err`).
 //! - Conditions: the marks are in order (`find_point`, `bind`, `unbind`); the room for undo is from 1

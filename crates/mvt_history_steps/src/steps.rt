@@ -85,7 +85,7 @@ fn step(
     Ok(())
 }
 
-/// Makes so many of these steps. An `Err` says how many were made; these stand.
+/// Makes `count` of these steps. An `Err` says how many were made; these stand.
 pub fn walk(
     alloc: Global,
     document: &mut Document,

@@ -176,7 +176,7 @@ pub(crate) fn entry_count(items: &[LayerItem], entries: Run, number: u64) -> usi
     entries.count + entries_from(items, entries.until, number)
 }
 
-/// How many entries there are from this position on.
+/// How many entries there are from `start` on.
 fn entries_from(items: &[LayerItem], start: usize, number: u64) -> usize
     requires { start ≤ length items.now }
     ensures { result ≡ length (placed_from (is_entry_in number) start (map layer_item_of items.now)) }
@@ -209,8 +209,8 @@ pub(crate) fn first_equal<'a>(
     }
 }
 
-/// The same from this position on, where the first from there on has this ordinal. The items of the run of
-/// features are passed over.
+/// The same from `start` on, where the first from there on has the ordinal `first`. The items of
+/// the run of features are passed over.
 fn equal_beside<'a>(
     items: &'a [LayerItem],
     features: Run,
@@ -237,7 +237,8 @@ fn equal_beside<'a>(
     }
 }
 
-/// The same from this position to that one; where there is none, the ordinal that the first from that one on has.
+/// The same from `start` to `end`; where there is none, the ordinal that the first from `end` on
+/// has.
 fn equal_before<'a>(
     items: &'a [LayerItem],
     number: u64,

@@ -72,7 +72,7 @@ fn last_value_in_items(before: Option<u64>, items: &[LayerItem], number: u64) ->
     last
 }
 
-/// The first layer from this position on, and its position.
+/// The first layer from `start` on, and its position.
 pub(crate) fn first_layer(items: &[TileItem], start: usize) -> Option<(usize, &Layer)>
     requires { start ≤ length items.now }
     ensures found { MatchOption result (placed_from layer_in start (map tile_item_of items.now) ≡ []) (λ found. placed_from layer_in start (map tile_item_of items.now) ≡ (found.0, layer_of found.1.now) ∷ placed_from layer_in (found.0 + 1) (map tile_item_of items.now)) }
@@ -86,7 +86,7 @@ pub(crate) fn first_layer(items: &[TileItem], start: usize) -> Option<(usize, &L
     None
 }
 
-/// The first feature from this position on, and its position.
+/// The first feature from `start` on, and its position.
 pub(crate) fn first_feature(items: &[LayerItem], start: usize) -> Option<(usize, &Feature)>
     requires { start ≤ length items.now }
     ensures found { MatchOption result (placed_from feature_in start (map layer_item_of items.now) ≡ []) (λ found. placed_from feature_in start (map layer_item_of items.now) ≡ (found.0, feature_of found.1.now) ∷ placed_from feature_in (found.0 + 1) (map layer_item_of items.now)) }
@@ -112,7 +112,8 @@ pub(crate) fn up_to_features(items: &[LayerItem], features: Run) -> &[LayerItem]
     &items[..features.first + features.count]
 }
 
-/// The first feature that has this id from this position on, where the first from there on has this ordinal.
+/// The first feature that has this id from `start` on, where the first from there on has the
+/// ordinal `first`.
 pub(crate) fn first_with_id(
     items: &[LayerItem],
     id: u64,
@@ -181,8 +182,8 @@ pub(crate) fn entry_in(item: &LayerItem, number: u64) -> Option<&[u8]>
     }
 }
 
-/// The content of the first LEN field of this number from this position on, and its position. The items of
-/// the run are passed over.
+/// The content of the first LEN field of this number from `start` on, and its position. The items
+/// of the run are passed over.
 pub(crate) fn first_entry(
     items: &[LayerItem],
     number: u64,
@@ -203,7 +204,7 @@ pub(crate) fn first_entry(
     }
 }
 
-/// The same from this position to that one.
+/// The same from `start` to `end`.
 fn entry_before(
     items: &[LayerItem],
     number: u64,

@@ -82,7 +82,8 @@ impl<'a> HashedFeatures<'a> {
     }
 }
 
-/// The first feature that has this id from this position on, where the first from there on has this ordinal.
+/// The first feature that has this id from `start` on, where the first from there on has the
+/// ordinal `first`.
 fn first_of_id<'a>(
     items: &'a [LayerItem],
     features: Run,

@@ -25,7 +25,7 @@
 //!
 //! Only `pairs` is given an allocator. The crate passes on the names of `mvt_numbers`. What the
 //! messages say is defined in `mvt_messages`, and the geometry of a feature is read in `mvt_view`.
-//! A value it gives as its bytes: `mvt_value` says which value they are.
+//! A value it returns as its bytes: `mvt_value` says which value they are.
 #![tactic(auto)]
 
 mod attributes;

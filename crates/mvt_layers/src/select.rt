@@ -19,7 +19,7 @@ use crate::views::LayerView;
 use mvt_document::Document;
 use thiserror::Error;
 
-/// Why a name means no layer.
+/// Why a name selects no layer.
 #[derive(Clone, Copy, Debug, PartialEq, Eq, Error)]
 pub enum LayerError {
     #[error("there is no such layer")]
@@ -28,7 +28,7 @@ pub enum LayerError {
     AmbiguousLayer,
 }
 
-/// Why an id means no feature.
+/// Why an id selects no feature.
 #[derive(Clone, Copy, Debug, PartialEq, Eq, Error)]
 pub enum FeatureError {
     #[error("there is no such feature")]

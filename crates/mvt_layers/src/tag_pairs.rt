@@ -96,7 +96,7 @@ fn pair_of(
     Ok(TagPair { pair, key, value })
 }
 
-/// The number as an ordinal, where there are so many.
+/// The number as an ordinal, where it is below `count` and has at most 32 bits.
 fn ordinal(number: u64, count: usize) -> Option<u32>
     ensures { result ≡ ordinal_in count number }
 {

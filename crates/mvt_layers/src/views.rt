@@ -241,7 +241,7 @@ impl<'a> FeatureView<'a> {
         Numbers::of(self.feature.fields(), TAGS)
     }
 
-    /// The tags in pairs, in order, where the layer has so many keys and values.
+    /// The tags in pairs, in order, where `sizes` is how many keys and values the layer has.
     pub fn tag_pairs(self, sizes: PoolSizes) -> TagPairs<'a>
         ensures { result ≡ tag_pairs sizes.keys sizes.values (numbers 2 (feature_seen self.entry).fields) }
     {

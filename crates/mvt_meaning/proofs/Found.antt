@@ -43,7 +43,7 @@ from_first passes change n x xs zero k j pass e at more = let here : n ≡ k = c
 from_first passes change n x xs (suc m) k j pass e at more =
     from_later passes change m x xs pass ∙ one_before change x xs (from_nth passes change m xs) n j k (positions_within passes (n + 1) xs m k e).0 at (λ i at. more m i e at)
 
--- the front up to the position stays, and the rest is changed
+-- the prefix up to the position stays, and the rest is changed
 pub from_nth_at : {A : Type 0} (passes : A → Bool) (change : List A → List A) (n : ℕ) (xs : List A) (ordinal k j : ℕ) → slice_get (positions_from passes n xs) ordinal ≡ Some k → k ≡ n + j → from_nth passes change ordinal xs ≡ take j xs ++ change (drop j xs)
 from_nth_at passes change n [] ordinal k j e at = absurd cc
 from_nth_at passes change n (x ∷ xs) ordinal k j e at =
@@ -172,21 +172,21 @@ change_fields_same f g position item document layer feature there within same =
     change_items_same (change_at (in_feature f) item) (change_at (in_feature g) item) position document layer there
     (change_at_same (in_feature f) (in_feature g) item layer.items (OfFeature feature) within (ap with_fields same))
 
-module _ (document : Document) (ordinal position : ℕ) (layer : Layer) (placed : slice_get (layer_positions document) ordinal ≡ Some position) (there : slice_get document position ≡ Some (OfLayer layer)) (meant item : ℕ) (feature : Feature) (feature_placed : slice_get (feature_positions layer.items) meant ≡ Some item) (feature_there : slice_get layer.items item ≡ Some (OfFeature feature)) where
+module _ (document : Document) (ordinal position : ℕ) (layer : Layer) (placed : slice_get (layer_positions document) ordinal ≡ Some position) (there : slice_get document position ≡ Some (OfLayer layer)) (selects item : ℕ) (feature : Feature) (feature_placed : slice_get (feature_positions layer.items) selects ≡ Some item) (feature_there : slice_get layer.items item ≡ Some (OfFeature feature)) where
   pub fields_at_found : fields_at position item document ≡ Some feature.fields
   fields_at_found =
       ap (option_and_then (fields_in_at item)) (items_at_found document ordinal position layer placed there) ∙ ap (option_and_then fields_in) feature_there
 
-  pub fields_of_found : fields_of ordinal meant document ≡ feature.fields
+  pub fields_of_found : fields_of ordinal selects document ≡ feature.fields
   fields_of_found =
-      ap (λ items. option_map_or (λ item. option_map_or (λ (fields : List Field). fields) (fields_in item) []) (slice_get (filter is_feature items) meant) []) (items_of_found document ordinal position layer placed there)
-      ∙ ap (λ found. option_map_or (λ item. option_map_or (λ (fields : List Field). fields) (fields_in item) []) found []) (filtered_found is_feature layer.items meant item feature_placed ∙ feature_there)
+      ap (λ items. option_map_or (λ item. option_map_or (λ (fields : List Field). fields) (fields_in item) []) (slice_get (filter is_feature items) selects) []) (items_of_found document ordinal position layer placed there)
+      ∙ ap (λ found. option_map_or (λ item. option_map_or (λ (fields : List Field). fields) (fields_in item) []) found []) (filtered_found is_feature layer.items selects item feature_placed ∙ feature_there)
 
-  pub change_feature_found : (change : List Field → List Field) → change_feature change ordinal meant document ≡ change_fields change position item document
+  pub change_feature_found : (change : List Field → List Field) → change_feature change ordinal selects document ≡ change_fields change position item document
   change_feature_found change =
-      change_layer_found document ordinal position layer placed there (change_nth is_feature (in_feature change) meant)
-      ∙ change_items_same (change_nth is_feature (in_feature change) meant) (change_at (in_feature change) item) position document layer there
-      (change_nth_found is_feature (in_feature change) layer.items meant item feature_placed)
+      change_layer_found document ordinal position layer placed there (change_nth is_feature (in_feature change) selects)
+      ∙ change_items_same (change_nth is_feature (in_feature change) selects) (change_at (in_feature change) item) position document layer there
+      (change_nth_found is_feature (in_feature change) layer.items selects item feature_placed)
 
 -- ---- what is found after a change
 
@@ -225,17 +225,17 @@ module _ (document : Document) (ordinal position : ℕ) (layer : Layer) (placed 
       (ap (λ positions. slice_get positions ordinal) (same_positions is_layer (in_layer change) 0 position document (still_layer change)) ∙ placed)
       (get_changed (in_layer change) position document (OfLayer layer) there)
 
-module _ (document : Document) (ordinal position : ℕ) (layer : Layer) (placed : slice_get (layer_positions document) ordinal ≡ Some position) (there : slice_get document position ≡ Some (OfLayer layer)) (meant item : ℕ) (feature : Feature) (feature_placed : slice_get (feature_positions layer.items) meant ≡ Some item) (feature_there : slice_get layer.items item ≡ Some (OfFeature feature)) where
-  pub fields_changed : (change : List Field → List Field) → fields_of ordinal meant (change_feature change ordinal meant document) ≡ change feature.fields
+module _ (document : Document) (ordinal position : ℕ) (layer : Layer) (placed : slice_get (layer_positions document) ordinal ≡ Some position) (there : slice_get document position ≡ Some (OfLayer layer)) (selects item : ℕ) (feature : Feature) (feature_placed : slice_get (feature_positions layer.items) selects ≡ Some item) (feature_there : slice_get layer.items item ≡ Some (OfFeature feature)) where
+  pub fields_changed : (change : List Field → List Field) → fields_of ordinal selects (change_feature change ordinal selects document) ≡ change feature.fields
   fields_changed change =
       let inner = change_at (in_feature change) item in
       let made = change_items inner position document in
       let changed_layer : Layer = record { tag = layer.tag; width = layer.width; items = inner layer.items } in
       let changed : Feature = record { tag = feature.tag; width = feature.width; fields = change feature.fields } in
-      ap (fields_of ordinal meant) (change_feature_found document ordinal position layer placed there meant item feature feature_placed feature_there change)
+      ap (fields_of ordinal selects) (change_feature_found document ordinal position layer placed there selects item feature feature_placed feature_there change)
       ∙ fields_of_found made ordinal position changed_layer
       (ap (λ positions. slice_get positions ordinal) (same_positions is_layer (in_layer inner) 0 position document (still_layer inner)) ∙ placed)
       (get_changed (in_layer inner) position document (OfLayer layer) there)
-      meant item changed
-      (ap (λ positions. slice_get positions meant) (same_positions is_feature (in_feature change) 0 item layer.items (still_feature change)) ∙ feature_placed)
+      selects item changed
+      (ap (λ positions. slice_get positions selects) (same_positions is_feature (in_feature change) 0 item layer.items (still_feature change)) ∙ feature_placed)
       (get_changed (in_feature change) item layer.items (OfFeature feature) feature_there)

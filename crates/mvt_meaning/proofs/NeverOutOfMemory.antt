@@ -36,111 +36,111 @@ one_feature [] = λ e. cc
 one_feature (ordinal ∷ []) = tt
 one_feature (ordinal ∷ next ∷ more) = λ e. cc
 
-layer_meant : (choice : LayerChoice) (document : Document) → NeverOutOfMemory (selected choice document)
-layer_meant (AtOrdinal ordinal) document = either NoMemory (nat_lt ordinal (length (layers document))) _ _ tt (λ e. cc)
-layer_meant (Named name) document = one_layer (ordinals_of (is_named name) (layers document))
+layer_selects : (choice : LayerChoice) (document : Document) → NeverOutOfMemory (selected choice document)
+layer_selects (AtOrdinal ordinal) document = either NoMemory (nat_lt ordinal (length (layers document))) _ _ tt (λ e. cc)
+layer_selects (Named name) document = one_layer (ordinals_of (is_named name) (layers document))
 
-meant_in : (choice : FeatureChoice) (layer : Layer) → NeverOutOfMemory (selected_feature choice layer)
-meant_in (FeatureAtOrdinal ordinal) layer = either NoMemory (nat_lt ordinal (length (features layer))) _ _ tt (λ e. cc)
-meant_in (WithId id) layer = one_feature (ordinals_of (has_id id) (features layer))
+selects_in : (choice : FeatureChoice) (layer : Layer) → NeverOutOfMemory (selected_feature choice layer)
+selects_in (FeatureAtOrdinal ordinal) layer = either NoMemory (nat_lt ordinal (length (features layer))) _ _ tt (λ e. cc)
+selects_in (WithId id) layer = one_feature (ordinals_of (has_id id) (features layer))
 
-meant_there : (choice : FeatureChoice) (layer : Option Layer) → NeverOutOfMemory (option_map_or (selected_feature choice) layer (Err NoLayer))
-meant_there choice (Some layer) = meant_in choice layer
-meant_there choice None = λ e. cc
+selects_there : (choice : FeatureChoice) (layer : Option Layer) → NeverOutOfMemory (option_map_or (selected_feature choice) layer (Err NoLayer))
+selects_there choice (Some layer) = selects_in choice layer
+selects_there choice None = λ e. cc
 
-feature_meant : (choice : FeatureChoice) (ordinal : ℕ) (document : Document) → NeverOutOfMemory (selected_in choice ordinal document)
-feature_meant choice ordinal document = meant_there choice (slice_get (layers document) ordinal)
+feature_selects : (choice : FeatureChoice) (ordinal : ℕ) (document : Document) → NeverOutOfMemory (selected_in choice ordinal document)
+feature_selects choice ordinal document = selects_there choice (slice_get (layers document) ordinal)
 
 limited : (document : Document) → NeverOutOfMemory (within_limit document)
 limited document = either NoMemory (nat_lt MAX_FILE (length (bytes_of document))) (Err TooLarge) (Ok document) (λ e. cc) tt
 
-layers_meant : (change : List LayerItem → List LayerItem) (choice : LayersChoice) (document : Document) → NeverOutOfMemory (change_layers change choice document)
-layers_meant change (TheLayer choice) document = then (selected choice document) _ (layer_meant choice document) (λ ordinal. tt)
-layers_meant change EachLayer document = tt
+layers_selected : (change : List LayerItem → List LayerItem) (choice : LayersChoice) (document : Document) → NeverOutOfMemory (change_layers change choice document)
+layers_selected change (TheLayer choice) document = then (selected choice document) _ (layer_selects choice document) (λ ordinal. tt)
+layers_selected change EachLayer document = tt
 
-meant_layers : (choice : LayersChoice) (document : Document) → NeverOutOfMemory (selected_layers choice document)
-meant_layers (TheLayer choice) document = mapped _ (selected choice document) (layer_meant choice document)
+selects_layers : (choice : LayersChoice) (document : Document) → NeverOutOfMemory (selected_layers choice document)
+selects_layers (TheLayer choice) document = mapped _ (selected choice document) (layer_selects choice document)
   where
     mapped : {A B : Type 0} (f : A → B) (r : Result A Refusal) → NeverOutOfMemory r → NeverOutOfMemory (result_map_both f (λ refusal. refusal) r)
     mapped f (Ok x) other = tt
     mapped f (Err e) other = other
-meant_layers EachLayer document = tt
+selects_layers EachLayer document = tt
 
 first_refused : (list : List (ℕ × ℕ)) → NeverOutOfMemory (refuse_first list)
 first_refused [] = tt
 first_refused (at ∷ more) = λ e. cc
 
-readable_meant : (change : List LayerItem → List LayerItem) (choice : LayersChoice) (document : Document) → NeverOutOfMemory (change_readable change choice document)
-readable_meant change choice document =
-    then (selected_layers choice document) _ (meant_layers choice document) (λ layers.
-    then (refuse_first (unreadable layers)) _ (first_refused (unreadable layers)) (λ readable. layers_meant change choice document))
+readable_selected : (change : List LayerItem → List LayerItem) (choice : LayersChoice) (document : Document) → NeverOutOfMemory (change_readable change choice document)
+readable_selected change choice document =
+    then (selected_layers choice document) _ (selects_layers choice document) (λ layers.
+    then (refuse_first (unreadable layers)) _ (first_refused (unreadable layers)) (λ readable. layers_selected change choice document))
 
 pub applied_other : (command : Command) (document : Document) → Other NoMemory (applied command document)
 applied_other (RenameLayer choice name) document =
-    then (selected choice document) _ (layer_meant choice document) (λ ordinal.
+    then (selected choice document) _ (layer_selects choice document) (λ ordinal.
     then (refuse_if (is_taken name ordinal document) NameTaken) _ (either NoMemory (is_taken name ordinal document) (Err NameTaken) (Ok tt) (λ e. cc) tt) (λ free. limited _))
 applied_other (MoveLayer choice index) document =
     let past = not (nat_lt index (layer_count document)) in
-    then (selected choice document) _ (layer_meant choice document) (λ ordinal.
+    then (selected choice document) _ (layer_selects choice document) (λ ordinal.
     then (refuse_if past BadPlace) _ (either NoMemory past (Err BadPlace) (Ok tt) (λ e. cc) tt) (λ there. tt))
-applied_other (DropLayer choice) document = then (selected choice document) _ (layer_meant choice document) (λ ordinal. tt)
+applied_other (DropLayer choice) document = then (selected choice document) _ (layer_selects choice document) (λ ordinal. tt)
 applied_other (KeepLayers names) document =
     let none = not (list_any (λ layer. is_kept names (OfLayer layer)) (layers document)) in
     then (refuse_if none NoLayer) _ (either NoMemory none (Err NoLayer) (Ok tt) (λ e. cc) tt) (λ some. tt)
 applied_other (InsertFeature choice index geometry) document =
     let far = not (is_in_range geometry) in
-    then (selected choice document) _ (layer_meant choice document) (λ ordinal.
+    then (selected choice document) _ (layer_selects choice document) (λ ordinal.
     let past = nat_lt (feature_count ordinal document) index in
     then (refuse_if past BadPlace) _ (either NoMemory past (Err BadPlace) (Ok tt) (λ e. cc) tt) (λ there.
     then (refuse_if far OutOfRange) _ (either NoMemory far (Err OutOfRange) (Ok tt) (λ e. cc) tt) (λ short. limited _)))
 applied_other (MoveFeature choice feature index) document =
-    then (selected choice document) _ (layer_meant choice document) (λ ordinal.
-    then (selected_in feature ordinal document) _ (feature_meant feature ordinal document) (λ moving.
+    then (selected choice document) _ (layer_selects choice document) (λ ordinal.
+    then (selected_in feature ordinal document) _ (feature_selects feature ordinal document) (λ moving.
     let past = not (nat_lt index (feature_count ordinal document)) in
     then (refuse_if past BadPlace) _ (either NoMemory past (Err BadPlace) (Ok tt) (λ e. cc) tt) (λ there. tt)))
 applied_other (DropFeature choice feature) document =
-    then (selected choice document) _ (layer_meant choice document) (λ ordinal.
-    then (selected_in feature ordinal document) _ (feature_meant feature ordinal document) (λ going. tt))
+    then (selected choice document) _ (layer_selects choice document) (λ ordinal.
+    then (selected_in feature ordinal document) _ (feature_selects feature ordinal document) (λ going. tt))
 applied_other (SetId choice feature id) document =
-    then (selected choice document) _ (layer_meant choice document) (λ ordinal.
-    then (selected_in feature ordinal document) _ (feature_meant feature ordinal document) (λ meant. limited _))
+    then (selected choice document) _ (layer_selects choice document) (λ ordinal.
+    then (selected_in feature ordinal document) _ (feature_selects feature ordinal document) (λ selects. limited _))
 applied_other (ClearId choice feature) document =
-    then (selected choice document) _ (layer_meant choice document) (λ ordinal.
-    then (selected_in feature ordinal document) _ (feature_meant feature ordinal document) (λ meant. tt))
+    then (selected choice document) _ (layer_selects choice document) (λ ordinal.
+    then (selected_in feature ordinal document) _ (feature_selects feature ordinal document) (λ selects. tt))
 applied_other (SetAttribute choice feature key value) document =
-    then (selected choice document) _ (layer_meant choice document) (λ ordinal.
-    then (selected_in feature ordinal document) _ (feature_meant feature ordinal document) (λ meant.
-    let bad = not (has_pairs ordinal meant document) in
-    let several = repeats_key key ordinal meant document in
-    then (refuse_if bad (BadTags ordinal meant)) _ (either NoMemory bad (Err (BadTags ordinal meant)) (Ok tt) (λ e. cc) tt) (λ readable.
-    then (refuse_if several (RepeatedKey ordinal meant)) _ (either NoMemory several (Err (RepeatedKey ordinal meant)) (Ok tt) (λ e. cc) tt) (λ once. limited _))))
+    then (selected choice document) _ (layer_selects choice document) (λ ordinal.
+    then (selected_in feature ordinal document) _ (feature_selects feature ordinal document) (λ selects.
+    let bad = not (has_pairs ordinal selects document) in
+    let several = repeats_key key ordinal selects document in
+    then (refuse_if bad (BadTags ordinal selects)) _ (either NoMemory bad (Err (BadTags ordinal selects)) (Ok tt) (λ e. cc) tt) (λ readable.
+    then (refuse_if several (RepeatedKey ordinal selects)) _ (either NoMemory several (Err (RepeatedKey ordinal selects)) (Ok tt) (λ e. cc) tt) (λ once. limited _))))
 applied_other (UnsetAttribute choice feature key) document =
-    then (selected choice document) _ (layer_meant choice document) (λ ordinal.
-    then (selected_in feature ordinal document) _ (feature_meant feature ordinal document) (λ meant.
+    then (selected choice document) _ (layer_selects choice document) (λ ordinal.
+    then (selected_in feature ordinal document) _ (feature_selects feature ordinal document) (λ selects.
     let gone = not (has_key key ordinal document) in
-    let bad = not (has_pairs ordinal meant document) in
+    let bad = not (has_pairs ordinal selects document) in
     then (refuse_if gone NoKey) _ (either NoMemory gone (Err NoKey) (Ok tt) (λ e. cc) tt) (λ there.
-    then (refuse_if bad (BadTags ordinal meant)) _ (either NoMemory bad (Err (BadTags ordinal meant)) (Ok tt) (λ e. cc) tt) (λ readable. tt))))
+    then (refuse_if bad (BadTags ordinal selects)) _ (either NoMemory bad (Err (BadTags ordinal selects)) (Ok tt) (λ e. cc) tt) (λ readable. tt))))
 applied_other (RenameKey choice old new) document =
-    then (selected choice document) _ (layer_meant choice document) (λ ordinal.
+    then (selected choice document) _ (layer_selects choice document) (λ ordinal.
     let gone = not (has_key old ordinal document) in
     let taken = has_key new ordinal document && not (bytes_eq old new) in
     then (refuse_if gone NoKey) _ (either NoMemory gone (Err NoKey) (Ok tt) (λ e. cc) tt) (λ there.
     then (refuse_if taken KeyTaken) _ (either NoMemory taken (Err KeyTaken) (Ok tt) (λ e. cc) tt) (λ free. limited _)))
-applied_other (Exclude choice key) document = readable_meant (excluded key) choice document
-applied_other (ExcludeAll choice) document = layers_meant untagged choice document
+applied_other (Exclude choice key) document = readable_selected (excluded key) choice document
+applied_other (ExcludeAll choice) document = layers_selected untagged choice document
 applied_other (Shift choice feature dx dy) document =
-    then (selected choice document) _ (layer_meant choice document) (λ ordinal.
-    then (selected_in feature ordinal document) _ (feature_meant feature ordinal document) (λ meant.
-    let bad = not (is_drawn ordinal meant document) in
-    let far = not (can_shift dx dy ordinal meant document) in
-    then (refuse_if bad (BadGeometry ordinal meant)) _ (either NoMemory bad (Err (BadGeometry ordinal meant)) (Ok tt) (λ e. cc) tt) (λ readable.
+    then (selected choice document) _ (layer_selects choice document) (λ ordinal.
+    then (selected_in feature ordinal document) _ (feature_selects feature ordinal document) (λ selects.
+    let bad = not (is_drawn ordinal selects document) in
+    let far = not (can_shift dx dy ordinal selects document) in
+    then (refuse_if bad (BadGeometry ordinal selects)) _ (either NoMemory bad (Err (BadGeometry ordinal selects)) (Ok tt) (λ e. cc) tt) (λ readable.
     then (refuse_if far OutOfRange) _ (either NoMemory far (Err OutOfRange) (Ok tt) (λ e. cc) tt) (λ short. limited _))))
 applied_other (SetGeometry choice feature geometry) document =
     let far = not (is_in_range geometry) in
-    then (selected choice document) _ (layer_meant choice document) (λ ordinal.
-    then (selected_in feature ordinal document) _ (feature_meant feature ordinal document) (λ meant.
+    then (selected choice document) _ (layer_selects choice document) (λ ordinal.
+    then (selected_in feature ordinal document) _ (feature_selects feature ordinal document) (λ selects.
     then (refuse_if far OutOfRange) _ (either NoMemory far (Err OutOfRange) (Ok tt) (λ e. cc) tt) (λ short. limited _)))
-applied_other (CompactKeys choice) document = readable_meant (compacted is_key_used is_any) choice document
-applied_other (CompactValues choice) document = readable_meant (compacted is_any is_value_used) choice document
-applied_other (Compact choice) document = readable_meant (compacted is_key_used is_value_used) choice document
+applied_other (CompactKeys choice) document = readable_selected (compacted is_key_used is_any) choice document
+applied_other (CompactValues choice) document = readable_selected (compacted is_any is_value_used) choice document
+applied_other (Compact choice) document = readable_selected (compacted is_key_used is_value_used) choice document

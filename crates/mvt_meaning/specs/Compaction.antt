@@ -66,7 +66,7 @@ with_new_ordinals keys values items fields = renumber 2 (new_ordinals keys value
 abbrev pub with_entries : (ℕ → Bool) → (ℕ → Bool) → List LayerItem → List LayerItem
 with_entries keys values items = staying (is_entry value_field) values 0 (staying (is_entry key_field) keys 0 (map (in_feature (with_new_ordinals keys values items)) items))
 
--- the same, where the items tell which keys and which values stay
+-- the same, where it follows from the items which keys and which values stay
 abbrev pub compacted : (List LayerItem → ℕ → Bool) → (List LayerItem → ℕ → Bool) → List LayerItem → List LayerItem
 compacted keys values items = with_entries (keys items) (values items) items
 

@@ -109,7 +109,7 @@ change_layer change ordinal document = change_nth is_layer (in_layer change) ord
 abbrev pub change_feature : (List Field → List Field) → ℕ → ℕ → Document → Document
 change_feature change ordinal feature document = change_layer (change_nth is_feature (in_feature change) feature) ordinal document
 
--- the tile with the items of the layers changed that are meant, or the refusal where none is
+-- the tile with the items of the selected layers changed, or the refusal where none is selected
 abbrev pub change_layers : (List LayerItem → List LayerItem) → LayersChoice → Document → Result Document Refusal
 change_layers change (TheLayer choice) document = do
   ordinal ← selected choice document
@@ -157,8 +157,8 @@ geometry_refusal encode_errors.NoMemory = NoMemory
 abbrev pub within_limit : Document → Result Document Refusal
 within_limit document = if nat_lt MAX_FILE (length (bytes_of document)) then Err TooLarge else Ok document
 
--- the tile with the items of the layers changed that are meant, where the tags of each of their features make pairs; or
--- the refusal (tiles 4.4)
+-- the tile with the items of the selected layers changed, where the tags of each of their features make pairs; or the
+-- refusal (tiles 4.4)
 abbrev pub change_readable : (List LayerItem → List LayerItem) → LayersChoice → Document → Result Document Refusal
 change_readable change choice document = do
   layers ← selected_layers choice document
@@ -199,24 +199,24 @@ applied (DropFeature choice feature) document = do
   Ok (change_layer (without is_feature going) ordinal document)
 applied (SetId choice feature id) document = do
   ordinal ← selected choice document
-  meant ← selected_in feature ordinal document
-  within_limit (change_feature (identified id) ordinal meant document)
+  found ← selected_in feature ordinal document
+  within_limit (change_feature (identified id) ordinal found document)
 applied (ClearId choice feature) document = do
   ordinal ← selected choice document
-  meant ← selected_in feature ordinal document
-  Ok (change_feature without_id ordinal meant document)
+  found ← selected_in feature ordinal document
+  Ok (change_feature without_id ordinal found document)
 applied (SetAttribute choice feature key value) document = do
   ordinal ← selected choice document
-  meant ← selected_in feature ordinal document
-  readable ← refuse_if (not (has_pairs ordinal meant document)) (BadTags ordinal meant)
-  once ← refuse_if (repeats_key key ordinal meant document) (RepeatedKey ordinal meant)
-  within_limit (change_layer (attributed key (encoded_value value) meant) ordinal document)
+  found ← selected_in feature ordinal document
+  readable ← refuse_if (not (has_pairs ordinal found document)) (BadTags ordinal found)
+  once ← refuse_if (repeats_key key ordinal found document) (RepeatedKey ordinal found)
+  within_limit (change_layer (attributed key (encoded_value value) found) ordinal document)
 applied (UnsetAttribute choice feature key) document = do
   ordinal ← selected choice document
-  meant ← selected_in feature ordinal document
+  found ← selected_in feature ordinal document
   there ← refuse_if (not (has_key key ordinal document)) NoKey
-  readable ← refuse_if (not (has_pairs ordinal meant document)) (BadTags ordinal meant)
-  Ok (change_feature (without_attribute key (items_of ordinal document)) ordinal meant document)
+  readable ← refuse_if (not (has_pairs ordinal found document)) (BadTags ordinal found)
+  Ok (change_feature (without_attribute key (items_of ordinal document)) ordinal found document)
 applied (RenameKey choice old new) document = do
   ordinal ← selected choice document
   there ← refuse_if (not (has_key old ordinal document)) NoKey
@@ -226,15 +226,15 @@ applied (Exclude choice key) document = change_readable (excluded key) choice do
 applied (ExcludeAll choice) document = change_layers untagged choice document
 applied (Shift choice feature dx dy) document = do
   ordinal ← selected choice document
-  meant ← selected_in feature ordinal document
-  readable ← refuse_if (not (is_drawn ordinal meant document)) (BadGeometry ordinal meant)
-  short ← refuse_if (not (can_shift dx dy ordinal meant document)) OutOfRange
-  within_limit (change_feature (shifted dx dy) ordinal meant document)
+  found ← selected_in feature ordinal document
+  readable ← refuse_if (not (is_drawn ordinal found document)) (BadGeometry ordinal found)
+  short ← refuse_if (not (can_shift dx dy ordinal found document)) OutOfRange
+  within_limit (change_feature (shifted dx dy) ordinal found document)
 applied (SetGeometry choice feature geometry) document = do
   ordinal ← selected choice document
-  meant ← selected_in feature ordinal document
+  found ← selected_in feature ordinal document
   short ← refuse_if (not (is_in_range geometry)) OutOfRange
-  within_limit (change_feature (with_geometry geometry) ordinal meant document)
+  within_limit (change_feature (with_geometry geometry) ordinal found document)
 applied (CompactKeys choice) document = change_readable (compacted is_key_used is_any) choice document
 applied (CompactValues choice) document = change_readable (compacted is_any is_value_used) choice document
 applied (Compact choice) document = change_readable (compacted is_key_used is_value_used) choice document

@@ -16,8 +16,8 @@ abbrev pub selected : LayerChoice → Document → Result ℕ Refusal
 selected (AtOrdinal ordinal) document = if nat_lt ordinal (length (layers document)) then Ok ordinal else Err NoLayer
 selected (Named name) document = the_one NoLayer AmbiguousLayer (ordinals_of (is_named name) (layers document))
 
--- the layers that are meant, in order, each with its ordinal and its position: the selected one, or all; else the
--- refusal where none is selected (tiles 4.1)
+-- the selected layers, in order, each with its ordinal and its position: one, or all; else the refusal where none is
+-- selected (tiles 4.1)
 abbrev pub selected_layers : LayersChoice → Document → Result (List (ℕ × (ℕ × Layer))) Refusal
 selected_layers (TheLayer choice) document = result_map_both (λ ordinal. filter (λ found. found.0 == ordinal) (found_layers document)) (λ refusal. refusal) (selected choice document)
 selected_layers EachLayer document = Ok (found_layers document)

@@ -130,7 +130,7 @@ pairs_with key items fields = option_map_or (count (λ pair. is_key_at items key
 -- what is decided on each number of these pairs, where the pairs of some keys get this value, and all others stay
 -- (tiles 4.4)
 abbrev pub revalued : (ℕ → Bool) → ℕ → List (ℕ × ℕ) → List (Option ℕ)
-revalued meant value pairs = flat_map (λ pair. Some pair.0 ∷ Some (if meant pair.0 then value else pair.1) ∷ []) pairs
+revalued selects value pairs = flat_map (λ pair. Some pair.0 ∷ Some (if selects pair.0 then value else pair.1) ∷ []) pairs
 
 -- what is decided on each number of the tags of a feature, where the pairs of a key get a value; nothing where they make
 -- no pairs (tiles 4.4)

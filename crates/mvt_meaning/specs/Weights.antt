@@ -29,24 +29,24 @@ weigh_last bytes passes items = option_map_or (λ item. length (bytes item)) (la
 abbrev pub weigh_nth : {A : Type 0} → (A → List ℕ) → (A → Bool) → ℕ → List A → ℕ
 weigh_nth bytes passes ordinal items = option_map_or (λ item. length (bytes item)) (slice_get (filter passes items) ordinal) 0
 
--- ---- the layer and the feature that a command means
+-- ---- the layer and the feature that a command selects
 
 -- the weight of what is selected, 0 where the selection is refused
-abbrev pub of_meant : {A : Type 0} → Result A Refusal → (A → ℕ) → ℕ
-of_meant (Ok meant) weight = weight meant
-of_meant (Err refusal) weight = 0
+abbrev pub of_selected : {A : Type 0} → Result A Refusal → (A → ℕ) → ℕ
+of_selected (Ok found) weight = weight found
+of_selected (Err refusal) weight = 0
 
 -- the bytes, in the document `seen`, of the last name field of the layer that is selected in `document`
 abbrev pub name_weight : LayerChoice → Document → Document → ℕ
-name_weight choice document seen = of_meant (selected choice document) (λ ordinal. weigh_last layer_item_bytes is_name (items_of ordinal seen))
+name_weight choice document seen = of_selected (selected choice document) (λ ordinal. weigh_last layer_item_bytes is_name (items_of ordinal seen))
 
 -- the bytes, in the document `seen`, of the last id field of the feature that is selected in `document`
 abbrev pub id_weight : LayerChoice → FeatureChoice → Document → Document → ℕ
-id_weight choice feature document seen = of_meant (selected choice document) (λ ordinal. of_meant (selected_in feature ordinal document) (λ meant. weigh_last field_bytes is_id (fields_of ordinal meant seen)))
+id_weight choice feature document seen = of_selected (selected choice document) (λ ordinal. of_selected (selected_in feature ordinal document) (λ found. weigh_last field_bytes is_id (fields_of ordinal found seen)))
 
 -- the bytes, in the document `seen`, of the keys of these bytes in the layer that is selected in `document`
 abbrev pub key_weight : List ℕ → LayerChoice → Document → Document → ℕ
-key_weight key choice document seen = of_meant (selected choice document) (λ ordinal. weigh layer_item_bytes (filter (is_key key) (items_of ordinal seen)))
+key_weight key choice document seen = of_selected (selected choice document) (λ ordinal. weigh layer_item_bytes (filter (is_key key) (items_of ordinal seen)))
 
 -- ---- fields of which numbers go or get other values
 
@@ -56,11 +56,11 @@ as_after decided = as_renumbered 2 decided
 
 -- the bytes, seen so, of the tags fields that lose a pair of the key in the feature that is selected
 abbrev pub unset_weight : (List (List (Option ℕ) × Field) → List Field) → LayerChoice → FeatureChoice → List ℕ → Document → ℕ
-unset_weight seen choice feature key document = of_meant (selected choice document) (λ ordinal. of_meant (selected_in feature ordinal document) (λ meant. weigh field_bytes (seen (losing key (items_of ordinal document) (fields_of ordinal meant document)))))
+unset_weight seen choice feature key document = of_selected (selected choice document) (λ ordinal. of_selected (selected_in feature ordinal document) (λ found. weigh field_bytes (seen (losing key (items_of ordinal document) (fields_of ordinal found document)))))
 
--- the bytes, seen so, of the tags fields that lose a pair of the key in all features of the layers that are meant
+-- the bytes, seen so, of the tags fields that lose a pair of the key in all features of the selected layers
 abbrev pub excluded_weight : (List (List (Option ℕ) × Field) → List Field) → LayersChoice → List ℕ → Document → ℕ
-excluded_weight seen choice key document = of_meant (selected_layers choice document) (λ meant. weigh field_bytes (seen (flat_map (λ found. losing_in key found.1.1) meant)))
+excluded_weight seen choice key document = of_selected (selected_layers choice document) (λ layers. weigh field_bytes (seen (flat_map (λ found. losing_in key found.1.1) layers)))
 
 -- the bytes of the tags field that changes where a feature of these fields gets the value for the key, in a layer of
 -- these items; 0 where it gets a new one
@@ -79,18 +79,18 @@ set_puts key value items fields = weigh layer_item_bytes (missing_entries key va
 
 -- the weight by the items of the layer and the fields of the feature that are selected
 abbrev pub set_weight : (List LayerItem → List Field → ℕ) → LayerChoice → FeatureChoice → Document → ℕ
-set_weight weight choice feature document = of_meant (selected choice document) (λ ordinal. of_meant (selected_in feature ordinal document) (λ meant. weight (items_of ordinal document) (fields_of ordinal meant document)))
+set_weight weight choice feature document = of_selected (selected choice document) (λ ordinal. of_selected (selected_in feature ordinal document) (λ found. weight (items_of ordinal document) (fields_of ordinal found document)))
 
 -- ---- the geometry of a feature
 
 -- the bytes, seen so, of the geometry fields of which an integer gets another value in the feature that is selected
 abbrev pub shift_weight : (List (List (Option ℕ) × Field) → List Field) → LayerChoice → FeatureChoice → ℤ → ℤ → Document → ℕ
-shift_weight seen choice feature dx dy document = of_meant (selected choice document) (λ ordinal. of_meant (selected_in feature ordinal document) (λ meant. weigh field_bytes (seen (shifting dx dy (fields_of ordinal meant document)))))
+shift_weight seen choice feature dx dy document = of_selected (selected choice document) (λ ordinal. of_selected (selected_in feature ordinal document) (λ found. weigh field_bytes (seen (shifting dx dy (fields_of ordinal found document)))))
 
 -- the bytes, in the document `seen`, of the last kind field and of all geometry fields of the feature that is selected in
 -- `document`
 abbrev pub geometry_weight : LayerChoice → FeatureChoice → Document → Document → ℕ
-geometry_weight choice feature document seen = of_meant (selected choice document) (λ ordinal. of_meant (selected_in feature ordinal document) (λ meant. weigh_last field_bytes is_kind (fields_of ordinal meant seen) + weigh field_bytes (filter is_geometry_field (fields_of ordinal meant seen))))
+geometry_weight choice feature document seen = of_selected (selected choice document) (λ ordinal. of_selected (selected_in feature ordinal document) (λ found. weigh_last field_bytes is_kind (fields_of ordinal found seen) + weigh field_bytes (filter is_geometry_field (fields_of ordinal found seen))))
 
 -- ---- keys and values that go
 
@@ -105,25 +105,25 @@ compact_takes keys values layer =
 abbrev pub compact_puts : (List LayerItem → ℕ → Bool) → (List LayerItem → ℕ → Bool) → Layer → ℕ
 compact_puts keys values layer = weigh field_bytes (as_after (repointing (keys layer.items) (values layer.items) layer))
 
--- the weight of each layer that is meant, together
+-- the weight of each selected layer, together
 abbrev pub layers_weight : (Layer → ℕ) → LayersChoice → Document → ℕ
-layers_weight weight choice document = of_meant (selected_layers choice document) (λ meant. sum_by (λ found. weight found.1.1) meant)
+layers_weight weight choice document = of_selected (selected_layers choice document) (λ layers. sum_by (λ found. weight found.1.1) layers)
 
 -- ---- commands
 
 -- the bytes of the items that a command takes out or replaces, as they stand before it
 abbrev pub taken_by : Command → Document → ℕ
 taken_by (RenameLayer choice name) document = name_weight choice document document
-taken_by (DropLayer choice) document = of_meant (selected choice document) (λ ordinal. weigh_nth tile_item_bytes is_layer ordinal document)
+taken_by (DropLayer choice) document = of_selected (selected choice document) (λ ordinal. weigh_nth tile_item_bytes is_layer ordinal document)
 taken_by (KeepLayers names) document = weigh tile_item_bytes (filter (λ item. not (is_kept names item)) document)
-taken_by (DropFeature choice feature) document = of_meant (selected choice document) (λ ordinal. of_meant (selected_in feature ordinal document) (λ going. weigh_nth layer_item_bytes is_feature going (items_of ordinal document)))
+taken_by (DropFeature choice feature) document = of_selected (selected choice document) (λ ordinal. of_selected (selected_in feature ordinal document) (λ going. weigh_nth layer_item_bytes is_feature going (items_of ordinal document)))
 taken_by (SetId choice feature id) document = id_weight choice feature document document
-taken_by (ClearId choice feature) document = of_meant (selected choice document) (λ ordinal. of_meant (selected_in feature ordinal document) (λ meant. weigh field_bytes (filter is_id (fields_of ordinal meant document))))
+taken_by (ClearId choice feature) document = of_selected (selected choice document) (λ ordinal. of_selected (selected_in feature ordinal document) (λ found. weigh field_bytes (filter is_id (fields_of ordinal found document))))
 taken_by (SetAttribute choice feature key value) document = set_weight (set_takes key (encoded_value value)) choice feature document
 taken_by (UnsetAttribute choice feature key) document = unset_weight as_before choice feature key document
 taken_by (RenameKey choice old new) document = key_weight old choice document document
 taken_by (Exclude choice key) document = excluded_weight as_before choice key document
-taken_by (ExcludeAll choice) document = of_meant (selected_layers choice document) (λ meant. weigh field_bytes (flat_map (λ found. tags_fields found.1.1) meant))
+taken_by (ExcludeAll choice) document = of_selected (selected_layers choice document) (λ layers. weigh field_bytes (flat_map (λ found. tags_fields found.1.1) layers))
 taken_by (Shift choice feature dx dy) document = shift_weight as_before choice feature dx dy document
 taken_by (SetGeometry choice feature geometry) document = geometry_weight choice feature document document
 taken_by (CompactKeys choice) document = layers_weight (compact_takes is_key_used is_any) choice document

@@ -89,7 +89,7 @@ spelling_of_piece piece number e =
     let same : spell value width ≡ piece = (bytes_eq-Decides (spell value width) piece).0 short.1 in
     subst (λ (n : Number). IsNumber n × (spelling n ≡ piece)) found.1 (valid, same)
 
--- ---- the front of a body
+-- ---- what a body begins with
 
 some_more : (width : ℕ) → 1 ≤ width → (n : ℕ) × (width ≡ suc n)
 some_more zero h = absurd (omega arith)

@@ -32,7 +32,7 @@ fn elements_in(field: &Field, number: u64) -> Option<Elements<'_>>
     }
 }
 
-/// The numbers in the first field from this position on that has some, and its position.
+/// The numbers in the first field from `start` on that has some, and its position.
 pub(crate) fn first_elements(
     fields: &[Field],
     number: u64,

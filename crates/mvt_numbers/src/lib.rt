@@ -2,7 +2,7 @@
 //!
 //! - The numbers in the fields of one number come in order, each with the position of its field and
 //!   its place there: one of each VARINT field, and those that each LEN field packs. They end with
-//!   the first bad chunk, which is given with the position of its field: `Numbers::of`, and the
+//!   the first bad chunk, which is returned with the position of its field: `Numbers::of`, and the
 //!   contract of its iterator.
 #![tactic(auto)]
 

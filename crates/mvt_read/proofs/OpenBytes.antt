@@ -45,7 +45,7 @@ field_of_parts is_group tag b p low high q =
 
 -- ---- what is left of an open group begins with its end tag or with a field
 
--- the groups inside the innermost one, where so many are open around it
+-- the groups inside the innermost one, where groups of these numbers are open around it
 abbrev pub inside : List ℕ → ℕ → List ℕ → Type 0
 inside numbers = IsGroupWithin (MAX_GROUPS - suc (length numbers))
 
@@ -200,7 +200,7 @@ end_leads last number numbers ends some =
 
 -- ---- where nothing leads on
 
--- no front of the bytes is what is left of the open groups
+-- no prefix of the bytes is what is left of the open groups
 abbrev pub NothingLeft : List ℕ → List ℕ → Type 0
 NothingLeft numbers bytes = ¬ Begins (Closes numbers) (λ left. left) bytes
 

@@ -65,7 +65,7 @@ none_beside makes front size bytes at broken = λ field rest p m e.
     let one = one_field field front rest (drop size bytes) p at.whole (sym e ∙ other) in
     broken (subst makes one.0 m)
 
--- no front of the rest is made of items
+-- no prefix of the rest is made of items
 nothing_more : (makes : Field → Type 0) (rest : List ℕ) (k : ℕ) (fields : List Field) → NoneAt makes rest → 0 < k → k ≤ length rest → AllByRecursion IsWholeField fields → AllByRecursion makes fields → take k rest ≡ flat_map field_bytes fields → ⊥
 nothing_more makes rest k [] none some enough p m e = omega (arith, ap length e, length-take k rest)
 nothing_more makes rest k (field ∷ fields) none some enough p m e =

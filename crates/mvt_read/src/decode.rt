@@ -24,15 +24,15 @@ use std::alloc::{AllocError, Global};
 /// How many bytes the shortest field takes: one for its tag, and one for its body.
 const SHORTEST_FIELD: usize = 2;
 
-/// For how many fields of a feature there is room at first, where it may have so many: mostly it has an id, tags,
-/// a kind and a geometry.
+/// For how many fields of a feature there is room at first, where its bytes can hold as many:
+/// mostly it has an id, tags, a kind and a geometry.
 const FIRST_FIELDS: usize = 4;
 
 /// The same of the items of a layer, or of a tile: mostly a layer has a name, a version and an extent too beside its
 /// features, keys and values.
 pub(crate) const FIRST_ITEMS: usize = 8;
 
-/// A list of so many items is long.
+/// How many items a long list has at least.
 const LONG_LIST: usize = 1024;
 
 /// Why an item of a message could not be made.
@@ -72,8 +72,8 @@ pub(crate) trait Decode: Measured + Drop + Sized {
     ghost same_bytes: { (item : Self) → field_bytes (as_field item) ≡ Self.bytes item };
 }
 
-/// The items whose bytes are the content of a message, with room for so many at first.
-/// The place of a fault is where the first item that is none begins.
+/// The items whose bytes are the content of a message, with room for `room` of them at first, where
+/// the content can hold as many. The place of a fault is where the first item that is none begins.
 pub(crate) fn decode_all<T: Decode>(
     alloc: Global,
     content: &[u8],

@@ -1,4 +1,4 @@
--- What becomes of a field is told by what is left of it and by whether some number changes.
+-- What becomes of a field follows from what is left of it and from whether some number changes.
 use Rattle.std.proofs.Common.{◌≡◌, ℕ, List, Option, sym, ap, ◌∙◌}
 use Rattle.std.proofs.lemmas.Bool.{cond-true, cond-false}
 use Rattle.mvt_document.specs.Plain.{Field}

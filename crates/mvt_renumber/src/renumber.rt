@@ -262,7 +262,8 @@ impl Making {
     }
 }
 
-// So many bytes are put one by one, which takes less than a call that copies any number of them.
+// At most `FEW` bytes are put one by one, which takes less than a call that copies any number of
+// them.
 const FEW: usize = 8;
 
 /// Puts the bytes at the end.

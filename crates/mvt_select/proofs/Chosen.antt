@@ -1,4 +1,4 @@
--- The layers that are meant are found where they stand.
+-- The selected layers are found where they stand.
 use Rattle.std.proofs.Common.{◌≡◌, ℕ, suc, zero, ◌+◌, ◌<◌, ◌==◌, true, false, Option, Some, None, Ok, Err, List, [], ◌∷◌, length, filter, get_or, slice_get, refl, sym, ap, ◌∙◌, arith}
 use Rattle.std.proofs.lemmas.Bool.Decides.{nat_tests}
 use Rattle.std.proofs.lemmas.Option.{slice_get-get_or}
@@ -15,7 +15,7 @@ use Rattle.mvt_meaning.specs.Selection.{layer_positions, selected, selected_laye
 use Rattle.mvt_meaning.specs.declared.refusal.Refusal.{Refusal}
 use Rattle.mvt_meaning.proofs.Selecting.{selected_within}
 use Rattle.mvt_select.specs.Found.{IsFoundLayer}
-use Rattle.mvt_select.proofs.Meant.{layer_there, no_position_there, stands}
+use Rattle.mvt_select.proofs.Selected.{layer_there, no_position_there, stands}
 
 -- ---- the one of an ordinal
 
@@ -55,25 +55,25 @@ pub found_there : (document : Document) (ordinal position : ℕ) (layer : Layer)
 found_there document ordinal position layer placed there =
     is_found document ordinal position layer (slice_get (found_layers document) ordinal) refl placed there
 
--- ---- the layers that are meant
+-- ---- the selected layers
 
 numbered_there : {B : Type 0} (k index : ℕ) (list : List B) (found : ℕ × B) → slice_get (enumerate_from k list) index ≡ Some found → slice_get list index ≡ Some found.1
 numbered_there k index [] found is = absurd cc
 numbered_there {B} k zero (x ∷ list) found is = let same : (k, x) ≡ found = cc in ap (λ (f : ℕ × B). Some f.1) same
 numbered_there k (suc index) (x ∷ list) found is = numbered_there (k + 1) index list found is
 
-meant_alone : (choice : LayerChoice) (document : Document) (ordinal position : ℕ) (layer : Layer) → selected choice document ≡ Ok ordinal → slice_get (layer_positions document) ordinal ≡ Some position → slice_get document position ≡ Some (OfLayer layer) → selected_layers (TheLayer choice) document ≡ Ok ((ordinal, (position, layer)) ∷ [])
-meant_alone choice document ordinal position layer meant placed there =
+selected_alone : (choice : LayerChoice) (document : Document) (ordinal position : ℕ) (layer : Layer) → selected choice document ≡ Ok ordinal → slice_get (layer_positions document) ordinal ≡ Some position → slice_get document position ≡ Some (OfLayer layer) → selected_layers (TheLayer choice) document ≡ Ok ((ordinal, (position, layer)) ∷ [])
+selected_alone choice document ordinal position layer selects placed there =
     let found = numbered_there 0 ordinal (placed_from layer_in 0 document) (ordinal, (position, layer)) (found_there document ordinal position layer placed there) in
-    rw meant (ap Ok (the_numbered 0 ordinal ordinal (placed_from layer_in 0 document) (position, layer) (omega arith) found))
+    rw selects (ap Ok (the_numbered 0 ordinal ordinal (placed_from layer_in 0 document) (position, layer) (omega arith) found))
 
-pub one_meant : (choice : LayerChoice) (document : Document) (found : FoundLayer) → IsFoundLayer choice document found → selected_layers (TheLayer choice) document ≡ Ok (found_layer_seen found ∷ [])
-one_meant choice document found is = meant_alone choice document found.ordinal found.position (layer_of found.layer.now) is.meant is.placed is.there
+pub one_selected : (choice : LayerChoice) (document : Document) (found : FoundLayer) → IsFoundLayer choice document found → selected_layers (TheLayer choice) document ≡ Ok (found_layer_seen found ∷ [])
+one_selected choice document found is = selected_alone choice document found.ordinal found.position (layer_of found.layer.now) is.selects is.placed is.there
 
-pub none_meant : {refusal : Refusal} (choice : LayerChoice) (document : Document) → selected choice document ≡ Err refusal → selected_layers (TheLayer choice) document ≡ Err refusal
-none_meant choice document refused = rw refused refl
+pub none_selected : {refusal : Refusal} (choice : LayerChoice) (document : Document) → selected choice document ≡ Err refusal → selected_layers (TheLayer choice) document ≡ Err refusal
+none_selected choice document refused = rw refused refl
 
--- the one layer that is meant, where it stands
+-- the one selected layer, where it stands
 pub record TheOne (choice : LayerChoice) (document : Document) (ordinal : ℕ) : Type 0 where
   pub position : ℕ
   pub layer : Layer
@@ -81,10 +81,10 @@ pub record TheOne (choice : LayerChoice) (document : Document) (ordinal : ℕ) :
   pub there : slice_get document position ≡ Some (OfLayer layer)
   pub alone : selected_layers (TheLayer choice) document ≡ Ok ((ordinal, (position, layer)) ∷ [])
 
-pub the_one_meant : (choice : LayerChoice) (document : Document) (ordinal : ℕ) → selected choice document ≡ Ok ordinal → TheOne choice document ordinal
-the_one_meant choice document ordinal meant =
+pub the_one_selected : (choice : LayerChoice) (document : Document) (ordinal : ℕ) → selected choice document ≡ Ok ordinal → TheOne choice document ordinal
+the_one_selected choice document ordinal selects =
     let count = found_count layer_in document in
-    let within : ordinal < length (found_layers document) = omega (arith, selected_within choice document ordinal meant, count) in
+    let within : ordinal < length (found_layers document) = omega (arith, selected_within choice document ordinal selects, count) in
     let found = get_or (found_layers document) ordinal (0, (0, record { tag = record { value = 0; width = 0 }; width = 0; items = [] })) in
     let is : slice_get (found_layers document) ordinal ≡ Some found = slice_get-get_or (found_layers document) ordinal _ within in
     let at = stands layer_in document ordinal found is in
@@ -96,5 +96,5 @@ the_one_meant choice document ordinal meant =
       layer = found.1.1;
       placed = placed;
       there = there;
-      alone = meant_alone choice document ordinal found.1.0 found.1.1 meant placed there;
+      alone = selected_alone choice document ordinal found.1.0 found.1.1 selects placed there;
     }

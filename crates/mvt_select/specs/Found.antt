@@ -1,4 +1,4 @@
--- A layer that was found, those that are meant, and a feature of a layer, each with its ordinal and its position.
+-- A layer that was found, the selected layers, and a feature of a layer, each with its ordinal and its position.
 use Rattle.std.specs.Prelude.{◌≡◌, ℕ, List, [], slice_get, option_map, Some, Ok}
 use Rattle.std.specs.List.{cons_option}
 use Rattle.mvt_document.specs.Plain as plain
@@ -13,17 +13,17 @@ use Rattle.mvt_select.specs.declared.layers.SelectedLayers.TheVariants.{One, All
 
 -- the layer that was found is the selected one, and stands at its position in the tile (tiles 4.1)
 pub record IsFoundLayer (choice : LayerChoice) (document : plain.Document) (found : FoundLayer) : Type 0 where
-  pub meant : selected choice document ≡ Ok found.ordinal
+  pub selects : selected choice document ≡ Ok found.ordinal
   pub placed : slice_get (layer_positions document) found.ordinal ≡ Some found.position
   pub there : slice_get document found.position ≡ Some (plain.OfLayer (layer_of found.layer.now))
 
--- of the layers that are meant those that are left, each with its ordinal and its position (tiles 4.1)
+-- those of the selected layers that are left, each with its ordinal and its position (tiles 4.1)
 abbrev pub layers_left : SelectedLayers → List (ℕ × (ℕ × plain.Layer))
 layers_left (One found) = cons_option (option_map found_layer_seen found) []
 layers_left (All layers) = layers
 
 -- the feature that was found is the selected one, and stands at its position in the layer (tiles 4.2)
 pub record IsFoundFeature (choice : FeatureChoice) (layer : plain.Layer) (found : FoundFeature) : Type 0 where
-  pub meant : selected_feature choice layer ≡ Ok found.ordinal
+  pub selects : selected_feature choice layer ≡ Ok found.ordinal
   pub placed : slice_get (feature_positions layer.items) found.ordinal ≡ Some found.position
   pub there : slice_get layer.items found.position ≡ Some (plain.OfFeature (feature_of found.feature.now))

@@ -20,7 +20,7 @@ use mvt_layers::{
 };
 use mvt_meaning::Refusal;
 
-/// The layer that is meant.
+/// The selected layer.
 pub fn find_layer<'a>(
     document: &'a Document,
     choice: &LayerChoice,
@@ -75,7 +75,7 @@ fn layer_refusal(error: LayerError) -> Refusal
     }
 }
 
-/// The feature that is meant.
+/// The selected feature.
 pub fn find_feature<'a>(
     layer: &'a Layer,
     choice: &FeatureChoice,

@@ -1,4 +1,4 @@
-//! The layers that are meant: the selected one, or all.
+//! The selected layers: one, or all.
 
 ghost use Rattle.std.specs.Prelude.{◌≡◌, Ok, Err, IfErr, IfOk};
 ghost use Rattle.mvt_document.specs.Stands.{document_of};
@@ -12,7 +12,7 @@ use mvt_document::Document;
 use mvt_layers::{FoundLayer, LayerViews, layers};
 use mvt_meaning::Refusal;
 
-/// The layers that are meant, in order, each with its ordinal and its position.
+/// The selected layers, in order, each with its ordinal and its position.
 #[derive(Clone, Debug, Drop)]
 pub enum SelectedLayers<'a> {
     /// The selected one, until it has come.
@@ -38,7 +38,7 @@ impl<'a> Iterator for SelectedLayers<'a> {
     }
 }
 
-/// The layers that are meant.
+/// The selected layers.
 pub fn find_layers<'a>(
     document: &'a Document,
     choice: &LayersChoice,

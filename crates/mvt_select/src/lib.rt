@@ -1,9 +1,9 @@
-//! Which layer and which feature are selected, and where they stand; and which layers are meant.
+//! Which layer, which feature and which layers are selected, and where they stand.
 //!
 //! - A layer is found by its ordinal or its name, and a feature of a layer by its ordinal or its
 //!   id, as the definitions say, each with its ordinal and its position, or refused as they say:
 //!   `find_layer`, `find_feature`.
-//! - The layers that are meant, one or all, come in their order with the same, or are refused:
+//! - The selected layers, one or all, come in their order with the same, or are refused:
 //!   `find_layers`.
 //! - The position of the layer or the feature of an ordinal: `place_of_layer`, `place_of_feature`.
 //! - In the same walk it is found whether a layer of another ordinal has a name: `find_and_taken`.

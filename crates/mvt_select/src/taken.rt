@@ -21,7 +21,7 @@ use mvt_document::Document;
 use mvt_layers::{FoundLayer, layers};
 use mvt_meaning::Refusal;
 
-/// The layer that is meant, and whether a layer of another ordinal has the name. Each layer's name
+/// The selected layer, and whether a layer of another ordinal has the name. Each layer's name
 /// is looked for once.
 pub fn find_and_taken<'a>(
     document: &'a Document,

@@ -5,7 +5,7 @@ use Rattle.mvt_document.specs.Splicing.{splice}
 
 -- ---- the gap goes to an index
 
--- a list, of which so many items come first that stand behind the gap
+-- the list of a ring whose first `behind` items stand behind the gap
 abbrev pub unrolled : {A : Type 0} → ℕ → List A → List A
 unrolled behind ring = drop behind ring ++ take behind ring
 

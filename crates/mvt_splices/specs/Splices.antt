@@ -86,7 +86,7 @@ module _ {S T : Type 0} (on : S → Type 0) (splice_of : S → Splice T) (turned
     pub are_turned : (roomy : List S) × AllZip roomier (take n steps) roomy × AllByRecursion (λ s. FindsRoom (splice_of s)) roomy × (take n new ≡ turned_all splice_of turned roomy list.items)
     pub left : drop n new ≡ drop n steps
 
-  -- so many of the first steps are carried out as are on the list; or memory ran out, and nothing has changed but room
+  -- the first steps are carried out, as far as they are on the list; or memory ran out, and only room has changed
   pub record CarriesOut {E : Type 0} (result : Result ℕ E) (steps new : List S) (list made : Held T) : Type 0 where
     pub first : IfOk result (λ n. AreCarriedOut n steps new list made)
     pub ends : IfOk result (λ n. StartElsewhere on (drop n steps))

@@ -47,7 +47,7 @@ impl<T> Gap<T> {
         }
     }
 
-    /// Makes room for so many items more.
+    /// Makes room for `more` items.
     pub fn reserve(&mut self, more: usize) -> Result<(), AllocError>
         ensures items { self.new.items ≡ self.old.items }
         ensures room { self.old.room ≤ self.new.room }
@@ -56,7 +56,7 @@ impl<T> Gap<T> {
         self.ring.reserve(more)
     }
 
-    /// Exchanges so many items from an index on for the ones to put, and puts them there in turn.
+    /// Exchanges `taken` items from `index` for the ones to put, and puts them there in turn.
     pub fn exchange(&mut self, index: usize, taken: usize, put: &mut Put<T>)
     where
         T: Drop,
@@ -92,7 +92,7 @@ impl<T> Gap<T> {
     }
 }
 
-/// The gap of a list of which so many items stand behind it goes to an index: those behind it come first.
+/// The gap of a list, with `behind` items behind it, goes to `index`: those behind it come first.
 fn move_gap<T>(ring: &mut VecDeque<T>, behind: usize, index: usize)
     requires behind { behind ≤ deque_len ring.old }
     requires there { index ≤ deque_len ring.old }
@@ -110,7 +110,8 @@ fn move_gap<T>(ring: &mut VecDeque<T>, behind: usize, index: usize)
     turn(ring, count);
 }
 
-/// So many of the first items come last. Mostly that is one, or all but one, and that one goes by itself.
+/// The first `count` items come last. Mostly that is one, or all but one, and that one goes by
+/// itself.
 fn turn<T>(ring: &mut VecDeque<T>, count: usize)
     requires there { count ≤ deque_len ring.old }
     requires room { deque_len ring.old ≤ deque_capacity ring.old }
@@ -146,7 +147,7 @@ fn turn_few<T>(ring: &mut VecDeque<T>, count: usize)
     }
 }
 
-/// So many of the last items come first, one after the other.
+/// The last `count` items come first, one after the other.
 fn turn_few_back<T>(ring: &mut VecDeque<T>, count: usize)
     requires there { count ≤ deque_len ring.old }
     requires room { deque_len ring.old ≤ deque_capacity ring.old }
@@ -187,7 +188,7 @@ fn put_first<T: Drop>(ring: &mut VecDeque<T>, put: &mut Put<T>)
     }
 }
 
-/// So many of the first items change places with the ones to put, which come last.
+/// The first `taken` items change places with the ones to put, which come last.
 fn exchange_first<T: Drop>(ring: &mut VecDeque<T>, taken: usize, put: &mut Put<T>)
     requires there { taken ≤ deque_len ring.old }
     requires room { deque_len ring.old + length put.old.items ≤ deque_capacity ring.old + taken }
@@ -256,7 +257,7 @@ fn exchange_many<T>(ring: &mut VecDeque<T>, taken: usize, put: &mut Vec<T>)
     mem::replace(put, queue.into_vec()).destroy_empty();
 }
 
-/// So many of the first items go behind those of a vector, which has room for them.
+/// The first `count` items go behind those of a vector, which has room for them.
 fn take_first<T>(ring: &mut VecDeque<T>, count: usize, to: &mut Vec<T>)
     requires there { count ≤ deque_len ring.old }
     requires room { vec_len to.old + count ≤ vec_capacity to.old }
@@ -291,7 +292,7 @@ fn put_last<T>(ring: &mut VecDeque<T>, put: &mut Vec<T>)
     }
 }
 
-/// So many of the first items go behind those of another ring, which has room for them.
+/// The first `count` items go behind those of another ring, which has room for them.
 fn pass_on<T>(ring: &mut VecDeque<T>, to: &mut VecDeque<T>, count: usize)
     requires there { count ≤ deque_len ring.old }
     requires room { deque_len to.old + count ≤ deque_capacity to.old }
@@ -312,7 +313,7 @@ fn pass_on<T>(ring: &mut VecDeque<T>, to: &mut VecDeque<T>, count: usize)
     }
 }
 
-/// So many of the first items of either ring go behind those of the other.
+/// The first `count` items of either ring go behind those of the other.
 fn trade<T>(ring: &mut VecDeque<T>, other: &mut VecDeque<T>, count: usize)
     requires there { count ≤ deque_len ring.old }
     requires here { count ≤ deque_len other.old }

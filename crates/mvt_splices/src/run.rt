@@ -57,7 +57,7 @@ fn splice_vec<T, S: Splices<T>>(
     made
 }
 
-/// The same, where the list takes so many bytes, if that is known; and how many it takes then.
+/// The same, where the list takes `size` bytes, if that is known; and how many it takes then.
 fn splice_measured<T: Measured, S: Splices<T>>(
     alloc: Global,
     list: &mut Vec<T>,
@@ -99,7 +99,7 @@ fn exchange_all<T, S: Splices<T>>(
     Ok(made)
 }
 
-/// The same, where the list takes so many bytes, if that is known; and how many it takes then.
+/// The same, where the list takes `size` bytes, if that is known; and how many it takes then.
 fn exchange_measured<T: Measured, S: Splices<T>>(
     gap: &mut Gap<T>,
     size: &mut Option<usize>,
@@ -150,7 +150,7 @@ fn exchange_next<T, S: Splices<T>>(gap: &mut Gap<T>, step: &mut S) -> Result<(),
     Ok(())
 }
 
-/// The same, where the list takes so many bytes, if that is known; and how many it takes then.
+/// The same, where the list takes `size` bytes, if that is known; and how many it takes then.
 fn measure_next<T: Measured, S: Splices<T>>(
     gap: &mut Gap<T>,
     size: &mut Option<usize>,

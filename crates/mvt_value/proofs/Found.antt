@@ -198,7 +198,7 @@ sint_says number = record { typed = record { numbered = omega arith; short = ome
 bool_says : (number : Number) → NumberSays 56 number (OfBool (not (eqb number.value 0)))
 bool_says number = record { typed = record { numbered = omega arith; short = omega arith; typed = refl }; has = (refl, refl) }
 
--- a value that is chosen behind a tag, or else another
+-- a value that is selected behind a tag, or else another
 chosen : (P : ℕ → Value → Type 0) (tag other : ℕ) (here there : Option Value) (value : Value) → (here ≡ Some value → P other value) → (there ≡ Some value → P tag value) → cond (eqb tag other) here there ≡ Some value → P tag value
 chosen P tag other here there value first rest e =
     cond_both (eqb tag other) here there (λ (o : Option Value). o ≡ Some value → P tag value)

@@ -10,7 +10,7 @@ use mvt_document::{Measured, Tag, Varint, least_width, put_number};
 
 /// A value that is written as bytes.
 pub(crate) trait Encode: Measured {
-    /// Writes it at the end of the room, and gives how much of the room is left before it.
+    /// Writes it at the end of the room, and returns how much of the room is left before it.
     fn fill(&self, room: &mut [u8]) -> usize
         requires { length (Self.bytes self.now) ≤ length room.old }
         ensures { Fills room.old room.new (Self.bytes self.now) result };
@@ -38,7 +38,7 @@ pub(crate) fn put_bytes(bytes: &[u8], room: &mut [u8]) -> usize
     start
 }
 
-/// Writes a length at the end of the room, in at least so many bytes.
+/// Writes a length at the end of the room, in at least `width` bytes.
 pub(crate) fn put_length(width: u8, count: usize, room: &mut [u8]) -> usize
     requires { max width (minimal_width count) ≤ length room.old }
     ensures { Fills room.old room.new (spell count (max width (minimal_width count))) result }

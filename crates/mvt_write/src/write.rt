@@ -11,7 +11,7 @@ use crate::faults::WriteError;
 use mvt_document::Document;
 use std::alloc::Global;
 
-/// How many bytes the document takes, where a tile may have so many.
+/// How many bytes the document takes, where that is within the limit of a file.
 pub fn size(document: &Document) -> Option<u64>
     ensures { SomeIff result (length (bytes_of (document_of document.now)) ≤ MAX_FILE) (length (bytes_of (document_of document.now))) }
 {
@@ -47,7 +47,7 @@ pub fn write_document_into(
     Ok(file)
 }
 
-/// The vector, where it has memory for so many bytes, or else an empty one in its place.
+/// The vector, where it has memory for `size` bytes, or else an empty one in its place.
 fn kept_for(alloc: Global, size: usize, room: Vec<u8>) -> Vec<u8>
     ensures { size ≤ vec_capacity room → result ≡ room }
 {

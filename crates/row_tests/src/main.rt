@@ -9,8 +9,8 @@
 //!
 //! A table of whole runs, `NAME.rows`, has tiles and scripts, with how each run ends, its replies and
 //! its tile. Each row is run as a call, over readers and writers of the standard library, and one byte
-//! a call; where no line is refused, as a strict run too. One that differs is told by its name. Blank
-//! lines stand between rows.
+//! a call; where no line is refused, as a strict run too. The name of one that differs is printed.
+//! Blank lines stand between rows.
 //!
 //! - `row NAME`: begins a row.
 //! - `depth N`, `strict`: how the script is run, where it is not with depth 100 or not strict.
@@ -28,7 +28,7 @@
 //! - `tile PIECES`: the tile of the rows from here on.
 //! - `> TEXT`, `>> PIECES`: what the call is given.
 //! - `< TEXT`, `<< PIECES`: what it answers. With this line the row is tried. One that answers
-//!   otherwise is told.
+//!   otherwise is printed.
 #![tactic(auto)]
 
 mod calls;
@@ -54,7 +54,7 @@ fn main(rt: HostRuntime) -> ExitCode {
     }
 }
 
-/// Tries the rows of all tables, and tells how many differ. Gives whether none does.
+/// Tries the rows of all tables, and prints how many differ. Returns whether none does.
 fn run_tables<R: Files + Env + Print + Eprint + AllocGlobal>(rt: &R) -> io::Result<bool> {
     let files: Vec<String> = env::args(rt)?.skip(1).collect(rt.alloc())?;
     // Apart, as some names stand for other bytes in tables of the other kind.

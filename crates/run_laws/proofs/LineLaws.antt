@@ -7,8 +7,8 @@ use Rattle.tile_script.specs.Line.{answer_to}
 use Rattle.tile_lines.specs.Lines.{lines_of, with_feed, EndsWithALine}
 use Rattle.mvt_document.specs.Wire.{bytes_of}
 use Rattle.mvt_history_steps.specs.History.{History, standing_document}
-use Rattle.tile_told.specs.Answering.{Told, carried_out}
-use Rattle.tile_told.proofs.AnswerLaws.{looks_leave_history}
+use Rattle.tile_answers.specs.Answering.{Answer, carried_out}
+use Rattle.tile_answers.proofs.AnswerLaws.{looks_leave_history}
 use Rattle.tile_reply.specs.Replies.{accepted_reply, refused_reply, IsOutOfMemory, NoneIsOutOfMemory}
 use Rattle.tile_course.specs.Run.{Progress, ran, tile_of, settled_by, answered_by, after_line, is_over, after_lines, MayFollow, Walk}
 use Rattle.mvt_history_error.specs.declared.HistoryError.TheVariants.{Stopped}
@@ -20,20 +20,20 @@ use Rattle.tile_reply.specs.declared.refused.Refused.{Refused}
 use Rattle.tile_reply.specs.declared.refused.Refused.TheVariants as refused
 use Rattle.tile_course.proofs.ReplyEnds.{ends-append, refused_ends, accepted_text, accepted_ends, accepted_is_not_refused}
 use Rattle.tile_course.proofs.Overs.{over_stays, goes_on, walk_over, walk_on}
-use Rattle.tile_course.proofs.Fronts.{after_lines-append, fronts_stand}
+use Rattle.tile_course.proofs.Prefixes.{after_lines-append, prefix_stands}
 use Rattle.tile_course.proofs.Replying.{Adds, lines_add}
 
 -- ---- replies
 
 pub replies_stand : RepliesStand
-replies_stand document options front rest ends =
-    let adds = lines_add options.strict (ran document options front) (lines_of rest) in
-    (adds.reply, ap (λ (q : Progress). q.replies) (fronts_stand document options front rest ends) ∙ adds.is)
+replies_stand document options prefix rest ends =
+    let adds = lines_add options.strict (ran document options prefix) (lines_of rest) in
+    (adds.reply, ap (λ (q : Progress). q.replies) (prefix_stands document options prefix rest ends) ∙ adds.is)
 
 -- ---- which lines change nothing
 
-settled_refused : (p : Progress) (result : Result Told Refused) (reason : Refused) → (settled_by p result).replies ≡ p.replies ++ refused_reply (p.lines + 1) reason → ((settled_by p result).history ≡ p.history) × (tile_of (settled_by p result) ≡ tile_of p) × ((settled_by p result).any_refused ≡ true)
-settled_refused p (Ok told) reason e = absurd (accepted_is_not_refused told.lines (p.lines + 1) reason (append_cancel_left p.replies (accepted_reply told.lines) (refused_reply (p.lines + 1) reason) e))
+settled_refused : (p : Progress) (result : Result Answer Refused) (reason : Refused) → (settled_by p result).replies ≡ p.replies ++ refused_reply (p.lines + 1) reason → ((settled_by p result).history ≡ p.history) × (tile_of (settled_by p result) ≡ tile_of p) × ((settled_by p result).any_refused ≡ true)
+settled_refused p (Ok answer) reason e = absurd (accepted_is_not_refused answer.lines (p.lines + 1) reason (append_cancel_left p.replies (accepted_reply answer.lines) (refused_reply (p.lines + 1) reason) e))
 settled_refused p (Err other) reason e = (refl, refl, refl)
 
 something : (xs : List ℕ) (b : ℕ) (more : List ℕ) → xs ≡ xs ++ b ∷ more → ⊥
@@ -53,8 +53,8 @@ added xs ys text whole e =
     let longer : length xs ≡ length (xs ++ ys) = ap length e in
     omega (arith, length-append xs ys, ap length whole, length-append text (10 ∷ []))
 
-settled_silent : (p : Progress) (result : Result Told Refused) → (settled_by p result).replies ≡ p.replies → ⊥
-settled_silent p (Ok told) e = added p.replies (accepted_reply told.lines) (told.lines ++ codes "ok") (accepted_text told.lines) (sym e)
+settled_silent : (p : Progress) (result : Result Answer Refused) → (settled_by p result).replies ≡ p.replies → ⊥
+settled_silent p (Ok answer) e = added p.replies (accepted_reply answer.lines) (answer.lines ++ codes "ok") (accepted_text answer.lines) (sym e)
 settled_silent p (Err reason) e = something p.replies _ _ (sym e)
 
 answer_silent : (p : Progress) (answer : Result (Option Request) ParseError) → (answered_by p answer).replies ≡ p.replies → answered_by p answer ≡ record p { lines = p.lines + 1 }
@@ -66,14 +66,14 @@ pub silent_lines : SilentLinesChangeNothing
 silent_lines p line e = answer_silent p (answer_to line) e
 
 -- a request that looks is counted and replied to
-settled_looks : (p : Progress) (result : Result Told Refused) → ((told : Told) → result ≡ Ok told → told.history ≡ p.history) → ((settled_by p result).history ≡ p.history) × (tile_of (settled_by p result) ≡ tile_of p) × ((settled_by p result).lines ≡ p.lines + 1)
-settled_looks p (Ok told) stays = let same = stays told refl in (same, ap (λ (history : History). bytes_of (standing_document history)) same, refl)
+settled_looks : (p : Progress) (result : Result Answer Refused) → ((answer : Answer) → result ≡ Ok answer → answer.history ≡ p.history) → ((settled_by p result).history ≡ p.history) × (tile_of (settled_by p result) ≡ tile_of p) × ((settled_by p result).lines ≡ p.lines + 1)
+settled_looks p (Ok answer) stays = let same = stays answer refl in (same, ap (λ (history : History). bytes_of (standing_document history)) same, refl)
 settled_looks p (Err reason) stays = (refl, refl, refl)
 
 pub looking_lines : LookingChangesNothing
 looking_lines p line request asks looks =
     let after : after_line p line ≡ settled_by p (carried_out request p.history) = ap (answered_by p) asks in
-    let settled = settled_looks p (carried_out request p.history) (λ told e. looks_leave_history request p.history told looks e) in
+    let settled = settled_looks p (carried_out request p.history) (λ answer e. looks_leave_history request p.history answer looks e) in
     (ap (λ (q : Progress). q.history) after ∙ settled.0, ap tile_of after ∙ settled.1, ap (λ (q : Progress). q.lines) after ∙ settled.2)
 
 -- ---- strict runs
@@ -82,8 +82,8 @@ pub runs_stop : StrictRunsStop
 runs_stop p lines more over = after_lines-append true p lines more ∙ over_stays true (after_lines true p lines) more over
 
 -- that a line was refused stays so
-settled_stays : (p : Progress) (result : Result Told Refused) → p.any_refused ≡ true → (settled_by p result).any_refused ≡ true
-settled_stays p (Ok told) refused = refused
+settled_stays : (p : Progress) (result : Result Answer Refused) → p.any_refused ≡ true → (settled_by p result).any_refused ≡ true
+settled_stays p (Ok answer) refused = refused
 settled_stays p (Err reason) refused = refl
 
 refused_stays : (p : Progress) (answer : Result (Option Request) ParseError) → p.any_refused ≡ true → (answered_by p answer).any_refused ≡ true

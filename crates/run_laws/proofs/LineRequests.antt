@@ -7,25 +7,25 @@ use Rattle.mvt_history_steps.specs.History.{History, IsSound, standing_document,
 use Rattle.mvt_history_steps.specs.Requests.{or_before, asked, asked_all}
 use Rattle.history_laws.proofs.HistoryLaws.{stays_sound}
 use Rattle.mvt_command.specs.Requests.{HistoryRequest, Edit, Undo, Redo, SetMark, TakeMark, GoBack, Begin, End, Cancel}
-use Rattle.tile_request.specs.Request.{Request, OnHistory, ListMarks, TellHistory, Size, Lists}
+use Rattle.tile_request.specs.Request.{Request, OnHistory, ListMarks, PrintHistory, Size, Lists}
 use Rattle.tile_words.specs.declared.parse_error.ParseError.{ParseError}
 use Rattle.tile_script.specs.Line.{answer_to}
 use Rattle.tile_lines.specs.Lines.{lines_of}
 use Rattle.tile_listing.specs.Listing.{listed}
 use Rattle.tile_reply.specs.declared.refused.Refused.{Refused}
 use Rattle.tile_reply.specs.declared.refused.Refused.TheVariants as refused
-use Rattle.tile_told.specs.Answering.{told_by, told_by_look, mark_lines, history_lines, size_line, carried_out}
+use Rattle.tile_answers.specs.Answering.{answer_of_change, answer_of_look, mark_lines, history_lines, size_line, carried_out}
 use Rattle.tile_course.specs.Run.{Progress, at_first, ran, settled_by, answered_by, after_line, is_over, after_lines}
 use Rattle.run_laws.specs.RunLaws.{asked_of, asked_in, requests_of, LinesAreRequests}
 use Rattle.tile_course.specs.declared.outcome.Options.{Options}
 
 -- ---- requests
 
-change_settles : {E : Type 0} (refusal : E → Refused) (p : Progress) (made : Result History E) → (settled_by p (told_by refusal made)).history ≡ or_before p.history made
+change_settles : {E : Type 0} (refusal : E → Refused) (p : Progress) (made : Result History E) → (settled_by p (answer_of_change refusal made)).history ≡ or_before p.history made
 change_settles refusal p (Ok history) = refl
 change_settles refusal p (Err error) = refl
 
-look_settles : (p : Progress) (lines : Result (List ℕ) Refusal) → (settled_by p (told_by_look p.history lines)).history ≡ p.history
+look_settles : (p : Progress) (lines : Result (List ℕ) Refusal) → (settled_by p (answer_of_look p.history lines)).history ≡ p.history
 look_settles p (Ok lines) = refl
 look_settles p (Err refusal) = refl
 
@@ -40,7 +40,7 @@ request_settles p (OnHistory Begin) = change_settles refused.History p (opened p
 request_settles p (OnHistory End) = change_settles refused.History p (closed p.history)
 request_settles p (OnHistory Cancel) = change_settles refused.History p (cancelled p.history)
 request_settles p ListMarks = look_settles p (Ok (mark_lines p.history))
-request_settles p TellHistory = look_settles p (Ok (history_lines p.history))
+request_settles p PrintHistory = look_settles p (Ok (history_lines p.history))
 request_settles p Size = look_settles p (Ok (size_line (standing_document p.history)))
 request_settles p (Lists what) = look_settles p (listed what (standing_document p.history))
 

@@ -10,11 +10,11 @@ use Rattle.tile_script.specs.Line.{answer_to}
 use Rattle.tile_lines.specs.Lines.{is_line_feed, lines_of, HasNoLineFeed, with_feed, EndsWithALine}
 use Rattle.tile_lines.proofs.LineCuts.{none_of_none}
 use Rattle.tile_lines.proofs.LineLaws.{lines_only}
-use Rattle.tile_listing.specs.Told.{MayBeTold, AreLinesToTell}
-use Rattle.tile_listing.proofs.Telling.{uncut-append, decimal_uncut}
-use Rattle.tile_told.specs.Answering.{Told, carried_out}
-use Rattle.tile_told.proofs.AnswerLaws.{requests_tell_lines, no_request_is_out_of_memory}
-use Rattle.tile_reply.specs.Replies.{accepted_reply, refused_front, refused_reply, refusal_number, refusal_name, place_told, behind_name, IsOutOfMemory, NoneIsOutOfMemory}
+use Rattle.tile_listing.specs.Printed.{MayBePrinted, AreLinesToPrint}
+use Rattle.tile_listing.proofs.Printing.{uncut-append, decimal_uncut}
+use Rattle.tile_answers.specs.Answering.{Answer, carried_out}
+use Rattle.tile_answers.proofs.AnswerLaws.{requests_print_lines, no_request_is_out_of_memory}
+use Rattle.tile_reply.specs.Replies.{accepted_reply, refused_front, refused_reply, refusal_number, refusal_name, place_text, behind_name, IsOutOfMemory, NoneIsOutOfMemory}
 use Rattle.tile_course.specs.Run.{Progress, at_first, ran, settled_by, answered_by, after_line, is_over, after_lines}
 use Rattle.run_laws.specs.RunLaws.{NoRunIsOutOfMemory}
 use Rattle.mvt_meaning.specs.declared.refusal.Refusal.TheVariants as edit
@@ -25,7 +25,7 @@ use Rattle.tile_reply.specs.declared.refused.Refused.{Refused}
 use Rattle.tile_reply.specs.declared.refused.Refused.TheVariants as refused
 use Rattle.mvt_command.proofs.Others.{Other}
 use Rattle.tile_script.proofs.ParseRefusals.{answer_other}
-use Rattle.tile_course.proofs.Fronts.{first_lines}
+use Rattle.tile_course.proofs.Prefixes.{first_lines}
 use Rattle.tile_course.proofs.ReplyEnds.{ends-append, before_name, refused_text, refused_ends, runs_out, runs_out_not, other_is_not_out_of_memory}
 
 -- ---- lines that are not out of memory
@@ -81,12 +81,12 @@ name_uncut (refused.History history.GroupOpen) = refl
 name_uncut (refused.History history.NoGroup) = refl
 name_uncut (refused.History history.NoMemory) = refl
 
-place_uncut : (layer feature : ℕ) → HasNoLineFeed (place_told layer feature)
+place_uncut : (layer feature : ℕ) → HasNoLineFeed (place_text layer feature)
 place_uncut layer feature =
-    let front = codes " layer " ++ decimal layer in
+    let prefix = codes " layer " ++ decimal layer in
     let first = uncut-append (codes " layer ") (decimal layer) (uncut_by_test (codes " layer ") refl) (decimal_uncut layer) in
-    let second = uncut-append front (codes " feature ") first (uncut_by_test (codes " feature ") refl) in
-    uncut-append (front ++ codes " feature ") (decimal feature) second (decimal_uncut feature)
+    let second = uncut-append prefix (codes " feature ") first (uncut_by_test (codes " feature ") refl) in
+    uncut-append (prefix ++ codes " feature ") (decimal feature) second (decimal_uncut feature)
 
 behind_uncut : (reason : Refused) → HasNoLineFeed (behind_name reason)
 behind_uncut (refused.Parse parse.BadUtf8) = tt
@@ -140,14 +140,14 @@ record IsClean (replies : List ℕ) : Type 0 where
 clean_nothing : IsClean []
 clean_nothing = record { ends = inl refl; each = subst (AllByRecursion IsNotOutOfMemory) (sym (none_of_none [] refl)) tt }
 
-all_both : (front more : List (List ℕ)) → AllByRecursion IsNotOutOfMemory front → AllByRecursion IsNotOutOfMemory more → AllByRecursion IsNotOutOfMemory (front ++ more)
+all_both : (prefix more : List (List ℕ)) → AllByRecursion IsNotOutOfMemory prefix → AllByRecursion IsNotOutOfMemory more → AllByRecursion IsNotOutOfMemory (prefix ++ more)
 all_both [] more first second = second
-all_both (text ∷ front) more (is, first) second = (is, all_both front more first second)
+all_both (text ∷ prefix) more (is, first) second = (is, all_both prefix more first second)
 
-clean_both : (front more : List ℕ) → IsClean front → IsClean more → IsClean (front ++ more)
-clean_both front more first second = record {
-  ends = ends-append front more first.ends second.ends;
-  each = subst (AllByRecursion IsNotOutOfMemory) (sym (first_lines front more first.ends)) (all_both (lines_of front) (lines_of more) first.each second.each);
+clean_both : (prefix more : List ℕ) → IsClean prefix → IsClean more → IsClean (prefix ++ more)
+clean_both prefix more first second = record {
+  ends = ends-append prefix more first.ends second.ends;
+  each = subst (AllByRecursion IsNotOutOfMemory) (sym (first_lines prefix more first.ends)) (all_both (lines_of prefix) (lines_of more) first.each second.each);
 }
 
 one_line : (text : List ℕ) → HasNoLineFeed text → lines_of (with_feed text) ≡ text ∷ []
@@ -156,20 +156,20 @@ one_line text uncut = lines_only (with_feed text) (text ∷ []) (uncut, inl ([],
 clean_line : (text : List ℕ) → HasNoLineFeed text → IsNotOutOfMemory text → IsClean (with_feed text)
 clean_line text uncut is = record { ends = inr (text, refl); each = subst (AllByRecursion IsNotOutOfMemory) (sym (one_line text uncut)) (is, tt) }
 
--- ---- what is told
+-- ---- what is printed
 
-told_is_not_out_of_memory : (text : List ℕ) → MayBeTold text → IsNotOutOfMemory text
+printed_is_not_out_of_memory : (text : List ℕ) → MayBePrinted text → IsNotOutOfMemory text
 unfolding IsNotOutOfMemory
-told_is_not_out_of_memory text may line reason out_of_memory e =
+printed_is_not_out_of_memory text may line reason out_of_memory e =
     may.other (decimal line ++ codes " refused " ++ decimal (refusal_number reason) ++ codes " " ++ refusal_name reason ++ behind_name reason) e
 
-clean_each : (lines : List (List ℕ)) → AllByRecursion MayBeTold lines → IsClean (flat_map with_feed lines)
+clean_each : (lines : List (List ℕ)) → AllByRecursion MayBePrinted lines → IsClean (flat_map with_feed lines)
 clean_each [] all = clean_nothing
 clean_each (line ∷ lines) (may, all) =
-    clean_both (with_feed line) (flat_map with_feed lines) (clean_line line may.uncut (told_is_not_out_of_memory line may)) (clean_each lines all)
+    clean_both (with_feed line) (flat_map with_feed lines) (clean_line line may.uncut (printed_is_not_out_of_memory line may)) (clean_each lines all)
 
-clean_told : (bytes : List ℕ) → AreLinesToTell bytes → IsClean bytes
-clean_told bytes told = subst IsClean (sym told.spelled) (clean_each told.lines (recursion_from_All MayBeTold told.lines told.each))
+clean_printed : (bytes : List ℕ) → AreLinesToPrint bytes → IsClean bytes
+clean_printed bytes printed = subst IsClean (sym printed.spelled) (clean_each printed.lines (recursion_from_All MayBePrinted printed.lines printed.each))
 
 -- ---- replies
 
@@ -177,8 +177,8 @@ ok_is_not_out_of_memory : IsNotOutOfMemory (codes "ok")
 unfolding IsNotOutOfMemory
 ok_is_not_out_of_memory line reason out_of_memory e = let apart : ◌≡◌ {A = ℕ} 111 108 = ap (λ (text : List ℕ). get_or text 0 0) e in omega arith
 
-accepted_clean : (lines : List ℕ) → AreLinesToTell lines → IsClean (accepted_reply lines)
-accepted_clean lines told = clean_both lines (codes "ok\n") (clean_told lines told) (clean_line (codes "ok") (uncut_by_test (codes "ok") refl) ok_is_not_out_of_memory)
+accepted_clean : (lines : List ℕ) → AreLinesToPrint lines → IsClean (accepted_reply lines)
+accepted_clean lines printed = clean_both lines (codes "ok\n") (clean_printed lines printed) (clean_line (codes "ok") (uncut_by_test (codes "ok") refl) ok_is_not_out_of_memory)
 
 refused_clean : (line : ℕ) (reason : Refused) → ¬ (IsOutOfMemory reason) → IsClean (refused_reply line reason)
 unfolding IsNotOutOfMemory
@@ -187,10 +187,10 @@ refused_clean line reason other =
 
 -- ---- lines
 
-settled_clean : (p : Progress) (result : Result Told Refused) → ((told : Told) → result ≡ Ok told → AreLinesToTell told.lines) → ((reason : Refused) → result ≡ Err reason → ¬ (IsOutOfMemory reason))
+settled_clean : (p : Progress) (result : Result Answer Refused) → ((answer : Answer) → result ≡ Ok answer → AreLinesToPrint answer.lines) → ((reason : Refused) → result ≡ Err reason → ¬ (IsOutOfMemory reason))
     → IsClean p.replies → IsClean (settled_by p result).replies
-settled_clean p (Ok told) tells other clean = clean_both p.replies (accepted_reply told.lines) clean (accepted_clean told.lines (tells told refl))
-settled_clean p (Err reason) tells other clean = clean_both p.replies (refused_reply (p.lines + 1) reason) clean (refused_clean (p.lines + 1) reason (other reason refl))
+settled_clean p (Ok answer) prints other clean = clean_both p.replies (accepted_reply answer.lines) clean (accepted_clean answer.lines (prints answer refl))
+settled_clean p (Err reason) prints other clean = clean_both p.replies (refused_reply (p.lines + 1) reason) clean (refused_clean (p.lines + 1) reason (other reason refl))
 
 parse_is_other : (error : ParseError) → error ≢ parse.NoMemory → runs_out (refusal_number (refused.Parse error)) ≡ false
 parse_is_other parse.BadUtf8 other = refl
@@ -206,7 +206,7 @@ parse_is_other parse.NoMemory other = absurd (other refl)
 answered_clean : (p : Progress) (answer : Result (Option Request) ParseError) → Other parse.NoMemory answer → IsClean p.replies → IsClean (answered_by p answer).replies
 answered_clean p (Ok None) other clean = clean
 answered_clean p (Ok (Some request)) other clean =
-    settled_clean p (carried_out request p.history) (requests_tell_lines request p.history) (no_request_is_out_of_memory request p.history) clean
+    settled_clean p (carried_out request p.history) (requests_print_lines request p.history) (no_request_is_out_of_memory request p.history) clean
 answered_clean p (Err error) other clean =
     clean_both p.replies (refused_reply (p.lines + 1) (refused.Parse error)) clean (refused_clean (p.lines + 1) (refused.Parse error) (runs_out_not (refused.Parse error) (parse_is_other error other)))
 
@@ -225,14 +225,14 @@ head_is text more all = all.0
 
 clean_none_out_of_memory : (replies : List ℕ) → IsClean replies → NoneIsOutOfMemory replies
 unfolding IsNotOutOfMemory
-clean_none_out_of_memory replies clean line reason front rest ends out_of_memory e =
+clean_none_out_of_memory replies clean line reason prefix rest ends out_of_memory e =
     let reply = refused_reply line reason in
     let text = refused_text line reason in
     let behind : lines_of (reply ++ rest) ≡ text ∷ lines_of rest =
     first_lines reply rest (refused_ends line reason) ∙ ap (λ (ls : List (List ℕ)). ls ++ lines_of rest) (one_line text (refused_uncut line reason)) in
-    let whole : lines_of replies ≡ lines_of front ++ lines_of (reply ++ rest) = ap lines_of (e ∙ append_assoc front reply rest) ∙ first_lines front (reply ++ rest) ends in
-    let all : AllByRecursion IsNotOutOfMemory (lines_of front ++ lines_of (reply ++ rest)) = subst (AllByRecursion IsNotOutOfMemory) whole clean.each in
-    let there : AllByRecursion IsNotOutOfMemory (text ∷ lines_of rest) = subst (AllByRecursion IsNotOutOfMemory) behind (all_apart IsNotOutOfMemory (lines_of front) (lines_of (reply ++ rest)) all).1 in
+    let whole : lines_of replies ≡ lines_of prefix ++ lines_of (reply ++ rest) = ap lines_of (e ∙ append_assoc prefix reply rest) ∙ first_lines prefix (reply ++ rest) ends in
+    let all : AllByRecursion IsNotOutOfMemory (lines_of prefix ++ lines_of (reply ++ rest)) = subst (AllByRecursion IsNotOutOfMemory) whole clean.each in
+    let there : AllByRecursion IsNotOutOfMemory (text ∷ lines_of rest) = subst (AllByRecursion IsNotOutOfMemory) behind (all_apart IsNotOutOfMemory (lines_of prefix) (lines_of (reply ++ rest)) all).1 in
     head_is text (lines_of rest) there line reason out_of_memory refl
 
 pub no_run_is_out_of_memory : NoRunIsOutOfMemory

@@ -49,7 +49,7 @@ commands_of steps = flat_map (λ step. step) steps
 one_more : (steps : List (List Command)) (step : List Command) → commands_of (steps ++ step ∷ []) ≡ commands_of steps ++ step
 one_more steps step = flat_map-append (λ step. step) steps (step ∷ []) ∙ ap (λ rest. commands_of steps ++ rest) (append-nil step)
 
--- the first so many
+-- the first `count` of them
 makes_first : (count : ℕ) (document : Document) (steps : List (List Command)) (made : Document) → Makes document (commands_of steps) made → Makes document (commands_of (take count steps)) (after_steps (take count steps) document)
 makes_first zero document steps made makes = refl
 makes_first (suc count) document [] made makes = refl
@@ -89,13 +89,13 @@ module _ (document : Document) (depth : ℕ) where
 
   made_with_step : (step : List Command) (made : Document) (history : History) → IsMade history → Makes (present_document history) step made → IsMade (with_step step history)
   made_with_step step made history is_made makes =
-      let front = take history.present history.steps in
-      let all = makes_joined history.start (commands_of front) step (present_document history) made (standing_made history is_made) makes in
+      let prefix = take history.present history.steps in
+      let all = makes_joined history.start (commands_of prefix) step (present_document history) made (standing_made history is_made) makes in
       record {
         start = is_made.start;
         keeps_depth = is_made.keeps_depth;
         made = made;
-        steps = subst (λ commands. Makes history.start commands made) (sym (one_more front step)) all;
+        steps = subst (λ commands. Makes history.start commands made) (sym (one_more prefix step)) all;
         group = refl;
       }
 

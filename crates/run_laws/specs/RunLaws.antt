@@ -11,20 +11,20 @@ use Rattle.tile_lines.specs.Lines.{lines_of, HasNoLineFeed, with_feed, EndsWithA
 use Rattle.mvt_history_steps.specs.History.{History, IsSound, commands_in, standing_document, marked, gone_back}
 use Rattle.mvt_history_steps.specs.Requests.{SetsOther, LeavesOpen, asked_all}
 use Rattle.tile_words.specs.declared.parse_error.ParseError.{ParseError}
-use Rattle.tile_told.specs.Laws.{Looks}
+use Rattle.tile_answers.specs.Laws.{Looks}
 use Rattle.tile_reply.specs.Replies.{accepted_reply, refused_reply, NoneIsOutOfMemory}
 use Rattle.tile_course.specs.Run.{Progress, after_line, after_lines, is_over, ran, tile_of, Walk}
 use Rattle.tile_course.specs.declared.outcome.Options.{Options}
 use Rattle.tile_reply.specs.declared.refused.Refused.{Refused}
 
--- ---- fronts
+-- ---- prefixes
 
 -- what was replied to such a prefix is a prefix of what is replied to the whole script
 abbrev pub RepliesStand : Type 0
 RepliesStand =
-    (document : Document) (options : Options) (front rest : List ℕ) → EndsWithALine front
+    (document : Document) (options : Options) (prefix rest : List ℕ) → EndsWithALine prefix
     → (more : List ℕ)
-    × ((ran document options (front ++ rest)).replies ≡ (ran document options front).replies ++ more)
+    × ((ran document options (prefix ++ rest)).replies ≡ (ran document options prefix).replies ++ more)
 
 -- ---- lines that change nothing
 
@@ -119,14 +119,14 @@ UndoInARun =
 -- the script without them
 abbrev pub UndoInAScript : Type 0
 UndoInAScript =
-    (document : Document) (options : Options) (front line undo : List ℕ) (command : Command) (edited : Document)
-    → 1 ≤ options.depth → EndsWithALine front → (ran document options front).history.group ≡ None
-    → is_over options.strict (ran document options front) ≡ false → HasNoLineFeed line → HasNoLineFeed undo
+    (document : Document) (options : Options) (prefix line undo : List ℕ) (command : Command) (edited : Document)
+    → 1 ≤ options.depth → EndsWithALine prefix → (ran document options prefix).history.group ≡ None
+    → is_over options.strict (ran document options prefix) ≡ false → HasNoLineFeed line → HasNoLineFeed undo
     → answer_to line ≡ Ok (Some (OnHistory (Edit command)))
-    → applied command (standing_document (ran document options front).history) ≡ Ok edited
+    → applied command (standing_document (ran document options prefix).history) ≡ Ok edited
     → answer_to undo ≡ Ok (Some (OnHistory Undo))
-    → ((ran document options (front ++ with_feed line ++ with_feed undo)).replies ≡ (ran document options front).replies ++ accepted_reply [] ++ accepted_reply [])
-    × (tile_of (ran document options (front ++ with_feed line ++ with_feed undo)) ≡ tile_of (ran document options front))
+    → ((ran document options (prefix ++ with_feed line ++ with_feed undo)).replies ≡ (ran document options prefix).replies ++ accepted_reply [] ++ accepted_reply [])
+    × (tile_of (ran document options (prefix ++ with_feed line ++ with_feed undo)) ≡ tile_of (ran document options prefix))
 
 -- ---- steps and marks
 

@@ -1,9 +1,9 @@
 //! Laws of whole runs. Each function does nothing: its contract is the law. The laws of histories
-//! and of what requests tell are passed on.
+//! and of how requests are answered are passed on.
 #![tactic(auto)]
 
 ghost use Rattle.tile_course.specs.DeviceLaws.{FailedDevicesAreNamed, WornOutRunsNameADevice, DevicesAreNamedForCause};
-ghost use Rattle.tile_course.specs.RunLaws.{FrontsHaveFirstLines, FrontsStand, WalksNeverOutOfMemoryAreRuns};
+ghost use Rattle.tile_course.specs.RunLaws.{PrefixesHaveFirstLines, PrefixesStand, WalksNeverOutOfMemoryAreRuns};
 ghost use Rattle.run_laws.specs.RunLaws.{RepliesStand, RefusedLinesChangeNothing, SilentLinesChangeNothing, StrictRunsStop, AcceptedRunsAreAlike, StandingCommands, LinesAreRequests, UndoInARun, UndoInAScript, CancelInARun, StepUndoneInARun, BackInARun, RunsAreWalks, NoRunIsOutOfMemory, LookingChangesNothing};
 
 pub use history_laws::{
@@ -11,14 +11,16 @@ pub use history_laws::{
     history_fits, history_of_documents, kept_within, redos_undo_undos, stays_sound, stays_valid,
     step_undoes_whole, stopped_goes_on, undo_after_end, undo_at_once, undos_undo_redos,
 };
-pub use tile_told::laws::{looks_leave_history, no_request_is_out_of_memory, requests_tell_lines};
+pub use tile_answers::laws::{
+    looks_leave_history, no_request_is_out_of_memory, requests_print_lines,
+};
 
 /// The lines of a prefix of a script that is empty or ends with a line feed are the first lines of
 /// the script (`lines`). The run on it comes to where the whole run is after those lines, and the
 /// others go on from there (`progress`). What was replied to it stays (`replies`).
 pub fn prefixes_stand()
-    ensures lines { FrontsHaveFirstLines }
-    ensures progress { FrontsStand }
+    ensures lines { PrefixesHaveFirstLines }
+    ensures progress { PrefixesStand }
     ensures replies { RepliesStand }
 {}
 

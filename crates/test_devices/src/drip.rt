@@ -16,7 +16,7 @@ pub struct Calls {
 }
 
 impl Calls {
-    /// The calls from one on and before another meet trouble.
+    /// The calls from `first_troubled` on and before `first_untroubled` meet trouble.
     pub fn new(first_troubled: u64, first_untroubled: u64, trouble: Trouble) -> Self {
         Calls {
             made: 0,
@@ -36,12 +36,12 @@ impl Calls {
         Calls::new(call, u64::MAX, Trouble::Failed)
     }
 
-    /// The first calls are interrupted.
+    /// The first `count` calls are interrupted.
     pub fn interrupted(count: u64) -> Self {
         Calls::new(0, count, Trouble::Interrupted)
     }
 
-    /// Makes a call, and tells whether it meets trouble.
+    /// Makes a call, and returns whether it meets trouble.
     fn is_troubled(&mut self) -> bool
         ensures { self.new.counts ≡ self.old.counts }
     {
@@ -102,7 +102,7 @@ impl DripSink {
         DripSink::of_most(alloc, 1, calls)
     }
 
-    /// Takes so many bytes a call at most, and one at least.
+    /// Takes up to `most` bytes a call, and one at least.
     pub fn of_most(alloc: Global, most: usize, calls: Calls) -> Self {
         DripSink {
             taken: Vec::new(alloc),

@@ -23,7 +23,7 @@ impl Pieces {
         }
     }
 
-    /// Names the bytes, where the text is a name, `=` and pieces. Gives whether it is.
+    /// Names the bytes, where the text is a name, `=` and pieces. Returns whether it is.
     pub fn name(&mut self, alloc: Global, text: &str) -> Result<bool, AllocError> {
         let Some((name, words)) = text.split_once(" = ") else {
             return Ok(false);
@@ -35,7 +35,7 @@ impl Pieces {
         Ok(is_well)
     }
 
-    /// Puts the bytes of the pieces behind those that are there. Gives whether each is one.
+    /// Puts the bytes of the pieces behind those that are there. Returns whether each is one.
     pub fn put(&self, alloc: Global, words: &str, to: &mut Vec<u8>) -> Result<bool, AllocError> {
         for word in words.split_whitespace() {
             let (count, name) = word.split_once('*').unwrap_or(("1", word));

@@ -8,7 +8,7 @@ ghost use Rattle.mvt_change.specs.Changes as plain;
 use mvt_change::{Change, Step};
 use mvt_wire::{Measured, size_of_all};
 
-/// How much the change brings, where a number tells it.
+/// How much the change brings, where a `u64` holds it.
 pub(crate) fn known_weight(change: &Change) -> Option<u64>
     ensures { IfSome result (λ known. plain.weight (change_of change.now) ≡ known) }
 {

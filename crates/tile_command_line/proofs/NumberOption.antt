@@ -1,4 +1,4 @@
--- What a parse gives for an option that takes a number and has a default.
+-- What a parse returns for an option that takes a number and has a default.
 use Rattle.std.proofs.Common.{zero, suc, ◌≡◌, ◌∙◌, ◌++◌, ◌||◌, ◌==◌, ◌<◌, ◌≤◌, ap, subst, sym, refl, cond, drop, ℕ, Bool, true, false, List, [], ◌∷◌, length, is_some, Option, Some, None, inl, inr, arith, length-append}
 use Rattle.std.specs.Borrow.{Bor}
 use Rattle.std.specs.List.{All, slice_index_or}

@@ -6,11 +6,11 @@ use Rattle.clap.specs.declared.parser.matches.ArgMatches.{ArgMatches}
 use Rattle.mvt_history_steps.specs.declared.TheConstants.{MAX_DEPTH}
 
 -- the text of the option `--depth` is a numeral of this number, perhaps behind a plus sign
-abbrev pub TellsDepth : ArgMatches → ℕ → Type 0
-TellsDepth matches depth =
+abbrev pub GivesDepth : ArgMatches → ℕ → Type 0
+GivesDepth matches depth =
     (text : List ℕ) × (one_text (found_of matches) (codes "depth") ≡ Some text)
     × IsNumeral 10 (without_leading_plus text) × (depth ≡ digits_value 10 (without_leading_plus text))
 
 -- the text of the option `--depth` is a numeral of a number from 1 to 10,000, perhaps behind a plus sign
 abbrev pub HasDepth : ArgMatches → Type 0
-HasDepth matches = (depth : ℕ) × TellsDepth matches depth × (1 ≤ depth) × (depth ≤ MAX_DEPTH)
+HasDepth matches = (depth : ℕ) × GivesDepth matches depth × (1 ≤ depth) × (depth ≤ MAX_DEPTH)

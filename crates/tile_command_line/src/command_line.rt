@@ -3,7 +3,7 @@
 ghost use Rattle.std.specs.Prelude.{◌≡◌, ◌≤◌, IfOk, codes, pos};
 ghost use Rattle.clap.specs.declared.builder.value_parser.ValueParser.TheVariants.{Signed};
 ghost use Rattle.mvt_history_steps.specs.declared.TheConstants.{MAX_DEPTH};
-ghost use Rattle.tile_command_line.specs.Depth.{HasDepth, TellsDepth};
+ghost use Rattle.tile_command_line.specs.Depth.{HasDepth, GivesDepth};
 ghost use Rattle.tile_command_line.specs.Defaulted.{Awaits, IsDefaulted, IsOrdinary};
 
 use crate::help::SCRIPT_HELP;
@@ -12,7 +12,7 @@ use clap::{Arg, ArgAction, ArgMatches, Command, value_parser};
 use mvt_history_steps::MAX_DEPTH;
 use std::alloc::{AllocError, Global};
 
-/// What `--version` tells behind the name of the program.
+/// What `--version` prints behind the name of the program.
 const VERSION: &str = "0.1.0";
 
 /// How the program is called.
@@ -113,7 +113,7 @@ fn depths<'a>() -> ValueParser<'a>
 /// The depth that the words ask for, or else the default.
 pub fn depth_in(matches: &ArgMatches<'_>) -> u32
     requires { HasDepth matches.now }
-    ensures tells { TellsDepth matches.now result }
+    ensures given { GivesDepth matches.now result }
     ensures some_depth { 1 ≤ result }
     ensures depth { result ≤ MAX_DEPTH }
 {

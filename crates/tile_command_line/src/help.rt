@@ -1,4 +1,4 @@
-//! What `--help` tells of the script, behind the options.
+//! What `--help` prints of the script, behind the options.
 
 /// The requests of a script with their arguments, the statuses, the limits, and examples.
 pub(crate) const SCRIPT_HELP: &str = r#"Requests, one on each line of the script:

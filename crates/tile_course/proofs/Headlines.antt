@@ -8,7 +8,7 @@ use Rattle.mvt_document.specs.Opens.{OpensAs, OpensAsNothing}
 use Rattle.mvt_document.specs.Plain.{Document}
 use Rattle.mvt_document.proofs.SameBytes.{one_document_by_bytes}
 use Rattle.tile_device.specs.Device.{interruptions_in, failures_in}
-use Rattle.tile_device.specs.Seen.{Seen, Intake, Output, Meets, Supplies, Receives, IsFront}
+use Rattle.tile_device.specs.Seen.{Seen, Intake, Output, Meets, Supplies, Receives, IsPrefix}
 use Rattle.tile_device.specs.declared.device.Trouble.{Trouble}
 use Rattle.tile_device.specs.declared.device.Trouble.TheVariants.{Interrupted, Failed}
 use Rattle.tile_lines.specs.Lines.{lines_of, whole_lines}
@@ -25,18 +25,18 @@ use Rattle.tile_course.specs.declared.outcome.DeviceName.TheVariants as devices
 use Rattle.tile_course.specs.declared.outcome.TileFault.{TileFault}
 use Rattle.tile_course.specs.declared.outcome.TileFault.TheVariants as faults
 use Rattle.tile_lines.proofs.Cutting.{lines-front}
-use Rattle.tile_course.proofs.Fronts.{after_lines-append, fronts_stand}
+use Rattle.tile_course.proofs.Prefixes.{after_lines-append, prefix_stands}
 use Rattle.tile_course.proofs.Overs.{over_stays}
 use Rattle.tile_course.proofs.Replying.{walks_are_runs}
 
--- ---- what the counts tell
+-- ---- what the counts show
 
 one_at_most : (trouble : Option Trouble) → interruptions_in trouble ≤ 1
 one_at_most None = omega arith
 one_at_most (Some Interrupted) = omega arith
 one_at_most (Some Failed) = omega arith
 
--- a count that was low grew by just so many
+-- a low count of interruptions grew by `retries`, and by one more where an interruption ended the calls
 counts_all : (old new : Seen) (retries : ℕ) (trouble : Option Trouble) → HasLowCounts old → retries ≤ MAX_RETRIES → Meets old new retries trouble
     → interruptions_between old new ≡ retries + interruptions_in trouble
 counts_all old new retries trouble low few meets = omega (arith, low.interruptions, few, meets.interruptions, one_at_most trouble)
@@ -114,16 +114,16 @@ all_given (Some xs) (Some ys) bytes file e consumed end =
     let same : xs ≡ file = cc in
     sym (append-nil bytes) ∙ sym (ap (λ (t : List ℕ). bytes ++ t) end) ∙ sym consumed ∙ same
 
--- and what a source gave stands at the front
-front_given : (old new : Option (List ℕ)) (bytes file : List ℕ) → old ≡ Some file → Consumes old new bytes → IsFront bytes file
-front_given None new bytes file e consumed = absurd cc
-front_given (Some xs) None bytes file e consumed = absurd consumed
-front_given (Some xs) (Some ys) bytes file e consumed = let same : xs ≡ file = cc in (ys, sym same ∙ consumed)
+-- and what a source gave is a prefix of what it had
+prefix_given : (old new : Option (List ℕ)) (bytes file : List ℕ) → old ≡ Some file → Consumes old new bytes → IsPrefix bytes file
+prefix_given None new bytes file e consumed = absurd cc
+prefix_given (Some xs) None bytes file e consumed = absurd consumed
+prefix_given (Some xs) (Some ys) bytes file e consumed = let same : xs ≡ file = cc in (ys, sym same ∙ consumed)
 
 -- so no source gives more than it had
 pub given_within : (old new : Option (List ℕ)) (bytes file : List ℕ) → old ≡ Some file → Consumes old new bytes → length bytes ≤ length file
 given_within old new bytes file e consumed =
-    let front = front_given old new bytes file e consumed in omega (arith, ap length front.1, length-append bytes front.0)
+    let prefix = prefix_given old new bytes file e consumed in omega (arith, ap length prefix.1, length-append bytes prefix.0)
 
 none_out_of_memory_of : (old new : Option (List ℕ)) (replies : List ℕ) → WritesNoneOutOfMemory old new → Appends old new replies → NoneIsOutOfMemory replies
 none_out_of_memory_of None new replies tells appends = absurd tells
@@ -152,14 +152,14 @@ cut_lines_in : (intake : Intake) → intake.is_whole ≡ false → length intake
 cut_lines_in intake cut within = rw cut (ap whole_lines (take_all MAX_SCRIPT intake.bytes within))
 
 -- the lines of what was read are the first ones of the script
-first_lines_in : (intake : Intake) (script : List ℕ) → IsFront intake.bytes script → (intake.is_whole ≡ true → intake.bytes ≡ script) → length intake.bytes ≤ MAX_SCRIPT
+first_lines_in : (intake : Intake) (script : List ℕ) → IsPrefix intake.bytes script → (intake.is_whole ≡ true → intake.bytes ≡ script) → length intake.bytes ≤ MAX_SCRIPT
     → (others : List (List ℕ)) × (lines_of script ≡ lines_in intake ++ others)
-first_lines_in intake script front all within = by_whole intake.is_whole refl
+first_lines_in intake script prefix all within = by_whole intake.is_whole refl
   where
     by_whole : (q : Bool) → intake.is_whole ≡ q → (others : List (List ℕ)) × (lines_of script ≡ lines_in intake ++ others)
     by_whole true whole = ([], ap lines_of (sym (all whole)) ∙ sym (whole_lines_in intake whole) ∙ sym (append-nil (lines_in intake)))
-    by_whole false cut = let more = lines-front intake.bytes front.0 in
-        (more.0, ap lines_of front.1 ∙ more.1 ∙ ap (λ (t : List (List ℕ)). t ++ more.0) (sym (cut_lines_in intake cut within)))
+    by_whole false cut = let more = lines-front intake.bytes prefix.0 in
+        (more.0, ap lines_of prefix.1 ∙ more.1 ∙ ap (λ (t : List (List ℕ)). t ++ more.0) (sym (cut_lines_in intake cut within)))
 
 -- ---- the headline
 
@@ -192,9 +192,9 @@ module _ (options : Options) (before after : Devices) (outcome : Outcome) (r : R
       → (stops : StopsStrictly options.strict (start_of options opened) r.course.script r.course.replies) → stops.progress ≡ ran document options script
   stopped_strictly premises opened is stops =
       let start = start_of options opened in
-      let front = front_given before.script.bytes after.script.bytes r.course.script.bytes script premises.script_is (r.script.bytes premises.serve.script.tells) in
+      let prefix = prefix_given before.script.bytes after.script.bytes r.course.script.bytes script premises.script_is (r.script.bytes premises.serve.script.tells) in
       let short = file_within before.script after.script r.course.script script premises.script_is premises.serve.script r.script in
-      let first = first_lines_in r.course.script script front (whole_file before.script after.script r.course.script script premises.script_is premises.serve.script r.script) (omega (arith, short, premises.within)) in
+      let first = first_lines_in r.course.script script prefix (whole_file before.script after.script r.course.script script premises.script_is premises.serve.script r.script) (omega (arith, short, premises.within)) in
       let carried = lines_carried premises opened stops.progress stops.walk stops.replies in
       sym (over_stays options.strict stops.progress first.0 stops.over)
       ∙ ap (λ (p : Progress). after_lines options.strict p first.0) carried
@@ -210,7 +210,7 @@ module _ (options : Options) (before after : Devices) (outcome : Outcome) (r : R
     ends = ends ∙ ap (outcome_of options.strict) made;
     replies = subst (λ (t : Progress). Appends before.replies.bytes after.replies.bytes t.replies) made replied;
     out = subst (λ (t : Progress). Appends before.out.bytes after.out.bytes (tile_written options.strict t)) made wrote;
-    prefixes = λ front more is. ap (ran document options) (is ∙ sym (append_assoc front (10 ∷ []) more)) ∙ fronts_stand document options (front ++ 10 ∷ []) more (inr (front, refl));
+    prefixes = λ prefix more is. ap (ran document options) (is ∙ sym (append_assoc prefix (10 ∷ []) more)) ∙ prefix_stands document options (prefix ++ 10 ∷ []) more (inr (prefix, refl));
   }
 
 tile_is_written : (strict : Bool) (progress : Progress) → is_over strict progress ≡ false → tile_of progress ≡ tile_written strict progress

@@ -1,5 +1,5 @@
 pub mod Overs
-pub mod Fronts
+pub mod Prefixes
 pub mod ReplyEnds
 pub mod Replying
 pub mod Headlines

@@ -16,14 +16,14 @@ use Rattle.tile_reply.specs.declared.refused.Refused.TheVariants as refused
 
 -- ---- texts of whole lines
 
-pub ends-append : (front more : List ℕ) → EndsWithALine front → EndsWithALine more → EndsWithALine (front ++ more)
-ends-append front more (inl none) ends = none_before front more none ends
+pub ends-append : (prefix more : List ℕ) → EndsWithALine prefix → EndsWithALine more → EndsWithALine (prefix ++ more)
+ends-append prefix more (inl none) ends = none_before prefix more none ends
   where
-    none_before : (front more : List ℕ) → front ≡ [] → EndsWithALine more → EndsWithALine (front ++ more)
-    none_before front more none (inl nothing) = inl (ap (λ (text : List ℕ). text ++ more) none ∙ nothing)
-    none_before front more none (inr (text, whole)) = inr (text, ap (λ (t : List ℕ). t ++ more) none ∙ whole)
-ends-append front more (inr before) (inl nothing) = inr (before.0, ap (λ (text : List ℕ). front ++ text) nothing ∙ append-nil front ∙ before.1)
-ends-append front more (inr before) (inr (text, whole)) = inr (front ++ text, ap (λ (t : List ℕ). front ++ t) whole ∙ sym (append_assoc front text (10 ∷ [])))
+    none_before : (prefix more : List ℕ) → prefix ≡ [] → EndsWithALine more → EndsWithALine (prefix ++ more)
+    none_before prefix more none (inl nothing) = inl (ap (λ (text : List ℕ). text ++ more) none ∙ nothing)
+    none_before prefix more none (inr (text, whole)) = inr (text, ap (λ (t : List ℕ). t ++ more) none ∙ whole)
+ends-append prefix more (inr before) (inl nothing) = inr (before.0, ap (λ (text : List ℕ). prefix ++ text) nothing ∙ append-nil prefix ∙ before.1)
+ends-append prefix more (inr before) (inr (text, whole)) = inr (prefix ++ text, ap (λ (t : List ℕ). prefix ++ t) whole ∙ sym (append_assoc prefix text (10 ∷ [])))
 
 -- ---- replies
 
@@ -103,61 +103,61 @@ ends_with_ok ends = (ends.0 == 111) && (ends.1 == 107)
 -- those behind the name of a refusal of tags, of a repeated key or of a geometry
 place_last : (ends : ℕ × ℕ) (layer feature : ℕ) → last_two ends (codes " layer " ++ decimal layer ++ codes " feature " ++ decimal feature) ≡ (101, 32)
 place_last ends layer feature =
-    let front = codes " layer " ++ decimal layer in
-    last_two-append ends (front ++ codes " feature ") (decimal feature)
-    ∙ ap (λ (ends : ℕ × ℕ). last_two ends (decimal feature)) (last_two-append ends front (codes " feature "))
+    let prefix = codes " layer " ++ decimal layer in
+    last_two-append ends (prefix ++ codes " feature ") (decimal feature)
+    ∙ ap (λ (ends : ℕ × ℕ). last_two ends (decimal feature)) (last_two-append ends prefix (codes " feature "))
     ∙ last_two-decimal (101, 32) feature
 
--- the reply to a refusal with the number of out of memory is the same for each; and the text tells whether memory was
+-- the reply to a refusal with the number of out of memory is the same for each; and the text shows whether memory was
 -- refused
-record TellsMemory (ends : ℕ × ℕ) (reason : Refused) : Type 0 where
+record ShowsMemory (ends : ℕ × ℕ) (reason : Refused) : Type 0 where
   alike : refusal_number reason ≡ 60 → (line : ℕ) → refused_reply line reason ≡ refused_reply line (refused.Parse parse.NoMemory)
   out_of_memory : ends_out_of_memory (ends_of ends reason) ≡ runs_out (refusal_number reason)
   not_ok : ends_with_ok (ends_of ends reason) ≡ false
 
-tells_memory : (ends : ℕ × ℕ) (reason : Refused) → TellsMemory ends reason
-tells_memory ends (refused.Parse parse.BadUtf8) = record { alike = λ e line. absurd (omega arith); out_of_memory = refl; not_ok = refl }
-tells_memory ends (refused.Parse parse.BadWord) = record { alike = λ e line. absurd (omega arith); out_of_memory = refl; not_ok = refl }
-tells_memory ends (refused.Parse parse.UnknownCommand) = record { alike = λ e line. absurd (omega arith); out_of_memory = refl; not_ok = refl }
-tells_memory ends (refused.Parse parse.BadArguments) = record { alike = λ e line. absurd (omega arith); out_of_memory = refl; not_ok = refl }
-tells_memory ends (refused.Parse parse.BadNumber) = record { alike = λ e line. absurd (omega arith); out_of_memory = refl; not_ok = refl }
-tells_memory ends (refused.Parse parse.BadValue) = record { alike = λ e line. absurd (omega arith); out_of_memory = refl; not_ok = refl }
-tells_memory ends (refused.Parse parse.BadGeometryText) = record { alike = λ e line. absurd (omega arith); out_of_memory = refl; not_ok = refl }
-tells_memory ends (refused.Parse parse.LineTooLong) = record { alike = λ e line. absurd (omega arith); out_of_memory = refl; not_ok = refl }
-tells_memory ends (refused.Parse parse.NoMemory) = record { alike = λ e line. refl; out_of_memory = refl; not_ok = refl }
-tells_memory ends (refused.Edit edit.NoLayer) = record { alike = λ e line. absurd (omega arith); out_of_memory = refl; not_ok = refl }
-tells_memory ends (refused.Edit edit.AmbiguousLayer) = record { alike = λ e line. absurd (omega arith); out_of_memory = refl; not_ok = refl }
-tells_memory ends (refused.Edit edit.NoFeature) = record { alike = λ e line. absurd (omega arith); out_of_memory = refl; not_ok = refl }
-tells_memory ends (refused.Edit edit.NoKey) = record { alike = λ e line. absurd (omega arith); out_of_memory = refl; not_ok = refl }
-tells_memory ends (refused.Edit edit.BadPlace) = record { alike = λ e line. absurd (omega arith); out_of_memory = refl; not_ok = refl }
-tells_memory ends (refused.Edit edit.AmbiguousFeature) = record { alike = λ e line. absurd (omega arith); out_of_memory = refl; not_ok = refl }
-tells_memory ends (refused.Edit (edit.BadTags layer feature)) =
+shows_memory : (ends : ℕ × ℕ) (reason : Refused) → ShowsMemory ends reason
+shows_memory ends (refused.Parse parse.BadUtf8) = record { alike = λ e line. absurd (omega arith); out_of_memory = refl; not_ok = refl }
+shows_memory ends (refused.Parse parse.BadWord) = record { alike = λ e line. absurd (omega arith); out_of_memory = refl; not_ok = refl }
+shows_memory ends (refused.Parse parse.UnknownCommand) = record { alike = λ e line. absurd (omega arith); out_of_memory = refl; not_ok = refl }
+shows_memory ends (refused.Parse parse.BadArguments) = record { alike = λ e line. absurd (omega arith); out_of_memory = refl; not_ok = refl }
+shows_memory ends (refused.Parse parse.BadNumber) = record { alike = λ e line. absurd (omega arith); out_of_memory = refl; not_ok = refl }
+shows_memory ends (refused.Parse parse.BadValue) = record { alike = λ e line. absurd (omega arith); out_of_memory = refl; not_ok = refl }
+shows_memory ends (refused.Parse parse.BadGeometryText) = record { alike = λ e line. absurd (omega arith); out_of_memory = refl; not_ok = refl }
+shows_memory ends (refused.Parse parse.LineTooLong) = record { alike = λ e line. absurd (omega arith); out_of_memory = refl; not_ok = refl }
+shows_memory ends (refused.Parse parse.NoMemory) = record { alike = λ e line. refl; out_of_memory = refl; not_ok = refl }
+shows_memory ends (refused.Edit edit.NoLayer) = record { alike = λ e line. absurd (omega arith); out_of_memory = refl; not_ok = refl }
+shows_memory ends (refused.Edit edit.AmbiguousLayer) = record { alike = λ e line. absurd (omega arith); out_of_memory = refl; not_ok = refl }
+shows_memory ends (refused.Edit edit.NoFeature) = record { alike = λ e line. absurd (omega arith); out_of_memory = refl; not_ok = refl }
+shows_memory ends (refused.Edit edit.NoKey) = record { alike = λ e line. absurd (omega arith); out_of_memory = refl; not_ok = refl }
+shows_memory ends (refused.Edit edit.BadPlace) = record { alike = λ e line. absurd (omega arith); out_of_memory = refl; not_ok = refl }
+shows_memory ends (refused.Edit edit.AmbiguousFeature) = record { alike = λ e line. absurd (omega arith); out_of_memory = refl; not_ok = refl }
+shows_memory ends (refused.Edit (edit.BadTags layer feature)) =
     let same = place_last (last_two ends (codes "BadTags")) layer feature in
     record { alike = λ e line. absurd (omega arith); out_of_memory = ap ends_out_of_memory same; not_ok = ap ends_with_ok same }
-tells_memory ends (refused.Edit (edit.RepeatedKey layer feature)) =
+shows_memory ends (refused.Edit (edit.RepeatedKey layer feature)) =
     let same = place_last (last_two ends (codes "RepeatedKey")) layer feature in
     record { alike = λ e line. absurd (omega arith); out_of_memory = ap ends_out_of_memory same; not_ok = ap ends_with_ok same }
-tells_memory ends (refused.Edit (edit.BadGeometry layer feature)) =
+shows_memory ends (refused.Edit (edit.BadGeometry layer feature)) =
     let same = place_last (last_two ends (codes "BadGeometry")) layer feature in
     record { alike = λ e line. absurd (omega arith); out_of_memory = ap ends_out_of_memory same; not_ok = ap ends_with_ok same }
-tells_memory ends (refused.Edit edit.NameTaken) = record { alike = λ e line. absurd (omega arith); out_of_memory = refl; not_ok = refl }
-tells_memory ends (refused.Edit edit.KeyTaken) = record { alike = λ e line. absurd (omega arith); out_of_memory = refl; not_ok = refl }
-tells_memory ends (refused.Edit edit.OutOfRange) = record { alike = λ e line. absurd (omega arith); out_of_memory = refl; not_ok = refl }
-tells_memory ends (refused.Edit edit.TooLarge) = record { alike = λ e line. absurd (omega arith); out_of_memory = refl; not_ok = refl }
-tells_memory ends (refused.Edit edit.NoMemory) = record { alike = λ e line. refl; out_of_memory = refl; not_ok = refl }
-tells_memory ends (refused.History history.NothingToUndo) = record { alike = λ e line. absurd (omega arith); out_of_memory = refl; not_ok = refl }
-tells_memory ends (refused.History history.NothingToRedo) = record { alike = λ e line. absurd (omega arith); out_of_memory = refl; not_ok = refl }
-tells_memory ends (refused.History history.NoMark) = record { alike = λ e line. absurd (omega arith); out_of_memory = refl; not_ok = refl }
-tells_memory ends (refused.History history.TooManyMarks) = record { alike = λ e line. absurd (omega arith); out_of_memory = refl; not_ok = refl }
-tells_memory ends (refused.History (history.Stopped taken)) =
+shows_memory ends (refused.Edit edit.NameTaken) = record { alike = λ e line. absurd (omega arith); out_of_memory = refl; not_ok = refl }
+shows_memory ends (refused.Edit edit.KeyTaken) = record { alike = λ e line. absurd (omega arith); out_of_memory = refl; not_ok = refl }
+shows_memory ends (refused.Edit edit.OutOfRange) = record { alike = λ e line. absurd (omega arith); out_of_memory = refl; not_ok = refl }
+shows_memory ends (refused.Edit edit.TooLarge) = record { alike = λ e line. absurd (omega arith); out_of_memory = refl; not_ok = refl }
+shows_memory ends (refused.Edit edit.NoMemory) = record { alike = λ e line. refl; out_of_memory = refl; not_ok = refl }
+shows_memory ends (refused.History history.NothingToUndo) = record { alike = λ e line. absurd (omega arith); out_of_memory = refl; not_ok = refl }
+shows_memory ends (refused.History history.NothingToRedo) = record { alike = λ e line. absurd (omega arith); out_of_memory = refl; not_ok = refl }
+shows_memory ends (refused.History history.NoMark) = record { alike = λ e line. absurd (omega arith); out_of_memory = refl; not_ok = refl }
+shows_memory ends (refused.History history.TooManyMarks) = record { alike = λ e line. absurd (omega arith); out_of_memory = refl; not_ok = refl }
+shows_memory ends (refused.History (history.Stopped taken)) =
     let same = last_two-decimal (110, 32) taken in
     record { alike = λ e line. absurd (omega arith); out_of_memory = ap ends_out_of_memory same; not_ok = ap ends_with_ok same }
-tells_memory ends (refused.History history.GroupOpen) = record { alike = λ e line. absurd (omega arith); out_of_memory = refl; not_ok = refl }
-tells_memory ends (refused.History history.NoGroup) = record { alike = λ e line. absurd (omega arith); out_of_memory = refl; not_ok = refl }
-tells_memory ends (refused.History history.NoMemory) = record { alike = λ e line. refl; out_of_memory = refl; not_ok = refl }
+shows_memory ends (refused.History history.GroupOpen) = record { alike = λ e line. absurd (omega arith); out_of_memory = refl; not_ok = refl }
+shows_memory ends (refused.History history.NoGroup) = record { alike = λ e line. absurd (omega arith); out_of_memory = refl; not_ok = refl }
+shows_memory ends (refused.History history.NoMemory) = record { alike = λ e line. refl; out_of_memory = refl; not_ok = refl }
 
 pub out_of_memory_reply : (line : ℕ) (reason : Refused) → refusal_number reason ≡ 60 → refused_reply line reason ≡ refused_reply line (refused.Parse parse.NoMemory)
-out_of_memory_reply line reason e = (tells_memory (0, 0) reason).alike e line
+out_of_memory_reply line reason e = (shows_memory (0, 0) reason).alike e line
 
 -- the reply to an accepted line is that to no refused one
 pub accepted_is_not_refused : (lines : List ℕ) (line : ℕ) (reason : Refused) → accepted_reply lines ≢ refused_reply line reason
@@ -165,7 +165,7 @@ accepted_is_not_refused lines line reason e =
     let same : lines ++ codes "ok" ≡ refused_text line reason = append_cancel_right (lines ++ codes "ok") (refused_text line reason) (10 ∷ []) (sym (accepted_text lines) ∙ e) in
     let ends : last_two (last_two (0, 0) lines) (codes "ok") ≡ ends_of (last_two (0, 0) (before_name line reason)) reason =
     sym (last_two-append (0, 0) lines (codes "ok")) ∙ ap (last_two (0, 0)) same ∙ refused_last line reason in
-    let no : true ≡ false = ap ends_with_ok ends ∙ (tells_memory (last_two (0, 0) (before_name line reason)) reason).not_ok in
+    let no : true ≡ false = ap ends_with_ok ends ∙ (shows_memory (last_two (0, 0) (before_name line reason)) reason).not_ok in
     absurd cc
 
 -- ---- out of memory
@@ -194,8 +194,8 @@ runs_out_other reason other =
 -- the text of a refusal that is not out of memory is that of none that is
 pub other_is_not_out_of_memory : (line other_line : ℕ) (reason short_of_memory : Refused) → ¬ (IsOutOfMemory reason) → IsOutOfMemory short_of_memory → refused_text line reason ≢ refused_text other_line short_of_memory
 other_is_not_out_of_memory line other_line reason short_of_memory other out_of_memory e =
-    let first = tells_memory (last_two (0, 0) (before_name line reason)) reason in
-    let second = tells_memory (last_two (0, 0) (before_name other_line short_of_memory)) short_of_memory in
+    let first = shows_memory (last_two (0, 0) (before_name line reason)) reason in
+    let second = shows_memory (last_two (0, 0) (before_name other_line short_of_memory)) short_of_memory in
     let same : runs_out (refusal_number reason) ≡ runs_out (refusal_number short_of_memory) =
     sym first.out_of_memory ∙ ap ends_out_of_memory (sym (refused_last line reason) ∙ ap (last_two (0, 0)) e ∙ refused_last other_line short_of_memory) ∙ second.out_of_memory in
     let no : false ≡ true = sym (runs_out_other reason other) ∙ same ∙ runs_out_is short_of_memory out_of_memory in

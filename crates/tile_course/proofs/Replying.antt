@@ -5,7 +5,7 @@ use Rattle.std.proofs.lemmas.List.{append_cancel_left}
 use Rattle.tile_request.specs.Request.{Request}
 use Rattle.tile_script.specs.Line.{answer_to}
 use Rattle.tile_lines.specs.Lines.{EndsWithALine}
-use Rattle.tile_told.specs.Answering.{Told, carried_out}
+use Rattle.tile_answers.specs.Answering.{Answer, carried_out}
 use Rattle.tile_reply.specs.Replies.{accepted_reply, refused_reply, IsOutOfMemory, NoneIsOutOfMemory}
 use Rattle.tile_course.specs.Run.{Progress, settled_by, answered_by, after_line, is_over, after_lines, MayFollow, Walk}
 use Rattle.mvt_history_error.specs.declared.HistoryError.TheVariants.{Stopped}
@@ -34,8 +34,8 @@ adds_both p q r first second = record {
   ends = ends-append first.reply second.reply first.ends second.ends;
 }
 
-settled_adds : (p : Progress) (result : Result Told Refused) → Adds p (settled_by p result)
-settled_adds p (Ok told) = record { reply = accepted_reply told.lines; is = refl; ends = accepted_ends told.lines }
+settled_adds : (p : Progress) (result : Result Answer Refused) → Adds p (settled_by p result)
+settled_adds p (Ok answer) = record { reply = accepted_reply answer.lines; is = refl; ends = accepted_ends answer.lines }
 settled_adds p (Err reason) = record { reply = refused_reply (p.lines + 1) reason; is = refl; ends = refused_ends (p.lines + 1) reason }
 
 answer_adds : (p : Progress) (answer : Result (Option Request) ParseError) → Adds p (answered_by p answer)
@@ -78,11 +78,11 @@ cut : (p next q : Progress) (added : List ℕ) → q.replies ≡ p.replies ++ ad
 unfolding adds_both
 cut p next q added e first others = append_cancel_left p.replies added (first.reply ++ others.reply) (sym e ∙ (adds_both p next q first others).is)
 
-none_out_of_memory_behind : (front rest : List ℕ) → EndsWithALine front → NoneIsOutOfMemory (front ++ rest) → NoneIsOutOfMemory rest
-none_out_of_memory_behind front rest whole none line reason before behind ends out_of_memory e =
-    none line reason (front ++ before) behind (ends-append front before whole ends) out_of_memory (
-    ap (λ (xs : List ℕ). front ++ xs) e ∙ sym (append_assoc front (before ++ refused_reply line reason) behind)
-    ∙ ap (λ (xs : List ℕ). xs ++ behind) (sym (append_assoc front before (refused_reply line reason)))
+none_out_of_memory_behind : (prefix rest : List ℕ) → EndsWithALine prefix → NoneIsOutOfMemory (prefix ++ rest) → NoneIsOutOfMemory rest
+none_out_of_memory_behind prefix rest whole none line reason before behind ends out_of_memory e =
+    none line reason (prefix ++ before) behind (ends-append prefix before whole ends) out_of_memory (
+    ap (λ (xs : List ℕ). prefix ++ xs) e ∙ sym (append_assoc prefix (before ++ refused_reply line reason) behind)
+    ∙ ap (λ (xs : List ℕ). xs ++ behind) (sym (append_assoc prefix before (refused_reply line reason)))
     )
 
 -- a reply that says that memory was refused would be at the front of what was added

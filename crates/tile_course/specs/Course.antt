@@ -4,7 +4,7 @@ use Rattle.mvt_document.specs.declared.TheConstants.{MAX_FILE}
 use Rattle.mvt_document.specs.Plain.{Document}
 use Rattle.mvt_document.specs.Opens.{OpensAs, OpensAsNothing, IsPlace}
 use Rattle.mvt_document.specs.Settle.{settle}
-use Rattle.tile_device.specs.Seen.{Intake, Output, nothing_read, IsFront}
+use Rattle.tile_device.specs.Seen.{Intake, Output, nothing_read, IsPrefix}
 use Rattle.tile_device.specs.declared.device.Trouble.TheVariants.{Interrupted}
 use Rattle.tile_lines.specs.Lines.{lines_of, whole_lines}
 use Rattle.tile_course.specs.declared.limits.TheConstants.{MAX_RETRIES, MAX_SCRIPT}
@@ -112,9 +112,9 @@ pub record IsCutShort (strict : Bool) (start : Progress) (lines : List (List ℕ
   pub follows : MayFollow progress line next
   pub reply : List ℕ
   pub replied : next.replies ≡ progress.replies ++ reply
-  pub front : List ℕ
-  pub is_front : IsFront front reply
-  pub written : output.bytes ≡ progress.replies ++ front
+  pub prefix : List ℕ
+  pub is_prefix : IsPrefix prefix reply
+  pub written : output.bytes ≡ progress.replies ++ prefix
   pub trouble : IsSome output.trouble
 
 -- the script met no trouble, and the reply to one of its lines did
@@ -151,7 +151,7 @@ pub record IsEdited (options : Options) (any_refused : Bool) (course : Course) :
 -- the script was carried through, and `out` met trouble: a prefix of the tile was written
 pub record StopsAtOut (options : Options) (course : Course) : Type 0 where
   pub through : RepliesToAll options course
-  pub front : IsFront course.out.bytes (tile_of through.progress)
+  pub prefix : IsPrefix course.out.bytes (tile_of through.progress)
   pub trouble : IsSome course.out.trouble
 
 -- nothing but the tile was read, and nothing written

@@ -86,7 +86,7 @@ pub record IsRunOf (options : Options) (document : Document) (script : List ℕ)
   pub ends : outcome ≡ outcome_of options.strict (ran document options script)
   pub replies : Appends before.replies.bytes after.replies.bytes (ran document options script).replies
   pub out : Appends before.out.bytes after.out.bytes (tile_written options.strict (ran document options script))
-  pub prefixes : (front more : List ℕ) → script ≡ front ++ 10 ∷ more → ran document options script ≡ after_lines options.strict (ran document options (front ++ 10 ∷ [])) (lines_of more)
+  pub prefixes : (prefix more : List ℕ) → script ≡ prefix ++ 10 ∷ more → ran document options script ≡ after_lines options.strict (ran document options (prefix ++ 10 ∷ [])) (lines_of more)
 
 -- the tile opens, as the document; the script has at most 16,777,216 bytes; all devices serve, the replies are known
 -- and none is 60 or 54, and the outcome is not `NoMemory`

@@ -8,8 +8,8 @@ use Rattle.tile_lines.specs.Lines.{lines_of}
 use Rattle.mvt_history_steps.specs.History.{History, begun, standing_document}
 use Rattle.mvt_history_error.specs.declared.HistoryError.TheVariants.{Stopped}
 use Rattle.tile_reply.specs.Replies.{accepted_reply, refused_reply}
-use Rattle.tile_told.specs.Answering.{Told, carried_out}
-use Rattle.tile_told.specs.Answers.{MayStop, NeedsMemory}
+use Rattle.tile_answers.specs.Answering.{Answer, carried_out}
+use Rattle.tile_answers.specs.Answers.{MayStop, NeedsMemory}
 use Rattle.tile_course.specs.declared.outcome.Options.{Options}
 use Rattle.tile_words.specs.declared.parse_error.ParseError.{ParseError}
 use Rattle.tile_words.specs.declared.parse_error.ParseError.TheVariants as parse
@@ -32,16 +32,16 @@ abbrev pub silent : Progress → Progress
 silent p = record p { lines = p.lines + 1 }
 
 -- the progress after an accepted line: its history, and its lines and `ok` as the reply
-abbrev pub accepted : Told → Progress → Progress
-accepted told p = record p { lines = p.lines + 1; history = told.history; replies = p.replies ++ accepted_reply told.lines }
+abbrev pub accepted : Answer → Progress → Progress
+accepted answer p = record p { lines = p.lines + 1; history = answer.history; replies = p.replies ++ accepted_reply answer.lines }
 
 -- the progress after a refused line: it changes nothing but the count, the replies, and that a line was refused
 abbrev pub refused_for : Refused → Progress → Progress
 refused_for reason p = record p { lines = p.lines + 1; replies = p.replies ++ refused_reply (p.lines + 1) reason; any_refused = true }
 
 -- the progress after a line whose request was accepted or refused
-abbrev pub settled_by : Progress → Result Told Refused → Progress
-settled_by p (Ok told) = accepted told p
+abbrev pub settled_by : Progress → Result Answer Refused → Progress
+settled_by p (Ok answer) = accepted answer p
 settled_by p (Err reason) = refused_for reason p
 
 -- the progress after a line that asks for nothing, asks for a request, or is refused

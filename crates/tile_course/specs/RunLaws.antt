@@ -7,15 +7,15 @@ use Rattle.tile_course.specs.Run.{Progress, after_lines, ran, Walk}
 use Rattle.tile_course.specs.declared.outcome.Options.{Options}
 
 -- the lines of a prefix that is empty or ends with a line feed are the first lines of the script
-abbrev pub FrontsHaveFirstLines : Type 0
-FrontsHaveFirstLines = (front rest : List ℕ) → EndsWithALine front → lines_of (front ++ rest) ≡ lines_of front ++ lines_of rest
+abbrev pub PrefixesHaveFirstLines : Type 0
+PrefixesHaveFirstLines = (prefix rest : List ℕ) → EndsWithALine prefix → lines_of (prefix ++ rest) ≡ lines_of prefix ++ lines_of rest
 
 -- the run on such a prefix comes to where the run on the whole script is after those lines, and the others go on from
 -- there
-abbrev pub FrontsStand : Type 0
-FrontsStand =
-    (document : Document) (options : Options) (front rest : List ℕ) → EndsWithALine front
-    → ran document options (front ++ rest) ≡ after_lines options.strict (ran document options front) (lines_of rest)
+abbrev pub PrefixesStand : Type 0
+PrefixesStand =
+    (document : Document) (options : Options) (prefix rest : List ℕ) → EndsWithALine prefix
+    → ran document options (prefix ++ rest) ≡ after_lines options.strict (ran document options prefix) (lines_of rest)
 
 -- where growths may be refused, and no reply says that one was, by 60 or 54, all comes as where none is refused
 abbrev pub WalksNeverOutOfMemoryAreRuns : Type 0

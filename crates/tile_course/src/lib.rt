@@ -4,7 +4,7 @@
 //!   history, and the outcome. So is what may come of it where devices fail or memory runs out
 //!   (`Course`), and the headline that follows from this (`Headline`, `DeviceLaws`).
 //! - How a run is asked for, how it ends, and how each step of it may stop: `Options`, `Outcome`. A
-//!   stop gives the outcome of its definition (`Outcomes`).
+//!   stop becomes the outcome of its definition (`Outcomes`).
 #![tactic(auto)]
 
 mod limits;

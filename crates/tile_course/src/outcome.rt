@@ -33,7 +33,7 @@ pub enum DeviceName {
 /// Why a tile did not open.
 #[derive(Clone, Copy, Debug, PartialEq, Eq, Error)]
 pub enum TileFault {
-    /// It is no vector tile. The place is the length in bytes of its longest front that is one.
+    /// It is no vector tile. The place is the length in bytes of its longest prefix that is one.
     #[error("1 BadWire place {place}")]
     BadWire { place: usize },
     /// It has more than `MAX_FILE` bytes.

@@ -38,17 +38,17 @@ sends_nothing s left = let none : left - left ≡ 0 = omega arith in subst (λ (
 -- one thing after the other
 pub sends_more : (a b c : Seen) (n m k : ℕ) (bytes more : List ℕ) (trouble : Option Trouble) → Sends a b n m bytes None → Sends b c m k more trouble → Sends a c n k (bytes ++ more) trouble
 sends_more a b c n m k bytes more None first second = writes_more a b c n m k (n - m) bytes (written (m - k) more) first second
-sends_more a b c n m k bytes more (Some trouble) first (front, (rest, split), second) = (
-  bytes ++ front,
-  (rest, ap (λ (t : List ℕ). bytes ++ t) split ∙ sym (append_assoc bytes front rest)),
-  writes_more a b c n m k (n - m) bytes (record { bytes = front; retries = m - k; trouble = Some trouble }) first second,
+sends_more a b c n m k bytes more (Some trouble) first (prefix, (rest, split), second) = (
+  bytes ++ prefix,
+  (rest, ap (λ (t : List ℕ). bytes ++ t) split ∙ sym (append_assoc bytes prefix rest)),
+  writes_more a b c n m k (n - m) bytes (record { bytes = prefix; retries = m - k; trouble = Some trouble }) first second,
 )
 
 -- what stops early stops in a longer whole too
 pub stops_early : (a b : Seen) (n m : ℕ) (bytes more : List ℕ) (trouble : Trouble) → Sends a b n m bytes (Some trouble) → Sends a b n m (bytes ++ more) (Some trouble)
-stops_early a b n m bytes more trouble (front, (rest, split), writes) = (
-  front,
-  (rest ++ more, ap (λ (t : List ℕ). t ++ more) split ∙ append_assoc front rest more),
+stops_early a b n m bytes more trouble (prefix, (rest, split), writes) = (
+  prefix,
+  (rest ++ more, ap (λ (t : List ℕ). t ++ more) split ∙ append_assoc prefix rest more),
   writes,
 )
 

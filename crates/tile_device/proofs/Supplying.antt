@@ -12,7 +12,7 @@ use Rattle.tile_device.specs.declared.transfer.ReadFault.{ReadFault}
 use Rattle.tile_device.specs.declared.transfer.ReadFault.TheVariants.{Device}
 use Rattle.tile_device.proofs.Meeting.{meets_nothing, meets_then}
 
--- these bytes, not known to be all, without trouble, and so many calls were made again
+-- these bytes, not known to be all, without trouble, and `retries` calls were made again
 abbrev pub part : ℕ → List ℕ → Intake
 part retries bytes = record { bytes = bytes; is_whole = false; retries = retries; trouble = None }
 

@@ -77,12 +77,12 @@ pub record Receives (old new : Seen) (output : Output) : Type 0 where
   pub bytes : IsTrue new.tells → Appends old.bytes new.bytes output.bytes
 
 -- `front` is a prefix of `whole`
-abbrev pub IsFront : List ℕ → List ℕ → Type 0
-IsFront front whole = (rest : List ℕ) × (whole ≡ front ++ rest)
+abbrev pub IsPrefix : List ℕ → List ℕ → Type 0
+IsPrefix prefix whole = (rest : List ℕ) × (whole ≡ prefix ++ rest)
 
 -- ---- with a budget of retries, before some calls and after them
 
--- the budget paid for so many calls that were made again; an interruption ended the calls only where none is left
+-- the budget paid for `retries` calls that were made again; an interruption ended the calls only where none is left
 pub record Pays (before after retries : ℕ) (trouble : Option Trouble) : Type 0 where
   pub spent : after + retries ≡ before
   pub last : trouble ≡ Some Interrupted → after ≡ 0
@@ -102,4 +102,4 @@ pub record Writes (old new : Seen) (before after : ℕ) (output : Output) : Type
 abbrev pub Sends : Seen → Seen → ℕ → ℕ → List ℕ → Option Trouble → Type 0
 Sends old new before after bytes None = Writes old new before after (written (before - after) bytes)
 Sends old new before after bytes (Some trouble) =
-    (front : List ℕ) × IsFront front bytes × Writes old new before after (record { bytes = front; retries = before - after; trouble = Some trouble })
+    (prefix : List ℕ) × IsPrefix prefix bytes × Writes old new before after (record { bytes = prefix; retries = before - after; trouble = Some trouble })

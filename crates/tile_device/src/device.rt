@@ -58,7 +58,7 @@ pub trait Sink {
 
     ghost failures: { Self → ℕ };
 
-    /// Writes the front of the bytes.
+    /// Writes a prefix of the bytes.
     fn write(&mut self, bytes: &[u8]) -> Result<usize, Trouble>
         ensures within { IfOk result (λ n. n ≤ length bytes.now) }
         ensures some { IfOk result (λ n. 0 < length bytes.now → 0 < n) }

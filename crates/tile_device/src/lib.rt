@@ -11,7 +11,7 @@
 //!   was room: `read_some` (`reads`). An input is read up to a limit: fewer bytes are all that
 //!   there were, and a fault loses them: `read_to_limit`. Bytes are written, and passed on, as a
 //!   whole, or a prefix of them before a trouble: `write_all` (`sends`) and `write_and_flush`; the
-//!   trouble of a write comes before the last byte (`front` of `write_all`).
+//!   trouble of a write comes before the last byte (`prefix` of `write_all`).
 //! - In all four an interrupted call is made again as long as the budget has a retry left, and
 //!   takes one; an interruption ends the calls only where none is left. The same clauses say so
 //!   (`Pays`).

@@ -97,7 +97,7 @@ pub fn write_all<S: Sink>(sink: &mut S, bytes: &[u8], retries: &mut Retries) -> 
         retries.old retries.new bytes.now (trouble_of result) }
 
     // Trouble comes before the last byte.
-    ensures front { IsTrue (S.tells sink.new) → OnErr result ((n : ℕ) × (n < length bytes.now)
+    ensures prefix { IsTrue (S.tells sink.new) → OnErr result ((n : ℕ) × (n < length bytes.now)
         × Appends (S.written sink.old) (S.written sink.new) (take n bytes.now)) }
 {
     let mut rest = bytes;

@@ -14,7 +14,7 @@ use tile_command_line::{depth_in, matched};
 use tile_device::{FromRead, FromWrite, Sink, Source};
 use tile_run::{DeviceName, Options, Outcome, run};
 
-/// Runs the program on its words, of which the first is its name, and gives its status.
+/// Runs the program on its words, of which the first is its name, and returns its status.
 pub fn shell<R: Files + Input + Print + Eprint + AllocGlobal>(rt: &R, words: &[&str]) -> u8 {
     match matched(rt.alloc(), words) {
         Ok(matches) => edit_files(rt, &matches),
@@ -39,7 +39,7 @@ fn edit_files<R: Files + Input + Print + Eprint + AllocGlobal>(
         strict: matches.get_flag("strict"),
     };
     let outcome = edit_file(rt, tile, out, matches.get_str("script"), options);
-    tell(rt, outcome)
+    report(rt, outcome)
 }
 
 /// Opens the tile and then the script, before either is read. Where no script is named, it is
@@ -113,8 +113,8 @@ fn outcome_of(
     run(alloc, tile, script, replies, out, options)
 }
 
-/// Tells on standard error why no tile was written, and gives the status.
-fn tell<R: Eprint>(rt: &R, outcome: Outcome) -> u8 {
+/// Prints on standard error why no tile was written, and returns the status.
+fn report<R: Eprint>(rt: &R, outcome: Outcome) -> u8 {
     match outcome {
         Outcome::Done => 0,
         Outcome::SomeRefused | Outcome::StrictStop => 1,

@@ -11,8 +11,8 @@ pub fn lines_make_up_the_script()
     ensures only { (script : List ℕ) (lines : List (List ℕ)) → SpellsLines script lines → lines_of script ≡ lines }
 {}
 
-/// A cutter that takes a whole script gives its lines, the last one as the rest where no line feed
-/// ends it, and no others.
+/// A cutter that takes a whole script returns its lines, the last one as the rest where no line
+/// feed ends it, and no others.
 pub fn cuts_are_lines()
     ensures { (script : List ℕ) → map cut_of (lines_of script) ≡ cuts nothing_held script ++ option_to_list (rest_of (after_pushes nothing_held script)) }
 {}

@@ -19,11 +19,11 @@ use Rattle.tile_listing.specs.ListingStands.{feature_found, layer_found}
 pub layer_chosen : (choice : LayerChoice) (document : plain.Document) (answer : Result FoundLayer Refusal) → IfOk answer (IsFoundLayer choice document) → IfErr answer (λ refusal. selected choice document ≡ Err refusal) → layer_found answer ≡ chosen_layer choice document
 layer_chosen choice document (Ok found) is refused =
     let there = layer_at_place document found.ordinal found.position (layer_of found.layer.now) is.placed is.there in
-    rw (is.meant, there) refl
+    rw (is.selects, there) refl
 layer_chosen choice document (Err refusal) is refused = rw refused refl
 
 pub feature_chosen : (choice : FeatureChoice) (layer : plain.Layer) (answer : Result FoundFeature Refusal) → IfOk answer (IsFoundFeature choice layer) → IfErr answer (λ refusal. selected_feature choice layer ≡ Err refusal) → feature_found answer ≡ chosen_feature choice layer
 feature_chosen choice layer (Ok found) is refused =
     let there = picked_found feature_in layer.items found.ordinal found.position is.placed ∙ ap (option_and_then feature_in) is.there in
-    rw (is.meant, there) refl
+    rw (is.selects, there) refl
 feature_chosen choice layer (Err refusal) is refused = rw refused refl

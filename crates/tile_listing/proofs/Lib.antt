@@ -1,4 +1,4 @@
-pub mod Telling
+pub mod Printing
 pub mod Lines
 pub mod Shown
 pub mod Puts

@@ -1,4 +1,4 @@
--- Each line of a listing may be told.
+-- Each line of a listing may be printed.
 use Rattle.std.proofs.Common.{◌≡◌, ◌≢◌, ℕ, ◌==◌, Bool, true, false, List, [], ◌∷◌, ◌++◌, length, map, Option, Some, None, codes, decimal, refl, sym, ◌∙◌}
 use Rattle.std.specs.Prelude.{◌&&◌, not, slice_index, if◌then◌else◌}
 use Rattle.std.specs.List.{AllByRecursion, enumerate_from, find}
@@ -22,8 +22,8 @@ use Rattle.tile_text.proofs.Feeds.{kind_feedless, text_form_feedless, value_form
 use Rattle.tile_lines.specs.Lines.{is_line_feed, HasNoLineFeed}
 use Rattle.mvt_meaning.specs.Geometries.{geometry_among}
 use Rattle.tile_listing.specs.Listing.{absent, attribute_line, attribute_lines, feature_line, geometry_line, id_word, key_line, kind_form, layer_line, layer_numbers, layers_line, lines_of_feature, lines_of_layer, lines_of_tile, name_word, numbered, spaced, value_line, value_shown}
-use Rattle.tile_listing.specs.Told.{MayBeTold}
-use Rattle.tile_listing.proofs.Telling.{uncut-append, decimal_uncut}
+use Rattle.tile_listing.specs.Printed.{MayBePrinted}
+use Rattle.tile_listing.proofs.Printing.{uncut-append, decimal_uncut}
 
 -- ---- words without a line feed
 
@@ -87,7 +87,7 @@ found_geometry_uncut feature (Some geometry) e = geometry_form_feedless geometry
 other_than : (line : List ℕ) → (slice_index line 1 == 105) ≡ false → (rest : List ℕ) → line ≢ codes "line " ++ rest
 other_than line other rest e = let same : (slice_index line 1 == 105) ≡ true = rw e refl in absurd (false≢true (sym other ∙ same))
 
-layers_line_may : (document : Document) → MayBeTold (layers_line document)
+layers_line_may : (document : Document) → MayBePrinted (layers_line document)
 layers_line_may document = record {
   uncut = spaced_uncut (codes "layers" ∷ decimal (length (layers document)) ∷ []) (tested (codes "layers") refl, (decimal_uncut _, tt));
   other = other_than (layers_line document) refl;
@@ -99,42 +99,42 @@ layer_numbers_uncut layer = spaced_uncut
     ∷ codes "features" ∷ decimal (length (features layer)) ∷ codes "keys" ∷ decimal (length (keys layer)) ∷ codes "values" ∷ decimal (length (values layer)) ∷ [])
     (tested (codes "version") refl, (decimal_uncut _, (tested (codes "extent") refl, (decimal_uncut _, (tested (codes "features") refl, (decimal_uncut _, (tested (codes "keys") refl, (decimal_uncut _, (tested (codes "values") refl, (decimal_uncut _, tt))))))))))
 
-layer_line_may : (ordinal : ℕ) (layer : Layer) → MayBeTold (layer_line ordinal layer)
+layer_line_may : (ordinal : ℕ) (layer : Layer) → MayBePrinted (layer_line ordinal layer)
 layer_line_may ordinal layer = record {
   uncut = spaced_uncut (codes "layer" ∷ decimal ordinal ∷ name_word (name_of layer) ∷ layer_numbers layer ∷ [])
       (tested (codes "layer") refl, (decimal_uncut ordinal, (name_uncut (name_of layer), (layer_numbers_uncut layer, tt))));
   other = other_than (layer_line ordinal layer) refl;
 }
 
-key_line_may : (ordinal : ℕ) (key : List ℕ) → MayBeTold (key_line ordinal key)
+key_line_may : (ordinal : ℕ) (key : List ℕ) → MayBePrinted (key_line ordinal key)
 key_line_may ordinal key = record {
   uncut = spaced_uncut (codes "key" ∷ decimal ordinal ∷ text_form key ∷ []) (tested (codes "key") refl, (decimal_uncut ordinal, (text_form_feedless key, tt)));
   other = other_than (key_line ordinal key) refl;
 }
 
-value_line_may : (ordinal : ℕ) (value : List ℕ) → MayBeTold (value_line ordinal value)
+value_line_may : (ordinal : ℕ) (value : List ℕ) → MayBePrinted (value_line ordinal value)
 value_line_may ordinal value = record {
   uncut = spaced_uncut (codes "value" ∷ decimal ordinal ∷ value_shown value ∷ []) (tested (codes "value") refl, (decimal_uncut ordinal, (value_uncut value, tt)));
   other = other_than (value_line ordinal value) refl;
 }
 
-feature_line_may : (ordinal : ℕ) (feature : Feature) → MayBeTold (feature_line ordinal feature)
+feature_line_may : (ordinal : ℕ) (feature : Feature) → MayBePrinted (feature_line ordinal feature)
 feature_line_may ordinal feature = record {
   uncut = spaced_uncut (codes "feature" ∷ decimal ordinal ∷ codes "id" ∷ id_word (id_of feature) ∷ kind_form (kind_of feature) ∷ [])
       (tested (codes "feature") refl, (decimal_uncut ordinal, (tested (codes "id") refl, (id_uncut (id_of feature), (kind_uncut (kind_of feature), tt)))));
   other = other_than (feature_line ordinal feature) refl;
 }
 
-attribute_line_may : (attribute : List ℕ × List ℕ) → MayBeTold (attribute_line attribute)
+attribute_line_may : (attribute : List ℕ × List ℕ) → MayBePrinted (attribute_line attribute)
 attribute_line_may attribute = record {
   uncut = spaced_uncut (codes "attribute" ∷ text_form attribute.0 ∷ value_shown attribute.1 ∷ []) (tested (codes "attribute") refl, (text_form_feedless attribute.0, (value_uncut attribute.1, tt)));
   other = other_than (attribute_line attribute) refl;
 }
 
-unreadable_may : MayBeTold (codes "attributes unreadable")
+unreadable_may : MayBePrinted (codes "attributes unreadable")
 unreadable_may = record { uncut = tested (codes "attributes unreadable") refl; other = other_than (codes "attributes unreadable") refl }
 
-geometry_line_may : (feature : Feature) → MayBeTold (geometry_line feature)
+geometry_line_may : (feature : Feature) → MayBePrinted (geometry_line feature)
 geometry_line_may feature = record {
   uncut = spaced_uncut (codes "geometry" ∷ option_map_or geometry_form (geometry_among feature.fields) (codes "unreadable") ∷ [])
       (tested (codes "geometry") refl, (found_geometry_uncut feature (geometry_among feature.fields) refl, tt));
@@ -143,24 +143,24 @@ geometry_line_may feature = record {
 
 -- ---- listings
 
-abbrev pub MayAllBeTold : List (List ℕ) → Type 0
-MayAllBeTold lines = AllByRecursion MayBeTold lines
+abbrev pub MayAllBePrinted : List (List ℕ) → Type 0
+MayAllBePrinted lines = AllByRecursion MayBePrinted lines
 
-both_may : (xs ys : List (List ℕ)) → MayAllBeTold xs → MayAllBeTold ys → MayAllBeTold (xs ++ ys)
+both_may : (xs ys : List (List ℕ)) → MayAllBePrinted xs → MayAllBePrinted ys → MayAllBePrinted (xs ++ ys)
 both_may [] ys h k = k
 both_may (x ∷ xs) ys h k = (h.0, both_may xs ys h.1 k)
 
-each_may : {A : Type 0} (line : A → List ℕ) → ((x : A) → MayBeTold (line x)) → (items : List A) → MayAllBeTold (map line items)
+each_may : {A : Type 0} (line : A → List ℕ) → ((x : A) → MayBePrinted (line x)) → (items : List A) → MayAllBePrinted (map line items)
 each_may line may [] = tt
 each_may line may (x ∷ items) = (may x, each_may line may items)
 
-numbered_may : {A : Type 0} (line : ℕ → A → List ℕ) → ((ordinal : ℕ) (x : A) → MayBeTold (line ordinal x)) → (items : List A) → MayAllBeTold (numbered line items)
+numbered_may : {A : Type 0} (line : ℕ → A → List ℕ) → ((ordinal : ℕ) (x : A) → MayBePrinted (line ordinal x)) → (items : List A) → MayAllBePrinted (numbered line items)
 numbered_may {A} line may items = each_may (λ (p : ℕ × A). line p.0 p.1) (λ p. may p.0 p.1) (enumerate_from 0 items)
 
-pub tile_may : (document : Document) → MayAllBeTold (lines_of_tile document)
+pub tile_may : (document : Document) → MayAllBePrinted (lines_of_tile document)
 tile_may document = (layers_line_may document, numbered_may layer_line layer_line_may (layers document))
 
-pub layer_may : (ordinal : ℕ) (layer : Layer) → MayAllBeTold (lines_of_layer ordinal layer)
+pub layer_may : (ordinal : ℕ) (layer : Layer) → MayAllBePrinted (lines_of_layer ordinal layer)
 layer_may ordinal layer = (
   layer_line_may ordinal layer,
   both_may (numbered key_line (keys layer)) (numbered value_line (values layer) ++ numbered feature_line (features layer))
@@ -168,10 +168,10 @@ layer_may ordinal layer = (
       (both_may (numbered value_line (values layer)) (numbered feature_line (features layer)) (numbered_may value_line value_line_may (values layer)) (numbered_may feature_line feature_line_may (features layer))),
 )
 
-attributes_may : (found : Option (List (List ℕ × List ℕ))) → MayAllBeTold (option_map_or (map attribute_line) found (codes "attributes unreadable" ∷ []))
+attributes_may : (found : Option (List (List ℕ × List ℕ))) → MayAllBePrinted (option_map_or (map attribute_line) found (codes "attributes unreadable" ∷ []))
 attributes_may None = (unreadable_may, tt)
 attributes_may (Some list) = each_may attribute_line attribute_line_may list
 
-pub feature_may : (layer : Layer) (ordinal : ℕ) (feature : Feature) → MayAllBeTold (lines_of_feature layer ordinal feature)
+pub feature_may : (layer : Layer) (ordinal : ℕ) (feature : Feature) → MayAllBePrinted (lines_of_feature layer ordinal feature)
 feature_may layer ordinal feature =
     (feature_line_may ordinal feature, both_may (attribute_lines layer feature) (geometry_line feature ∷ []) (attributes_may (attributes layer feature)) (geometry_line_may feature, tt))

@@ -13,32 +13,32 @@ use Rattle.mvt_meaning.specs.declared.refusal.Refusal.TheVariants.{NoLayer, Ambi
 use Rattle.tile_request.specs.Request.{What, Whole, OneLayer, OneFeature}
 use Rattle.tile_listing.specs.Listing.{chosen_feature, chosen_layer, joined_lines, lines_of_feature, lines_of_layer, lines_of_tile, listed, shown, with_ordinal}
 use Rattle.tile_listing.specs.Laws.{ListingsAreLines, NoListingIsOutOfMemory}
-use Rattle.tile_listing.specs.Told.{MayBeTold, AreLinesToTell}
-use Rattle.tile_listing.proofs.LineLaws.{MayAllBeTold, feature_may, layer_may, tile_may}
+use Rattle.tile_listing.specs.Printed.{MayBePrinted, AreLinesToPrint}
+use Rattle.tile_listing.proofs.LineLaws.{MayAllBePrinted, feature_may, layer_may, tile_may}
 
 -- ---- lines
 
-found_may : {A : Type 0} (found : Result A Refusal) (show : A → List (List ℕ)) (lines : List (List ℕ)) → ((x : A) → MayAllBeTold (show x)) → (found >>= λ x. Ok (show x)) ≡ Ok lines → MayAllBeTold lines
-found_may (Ok x) show lines may e = let same : show x ≡ lines = cc in subst MayAllBeTold same (may x)
+found_may : {A : Type 0} (found : Result A Refusal) (show : A → List (List ℕ)) (lines : List (List ℕ)) → ((x : A) → MayAllBePrinted (show x)) → (found >>= λ x. Ok (show x)) ≡ Ok lines → MayAllBePrinted lines
+found_may (Ok x) show lines may e = let same : show x ≡ lines = cc in subst MayAllBePrinted same (may x)
 found_may (Err refusal) show lines may e = absurd cc
 
-found_twice_may : {A B : Type 0} (found : Result A Refusal) (next : A → Result B Refusal) (show : A → B → List (List ℕ)) (lines : List (List ℕ)) → ((x : A) (y : B) → MayAllBeTold (show x y)) → (found >>= λ x. (next x >>= λ y. Ok (show x y))) ≡ Ok lines → MayAllBeTold lines
+found_twice_may : {A B : Type 0} (found : Result A Refusal) (next : A → Result B Refusal) (show : A → B → List (List ℕ)) (lines : List (List ℕ)) → ((x : A) (y : B) → MayAllBePrinted (show x y)) → (found >>= λ x. (next x >>= λ y. Ok (show x y))) ≡ Ok lines → MayAllBePrinted lines
 found_twice_may (Ok x) next show lines may e = found_may (next x) (show x) lines (may x) e
 found_twice_may (Err refusal) next show lines may e = absurd cc
 
-shown_may : (what : What) (document : Document) (lines : List (List ℕ)) → shown what document ≡ Ok lines → MayAllBeTold lines
-shown_may Whole document lines e = let same : lines_of_tile document ≡ lines = cc in subst MayAllBeTold same (tile_may document)
+shown_may : (what : What) (document : Document) (lines : List (List ℕ)) → shown what document ≡ Ok lines → MayAllBePrinted lines
+shown_may Whole document lines e = let same : lines_of_tile document ≡ lines = cc in subst MayAllBePrinted same (tile_may document)
 shown_may (OneLayer choice) document lines e = found_may (chosen_layer choice document) (λ layer. lines_of_layer layer.0 layer.1) lines (λ layer. layer_may layer.0 layer.1) e
 shown_may (OneFeature choice feature_choice) document lines e =
     found_twice_may (chosen_layer choice document) (λ layer. chosen_feature feature_choice layer.1) (λ layer feature. lines_of_feature layer.1 feature.0 feature.1) lines (λ layer feature. feature_may layer.1 feature.0 feature.1) e
 
-told : (found : Result (List (List ℕ)) Refusal) (bytes : List ℕ) → ((lines : List (List ℕ)) → found ≡ Ok lines → MayAllBeTold lines) → (found >>= λ lines. Ok (joined_lines lines)) ≡ Ok bytes → AreLinesToTell bytes
-told (Ok lines) bytes may e = record { lines = lines; spelled = cc; each = All-from_recursion MayBeTold lines (may lines refl) }
-told (Err refusal) bytes may e = absurd cc
+printed : (found : Result (List (List ℕ)) Refusal) (bytes : List ℕ) → ((lines : List (List ℕ)) → found ≡ Ok lines → MayAllBePrinted lines) → (found >>= λ lines. Ok (joined_lines lines)) ≡ Ok bytes → AreLinesToPrint bytes
+printed (Ok lines) bytes may e = record { lines = lines; spelled = cc; each = All-from_recursion MayBePrinted lines (may lines refl) }
+printed (Err refusal) bytes may e = absurd cc
 
 pub listings_are_lines : ListingsAreLines
 unfolding listed
-listings_are_lines what document bytes e = told (shown what document) bytes (shown_may what document) e
+listings_are_lines what document bytes e = printed (shown what document) bytes (shown_may what document) e
 
 -- ---- refusals
 

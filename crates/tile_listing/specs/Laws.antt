@@ -6,11 +6,11 @@ use Rattle.mvt_meaning.specs.Selection.{selected, selected_feature}
 use Rattle.mvt_meaning.specs.declared.refusal.Refusal.TheVariants.{NoMemory}
 use Rattle.tile_request.specs.Request.{What}
 use Rattle.tile_listing.specs.Listing.{chosen_feature, chosen_layer, listed}
-use Rattle.tile_listing.specs.Told.{AreLinesToTell}
+use Rattle.tile_listing.specs.Printed.{AreLinesToPrint}
 
 -- a listing is whole lines, and none of them looks like a refusal
 abbrev pub ListingsAreLines : Type 0
-ListingsAreLines = (what : What) (document : Document) (lines : List ℕ) → listed what document ≡ Ok lines → AreLinesToTell lines
+ListingsAreLines = (what : What) (document : Document) (lines : List ℕ) → listed what document ≡ Ok lines → AreLinesToPrint lines
 
 -- no listing is refused as out of memory by its definition
 abbrev pub NoListingIsOutOfMemory : Type 0

@@ -1,4 +1,4 @@
-pub mod Told
+pub mod Printed
 pub mod Listing
 pub mod ListingStands
 pub mod Laws

@@ -36,14 +36,14 @@ pub fn listing(alloc: Global, document: &Document, what: &What) -> Result<Items<
     Ok(Items::from_vec(text))
 }
 
-/// The layer that is meant, with its ordinal.
+/// The selected layer, with its ordinal.
 fn chosen_layer<'a>(document: &'a Document, choice: &LayerChoice) -> Result<FoundLayer<'a>, Refusal>
     ensures { layer_found result ≡ chosen_layer (layer_choice_of choice.now) (document_of document.now) }
 {
     find_layer(document, choice)
 }
 
-/// The feature that is meant, with its ordinal.
+/// The selected feature, with its ordinal.
 fn chosen_feature<'a>(layer: &'a Layer, choice: &FeatureChoice) -> Result<FoundFeature<'a>, Refusal>
     ensures { feature_found result ≡ chosen_feature (feature_choice_of choice.now) (layer_of layer.now) }
 {

@@ -21,7 +21,7 @@ pub(crate) fn put_tile(text: &mut Vec<u8>, document: &Document) -> Result<(), Al
     put_layer_lines(text, document)
 }
 
-/// Adds the line that tells how many layers the tile has.
+/// Adds the line that says how many layers the tile has.
 fn put_layers_line(text: &mut Vec<u8>, document: &Document) -> Result<(), AllocError>
     ensures { OnOk result (text.new.items
         ≡ text.old.items ++ with_feed (layers_line (document_of document.now))) }

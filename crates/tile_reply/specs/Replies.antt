@@ -60,16 +60,16 @@ abbrev pub refused_front : ℕ → Refused → List ℕ
 refused_front line reason = codes "line " ++ decimal line ++ codes " refused " ++ decimal (refusal_number reason) ++ codes " " ++ refusal_name reason
 
 -- the ordinals of the layer and of its feature that a reply names
-abbrev pub place_told : ℕ → ℕ → List ℕ
-place_told layer feature = codes " layer " ++ decimal layer ++ codes " feature " ++ decimal feature
+abbrev pub place_text : ℕ → ℕ → List ℕ
+place_text layer feature = codes " layer " ++ decimal layer ++ codes " feature " ++ decimal feature
 
 -- what stands behind the name of a refusal: the ordinals of the layer and the feature whose tags or geometry are at
 -- fault; how many steps, or commands of the open step, were taken before a request was stopped; nothing for another
 -- refusal
 abbrev pub behind_name : Refused → List ℕ
-behind_name (refused.Edit (edit.BadTags layer feature)) = place_told layer feature
-behind_name (refused.Edit (edit.RepeatedKey layer feature)) = place_told layer feature
-behind_name (refused.Edit (edit.BadGeometry layer feature)) = place_told layer feature
+behind_name (refused.Edit (edit.BadTags layer feature)) = place_text layer feature
+behind_name (refused.Edit (edit.RepeatedKey layer feature)) = place_text layer feature
+behind_name (refused.Edit (edit.BadGeometry layer feature)) = place_text layer feature
 behind_name (refused.History (history.Stopped taken)) = codes " taken " ++ decimal taken
 behind_name reason = []
 

@@ -40,7 +40,7 @@ impl From<HistoryError> for Refused {
 }
 
 impl Refused {
-    /// The number that a reply tells.
+    /// The number that a reply prints.
     pub fn number(self) -> u8
         ensures { result ≡ refusal_number self }
     {
@@ -48,7 +48,7 @@ impl Refused {
         number
     }
 
-    /// The name that a reply tells.
+    /// The name that a reply prints.
     pub fn name(self) -> &'static str
         ensures { result.now ≡ refusal_name self }
     {

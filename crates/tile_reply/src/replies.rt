@@ -12,8 +12,8 @@ use mvt_history_error::HistoryError;
 use mvt_meaning::Refusal;
 use tile_device::{Retries, Sink, Trouble, write_all};
 
-/// Replies to the line of this number, with the lines that it told or why it was refused, and passes
-/// the reply on.
+/// Replies to the line of this number, with the lines that it printed or why it was refused, and
+/// passes the reply on.
 pub fn reply<W: Sink>(
     replies: &mut W,
     line: u64,

@@ -12,6 +12,6 @@ pub data What : Type 0 where
 pub data Request : Type 0 where
   OnHistory : (request : HistoryRequest) → Request
   ListMarks : Request
-  TellHistory : Request
+  PrintHistory : Request
   Size : Request
   Lists : (what : What) → Request

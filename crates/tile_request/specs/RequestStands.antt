@@ -25,6 +25,6 @@ request_of Begin = plain.OnHistory on.Begin
 request_of End = plain.OnHistory on.End
 request_of Cancel = plain.OnHistory on.Cancel
 request_of Marks = plain.ListMarks
-request_of History = plain.TellHistory
+request_of History = plain.PrintHistory
 request_of Size = plain.Size
 request_of (List what) = plain.Lists (what_of what)

@@ -163,7 +163,7 @@ module _ (options : Options) (t0 t1 o0 o1 : Seen) (before last : ℕ) (start end
   out_ends : (stop : Unwritten) (out : Output) → WritesTile {A = Unit {0}} (bytes_of (document_of edited)) out (Err stop) → Ends options (writing_outcome stop) (course_with out)
   out_ends unwritten.Device out writes = record {
     through = all_replied out;
-    front = (writes.0.0, sym file_is ∙ writes.0.1);
+    prefix = (writes.0.0, sym file_is ∙ writes.0.1);
     trouble = writes.1;
   }
   out_ends unwritten.NoMemory out writes = record {

@@ -1,5 +1,5 @@
 pub mod Stopping
-pub mod Telling
+pub mod Printing
 pub mod Walks
 pub mod Running
 pub mod Feeding

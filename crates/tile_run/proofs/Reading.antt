@@ -69,7 +69,7 @@ pub record Got (strict : Bool) (start : Progress) (before now : Moment) (room : 
   pub share : allowed + retries ≡ before.retries
   pub comes : ComesTo strict start (whole_lines bytes) (record before { retries = allowed }) now editor
 
--- the same was sent with so many retries less before and after
+-- the same was sent with `less` retries less before and after
 sends_with_less : (a b : Seen) (n m i j less : ℕ) (bytes : List ℕ) → i + less ≡ n → j + less ≡ m → Sends a b n m bytes None → Sends a b i j bytes None
 sends_with_less a b n m i j less bytes before after sends =
     let same : n - m ≡ i - j = omega (arith, before, after) in
@@ -125,14 +125,14 @@ got_piece strict start before now script less room n buffer editor cutter so_far
 -- what counts of a script is what it may have
 cut_at : (bytes piece : List ℕ) (room n : ℕ) → length bytes + room ≡ MAX_SCRIPT → n ≤ length piece → take MAX_SCRIPT (bytes ++ take n piece) ≡ bytes ++ take (min n room) piece
 cut_at bytes piece room n counted within =
-    ap (λ (k : ℕ). take k (bytes ++ take n piece)) (sym counted) ∙ take-append-add bytes (take n piece) room ∙ ap (λ (t : List ℕ). bytes ++ t) (front (cases_lt room n))
+    ap (λ (k : ℕ). take k (bytes ++ take n piece)) (sym counted) ∙ take-append-add bytes (take n piece) room ∙ ap (λ (t : List ℕ). bytes ++ t) (prefix (cases_lt room n))
   where
-    front : (room < n) ⊎ (n ≤ room) → take room (take n piece) ≡ take (min n room) piece
-    front (inl over) =
+    prefix : (room < n) ⊎ (n ≤ room) → take room (take n piece) ≡ take (min n room) piece
+    prefix (inl over) =
         let low : min n room ≡ room = omega arith in
         let long : room ≤ length (take n piece) = omega (arith, length-take-le n piece within) in
         sym (take-append-le room (take n piece) (drop n piece) long) ∙ ap (take room) (take-append-drop n piece) ∙ ap (λ (k : ℕ). take k piece) (sym low)
-    front (inr all) =
+    prefix (inr all) =
         let low : min n room ≡ n = omega arith in
         let short : length (take n piece) ≤ room = omega (arith, length-take-le n piece within) in
         take_all room (take n piece) short ∙ ap (λ (k : ℕ). take k piece) (sym low)

@@ -11,7 +11,7 @@ use Rattle.tile_reply.specs.Replies.{reply_to}
 use Rattle.tile_course.specs.Run.{Progress, is_over, MayFollow, Walk}
 use Rattle.mvt_history_steps.specs.Session.{StandsFor}
 use Rattle.tile_course.specs.Course.{IsCutShort}
-use Rattle.tile_run.specs.Steps.{Moment, Replies, answered, told_in, settled, ends_line, CarriesOut, IsAt, Advances, AnswersLine, Falters, Comes, ComesTo}
+use Rattle.tile_run.specs.Steps.{Moment, Replies, answered, printed_in, settled, ends_line, CarriesOut, IsAt, Advances, AnswersLine, Falters, Comes, ComesTo}
 use Rattle.tile_run.specs.declared.editor.Editor.{Editor}
 use Rattle.tile_course.specs.declared.outcome.LineStop.{LineStop}
 use Rattle.tile_reply.specs.declared.refused.Refused.{Refused}
@@ -21,7 +21,7 @@ use Rattle.tile_course.proofs.Overs.{walk-append, walk_over_any}
 
 -- ---- one line
 
-replies_are : (p : Progress) (history : History) (answer : Result (Held ℕ) Refused) → (answered p history (Some answer)).replies ≡ p.replies ++ reply_to (p.lines + 1) (told_in answer)
+replies_are : (p : Progress) (history : History) (answer : Result (Held ℕ) Refused) → (answered p history (Some answer)).replies ≡ p.replies ++ reply_to (p.lines + 1) (printed_in answer)
 replies_are p history (Ok done) = refl
 replies_are p history (Err reason) = refl
 
@@ -62,15 +62,15 @@ trouble_met (Err trouble) e = (trouble, refl)
 advances : (a b : Moment) (strict over : Bool) (p : Progress) (line : List ℕ) (number : ℕ) (answer : Result (Held ℕ) Refused) (seen : Result (List ℕ) Refused) (session : Session) (editor : Editor) (r : Result (Unit {0}) Trouble)
     → is_over strict p ≡ false → CarriesOut session line (Some answer) p → editor.session ≡ session → editor.strict ≡ strict → editor.lines ≡ number → p.lines + 1 ≡ number
     → editor.any_refused ≡ (p.any_refused || is_err answer) → (strict && is_err answer) ≡ over
-    → is_err r ≡ false → seen ≡ told_in answer → Replies a b (reply_to number seen) (trouble_of r) → Advances a b editor strict line p over
+    → is_err r ≡ false → seen ≡ printed_in answer → Replies a b (reply_to number seen) (trouble_of r) → Advances a b editor strict line p over
 advances a b strict over p line number answer seen session editor r on carries same strictly lines counted refused ends went shown sends = record {
   next = answered p carries.history (Some answer);
   follows = carries.follows;
   at = is_at strict p carries.history answer editor (subst (λ (t : Session). StandsFor t carries.history) (sym same) carries.stands) strictly (lines ∙ sym counted) refused;
   over = over_is strict p carries.history answer on ∙ ends;
-  reply = reply_to number (told_in answer);
-  replied = replies_are p carries.history answer ∙ ap (λ (i : ℕ). p.replies ++ reply_to i (told_in answer)) counted;
-  sends = subst (Replies a b (reply_to number (told_in answer))) (none_met r went) (subst (λ (told : Result (List ℕ) Refused). Replies a b (reply_to number told) (trouble_of r)) shown sends);
+  reply = reply_to number (printed_in answer);
+  replied = replies_are p carries.history answer ∙ ap (λ (i : ℕ). p.replies ++ reply_to i (printed_in answer)) counted;
+  sends = subst (Replies a b (reply_to number (printed_in answer))) (none_met r went) (subst (λ (printed : Result (List ℕ) Refused). Replies a b (reply_to number printed) (trouble_of r)) shown sends);
 }
 
 and_false : (b : Bool) → (b && false) ≡ false
@@ -85,7 +85,7 @@ and_true false = refl
 advances_accepted : (a b : Moment) (strict : Bool) (p : Progress) (line : List ℕ) (number : ℕ) (answer : Result (Held ℕ) Refused) (seen : Result (List ℕ) Refused) (session : Session) (editor : Editor) (r : Result (Unit {0}) Trouble)
     → is_over strict p ≡ false → CarriesOut session line (Some answer) p → editor.session ≡ session → editor.strict ≡ strict → editor.lines ≡ number → p.lines + 1 ≡ number
     → editor.any_refused ≡ p.any_refused → is_err answer ≡ false
-    → is_err r ≡ false → seen ≡ told_in answer → Replies a b (reply_to number seen) (trouble_of r) → Advances a b editor strict line p false
+    → is_err r ≡ false → seen ≡ printed_in answer → Replies a b (reply_to number seen) (trouble_of r) → Advances a b editor strict line p false
 advances_accepted a b strict p line number answer seen session editor r on carries same strictly lines counted refused good went shown sends =
     advances a b strict false p line number answer seen session editor r on carries same strictly lines counted
     (refused ∙ sym (ap (λ (q : Bool). p.any_refused || q) good ∙ or-false p.any_refused)) (ap (λ (q : Bool). strict && q) good ∙ and_false strict) went shown sends
@@ -94,17 +94,17 @@ advances_accepted a b strict p line number answer seen session editor r on carri
 advances_refused : (a b : Moment) (strict over : Bool) (p : Progress) (line : List ℕ) (number : ℕ) (answer : Result (Held ℕ) Refused) (seen : Result (List ℕ) Refused) (session : Session) (editor : Editor) (r : Result (Unit {0}) Trouble)
     → is_over strict p ≡ false → CarriesOut session line (Some answer) p → editor.session ≡ session → editor.strict ≡ strict → editor.lines ≡ number → p.lines + 1 ≡ number
     → editor.any_refused ≡ true → is_err answer ≡ true → strict ≡ over
-    → is_err r ≡ false → seen ≡ told_in answer → Replies a b (reply_to number seen) (trouble_of r) → Advances a b editor strict line p over
+    → is_err r ≡ false → seen ≡ printed_in answer → Replies a b (reply_to number seen) (trouble_of r) → Advances a b editor strict line p over
 advances_refused a b strict over p line number answer seen session editor r on carries same strictly lines counted refused bad ends went shown sends =
     advances a b strict over p line number answer seen session editor r on carries same strictly lines counted
     (refused ∙ sym (ap (λ (q : Bool). p.any_refused || q) bad ∙ or-true p.any_refused)) (ap (λ (q : Bool). strict && q) bad ∙ and_true strict ∙ ends) went shown sends
 
 settled_so : (a b : Moment) (strict : Bool) (p : Progress) (line : List ℕ) (number : ℕ) (answer : Result (Held ℕ) Refused) (seen : Result (List ℕ) Refused) (session : Session) (before : Editor) (r : Result (Unit {0}) Trouble)
     → is_over strict p ≡ false → CarriesOut session line (Some answer) p → before.session ≡ session → before.strict ≡ strict → before.lines ≡ number → p.lines + 1 ≡ number
-    → before.any_refused ≡ p.any_refused → is_err r ≡ false → seen ≡ told_in answer → Replies a b (reply_to number seen) (trouble_of r)
+    → before.any_refused ≡ p.any_refused → is_err r ≡ false → seen ≡ printed_in answer → Replies a b (reply_to number seen) (trouble_of r)
     → AnswersLine a b (settled (is_err answer) before) strict line p (ends_line strict (is_err answer))
-settled_so a b strict p line number (Ok told) seen session before r on carries same strictly lines counted refused went shown sends =
-    advances_accepted a b strict p line number (Ok told) seen session before r on carries same strictly lines counted refused refl went shown sends
+settled_so a b strict p line number (Ok printed) seen session before r on carries same strictly lines counted refused went shown sends =
+    advances_accepted a b strict p line number (Ok printed) seen session before r on carries same strictly lines counted refused refl went shown sends
 settled_so a b false p line number (Err reason) seen session before r on carries same strictly lines counted refused went shown sends =
     advances_refused a b false false p line number (Err reason) seen session (settled true before) r on carries same strictly lines counted refl refl refl went shown sends
 settled_so a b true p line number (Err reason) seen session before r on carries same strictly lines counted refused went shown sends =
@@ -114,7 +114,7 @@ settled_so a b true p line number (Err reason) seen session before r on carries 
 pub settles : (a b : Moment) (strict : Bool) (p : Progress) (line : List ℕ) (number : ℕ) (answer : Result (Held ℕ) Refused) (seen : Result (List ℕ) Refused) (session : Session) (before editor : Editor) (r : Result (Unit {0}) Trouble) (bad : Bool) (q : Result (Unit {0}) LineStop)
     → is_over strict p ≡ false → CarriesOut session line (Some answer) p → before.session ≡ session → before.strict ≡ strict → before.lines ≡ number → p.lines + 1 ≡ number
     → before.any_refused ≡ p.any_refused → bad ≡ is_err answer → editor ≡ settled bad before → q ≡ ends_line before.strict bad
-    → is_err r ≡ false → seen ≡ told_in answer → Replies a b (reply_to number seen) (trouble_of r) → AnswersLine a b editor strict line p q
+    → is_err r ≡ false → seen ≡ printed_in answer → Replies a b (reply_to number seen) (trouble_of r) → AnswersLine a b editor strict line p q
 settles a b strict p line number answer seen session before editor r bad q on carries same strictly lines counted refused is_bad is ends went shown sends =
     let so = settled_so a b strict p line number answer seen session before r on carries same strictly lines counted refused went shown sends in
     let ended = ends ∙ ap₂ ends_line strictly is_bad in
@@ -124,16 +124,16 @@ settles a b strict p line number answer seen session before editor r bad q on ca
 -- a line whose reply met trouble
 pub falters : (a b : Moment) (p : Progress) (line : List ℕ) (number : ℕ) (answer : Result (Held ℕ) Refused) (seen : Result (List ℕ) Refused) (session : Session) (r : Result (Unit {0}) Trouble)
     → CarriesOut session line (Some answer) p → p.lines + 1 ≡ number
-    → is_err r ≡ true → seen ≡ told_in answer → Replies a b (reply_to number seen) (trouble_of r) → Falters a b line p
+    → is_err r ≡ true → seen ≡ printed_in answer → Replies a b (reply_to number seen) (trouble_of r) → Falters a b line p
 falters a b p line number answer seen session r carries counted went shown sends =
     let met = trouble_met r went in
     record {
       next = answered p carries.history (Some answer);
       follows = carries.follows;
-      reply = reply_to number (told_in answer);
-      replied = replies_are p carries.history answer ∙ ap (λ (i : ℕ). p.replies ++ reply_to i (told_in answer)) counted;
+      reply = reply_to number (printed_in answer);
+      replied = replies_are p carries.history answer ∙ ap (λ (i : ℕ). p.replies ++ reply_to i (printed_in answer)) counted;
       trouble = met.0;
-      sends = subst (Replies a b (reply_to number (told_in answer))) met.1 (subst (λ (told : Result (List ℕ) Refused). Replies a b (reply_to number told) (trouble_of r)) shown sends);
+      sends = subst (Replies a b (reply_to number (printed_in answer))) met.1 (subst (λ (printed : Result (List ℕ) Refused). Replies a b (reply_to number printed) (trouble_of r)) shown sends);
     }
 
 -- ---- several lines
@@ -197,8 +197,8 @@ cut_short strict start lines all others line a b c editor whole to step =
         follows = step.follows;
         reply = step.reply;
         replied = step.replied;
-        front = step.sends.0;
-        is_front = step.sends.1;
+        prefix = step.sends.0;
+        is_prefix = step.sends.1;
         written = refl;
         trouble = refl;
       },

@@ -7,13 +7,13 @@ use Rattle.mvt_history_error.specs.declared.HistoryError.{HistoryError}
 use Rattle.mvt_command.specs.Requests.{GoBack, Cancel}
 use Rattle.tile_request.specs.Request.{OnHistory}
 use Rattle.tile_reply.specs.declared.refused.Refused.TheVariants as refused
-use Rattle.tile_told.specs.Answering.{told_by}
-use Rattle.tile_told.specs.Answers.{IsAnswered}
+use Rattle.tile_answers.specs.Answering.{answer_of_change}
+use Rattle.tile_answers.specs.Answers.{IsAnswered}
 
 pub back_refused : (name : List ℕ) (history : History) (error : HistoryError) (new : Standing) → AnswersBack name history (Err error) new → IsAnswered (OnHistory (GoBack name)) history (Err (refused.History error)) new
-back_refused name history error new (inl answers) = inl (inr (ap (told_by refused.History) answers.0), answers.1)
+back_refused name history error new (inl answers) = inl (inr (ap (answer_of_change refused.History) answers.0), answers.1)
 back_refused name history error new (inr (taken, between, is, stops, stands)) = inr (taken, between, ap (λ (e : HistoryError). refused.History e) is, stops, stands)
 
 pub cancel_refused : (history : History) (error : HistoryError) (new : Standing) → AnswersCancel history (Err error) new → IsAnswered (OnHistory Cancel) history (Err (refused.History error)) new
-cancel_refused history error new (inl answers) = inl (inr (ap (told_by refused.History) answers.0), answers.1)
+cancel_refused history error new (inl answers) = inl (inr (ap (answer_of_change refused.History) answers.0), answers.1)
 cancel_refused history error new (inr (taken, between, is, stops, stands)) = inr (taken, between, ap (λ (e : HistoryError). refused.History e) is, stops, stands)

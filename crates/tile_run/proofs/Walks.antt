@@ -5,7 +5,7 @@ use Rattle.mvt_document.specs.Held.{Held}
 use Rattle.tile_request.specs.Request.{Request}
 use Rattle.tile_words.specs.Answers.{Refuses}
 use Rattle.tile_script.specs.Line.{answer_to, TakesMemory}
-use Rattle.tile_told.specs.Answers.{IsAnswered}
+use Rattle.tile_answers.specs.Answers.{IsAnswered}
 use Rattle.tile_reply.specs.Replies.{refusal_number}
 use Rattle.tile_course.specs.Run.{Progress, refused_for, settled_by, answered_by, without_memory}
 use Rattle.mvt_history_steps.specs.Session.{StandsFor}
@@ -33,7 +33,7 @@ short_of_memory p reason out_of_memory =
 -- a request
 pub carries_request : (session : Session) (line : List ℕ) (request : Request) (p : Progress) (r : Result (Held ℕ) Refused)
     → answer_to line ≡ Ok (Some request) → IsAnswered request p.history r session → CarriesOut session line (Some r) p
-carries_request session line request p (Ok told) asks answers = record {
+carries_request session line request p (Ok printed) asks answers = record {
   history = answers.0;
   follows = inl (ap (settled_by p) (sym answers.1) ∙ ap (answered_by p) (sym asks));
   stands = answers.2;

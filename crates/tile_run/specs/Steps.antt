@@ -6,7 +6,7 @@ use Rattle.mvt_document.specs.Held.{Held}
 use Rattle.mvt_document.specs.Stands.{document_of}
 use Rattle.mvt_read.specs.declared.faults.ReadError.{ReadError}
 use Rattle.mvt_read.specs.declared.faults.ReadError.TheVariants as read_errors
-use Rattle.tile_device.specs.Seen.{Seen, Intake, Output, IsFront, Reads, Receives, Sends, Supplies, Writes, nothing_read, sink_at, source_at}
+use Rattle.tile_device.specs.Seen.{Seen, Intake, Output, IsPrefix, Reads, Receives, Sends, Supplies, Writes, nothing_read, sink_at, source_at}
 use Rattle.tile_device.specs.declared.device.Sink.{Ghosts as SinkMembers}
 use Rattle.tile_device.specs.declared.device.Source.{Ghosts as SourceMembers}
 use Rattle.tile_device.specs.declared.device.Trouble.{Trouble}
@@ -34,7 +34,7 @@ use Rattle.mvt_history_steps.specs.Session.{StandsFor}
 
 -- ---- the tile
 
--- the document that opening gave beside something else, or why it gave none
+-- the document that opening returned beside something else, or why it returned none
 abbrev pub document_in : {A : Type 0} → Result (Document × A) Unopened → Result Document Unopened
 document_in (Ok opened) = Ok opened.0
 document_in (Err stop) = Err stop
@@ -64,14 +64,14 @@ devices_with tile a b c script replies out = record { tile = tile; script = sour
 -- ---- a line
 
 -- the lines that an answer has, or its refusal
-abbrev pub told_in : Result (Held ℕ) Refused → Result (List ℕ) Refused
-told_in (Ok told) = Ok told.items
-told_in (Err reason) = Err reason
+abbrev pub printed_in : Result (Held ℕ) Refused → Result (List ℕ) Refused
+printed_in (Ok lines) = Ok lines.items
+printed_in (Err reason) = Err reason
 
 -- the progress after a line with this answer, at which the history stands
 abbrev pub answered : Progress → History → Option (Result (Held ℕ) Refused) → Progress
 answered p history None = silent (record p { history = history })
-answered p history (Some (Ok told)) = accepted (record { lines = told.items; history = history }) p
+answered p history (Some (Ok lines)) = accepted (record { lines = lines.items; history = history }) p
 answered p history (Some (Err reason)) = refused_for reason (record p { history = history })
 
 -- the session holds the history of a progress that may follow
@@ -210,5 +210,5 @@ CarriesOutPieces strict start before after editor cutter (Err stop) = CarriesOut
 -- how writing the tile ended: it was written, a prefix of it was written before a trouble, or memory ran out
 abbrev pub WritesTile : {A : Type 0} → List ℕ → Output → Result A Unwritten → Type 0
 WritesTile file out (Ok done) = IsWritten out file
-WritesTile file out (Err unwritten.Device) = IsFront out.bytes file × IsSome out.trouble
+WritesTile file out (Err unwritten.Device) = IsPrefix out.bytes file × IsSome out.trouble
 WritesTile file out (Err unwritten.NoMemory) = IsWritten out []

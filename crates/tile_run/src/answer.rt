@@ -1,13 +1,13 @@
-//! `carry_out`: a request, carried out in a session, with the lines that it prints.
+//! `carry_out_request`: a request, carried out in a session, with the lines that it prints.
 
 ghost use Rattle.std.specs.Prelude.{◌≡◌, ◌⊎◌, [], IfErr};
 ghost use Rattle.mvt_history_steps.specs.History.{History};
 ghost use Rattle.mvt_history_steps.specs.Session.{StandsFor};
 ghost use Rattle.tile_request.specs.RequestStands.{request_of};
 ghost use Rattle.tile_reply.specs.Replies.{refusal_number};
-ghost use Rattle.tile_told.specs.Answers.{IsAnswered};
+ghost use Rattle.tile_answers.specs.Answers.{IsAnswered};
 
-use crate::told::{history_lines, mark_lines, size_line};
+use crate::printed::{history_lines, mark_lines, size_line};
 use mvt_document::Items;
 use mvt_history::Session;
 use std::alloc::Global;
@@ -15,8 +15,8 @@ use tile_listing::listing;
 use tile_reply::Refused;
 use tile_request::Request;
 
-/// Carries out a request, and gives the lines that it tells, each with its line feed.
-pub(crate) fn carry_out(
+/// Carries out a request, and returns the lines that it prints, each with its line feed.
+pub(crate) fn carry_out_request(
     alloc: Global,
     session: &mut Session,
     request: &Request,

@@ -14,9 +14,9 @@ ghost use Rattle.mvt_history_steps.specs.History.{History, standing_document};
 ghost use Rattle.mvt_history_steps.specs.Session.{StandsFor};
 ghost use Rattle.mvt_history_steps.specs.declared.TheConstants.{MAX_DEPTH};
 ghost use Rattle.tile_course.specs.Run.{Progress, at_first, is_over};
-ghost use Rattle.tile_run.specs.Steps.{AnswersLine, CarriesOut, CarriesOutLines, CarriesOutPieces, CarriesOutScript, ComesTo, IsAt, Moment, WasGiven, ends_line, moment_at, settled, told_in};
+ghost use Rattle.tile_run.specs.Steps.{AnswersLine, CarriesOut, CarriesOutLines, CarriesOutPieces, CarriesOutScript, ComesTo, IsAt, Moment, WasGiven, ends_line, moment_at, settled, printed_in};
 
-use crate::answer::carry_out;
+use crate::answer::carry_out_request;
 use mvt_document::{Document, Items};
 use mvt_history::Session;
 use std::alloc::Global;
@@ -182,7 +182,7 @@ impl Editor {
             return Ok(());
         };
         let refused = answer.is_err();
-        if reply(replies, self.lines, told_in(&answer), retries).is_err() {
+        if reply(replies, self.lines, printed_in(&answer), retries).is_err() {
             return Err(LineStop::Replies);
         }
         self.settle(refused)
@@ -205,7 +205,8 @@ impl Editor {
     }
 }
 
-/// What is answered to a line that asks for something: the lines that it tells, or why it is refused.
+/// What is answered to a line that asks for something: the lines that it prints, or why it is
+/// refused.
 fn carry_out_line(
     alloc: Global,
     session: &mut Session,
@@ -217,7 +218,7 @@ fn carry_out_line(
     match parse_cut(alloc, cut) {
         Ok(None) => None,
         Ok(Some(request)) => {
-            let answer = carry_out(alloc, session, &request);
+            let answer = carry_out_request(alloc, session, &request);
             drop(request);
             Some(answer)
         }
@@ -225,9 +226,9 @@ fn carry_out_line(
     }
 }
 
-/// The lines that an answer tells, or why there is none.
-fn told_in(answer: &Result<Items<u8>, Refused>) -> Result<&[u8], Refused>
-    ensures { answer_seen result ≡ told_in answer.now }
+/// The lines that an answer prints, or why there is none.
+fn printed_in(answer: &Result<Items<u8>, Refused>) -> Result<&[u8], Refused>
+    ensures { answer_seen result ≡ printed_in answer.now }
 {
     match answer {
         Ok(lines) => Ok(lines.as_slice()),

@@ -6,17 +6,17 @@
 //!   the outcome, and has the clause from which the headline follows (`course`).
 //! - Private `Editor::carry_out_script` is the step on whose contract both stand: what the lines of a
 //!   script come to as they are read.
-//! - Private `carry_out` is how a session answers a request: it is carried out, or refused, as the
-//!   definition says, with the lines that the definition says (`answer`). Out of memory alone may come
-//!   in place of that: as 60, but not of `unmark`, `back`, `begin` and `cancel` (`NeedsMemory`); and as
-//!   a stop of `back` and `cancel`, which says how many steps, or commands, were taken (`MayStop`).
-//!   After every refusal but a stop the session holds what it held (`err`).
+//! - Private `carry_out_request` is how a session answers a request: it is carried out, or refused,
+//!   as the definition says, with the lines that the definition says (`answer`). Out of memory
+//!   alone may come in place of that: as 60, but not of `unmark`, `back`, `begin` and `cancel`
+//!   (`NeedsMemory`); and as a stop of `back` and `cancel`, which says how many steps, or commands,
+//!   were taken (`MayStop`). After every refusal but a stop the session holds what it held (`err`).
 #![tactic(auto)]
 
 mod answer;
 mod editor;
+mod printed;
 mod runs;
-mod told;
 
 pub use runs::{Ended, run, run_and_hold};
 pub use tile_course::{DeviceName, MAX_RETRIES, MAX_SCRIPT, Options, Outcome, TileFault};

@@ -8,7 +8,7 @@ use Rattle.mvt_command.specs.Command.{Command, AtOrdinal, Named, RenameLayer, Fe
 use Rattle.tile_arguments.specs.Arguments.{is_number}
 use Rattle.tile_arguments.proofs.Meant.{text_quoted, layer_named, layer_at, feature_at, feature_with_id}
 use Rattle.mvt_command.specs.Requests.{HistoryRequest, Edit, Undo, Redo, SetMark, TakeMark, GoBack, Begin, End, Cancel}
-use Rattle.tile_request.specs.Request.{Request, OnHistory, ListMarks, TellHistory, Size, Lists, Whole, OneLayer, OneFeature}
+use Rattle.tile_request.specs.Request.{Request, OnHistory, ListMarks, PrintHistory, Size, Lists, Whole, OneLayer, OneFeature}
 use Rattle.tile_words.specs.Words.{Word, Bare, Quoted, words_of}
 use Rattle.tile_words.specs.Spelling.{SpellsWords}
 use Rattle.tile_words.proofs.Again.{words_only, behind_blanks, no_gap}
@@ -52,7 +52,7 @@ asks_alone = (
     (
       alone _ _ ListMarks refl refl,
       (
-        alone _ _ TellHistory refl refl,
+        alone _ _ PrintHistory refl refl,
         (
           alone _ _ (OnHistory Begin) refl refl,
           (

@@ -4,7 +4,7 @@ use Rattle.std.specs.Option.{option_map_or}
 use Rattle.std.specs.Str.{is_utf8, IsUtf8}
 use Rattle.tile_arguments.specs.Arguments.{text_of, layer_of}
 use Rattle.mvt_command.specs.Requests.{HistoryRequest, Edit, Undo, Redo, SetMark, TakeMark, GoBack, Begin, End, Cancel}
-use Rattle.tile_request.specs.Request.{Request, OnHistory, ListMarks, TellHistory, Size, Lists, Whole, OneLayer, OneFeature}
+use Rattle.tile_request.specs.Request.{Request, OnHistory, ListMarks, PrintHistory, Size, Lists, Whole, OneLayer, OneFeature}
 use Rattle.tile_words.specs.Words.{Word, Bare, IsLoneWord, after_blanks, words_of}
 use Rattle.tile_words.specs.Answers.{◌>>=◌}
 use Rattle.tile_lines.specs.declared.TheConstants.{LINE_LIMIT}
@@ -14,7 +14,7 @@ use Rattle.tile_words.specs.declared.parse_error.ParseError.TheVariants.{LineToo
 
 -- the words that are a request by themselves, each with the request
 abbrev pub requests_alone : List (List ℕ × Request)
-requests_alone = (codes "undo", OnHistory Undo) ∷ (codes "redo", OnHistory Redo) ∷ (codes "marks", ListMarks) ∷ (codes "history", TellHistory) ∷ (codes "begin", OnHistory Begin) ∷ (codes "end", OnHistory End) ∷ (codes "cancel", OnHistory Cancel) ∷ (codes "size", Size) ∷ []
+requests_alone = (codes "undo", OnHistory Undo) ∷ (codes "redo", OnHistory Redo) ∷ (codes "marks", ListMarks) ∷ (codes "history", PrintHistory) ∷ (codes "begin", OnHistory Begin) ∷ (codes "end", OnHistory End) ∷ (codes "cancel", OnHistory Cancel) ∷ (codes "size", Size) ∷ []
 
 -- the words that make a request with the name of a mark, each with the request of a name
 abbrev pub requests_by_name : List (List ℕ × (List ℕ → HistoryRequest))

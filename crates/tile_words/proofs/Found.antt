@@ -13,7 +13,7 @@ use Rattle.tile_words.specs.Words.{Word, Bare, Quoted, is_blank, ends_bare, afte
 use Rattle.tile_words.specs.Spelling.{SpellsByte, SpellsText, SpellsWord, AreBlanks, SpellsWords}
 use Rattle.tile_words.proofs.Short.{head_behind, bare_long}
 
--- the front of the bytes spells a byte
+-- a prefix of the bytes spells a byte
 abbrev Front : List ℕ → ℕ → List ℕ → Type 0
 Front bytes c more = (first : List ℕ) × (bytes ≡ first ++ more) × SpellsByte first c
 

@@ -3,7 +3,7 @@
 //! - The words of a line are those of the definition, or one of them is no word; out of memory
 //!   alone may come in place of that: `words_of`. A line that is one word alone is read without
 //!   memory: `lone_word`. The text of a quoted word, and what stands behind blanks, are as defined:
-//!   `text`, `after_blanks`. Whether bytes are UTF-8 is told: `is_utf8`.
+//!   `text`, `after_blanks`. `is_utf8` says whether bytes are UTF-8.
 #![tactic(auto)]
 
 pub mod laws;

@@ -1,4 +1,4 @@
--- What an edit of a tile in memory gives, from what its run reads and writes.
+-- What an edit of a tile in memory returns, from what its run reads and writes.
 use Rattle.std.proofs.Common.{◌≡◌, ◌≢◌, ◌⊎◌, ℕ, ◌<◌, ◌≤◌, Bool, true, false, List, [], length, Some, None, refl, sym, ap, subst, ◌∙◌, inl, inr, arith, if◌then◌else◌}
 use Rattle.std.specs.declared.option.Option.{Option}
 use Rattle.std.specs.declared.vec.Vec.{Vec}
@@ -23,7 +23,7 @@ use Rattle.tile_course.specs.declared.limits.TheConstants.{MAX_SCRIPT}
 use Rattle.tile_course.proofs.DeviceLaws.{failed_is_named, named_for_cause}
 use Rattle.tile_course.proofs.Headlines.{headline, none_counted, refuses_tile}
 
--- a device in memory with these bytes, of which so many calls failed
+-- a device in memory with these bytes, of which `failures` calls failed
 abbrev pub held : List ℕ → ℕ → Seen
 held bytes failures = record { bytes = Some bytes; tells = true; interruptions = 0; failures = failures }
 

@@ -1,4 +1,4 @@
--- What an edit of a tile in memory gives for a script that is too long.
+-- What an edit of a tile in memory returns for a script that is too long.
 use Rattle.std.proofs.Common.{◌≡◌, ◌≢◌, ℕ, zero, suc, ◌<◌, ◌≤◌, ◌⊎◌, Bool, true, false, List, [], ◌∷◌, ◌++◌, length, take, Some, None, refl, sym, ap, subst, ◌∙◌, inl, inr, arith, append-nil, length-append}
 use Rattle.std.specs.Prelude.{IsSome, is_some}
 use Rattle.std.specs.declared.option.Option.{Option}
@@ -26,7 +26,7 @@ use Rattle.tile_course.specs.declared.outcome.TileFault.{TileFault}
 use Rattle.tile_course.specs.declared.outcome.TileFault.TheVariants as faults
 use Rattle.tile_course.specs.declared.limits.TheConstants.{MAX_SCRIPT}
 use Rattle.tileshell.proofs.InMemory.{held, RunsInMemory}
-use Rattle.tile_course.proofs.Fronts.{after_lines-append}
+use Rattle.tile_course.proofs.Prefixes.{after_lines-append}
 use Rattle.tile_course.proofs.Overs.{over_stays}
 use Rattle.tile_course.proofs.Replying.{walks_are_runs}
 
@@ -54,13 +54,13 @@ no_trouble all left intake supplies = none_met intake.trouble (omega (arith, sup
     none_met (Some Interrupted) interruptions failures = absurd (omega (arith, interruptions))
     none_met (Some Failed) interruptions failures = absurd (omega (arith, failures))
 
--- ---- the lines of a front
+-- ---- the lines of a prefix
 
--- what is taken of a front is a front of what is taken of the whole
-front_taken : (n : ℕ) (front more : List ℕ) → (rest : List ℕ) × (take n (front ++ more) ≡ take n front ++ rest)
-front_taken zero front more = ([], refl)
+-- what is taken of a prefix is a prefix of what is taken of the whole
+front_taken : (n : ℕ) (prefix more : List ℕ) → (rest : List ℕ) × (take n (prefix ++ more) ≡ take n prefix ++ rest)
+front_taken zero prefix more = ([], refl)
 front_taken (suc n) [] more = (take (suc n) more, refl)
-front_taken (suc n) (b ∷ front) more = let taken = front_taken n front more in (taken.0, ap (λ (t : List ℕ). b ∷ t) taken.1)
+front_taken (suc n) (b ∷ prefix) more = let taken = front_taken n prefix more in (taken.0, ap (λ (t : List ℕ). b ∷ t) taken.1)
 
 cut_lines : (intake : Intake) → intake.is_whole ≡ false → lines_in intake ≡ whole_lines (take MAX_SCRIPT intake.bytes)
 cut_lines intake cut = rw cut refl

@@ -1,4 +1,4 @@
--- What an edit of a tile in memory gives.
+-- What an edit of a tile in memory returns.
 use Rattle.std.specs.Prelude.{◌≡◌, ◌≢◌, ◌⊎◌, ◌↔◌, ℕ, ◌<◌, ◌≤◌, Bool, List, [], ◌++◌, length, take, Some, None, IsSome, IsTrue, if◌then◌else◌}
 use Rattle.std.specs.declared.option.Option.{Option}
 use Rattle.std.specs.declared.vec.Vec.{Vec}

@@ -8,7 +8,7 @@ use std::alloc::Global;
 use tile_device::{Counts, Sink, Source, Trouble};
 use tile_run::{DeviceName, Options, Outcome, run_and_hold};
 
-/// What an edit of a tile in memory gave.
+/// What an edit of a tile in memory returns.
 #[derive(Debug, Drop)]
 pub struct Edited {
     /// How the run ended. It is `NoMemory` too where the replies or the tile could not grow here.

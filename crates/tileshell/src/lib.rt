@@ -5,7 +5,7 @@
 //!   clauses.
 //! - `shell` is the program, from its words to its status; it is passed on from `tile_files`.
 //!
-//! It passes on `run`, `run_and_hold` and the types that these take and give, `parse_line`,
+//! It passes on `run`, `run_and_hold` and the types that these take and return, `parse_line`,
 //! `listing`, `quote`, the commands, requests and refusals with their limits, the devices of the
 //! standard library, and modules of laws of the crates below it.
 #![tactic(auto)]

@@ -171,7 +171,7 @@ fn a_strict_run_stops_before_the_script_fails(rt: HostRuntime) {
     }
 }
 
-/// Runs the script with its replies to this sink. Gives the outcome, and how often the script and
+/// Runs the script with its replies to this sink. Returns the outcome, and how often the script and
 /// `out` were called.
 fn replying_to<W: Sink>(
     alloc: Global,

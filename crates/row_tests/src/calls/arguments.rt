@@ -1,9 +1,9 @@
 //! The arguments of requests: texts, numbers, layers, features, values and geometries.
 
 use crate::calls::broken::{Answer, Broken};
-use crate::calls::geometries::geometry_told;
-use crate::calls::given::{Given, told};
-use crate::calls::values::{as_read, value_told};
+use crate::calls::geometries::geometry_shown;
+use crate::calls::given::{Given, shown};
+use crate::calls::values::{as_read, value_shown};
 use mvt_command::LayerChoice;
 use std::alloc::Global;
 use tile_arguments::{
@@ -12,28 +12,28 @@ use tile_arguments::{
 
 pub fn answer(alloc: Global, call: &str, given: Given<'_>) -> Answer {
     match call {
-        "number" => told(alloc, number(given.bytes)),
-        "distance" => told(alloc, distance(given.word(alloc)?)),
-        "feature_choice" => told(alloc, feature_choice(given.word(alloc)?)),
+        "number" => shown(alloc, number(given.bytes)),
+        "distance" => shown(alloc, distance(given.word(alloc)?)),
+        "feature_choice" => shown(alloc, feature_choice(given.word(alloc)?)),
         "text_argument" => match text_argument(alloc, given.word(alloc)?) {
             Ok(text) => Ok(text.into_vec()),
-            Err(error) => told(alloc, error),
+            Err(error) => shown(alloc, error),
         },
         "layer_choice" => match layer_choice(alloc, given.word(alloc)?) {
-            Ok(layer) => layer_told(alloc, &layer),
-            Err(error) => told(alloc, error),
+            Ok(layer) => layer_shown(alloc, &layer),
+            Err(error) => shown(alloc, error),
         },
         "new_value" => value_said(alloc, given),
         "new_geometry" => match new_geometry(alloc, &given.words(alloc)?) {
-            Ok(geometry) => Ok(geometry_told(alloc, &geometry)?),
-            Err(error) => told(alloc, error),
+            Ok(geometry) => Ok(geometry_shown(alloc, &geometry)?),
+            Err(error) => shown(alloc, error),
         },
         _ => Err(Broken::NoCall),
     }
 }
 
-/// The layer that is meant, its name in hexadecimal digits.
-pub fn layer_told(alloc: Global, layer: &LayerChoice) -> Answer {
+/// What selects a layer: its ordinal, or its name in hexadecimal digits.
+pub fn layer_shown(alloc: Global, layer: &LayerChoice) -> Answer {
     match layer {
         LayerChoice::Ordinal(ordinal) => {
             Ok(format!(in alloc; "Ordinal({ordinal})")?.into_bytes())
@@ -51,7 +51,7 @@ fn value_said(alloc: Global, given: Given<'_>) -> Answer {
         return Err(Broken::BadGiven);
     };
     match new_value(alloc, *name, *value) {
-        Ok(value) => Ok(value_told(alloc, as_read(&value))?),
-        Err(error) => told(alloc, error),
+        Ok(value) => Ok(value_shown(alloc, as_read(&value))?),
+        Err(error) => shown(alloc, error),
     }
 }

@@ -71,8 +71,8 @@ fn steps(alloc: Global, edit: &Edit) -> Answer {
         let Step::InTile { index, take, put } = step else {
             return said(alloc, "a step on another list");
         };
-        let told = format!(in alloc; "; {index} {take} {}", put.len())?;
-        line.extend_from_slice(told.as_bytes())?;
+        let shown = format!(in alloc; "; {index} {take} {}", put.len())?;
+        line.extend_from_slice(shown.as_bytes())?;
     }
     Ok(line)
 }

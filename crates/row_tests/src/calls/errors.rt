@@ -1,4 +1,4 @@
-//! The texts of errors. An error is given as `Debug` tells it, and its text is answered.
+//! The texts of errors. An error is given as `Debug` prints it, and its text is answered.
 
 use crate::calls::broken::{Answer, Broken};
 use crate::calls::given::Given;
@@ -12,28 +12,28 @@ use std::fmt;
 use tile_device::{ReadFault, Trouble};
 
 pub fn answer(alloc: Global, call: &str, given: Given<'_>) -> Answer {
-    let told = given.text()?;
+    let shown = given.text()?;
     match call {
-        "ReadError" => text_of(alloc, &READ_ERRORS, told),
-        "WriteError" => text_of(alloc, &[WriteError::TooLarge, WriteError::NoMemory], told),
-        "BadChunk" => text_of(alloc, &[BadChunk { field: 7 }], told),
-        "GeometryError" => text_of(alloc, &GEOMETRY_ERRORS, told),
+        "ReadError" => text_of(alloc, &READ_ERRORS, shown),
+        "WriteError" => text_of(alloc, &[WriteError::TooLarge, WriteError::NoMemory], shown),
+        "BadChunk" => text_of(alloc, &[BadChunk { field: 7 }], shown),
+        "GeometryError" => text_of(alloc, &GEOMETRY_ERRORS, shown),
         "EncodeError" => text_of(
             alloc,
             &[EncodeError::OutOfRange, EncodeError::NoMemory],
-            told,
+            shown,
         ),
         "LayerError" => text_of(
             alloc,
             &[LayerError::NoLayer, LayerError::AmbiguousLayer],
-            told,
+            shown,
         ),
-        "FeatureError" => text_of(alloc, &FEATURE_ERRORS, told),
-        "BadPair" => text_of(alloc, &[BadPair], told),
-        "PairsError" => text_of(alloc, &[PairsError::BadTags, PairsError::NoMemory], told),
-        "Trouble" => text_of(alloc, &[Trouble::Interrupted, Trouble::Failed], told),
-        "ReadFault" => text_of(alloc, &READ_FAULTS, told),
-        "Refused" => text_of(alloc, &REASONS, told),
+        "FeatureError" => text_of(alloc, &FEATURE_ERRORS, shown),
+        "BadPair" => text_of(alloc, &[BadPair], shown),
+        "PairsError" => text_of(alloc, &[PairsError::BadTags, PairsError::NoMemory], shown),
+        "Trouble" => text_of(alloc, &[Trouble::Interrupted, Trouble::Failed], shown),
+        "ReadFault" => text_of(alloc, &READ_FAULTS, shown),
+        "Refused" => text_of(alloc, &REASONS, shown),
         _ => Err(Broken::NoCall),
     }
 }
@@ -50,10 +50,10 @@ const FEATURE_ERRORS: [FeatureError; 2] = [FeatureError::NoFeature, FeatureError
 
 const READ_FAULTS: [ReadFault; 2] = [ReadFault::Device(Trouble::Failed), ReadFault::NoMemory];
 
-/// The text of the error that is told so.
-fn text_of<T: fmt::Debug + fmt::Display>(alloc: Global, errors: &[T], told: &str) -> Answer {
+/// The text of the error that `Debug` prints so.
+fn text_of<T: fmt::Debug + fmt::Display>(alloc: Global, errors: &[T], shown: &str) -> Answer {
     for error in errors {
-        if format!(in alloc; "{error:?}")?.as_str() == told {
+        if format!(in alloc; "{error:?}")?.as_str() == shown {
             return Ok(format!(in alloc; "{error}")?.into_bytes());
         }
     }

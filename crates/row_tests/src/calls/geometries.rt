@@ -1,10 +1,10 @@
 //! Geometries as points, as numbers and as bytes.
 //!
-//! A geometry is told as its kind and its parts, with ` / ` between them: `Lines 2,2 2,10 / 1,1 3,5`.
-//! `Dots none` has no part, and `Dots` alone one part of no points.
+//! A geometry is shown as its kind and its parts, with ` / ` between them:
+//! `Lines 2,2 2,10 / 1,1 3,5`. `Dots none` has no part, and `Dots` alone one part of no points.
 
 use crate::calls::broken::{Answer, Broken};
-use crate::calls::given::{Given, number_in, told};
+use crate::calls::given::{Given, number_in, shown};
 use mvt_geometry::{Geometry, Kind, Part, Point, encode_geometry, geometry_of};
 use mvt_wire::Items;
 use std::alloc::{AllocError, Global};
@@ -22,7 +22,7 @@ pub fn answer(alloc: Global, call: &str, given: Given<'_>) -> Answer {
 fn made(alloc: Global, text: &str) -> Answer {
     let (kind, parts) = kind_and_parts(alloc, text)?;
     match Geometry::new(kind, parts) {
-        Ok(geometry) => Ok(geometry_told(alloc, &geometry)?),
+        Ok(geometry) => Ok(geometry_shown(alloc, &geometry)?),
         Err(parts) => Ok(format!(in alloc; "refused, parts {}", parts.len())?.into_bytes()),
     }
 }
@@ -30,7 +30,7 @@ fn made(alloc: Global, text: &str) -> Answer {
 fn encoded(alloc: Global, text: &str) -> Answer {
     match encode_geometry(alloc, &geometry_in(alloc, text)?) {
         Ok(bytes) => Ok(bytes.into_vec()),
-        Err(error) => told(alloc, error),
+        Err(error) => shown(alloc, error),
     }
 }
 
@@ -38,8 +38,8 @@ fn encoded(alloc: Global, text: &str) -> Answer {
 fn read(alloc: Global, given: Given<'_>) -> Answer {
     let (kind, rest) = given.number_and_rest()?;
     match geometry_of(alloc, kind, &numbers_in(alloc, rest)?) {
-        Ok(geometry) => Ok(geometry_told(alloc, &geometry)?),
-        Err(error) => told(alloc, error),
+        Ok(geometry) => Ok(geometry_shown(alloc, &geometry)?),
+        Err(error) => shown(alloc, error),
     }
 }
 
@@ -52,7 +52,7 @@ fn numbers_in(alloc: Global, text: &str) -> Result<Vec<u32>, Broken> {
     Ok(numbers)
 }
 
-/// The geometry that the text tells.
+/// The geometry that the text says.
 pub fn geometry_in(alloc: Global, text: &str) -> Result<Geometry, Broken> {
     let (kind, parts) = kind_and_parts(alloc, text)?;
     Geometry::new(kind, parts).map_err(|_| Broken::BadGiven)
@@ -97,7 +97,7 @@ fn coordinate_in(text: &str) -> Result<i64, Broken> {
 }
 
 /// The kind and the parts of a geometry.
-pub fn geometry_told(alloc: Global, geometry: &Geometry) -> Result<Vec<u8>, AllocError> {
+pub fn geometry_shown(alloc: Global, geometry: &Geometry) -> Result<Vec<u8>, AllocError> {
     let mut line = format!(in alloc; "{:?}", geometry.kind())?.into_bytes();
     let mut is_first = true;
     for part in geometry.parts() {

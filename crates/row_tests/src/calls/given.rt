@@ -60,8 +60,8 @@ fn ordinal_of(number: u64) -> Result<usize, Broken> {
     usize::try_from(number).map_err(|_| Broken::BadGiven)
 }
 
-/// The value as it is told.
-pub fn told<T: fmt::Debug + Drop>(alloc: Global, value: T) -> Answer {
+/// The value as `Debug` prints it.
+pub fn shown<T: fmt::Debug + Drop>(alloc: Global, value: T) -> Answer {
     Ok(format!(in alloc; "{value:?}")?.into_bytes())
 }
 

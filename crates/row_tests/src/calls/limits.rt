@@ -20,7 +20,7 @@ pub fn answer(alloc: Global, call: &str, given: Given<'_>) -> Answer {
     }
 }
 
-/// The tile and a field of so many zeros, which no file need have room for.
+/// The tile and a field of `count` zeros, which no file need have room for.
 fn tile_and_zeros(alloc: Global, tile: &[u8], count: usize) -> Result<Document, Broken>
     ensures { IfOk result (λ document. IsDocument (document_of document)) }
 {

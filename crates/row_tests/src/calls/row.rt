@@ -79,7 +79,7 @@ impl<'a> Row<'a> {
         Line::Taken
     }
 
-    /// Whether the call answers as it should. Where it does not, that is told.
+    /// Whether the call answers as it should. Where it does not, that is printed.
     pub fn holds<R: Eprint + AllocGlobal>(&self, rt: &R, wanted: &[u8]) -> io::Result<bool> {
         let given = Given {
             tile: &self.tile,
@@ -87,11 +87,11 @@ impl<'a> Row<'a> {
         };
         match answer(rt.alloc(), self.call, given) {
             Ok(answered) => self.is_met(rt, &answered, wanted),
-            Err(broken) => self.tell_broken(rt, broken),
+            Err(broken) => self.print_broken(rt, broken),
         }
     }
 
-    /// Whether this is what the call should answer. Where it is not, that is told.
+    /// Whether this is what the call should answer. Where it is not, that is printed.
     fn is_met<R: Eprint + AllocGlobal>(
         &self,
         rt: &R,
@@ -101,23 +101,23 @@ impl<'a> Row<'a> {
         if answered == wanted {
             return Ok(true);
         }
-        self.tell_given(rt)?;
-        tell(rt, "answers", answered)?;
-        tell(rt, "should answer", wanted)?;
+        self.print_given(rt)?;
+        print_bytes(rt, "answers", answered)?;
+        print_bytes(rt, "should answer", wanted)?;
         Ok(false)
     }
 
-    /// Tells why the row cannot be tried.
-    fn tell_broken<R: Eprint + AllocGlobal>(&self, rt: &R, broken: Broken) -> io::Result<bool> {
-        self.tell_given(rt)?;
+    /// Prints why the row cannot be tried.
+    fn print_broken<R: Eprint + AllocGlobal>(&self, rt: &R, broken: Broken) -> io::Result<bool> {
+        self.print_given(rt)?;
         eprintln!(rt; "{broken}")?;
         Ok(false)
     }
 
-    /// Tells the call, and what it is given.
-    fn tell_given<R: Eprint + AllocGlobal>(&self, rt: &R) -> io::Result<()> {
+    /// Prints the call, and what it is given.
+    fn print_given<R: Eprint + AllocGlobal>(&self, rt: &R) -> io::Result<()> {
         eprintln!(rt; "call {}", self.call)?;
-        tell(rt, "given", &self.given)
+        print_bytes(rt, "given", &self.given)
     }
 }
 
@@ -136,8 +136,8 @@ fn bytes_in(
     Ok(if is_well { Some(bytes) } else { None })
 }
 
-/// Tells bytes behind the word: as a text where they are one, else in hexadecimal digits.
-fn tell<R: Eprint + AllocGlobal>(rt: &R, word: &str, bytes: &[u8]) -> io::Result<()> {
+/// Prints bytes behind the word: as a text where they are one, else in hexadecimal digits.
+fn print_bytes<R: Eprint + AllocGlobal>(rt: &R, word: &str, bytes: &[u8]) -> io::Result<()> {
     match str::from_utf8(bytes) {
         Ok(text) => eprintln!(rt; "{word}: {text}"),
         Err(_) => eprintln!(rt; "{word}, in digits: {}", hex::encode(rt.alloc(), bytes)?),

@@ -1,8 +1,8 @@
 //! Scripts: how they are cut into lines, what a line asks for, and how a refused one is replied to.
 
-use crate::calls::arguments::layer_told;
+use crate::calls::arguments::layer_shown;
 use crate::calls::broken::{Answer, Broken};
-use crate::calls::given::{Given, said, told};
+use crate::calls::given::{Given, said, shown};
 use mvt_command::Command;
 use mvt_history_error::HistoryError;
 use mvt_meaning::Refusal;
@@ -30,30 +30,30 @@ fn parsed(alloc: Global, line: &[u8]) -> Answer {
     match parse_line(alloc, line) {
         Ok(Some(request)) => asked(alloc, request),
         Ok(None) => said(alloc, "no request"),
-        Err(error) => told(alloc, error),
+        Err(error) => shown(alloc, error),
     }
 }
 
-/// The request as it is told. It is dropped on one way out.
+/// The request as it is shown. It is dropped on one way out.
 fn asked(alloc: Global, request: Request) -> Answer {
-    request_told(alloc, &request)
+    request_shown(alloc, &request)
 }
 
 /// The request, with names in hexadecimal digits.
-fn request_told(alloc: Global, request: &Request) -> Answer {
+fn request_shown(alloc: Global, request: &Request) -> Answer {
     match request {
         Request::Mark(name) => named(alloc, "Mark", name.as_slice()),
         Request::Unmark(name) => named(alloc, "Unmark", name.as_slice()),
         Request::Back(name) => named(alloc, "Back", name.as_slice()),
         Request::Edit(Command::RenameLayer { layer, name }) => {
-            renaming(alloc, &layer_told(alloc, layer)?, name.as_slice())
+            renaming(alloc, &layer_shown(alloc, layer)?, name.as_slice())
         }
-        Request::List(What::OneLayer(layer)) => listed(alloc, layer_told(alloc, layer)?, ""),
+        Request::List(What::OneLayer(layer)) => listed(alloc, layer_shown(alloc, layer)?, ""),
         Request::List(What::OneFeature(layer, feature)) => {
             let feature = format!(in alloc; " {feature:?}")?;
-            listed(alloc, layer_told(alloc, layer)?, feature.as_str())
+            listed(alloc, layer_shown(alloc, layer)?, feature.as_str())
         }
-        request => told(alloc, request),
+        request => shown(alloc, request),
     }
 }
 
@@ -150,10 +150,10 @@ pub const REASONS: [Refused; 34] = [
     Refused::History(HistoryError::Stopped { taken: 10_000 }),
 ];
 
-/// The reply to the line of this number, which is refused for the reason told.
-fn replied(alloc: Global, line: u64, told: &str) -> Answer {
+/// The reply to the line of this number, which is refused for the reason that `Debug` prints so.
+fn replied(alloc: Global, line: u64, shown: &str) -> Answer {
     for reason in REASONS {
-        if format!(in alloc; "{reason:?}")?.as_str() == told {
+        if format!(in alloc; "{reason:?}")?.as_str() == shown {
             return refused(alloc, line, reason);
         }
     }

@@ -8,7 +8,7 @@ use tile_arguments::new_value;
 
 pub fn answer(alloc: Global, call: &str, given: Given<'_>) -> Answer {
     match call {
-        "value_of" => Ok(value_told(alloc, value_of(given.bytes))?),
+        "value_of" => Ok(value_shown(alloc, value_of(given.bytes))?),
         "encode_value" => encoded(alloc, given),
         _ => Err(Broken::NoCall),
     }
@@ -27,7 +27,7 @@ fn encoded(alloc: Global, given: Given<'_>) -> Answer {
 
 /// The kind of the value, and behind it the value: a text or raw bytes as they are, the bytes of a
 /// float as digits.
-pub fn value_told(alloc: Global, value: Value<'_>) -> Result<Vec<u8>, AllocError> {
+pub fn value_shown(alloc: Global, value: Value<'_>) -> Result<Vec<u8>, AllocError> {
     let line = match value {
         Value::Text(text) => return behind(alloc, b"Text ", text),
         Value::Raw(bytes) => return behind(alloc, b"Raw ", bytes),

@@ -3,7 +3,7 @@
 //! A layer of the tile is given by its ordinal, and what is looked at within it behind that.
 
 use crate::calls::broken::{Answer, Broken};
-use crate::calls::given::{Given, number_in, said, told};
+use crate::calls::given::{Given, number_in, said, shown};
 use mvt_select::{find_feature, find_layer};
 use mvt_view::{
     Contents, FoundFeature, FoundLayer, LayerView, feature_by_id, layer, layer_count, layer_named,
@@ -22,15 +22,15 @@ pub fn answer(alloc: Global, call: &str, given: Given<'_>) -> Answer {
 /// What a call answers that looks at the tile.
 fn within_tile(alloc: Global, call: &str, document: &Document, given: Given<'_>) -> Answer {
     match call {
-        "layer_count" => told(alloc, layer_count(document)),
+        "layer_count" => shown(alloc, layer_count(document)),
         "layers" => extents(alloc, document),
         "layer" => match layer(document, given.ordinal()?) {
-            Some(found) => layer_told(alloc, found.view()),
+            Some(found) => layer_shown(alloc, found.view()),
             None => said(alloc, "none"),
         },
         "layer_named" => {
             let named = layer_named(document, given.bytes);
-            told(alloc, named.map(|found| found.ordinal))
+            shown(alloc, named.map(|found| found.ordinal))
         }
         "find_layer" => layer_selected(alloc, document, given.word(alloc)?),
         _ => {
@@ -44,7 +44,7 @@ fn within_tile(alloc: Global, call: &str, document: &Document, given: Given<'_>)
 /// The layer that the word of a script selects.
 fn layer_selected(alloc: Global, document: &Document, word: Word<'_>) -> Answer {
     let choice = layer_choice(alloc, word).map_err(|_| Broken::BadGiven)?;
-    told(
+    shown(
         alloc,
         find_layer(document, &choice).map(|found| found.ordinal),
     )
@@ -54,15 +54,15 @@ fn layer_selected(alloc: Global, document: &Document, word: Word<'_>) -> Answer 
 fn within_layer(alloc: Global, call: &str, found: FoundLayer<'_>, rest: &str) -> Answer {
     let seen = found.view();
     match call {
-        "key" => content_told(alloc, seen.key(ordinal_in(rest)?)),
-        "value" => content_told(alloc, seen.value(ordinal_in(rest)?)),
+        "key" => content_shown(alloc, seen.key(ordinal_in(rest)?)),
+        "value" => content_shown(alloc, seen.value(ordinal_in(rest)?)),
         "keys" => Ok(barred(alloc, seen.keys())?),
         "values" => Ok(barred(alloc, seen.values())?),
-        "feature" => feature_told(alloc, seen.feature(ordinal_in(rest)?)),
+        "feature" => feature_shown(alloc, seen.feature(ordinal_in(rest)?)),
         "features" => ids(alloc, seen),
         "feature_by_id" => {
             let found = feature_by_id(&seen, number_in(rest)?);
-            told(alloc, found.map(|found| found.ordinal))
+            shown(alloc, found.map(|found| found.ordinal))
         }
         "find_feature" => feature_selected(alloc, found, rest),
         _ => Err(Broken::NoCall),
@@ -74,7 +74,7 @@ fn ordinal_in(text: &str) -> Result<usize, Broken> {
 }
 
 /// The name of a layer, its version, its extent, and how many features, keys and values it has.
-fn layer_told(alloc: Global, seen: LayerView<'_>) -> Answer {
+fn layer_shown(alloc: Global, seen: LayerView<'_>) -> Answer {
     let name = match seen.name() {
         Some(name) => hex::encode(alloc, name)?,
         None => "none".to_owned(alloc)?,
@@ -90,7 +90,7 @@ fn layer_told(alloc: Global, seen: LayerView<'_>) -> Answer {
     Ok(line.into_bytes())
 }
 
-fn content_told(alloc: Global, content: Option<&[u8]>) -> Answer {
+fn content_shown(alloc: Global, content: Option<&[u8]>) -> Answer {
     match content {
         Some(bytes) => Ok(format!(in alloc; "x:{}", hex::encode(alloc, bytes)?)?.into_bytes()),
         None => said(alloc, "none"),
@@ -98,7 +98,7 @@ fn content_told(alloc: Global, content: Option<&[u8]>) -> Answer {
 }
 
 /// The id and the kind of a feature.
-fn feature_told(alloc: Global, feature: Option<FoundFeature<'_>>) -> Answer {
+fn feature_shown(alloc: Global, feature: Option<FoundFeature<'_>>) -> Answer {
     match feature {
         Some(found) => {
             let seen = found.view();
@@ -117,7 +117,7 @@ fn feature_selected(alloc: Global, holder: FoundLayer<'_>, word: &str) -> Answer
     {
         [word] => {
             let choice = feature_choice(*word).map_err(|_| Broken::BadGiven)?;
-            told(
+            shown(
                 alloc,
                 find_feature(holder.layer, &choice).map(|found| found.ordinal),
             )

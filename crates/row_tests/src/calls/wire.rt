@@ -1,7 +1,7 @@
 //! Numbers, fields and documents at the limits of the wire format.
 
 use crate::calls::broken::{Answer, Broken};
-use crate::calls::given::{Given, said, told};
+use crate::calls::given::{Given, said, shown};
 use mvt_wire::{
     BodyRef, Document, ReadError, Varint, field_at_front, read_document, read_varint, size,
     write_document,
@@ -12,7 +12,7 @@ use test_fixtures::bytes::joined;
 pub fn answer(alloc: Global, call: &str, given: Given<'_>) -> Answer {
     match call {
         "read_varint" => number_read(alloc, given.bytes),
-        "minimal" => told(alloc, Varint::minimal(given.number()?).width),
+        "minimal" => shown(alloc, Varint::minimal(given.number()?).width),
         "field_at_front" => field_read(alloc, given.bytes),
         "read_document" => document_read(alloc, given.bytes),
         "write_document" => document_written(alloc, given.bytes),
@@ -58,12 +58,12 @@ fn field_read(alloc: Global, bytes: &[u8]) -> Answer {
 /// How many items a document has, and how many bytes.
 fn document_read(alloc: Global, file: &[u8]) -> Answer {
     match read_document(alloc, file) {
-        Ok(document) => document_told(alloc, &document),
-        Err(error) => told(alloc, error),
+        Ok(document) => document_shown(alloc, &document),
+        Err(error) => shown(alloc, error),
     }
 }
 
-fn document_told(alloc: Global, document: &Document) -> Answer {
+fn document_shown(alloc: Global, document: &Document) -> Answer {
     let items = document.items.len();
     let size = size(document);
     Ok(format!(in alloc; "items {items} size {size:?}")?.into_bytes())
@@ -77,12 +77,12 @@ fn document_written(alloc: Global, file: &[u8]) -> Answer {
 fn written(alloc: Global, document: &Document) -> Answer {
     match write_document(alloc, document) {
         Ok(bytes) => Ok(bytes),
-        Err(error) => told(alloc, error),
+        Err(error) => shown(alloc, error),
     }
 }
 
-/// For each front of the tile that is shorter than it, and not empty: up to where the bytes and the
-/// front behind them are a tile.
+/// For each prefix of the tile that is shorter than it, and not empty: up to where the bytes and
+/// the prefix behind them are a tile.
 fn cuts_read(alloc: Global, before: &[u8], tile: &[u8]) -> Answer {
     let mut places = Vec::new(alloc);
     for end in 1..tile.len() {

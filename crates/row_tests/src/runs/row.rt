@@ -36,7 +36,7 @@ impl<'a> Row<'a> {
         }
     }
 
-    /// Takes what the line says. Gives whether it says something.
+    /// Takes what the line says. Returns whether it says something.
     pub fn read(
         &mut self,
         alloc: Global,
@@ -83,7 +83,8 @@ impl<'a> Row<'a> {
         Ok(true)
     }
 
-    /// Runs the row in each way. Gives whether all is as it should be, and tells where it is not.
+    /// Runs the row in each way. Returns whether all is as it should be, and prints where it is
+    /// not.
     pub fn holds<R: Eprint + AllocGlobal>(&self, rt: &R) -> io::Result<bool> {
         let mut holds = true;
         for strict in [self.is_strict, true] {
@@ -121,7 +122,7 @@ impl<'a> Row<'a> {
         }
     }
 
-    /// Whether the run did what it should. Where it did not, that is told.
+    /// Whether the run did what it should. Where it did not, that is printed.
     fn is_met<R: Eprint + AllocGlobal>(&self, rt: &R, way: &str, ran: &Ran) -> io::Result<bool> {
         let ended = format!(in rt.alloc(); "{:?}", ran.outcome)?;
         let tile = ran.tile.as_deref();
@@ -129,8 +130,8 @@ impl<'a> Row<'a> {
             && ran.replies.as_slice() == self.replies.as_slice()
             && tile == self.tile_wanted();
         if !is_met {
-            tell(rt, "is", ended.as_str(), &ran.replies, tile)?;
-            tell(
+            print_run(rt, "is", ended.as_str(), &ran.replies, tile)?;
+            print_run(
                 rt,
                 "should be",
                 self.ends,
@@ -152,8 +153,8 @@ fn put_text(text: &str, is_line: bool, to: &mut Vec<u8>) -> Result<(), AllocErro
     Ok(())
 }
 
-/// Tells how a run ends, its replies, and its tile in hexadecimal digits.
-fn tell<R: Eprint + AllocGlobal>(
+/// Prints how a run ends, its replies, and its tile in hexadecimal digits.
+fn print_run<R: Eprint + AllocGlobal>(
     rt: &R,
     word: &str,
     ended: &str,

@@ -6,7 +6,7 @@ use std::alloc::Global;
 use std::io::{self, Read, Write};
 use tileshell::{FromRead, FromWrite, Options, Outcome, edit, run};
 
-/// What a run did: how it ended, its replies, and the tile that it gave.
+/// What a run did: how it ended, its replies, and its tile.
 #[derive(Drop)]
 pub struct Ran {
     pub outcome: Outcome,
@@ -60,7 +60,7 @@ pub fn dripped(alloc: Global, tile: &[u8], script: &[u8], options: Options) -> R
     gathered(outcome, replies.into_inner(), out.into_inner())
 }
 
-/// What came of a run. Where nothing was asked of `out`, no tile was given.
+/// What came of a run. Where nothing was asked of `out`, no tile was written.
 fn gathered(outcome: Outcome, replies: Taker, out: Taker) -> Ran {
     Ran {
         outcome,
@@ -82,7 +82,7 @@ impl Read for Drip<'_> {
     }
 }
 
-/// Takes so many bytes a call at most, and knows whether it was called.
+/// Takes at most `most` bytes a call, and knows whether it was called.
 #[derive(Drop)]
 struct Taker {
     taken: Vec<u8>,

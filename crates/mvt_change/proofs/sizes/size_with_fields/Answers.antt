@@ -7,7 +7,7 @@ use Rattle.mvt_document.specs.Stands.{layer_of}
 use Rattle.mvt_document.specs.Wire.{layer_item_bytes}
 use Rattle.mvt_document.specs.Lists.{change_at}
 use Rattle.mvt_document.specs.Places.{in_feature}
-use Rattle.mvt_document.proofs.Sizes.{told_so}
+use Rattle.mvt_document.proofs.Sizes.{same_size}
 use Rattle.mvt_change.proofs.sizes.size_with_fields.Goals as goal
 
 joined_size : (items more : List LayerItem) → length (flat_map layer_item_bytes (items ++ more)) ≡ length (flat_map layer_item_bytes items) + length (flat_map layer_item_bytes more)
@@ -19,7 +19,7 @@ returns c = λ change more takes comes.
     let old = c.items_size.ensures change takes in
     let first = (rw c.in_ok-items_size.was at old).1 in
     let second = (rw c.in_ok-behind.was at comes).1 in
-    told_so MAX_FILE c.sum_within.result _ _ (omega (arith, both, first, second)) c.sum_within.ensures
+    same_size MAX_FILE c.sum_within.result _ _ (omega (arith, both, first, second)) c.sum_within.ensures
 
 pub returns-in_err-items_size : goal.returns-in_err-items_size
 returns-in_err-items_size c = λ change more takes comes.

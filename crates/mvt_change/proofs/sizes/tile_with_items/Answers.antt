@@ -8,7 +8,7 @@ use Rattle.mvt_document.specs.Wire.{layer_item_bytes}
 use Rattle.mvt_document.specs.Splicing.{splice}
 use Rattle.mvt_document.specs.Lists.{HasPart}
 use Rattle.mvt_document.specs.Places.{items_at, items_in}
-use Rattle.mvt_document.proofs.Sizes.{told_so}
+use Rattle.mvt_document.proofs.Sizes.{same_size}
 use Rattle.mvt_change.specs.FileSizes.{IsFileSize}
 use Rattle.mvt_change.proofs.Resized.{exchanged_size, items_there, some_found}
 use Rattle.mvt_change.proofs.sizes.tile_with_items.Goals as goal
@@ -28,5 +28,5 @@ returns c =
     let put = c.args.put.now in
     let change = splice c.args.index c.args.taken (map layer_item_of put) in
     let size = c.size_and.ensures _ c.size_beside_part-beside.ensures in
-    let told = told_so MAX_FILE c.size_and.result _ _ (exchanged_size layer_item_bytes layer_item_of c.args.index c.args.taken put holder.items.items) size in
-    c.tile_size.ensures change (items_there c.args.layer (document_of c.args.document.now) (layer_of holder) (λ old. IsFileSize c.size_and.result (length (flat_map layer_item_bytes (change old)))) c.layer_at-holder.ensures told)
+    let answered = same_size MAX_FILE c.size_and.result _ _ (exchanged_size layer_item_bytes layer_item_of c.args.index c.args.taken put holder.items.items) size in
+    c.tile_size.ensures change (items_there c.args.layer (document_of c.args.document.now) (layer_of holder) (λ old. IsFileSize c.size_and.result (length (flat_map layer_item_bytes (change old)))) c.layer_at-holder.ensures answered)

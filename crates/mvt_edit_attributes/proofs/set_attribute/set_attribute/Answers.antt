@@ -22,7 +22,7 @@ pub returns-in_err-found : goal.returns-in_err-found
 returns-in_err-found c =
     let holder = c.in_ok-holder.holder in
     let is = c.in_ok-holder.ensures.found in
-    let refused = no_feature_gets (layer_choice_of c.args.choice.now) c.args.key.now (new_value_of c.args.value.now) (document_of c.args.document.now) holder.ordinal holder.position (layer_of holder.layer.now) is.meant is.placed is.there (feature_choice_of c.args.feature.now) _ c.in_err-found.ensures.refused in
+    let refused = no_feature_gets (layer_choice_of c.args.choice.now) c.args.key.now (new_value_of c.args.value.now) (document_of c.args.document.now) holder.ordinal holder.position (layer_of holder.layer.now) is.selects is.placed is.there (feature_choice_of c.args.feature.now) _ c.in_err-found.ensures.refused in
     let passed = err_from_is_err_and c.from_residual-in_err-found.result c.from_residual-in_err-found.ensures.1 in
     rw (passed.1, passed.2) (inr refused)
 
@@ -36,7 +36,7 @@ returns-in_err-run c =
     rw (passed.1, passed.2) (
     elim c.in_err-run.ensures.refused [
       | inl memory ↦ inl memory
-      | inr refused ↦ inr (tags_refused (layer_choice_of c.args.choice.now) c.args.key.now (new_value_of c.args.value.now) (document_of c.args.document.now) holder.ordinal holder.position (layer_of holder.layer.now) is.meant is.placed is.there (feature_choice_of c.args.feature.now) found.ordinal found.position (feature_of found.feature.now) here.meant here.placed here.there _ refused)
+      | inr refused ↦ inr (tags_refused (layer_choice_of c.args.choice.now) c.args.key.now (new_value_of c.args.value.now) (document_of c.args.document.now) holder.ordinal holder.position (layer_of holder.layer.now) is.selects is.placed is.there (feature_choice_of c.args.feature.now) found.ordinal found.position (feature_of found.feature.now) here.selects here.placed here.there _ refused)
     ])
 
 pub returns-then-not-fits_with : goal.returns-then-not-fits_with
@@ -55,9 +55,9 @@ returns-then-not-fits_with c =
     let are : AreFound key bytes layer c.look_for-ordinals.result = subst (λ l. AreFound key bytes l c.look_for-ordinals.result) c.view.ensures (subst (λ b. AreFound key b (layer_seen c.view.result) c.look_for-ordinals.result) (c.as_slice.ensures ∙ c.in_ok-value.ensures.bytes) c.look_for-ordinals.ensures) in
     let gives = c.in_ok-run.ensures.gives bytes are in
     let entries = c.in_ok-entries.ensures ∙ ap (λ b. entries_for key b c.look_for-ordinals.result) c.in_ok-value.ensures.bytes ∙ entries_lacked key bytes layer c.look_for-ordinals.result are in
-    let told = c.fits_with.ensures (with_attribute key bytes layer.items) (sym gives.makes)
+    let answered = c.fits_with.ensures (with_attribute key bytes layer.items) (sym gives.makes)
     ∙ ap (λ more. not (nat_lt MAX_FILE (length (bytes_of (change_items (λ items. change_at (in_feature (with_attribute key bytes layer.items)) found.position items ++ more) holder.position document))))) (ap (map layer_item_of) c.as_slice-2.ensures.value ∙ entries) in
-    inr (set_too_large choice key value document holder.ordinal holder.position layer is.meant is.placed is.there (feature_choice_of c.args.feature.now) found.ordinal found.position feature here.meant here.placed here.there c.in_ok-run.ensures.checked (not_false (nat_lt MAX_FILE (length (bytes_of (change_items (attributed_at key bytes layer.items found.position) holder.position document)))) (sym told ∙ c.if-not-fits_with.true)))
+    inr (set_too_large choice key value document holder.ordinal holder.position layer is.selects is.placed is.there (feature_choice_of c.args.feature.now) found.ordinal found.position feature here.selects here.placed here.there c.in_ok-run.ensures.checked (not_false (nat_lt MAX_FILE (length (bytes_of (change_items (attributed_at key bytes layer.items found.position) holder.position document)))) (sym answered ∙ c.if-not-fits_with.true)))
 
 pub returns : goal.returns
 returns c =
@@ -75,8 +75,8 @@ returns c =
     let are : AreFound key bytes layer c.look_for-ordinals.result = subst (λ l. AreFound key bytes l c.look_for-ordinals.result) c.view.ensures (subst (λ b. AreFound key b (layer_seen c.view.result) c.look_for-ordinals.result) (c.as_slice.ensures ∙ c.in_ok-value.ensures.bytes) c.look_for-ordinals.ensures) in
     let gives = c.in_ok-run.ensures.gives bytes are in
     let entries = c.in_ok-entries.ensures ∙ ap (λ b. entries_for key b c.look_for-ordinals.result) c.in_ok-value.ensures.bytes ∙ entries_lacked key bytes layer c.look_for-ordinals.result are in
-    let told = c.fits_with.ensures (with_attribute key bytes layer.items) (sym gives.makes)
+    let answered = c.fits_with.ensures (with_attribute key bytes layer.items) (sym gives.makes)
     ∙ ap (λ more. not (nat_lt MAX_FILE (length (bytes_of (change_items (λ items. change_at (in_feature (with_attribute key bytes layer.items)) found.position items ++ more) holder.position document))))) (ap (map layer_item_of) c.as_slice-2.ensures.value ∙ entries) in
-    attribute_set choice key value document holder.ordinal holder.position layer is.meant is.placed is.there (feature_choice_of c.args.feature.now) found.ordinal found.position feature here.meant here.placed here.there c.in_ok-run.ensures.checked
-    (not_true (nat_lt MAX_FILE (length (bytes_of (change_items (attributed_at key bytes layer.items found.position) holder.position document)))) (sym told ∙ c.if-not-fits_with.false)) _ gives _
+    attribute_set choice key value document holder.ordinal holder.position layer is.selects is.placed is.there (feature_choice_of c.args.feature.now) found.ordinal found.position feature here.selects here.placed here.there c.in_ok-run.ensures.checked
+    (not_true (nat_lt MAX_FILE (length (bytes_of (change_items (attributed_at key bytes layer.items found.position) holder.position document)))) (sym answered ∙ c.if-not-fits_with.false)) _ gives _
     (c.in_ok-steps_of.ensures ∙ ap (λ list. map (in_feature_at holder.position found.position) (cons_option (option_map (λ run. seen field_of (splice_of run)) c.in_ok-run.run') []) ++ behind_all holder.position layer.items list) entries)

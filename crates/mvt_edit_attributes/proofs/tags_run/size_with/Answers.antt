@@ -3,12 +3,12 @@ use Rattle.std.proofs.lemmas.List.Folds.{flat_map-map}
 use Rattle.mvt_document.specs.declared.TheConstants.{MAX_FILE}
 use Rattle.mvt_document.specs.Stands.{field_of}
 use Rattle.mvt_document.specs.Wire.{field_bytes}
-use Rattle.mvt_document.proofs.Sizes.{told_so}
+use Rattle.mvt_document.proofs.Sizes.{same_size}
 use Rattle.mvt_change.proofs.Resized.{exchanged_size}
 use Rattle.mvt_edit_attributes.proofs.tags_run.size_with.Goals as goal
 
 pub returns-in-None : goal.returns-in-None
-returns-in-None c = rw c.in-None.is (told_so MAX_FILE c.size_of_all.result _ _ (ap length (sym (flat_map-map field_bytes field_of c.args.fields.now))) c.size_of_all.ensures)
+returns-in-None c = rw c.in-None.is (same_size MAX_FILE c.size_of_all.result _ _ (ap length (sym (flat_map-map field_bytes field_of c.args.fields.now))) c.size_of_all.ensures)
 
 pub returns-in_err-beside-in-Some : goal.returns-in_err-beside-in-Some
 returns-in_err-beside-in-Some c =
@@ -28,4 +28,4 @@ returns-in_ok-put-in-Some c =
     let run = c.in-Some.run' in
     let whole = exchanged_size field_bytes field_of run.index run.take run.put.items c.args.fields.now in
     let put = rw c.as_slice.ensures.value at c.in_ok-put-in-Some.ensures in
-    rw c.in-Some.is (told_so MAX_FILE c.sum_within.result _ _ (omega (arith, whole, c.in_ok-beside-in-Some.ensures.1, put.1)) c.sum_within.ensures)
+    rw c.in-Some.is (same_size MAX_FILE c.sum_within.result _ _ (omega (arith, whole, c.in_ok-beside-in-Some.ensures.1, put.1)) c.sum_within.ensures)

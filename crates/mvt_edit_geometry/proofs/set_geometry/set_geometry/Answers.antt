@@ -23,7 +23,7 @@ pub returns-in_err-found : goal.returns-in_err-found
 returns-in_err-found c =
     let holder = c.in_ok-holder.holder in
     let is = c.in_ok-holder.ensures.found in
-    let refused = no_feature_drawn (layer_choice_of c.args.choice.now) c.args.geometry.now (document_of c.args.document.now) holder.ordinal holder.position (layer_of holder.layer.now) is.meant is.placed is.there (feature_choice_of c.args.feature.now) _ c.in_err-found.ensures.refused in
+    let refused = no_feature_drawn (layer_choice_of c.args.choice.now) c.args.geometry.now (document_of c.args.document.now) holder.ordinal holder.position (layer_of holder.layer.now) is.selects is.placed is.there (feature_choice_of c.args.feature.now) _ c.in_err-found.ensures.refused in
     let passed = err_from_is_err_and c.from_residual-in_err-found.result c.from_residual-in_err-found.ensures.1 in
     rw (passed.1, passed.2) (inr refused)
 
@@ -34,7 +34,7 @@ returns-in_err-drawing c =
     let found = c.in_ok-found.found in
     let here = c.in_ok-found.ensures.found in
     let passed = err_from_is_err_and c.from_residual-in_err-drawing.result c.from_residual-in_err-drawing.ensures.1 in
-    rw (passed.1, passed.2) (drawing_refused (layer_choice_of c.args.choice.now) c.args.geometry.now (document_of c.args.document.now) holder.ordinal holder.position (layer_of holder.layer.now) is.meant is.placed is.there (feature_choice_of c.args.feature.now) found.ordinal found.position (feature_of found.feature.now) here.meant here.placed here.there c.in_err-drawing.field-0.0 (λ same. c.in_err-drawing.ensures.out_of_range (ap (λ error. Err error) same)))
+    rw (passed.1, passed.2) (drawing_refused (layer_choice_of c.args.choice.now) c.args.geometry.now (document_of c.args.document.now) holder.ordinal holder.position (layer_of holder.layer.now) is.selects is.placed is.there (feature_choice_of c.args.feature.now) found.ordinal found.position (feature_of found.feature.now) here.selects here.placed here.there c.in_err-drawing.field-0.0 (λ same. c.in_err-drawing.ensures.out_of_range (ap (λ error. Err error) same)))
 
 pub size_drawn-size-requires : goal.size_drawn-size-requires
 size_drawn-size-requires c = let within = c.in_ok-drawing.ensures.kind.can.within in omega (arith, within, length-map c.fields-fields.result.now field_of)
@@ -54,9 +54,9 @@ returns-then-not-fits_with_fields c =
     let feature = feature_of found.feature.now in
     let kind = c.in_ok-drawing.drawing.kind in
     let size = drawn_size geometry feature.fields (map field_of c.fields-fields.result.now) kind.index kind.take (map field_of kind.put.items) (field_of c.in_ok-drawing.drawing.field) c.size_drawn-size.result (ap (map field_of) c.fields-fields.ensures) c.in_ok-drawing.ensures.kind.makes c.in_ok-drawing.ensures.field c.size_drawn-size.ensures in
-    let told = c.fits_with_fields.ensures (with_geometry geometry) size in
-    inr (drawn_too_large (layer_choice_of c.args.choice.now) geometry document holder.ordinal holder.position layer is.meant is.placed is.there (feature_choice_of c.args.feature.now) found.ordinal found.position feature here.meant here.placed here.there c.in_ok-drawing.ensures.in_range
-    (not-false (nat_lt MAX_FILE (length (bytes_of (change_fields (with_geometry geometry) holder.position found.position document)))) (sym told ∙ c.if-not-fits_with_fields.true)))
+    let answered = c.fits_with_fields.ensures (with_geometry geometry) size in
+    inr (drawn_too_large (layer_choice_of c.args.choice.now) geometry document holder.ordinal holder.position layer is.selects is.placed is.there (feature_choice_of c.args.feature.now) found.ordinal found.position feature here.selects here.placed here.there c.in_ok-drawing.ensures.in_range
+    (not-false (nat_lt MAX_FILE (length (bytes_of (change_fields (with_geometry geometry) holder.position found.position document)))) (sym answered ∙ c.if-not-fits_with_fields.true)))
 
 pub returns : goal.returns
 returns c =
@@ -72,10 +72,10 @@ returns c =
     let seen = ap (map field_of) c.fields-fields.ensures in
     let field = c.in_ok-drawing.ensures.field in
     let size = drawn_size geometry feature.fields (map field_of c.fields-fields.result.now) kind.index kind.take (map field_of kind.put.items) (field_of c.in_ok-drawing.drawing.field) c.size_drawn-size.result seen c.in_ok-drawing.ensures.kind.makes field c.size_drawn-size.ensures in
-    let told = c.fits_with_fields.ensures (with_geometry geometry) size in
+    let answered = c.fits_with_fields.ensures (with_geometry geometry) size in
     let replaces = subst (λ list. ReplacesLast IsField field_bytes is_kind list (with_kind (kind_number geometry.kind) list) kind.index kind.take (map field_of kind.put.items)) seen c.in_ok-drawing.ensures.kind in
     let one : length (map field_of kind.put.items) ≡ 1 = length-map kind.put.items field_of ∙ c.in_ok-drawing.ensures.one in
-    geometry_set (layer_choice_of c.args.choice.now) geometry document holder.ordinal holder.position layer is.meant is.placed is.there (feature_choice_of c.args.feature.now) found.ordinal found.position feature here.meant here.placed here.there c.in_ok-drawing.ensures.in_range
-    (not-true (nat_lt MAX_FILE (length (bytes_of (change_fields (with_geometry geometry) holder.position found.position document)))) (sym told ∙ c.if-not-fits_with_fields.false))
+    geometry_set (layer_choice_of c.args.choice.now) geometry document holder.ordinal holder.position layer is.selects is.placed is.there (feature_choice_of c.args.feature.now) found.ordinal found.position feature here.selects here.placed here.there c.in_ok-drawing.ensures.in_range
+    (not-true (nat_lt MAX_FILE (length (bytes_of (change_fields (with_geometry geometry) holder.position found.position document)))) (sym answered ∙ c.if-not-fits_with_fields.false))
     kind.index kind.take (map field_of kind.put.items) replaces one (drawings_heavy found.feature.now.fields.items) _
     (c.in_ok-steps_of.ensures ∙ ap (λ field. FeatureStep holder.position found.position kind.index kind.take (map field_of kind.put.items) ∷ map (in_feature_at holder.position found.position) (once_splices (map is_geometry_field feature.fields) field (length feature.fields - kind.take + 1))) field)

@@ -1,6 +1,6 @@
 use Rattle.std.proofs.Common.{◌+◌, ap, arith}
 use Rattle.mvt_document.specs.declared.TheConstants.{MAX_FILE}
-use Rattle.mvt_document.proofs.Sizes.{told_so}
+use Rattle.mvt_document.proofs.Sizes.{same_size}
 use Rattle.mvt_edit_geometry.proofs.Drawn.{all_behind, drawn_weighs, others_weigh}
 use Rattle.mvt_edit_geometry.proofs.set_geometry.size_drawn.Goals as goal
 
@@ -34,4 +34,4 @@ returns c =
     let second = c.in_ok-size-2.ensures.1 in
     let third = rw c.as_slice.ensures.value at c.in_ok-size-3.ensures.1 in
     let rest = ap others_weigh (all_behind (kind.index + kind.take) c.args.fields.now) in
-    told_so MAX_FILE c.and_others-3.result _ _ (omega (arith, whole, first, second, third, rest)) c.and_others-3.ensures
+    same_size MAX_FILE c.and_others-3.result _ _ (omega (arith, whole, first, second, third, rest)) c.and_others-3.ensures

@@ -22,7 +22,7 @@ returns c =
     let seen_fields = c.fields-fields.result.now in
     let done = c.in_ok-put_once.ensures (λ s. at (seen field_of s)) (λ run made says. search rules) in
     let first = ap (map step_of) (c.in_ok-push.ensures.items ∙ ap (λ list. list ++ c.in_feature.result ∷ []) c.new-steps.ensures.items) ∙ ap (λ step. step ∷ []) c.in_feature.ensures in
-    let told = picked_seen field_of is_geometry_field _ (λ field is says. search rules) seen_fields done.0 done.1 in
+    let answered = picked_seen field_of is_geometry_field _ (λ field is says. search rules) seen_fields done.0 done.1 in
     let end_seen = length seen_fields - c.args.drawing.kind.take + 1 in
     let splices = once_splices done.0 c.args.drawing.field end_seen in
     c.new.ensures.change
@@ -31,7 +31,7 @@ returns c =
     ∙ ap (λ rest. kind ∷ rest) (
     sym (map-map at (seen field_of) splices)
     ∙ ap (map at) (once_splices_seen field_of done.0 c.args.drawing.field end_seen)
-    ∙ ap (λ picked. map at (once_splices picked drawing end_seen)) told
+    ∙ ap (λ picked. map at (once_splices picked drawing end_seen)) answered
     ∙ ap (λ list. map at (once_splices (map is_geometry_field (map field_of list)) drawing (length list - c.args.drawing.kind.take + 1))) c.fields-fields.ensures
     ∙ ap (λ n. map at (once_splices (map is_geometry_field (map field_of fields)) drawing (n - c.args.drawing.kind.take + 1))) (sym (length-map fields field_of))
     )

@@ -24,7 +24,7 @@ pub returns-in_err-found : goal.returns-in_err-found
 returns-in_err-found c =
     let holder = c.in_ok-holder.holder in
     let is = c.in_ok-holder.ensures.found in
-    let refused = no_feature_moves (layer_choice_of c.args.choice.now) c.args.dx c.args.dy (document_of c.args.document.now) holder.ordinal holder.position (layer_of holder.layer.now) is.meant is.placed is.there (feature_choice_of c.args.feature.now) _ c.in_err-found.ensures.refused in
+    let refused = no_feature_moves (layer_choice_of c.args.choice.now) c.args.dx c.args.dy (document_of c.args.document.now) holder.ordinal holder.position (layer_of holder.layer.now) is.selects is.placed is.there (feature_choice_of c.args.feature.now) _ c.in_err-found.ensures.refused in
     let passed = err_from_is_err_and c.from_residual-in_err-found.result c.from_residual-in_err-found.ensures.1 in
     rw (passed.1, passed.2) (inr refused)
 
@@ -42,8 +42,8 @@ returns-in_err-decisions c =
       | inl memory ↦ inl memory
       | inr other ↦ (
           elim other [
-            | inl bad ↦ inr (not_drawn (layer_choice_of c.args.choice.now) c.args.dx c.args.dy (document_of c.args.document.now) holder.ordinal holder.position (layer_of holder.layer.now) is.meant is.placed is.there (feature_choice_of c.args.feature.now) found.ordinal found.position feature here.meant here.placed here.there bad.1 ∙ ap Err (sym bad.0))
-            | inr far ↦ inr (too_far (layer_choice_of c.args.choice.now) c.args.dx c.args.dy (document_of c.args.document.now) holder.ordinal holder.position (layer_of holder.layer.now) is.meant is.placed is.there (feature_choice_of c.args.feature.now) found.ordinal found.position feature here.meant here.placed here.there far.1 far.2 ∙ ap Err (sym far.0))
+            | inl bad ↦ inr (not_drawn (layer_choice_of c.args.choice.now) c.args.dx c.args.dy (document_of c.args.document.now) holder.ordinal holder.position (layer_of holder.layer.now) is.selects is.placed is.there (feature_choice_of c.args.feature.now) found.ordinal found.position feature here.selects here.placed here.there bad.1 ∙ ap Err (sym bad.0))
+            | inr far ↦ inr (too_far (layer_choice_of c.args.choice.now) c.args.dx c.args.dy (document_of c.args.document.now) holder.ordinal holder.position (layer_of holder.layer.now) is.selects is.placed is.there (feature_choice_of c.args.feature.now) found.ordinal found.position feature here.selects here.placed here.there far.1 far.2 ∙ ap Err (sym far.0))
           ]
           )
     ])
@@ -62,8 +62,8 @@ returns-then-not-fits_with_fields c =
     let can = rw (to_z-of_z w64 dx c.ranges.dx, to_z-of_z w64 dy c.ranges.dy) at c.in_ok-decisions.ensures.able in
     let decided = rw (to_z-of_z w64 dx c.ranges.dx, to_z-of_z w64 dy c.ranges.dy) at c.in_ok-decisions.ensures.decided in
     let size = subst (λ decisions. IsFileSize c.in_ok-steps.fields (length (flat_map field_bytes (renumber 4 decisions feature.fields)))) decided c.in_ok-steps.ensures.size in
-    let told = c.fits_with_fields.ensures (shifted dx dy) size in
-    inr (shift_too_large (layer_choice_of c.args.choice.now) dx dy document holder.ordinal holder.position layer is.meant is.placed is.there (feature_choice_of c.args.feature.now) found.ordinal found.position feature here.meant here.placed here.there c.in_ok-decisions.ensures.drawn can (not-false (nat_lt MAX_FILE (length (bytes_of (change_fields (shifted dx dy) holder.position found.position document)))) (sym told ∙ c.if-not-fits_with_fields.true)))
+    let answered = c.fits_with_fields.ensures (shifted dx dy) size in
+    inr (shift_too_large (layer_choice_of c.args.choice.now) dx dy document holder.ordinal holder.position layer is.selects is.placed is.there (feature_choice_of c.args.feature.now) found.ordinal found.position feature here.selects here.placed here.there c.in_ok-decisions.ensures.drawn can (not-false (nat_lt MAX_FILE (length (bytes_of (change_fields (shifted dx dy) holder.position found.position document)))) (sym answered ∙ c.if-not-fits_with_fields.true)))
 
 pub returns : goal.returns
 returns c =
@@ -80,8 +80,8 @@ returns c =
     let can = rw (to_z-of_z w64 dx c.ranges.dx, to_z-of_z w64 dy c.ranges.dy) at c.in_ok-decisions.ensures.able in
     let decided = rw (to_z-of_z w64 dx c.ranges.dx, to_z-of_z w64 dy c.ranges.dy) at c.in_ok-decisions.ensures.decided in
     let size = subst (λ decisions. IsFileSize c.in_ok-steps.fields (length (flat_map field_bytes (renumber 4 decisions feature.fields)))) decided c.in_ok-steps.ensures.size in
-    let told = c.fits_with_fields.ensures (shifted dx dy) size in
+    let answered = c.fits_with_fields.ensures (shifted dx dy) size in
     let left = fields_left 4 (moves dx dy feature.fields) found.feature.now.fields.items (moves_short dx dy feature.fields drawn can) in
-    shift_made (layer_choice_of c.args.choice.now) dx dy document holder.ordinal holder.position layer is.meant is.placed is.there (feature_choice_of c.args.feature.now) found.ordinal found.position feature here.meant here.placed here.there drawn can
-    (not-true (nat_lt MAX_FILE (length (bytes_of (change_fields (shifted dx dy) holder.position found.position document)))) (sym told ∙ c.if-not-fits_with_fields.false)) left _
+    shift_made (layer_choice_of c.args.choice.now) dx dy document holder.ordinal holder.position layer is.selects is.placed is.there (feature_choice_of c.args.feature.now) found.ordinal found.position feature here.selects here.placed here.there drawn can
+    (not-true (nat_lt MAX_FILE (length (bytes_of (change_fields (shifted dx dy) holder.position found.position document)))) (sym answered ∙ c.if-not-fits_with_fields.false)) left _
     (c.new.ensures.change ∙ c.in_ok-steps.ensures.steps ∙ ap (λ decisions. map (in_feature_at holder.position found.position) (splices_of (field_fates 4 decisions feature.fields))) decided)

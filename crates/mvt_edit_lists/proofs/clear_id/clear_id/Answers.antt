@@ -24,8 +24,8 @@ returns c =
     let layer = c.in_ok-holder.holder.position in
     let item = c.in_ok-found.found.position in
     let done = c.in_ok-carry_out.ensures (λ s. FeatureStep layer item s.index s.taken (map field_of s.put)) (λ run made says. search rules) in
-    ids_go (layer_choice_of c.args.choice.now) (document_of c.args.document.now) c.in_ok-holder.holder.ordinal layer (layer_of c.in_ok-holder.holder.layer.now) holder.meant holder.placed holder.there
-    (feature_choice_of c.args.feature.now) c.in_ok-found.found.ordinal item (feature_of c.in_ok-found.found.feature.now) found.meant found.placed found.there _
+    ids_go (layer_choice_of c.args.choice.now) (document_of c.args.document.now) c.in_ok-holder.holder.ordinal layer (layer_of c.in_ok-holder.holder.layer.now) holder.selects holder.placed holder.there
+    (feature_choice_of c.args.feature.now) c.in_ok-found.found.ordinal item (feature_of c.in_ok-found.found.feature.now) found.selects found.placed found.there _
     (heavy field_bytes field_of is_id id_has_bytes fields)
     (c.new.ensures.change
     ∙ alone step_of c.new-steps.result.items _ _ c.new-steps.ensures.items done.2.behind
@@ -36,6 +36,6 @@ returns c =
 pub returns-in_err-found : goal.returns-in_err-found
 returns-in_err-found c =
     let holder = c.in_ok-holder.ensures.found in
-    let refused = no_ids_go (layer_choice_of c.args.choice.now) (document_of c.args.document.now) c.in_ok-holder.holder.ordinal c.in_ok-holder.holder.position (layer_of c.in_ok-holder.holder.layer.now) holder.meant holder.placed holder.there (feature_choice_of c.args.feature.now) _ c.in_err-found.ensures.refused in
+    let refused = no_ids_go (layer_choice_of c.args.choice.now) (document_of c.args.document.now) c.in_ok-holder.holder.ordinal c.in_ok-holder.holder.position (layer_of c.in_ok-holder.holder.layer.now) holder.selects holder.placed holder.there (feature_choice_of c.args.feature.now) _ c.in_err-found.ensures.refused in
     let passed = err_from_is_err_and c.from_residual-in_err-found.result c.from_residual-in_err-found.ensures.1 in
     rw (passed.1, passed.2) (inr refused)

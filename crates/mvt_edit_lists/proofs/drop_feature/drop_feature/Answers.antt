@@ -9,12 +9,12 @@ pub returns : goal.returns
 returns c =
     let holder = c.in_ok-holder.ensures.found in
     let found = c.in_ok-found.ensures.found in
-    feature_goes (layer_choice_of c.args.choice.now) (document_of c.args.document.now) c.in_ok-holder.holder.ordinal c.in_ok-holder.holder.position (layer_of c.in_ok-holder.holder.layer.now) holder.meant holder.placed holder.there
-    (feature_choice_of c.args.feature.now) c.in_ok-found.found.ordinal c.in_ok-found.found.position (feature_of c.in_ok-found.found.feature.now) found.meant found.placed found.there _ c.in_ok-item_out.ensures
+    feature_goes (layer_choice_of c.args.choice.now) (document_of c.args.document.now) c.in_ok-holder.holder.ordinal c.in_ok-holder.holder.position (layer_of c.in_ok-holder.holder.layer.now) holder.selects holder.placed holder.there
+    (feature_choice_of c.args.feature.now) c.in_ok-found.found.ordinal c.in_ok-found.found.position (feature_of c.in_ok-found.found.feature.now) found.selects found.placed found.there _ c.in_ok-item_out.ensures
 
 pub returns-in_err-found : goal.returns-in_err-found
 returns-in_err-found c =
     let holder = c.in_ok-holder.ensures.found in
-    let refused = no_feature_goes (layer_choice_of c.args.choice.now) (document_of c.args.document.now) c.in_ok-holder.holder.ordinal c.in_ok-holder.holder.position (layer_of c.in_ok-holder.holder.layer.now) holder.meant holder.placed holder.there (feature_choice_of c.args.feature.now) _ c.in_err-found.ensures.refused in
+    let refused = no_feature_goes (layer_choice_of c.args.choice.now) (document_of c.args.document.now) c.in_ok-holder.holder.ordinal c.in_ok-holder.holder.position (layer_of c.in_ok-holder.holder.layer.now) holder.selects holder.placed holder.there (feature_choice_of c.args.feature.now) _ c.in_err-found.ensures.refused in
     let passed = err_from_is_err_and c.from_residual-in_err-found.result c.from_residual-in_err-found.ensures.1 in
     rw (passed.1, passed.2) (inr refused)

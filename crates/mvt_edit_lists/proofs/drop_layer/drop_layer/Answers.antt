@@ -6,4 +6,4 @@ use Rattle.mvt_edit_lists.proofs.drop_layer.drop_layer.Goals as goal
 pub returns : goal.returns
 returns c =
     let found = c.in_ok-found.ensures.found in
-    layer_goes (layer_choice_of c.args.choice.now) (document_of c.args.document.now) c.in_ok-found.found.ordinal c.in_ok-found.found.position (layer_of c.in_ok-found.found.layer.now) found.meant found.placed found.there _ c.in_ok-item_out.ensures
+    layer_goes (layer_choice_of c.args.choice.now) (document_of c.args.document.now) c.in_ok-found.found.ordinal c.in_ok-found.found.position (layer_of c.in_ok-found.found.layer.now) found.selects found.placed found.there _ c.in_ok-item_out.ensures

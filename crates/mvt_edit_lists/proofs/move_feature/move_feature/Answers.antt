@@ -11,7 +11,7 @@ pub returns-in_err-from : goal.returns-in_err-from
 returns-in_err-from c =
     let found = c.in_ok-found.ensures.found in
     let passed = err_from_is_err_and c.from_residual-in_err-from.result c.from_residual-in_err-from.ensures.1 in
-    rw (passed.1, passed.2) (inr (feature_refused (layer_choice_of c.args.choice.now) c.in_ok-found.found.ordinal c.in_ok-found.found.position (document_of c.args.document.now) (layer_of c.in_ok-found.found.layer.now) found.meant found.placed found.there
+    rw (passed.1, passed.2) (inr (feature_refused (layer_choice_of c.args.choice.now) c.in_ok-found.found.ordinal c.in_ok-found.found.position (document_of c.args.document.now) (layer_of c.in_ok-found.found.layer.now) found.selects found.placed found.there
     (feature_choice_of c.args.feature.now) c.args.index c.in_err-from.field-0.0 c.in_err-from.ensures.refused))
 
 pub returns-in_err-to : goal.returns-in_err-to
@@ -21,13 +21,13 @@ returns-in_err-to c =
     let none = none_refused c.place_of_feature.result c.ok_or.result BadPlace c.in_err-to.field-0.0 c.ok_or.ensures.value c.in_err-to.was in
     let past = sym c.place_of_feature.ensures ∙ none.0 in
     let passed = err_from_is_err_and c.from_residual-in_err-to.result c.from_residual-in_err-to.ensures.1 in
-    rw (passed.1, passed.2, none.1) (inr (feature_past (layer_choice_of c.args.choice.now) c.in_ok-found.found.ordinal c.in_ok-found.found.position (document_of c.args.document.now) (layer_of c.in_ok-found.found.layer.now) found.meant found.placed found.there
-    (feature_choice_of c.args.feature.now) c.args.index c.in_ok-from.field-0.ordinal moving.meant past))
+    rw (passed.1, passed.2, none.1) (inr (feature_past (layer_choice_of c.args.choice.now) c.in_ok-found.found.ordinal c.in_ok-found.found.position (document_of c.args.document.now) (layer_of c.in_ok-found.found.layer.now) found.selects found.placed found.there
+    (feature_choice_of c.args.feature.now) c.args.index c.in_ok-from.field-0.ordinal moving.selects past))
 
 pub returns : goal.returns
 returns c =
     let found = c.in_ok-found.ensures.found in
     let moving = c.in_ok-from.ensures.found in
     let there = sym c.place_of_feature.ensures ∙ some_found c.place_of_feature.result c.ok_or.result BadPlace c.in_ok-to.to c.ok_or.ensures.value c.in_ok-to.was in
-    rw c.in_ok-one_step.ensures (feature_moves (layer_choice_of c.args.choice.now) c.in_ok-found.found.ordinal c.in_ok-found.found.position (document_of c.args.document.now) (layer_of c.in_ok-found.found.layer.now) found.meant found.placed found.there
-    (feature_choice_of c.args.feature.now) c.args.index c.in_ok-from.field-0.ordinal c.in_ok-from.field-0.position c.in_ok-to.to moving.meant moving.placed there)
+    rw c.in_ok-one_step.ensures (feature_moves (layer_choice_of c.args.choice.now) c.in_ok-found.found.ordinal c.in_ok-found.found.position (document_of c.args.document.now) (layer_of c.in_ok-found.found.layer.now) found.selects found.placed found.there
+    (feature_choice_of c.args.feature.now) c.args.index c.in_ok-from.field-0.ordinal c.in_ok-from.field-0.position c.in_ok-to.to moving.selects moving.placed there)

@@ -13,10 +13,10 @@ returns-in_err-to c =
     let none = none_refused c.place_of_layer.result c.ok_or.result BadPlace c.in_err-to.field-0.0 c.ok_or.ensures.value c.in_err-to.was in
     let past = sym c.place_of_layer.ensures ∙ none.0 in
     let passed = err_from_is_err_and c.from_residual-in_err-to.result c.from_residual-in_err-to.ensures.1 in
-    rw (passed.1, passed.2, none.1) (inr (layer_past (layer_choice_of c.args.choice.now) c.args.index c.in_ok-from.field-0.ordinal (document_of c.args.document.now) moving.meant past))
+    rw (passed.1, passed.2, none.1) (inr (layer_past (layer_choice_of c.args.choice.now) c.args.index c.in_ok-from.field-0.ordinal (document_of c.args.document.now) moving.selects past))
 
 pub returns : goal.returns
 returns c =
     let moving = c.in_ok-from.ensures.found in
     let there = sym c.place_of_layer.ensures ∙ some_found c.place_of_layer.result c.ok_or.result BadPlace c.in_ok-to.to c.ok_or.ensures.value c.in_ok-to.was in
-    rw c.in_ok-one_step.ensures (layer_moves (layer_choice_of c.args.choice.now) c.args.index c.in_ok-from.field-0.ordinal c.in_ok-from.field-0.position c.in_ok-to.to (document_of c.args.document.now) moving.meant moving.placed there)
+    rw c.in_ok-one_step.ensures (layer_moves (layer_choice_of c.args.choice.now) c.args.index c.in_ok-from.field-0.ordinal c.in_ok-from.field-0.position c.in_ok-to.to (document_of c.args.document.now) moving.selects moving.placed there)

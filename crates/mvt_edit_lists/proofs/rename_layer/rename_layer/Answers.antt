@@ -16,5 +16,5 @@ returns c =
     let free = c.in_ok-found.ensures.free in
     let limited = c.one_step_within_limit.ensures in
     prepared_within_limit (RenameLayer choice c.args.name.now) document step c.one_step_within_limit.result limited.made limited.within limited.refused
-    (rename_prepared choice c.args.name.now document found.ordinal is.meant free found.position (layer_of found.layer.now) is.placed is.there step c.in_ok-step.ensures)
-    (rename_too_large choice c.args.name.now document found.ordinal is.meant free found.position (layer_of found.layer.now) is.placed is.there step c.in_ok-step.ensures)
+    (rename_prepared choice c.args.name.now document found.ordinal is.selects free found.position (layer_of found.layer.now) is.placed is.there step c.in_ok-step.ensures)
+    (rename_too_large choice c.args.name.now document found.ordinal is.selects free found.position (layer_of found.layer.now) is.placed is.there step c.in_ok-step.ensures)

@@ -20,8 +20,8 @@ returns c =
     let is = c.in_ok-found.ensures.found in
     let limited = c.one_step_within_limit.ensures in
     prepared_within_limit (SetId choice feature_choice c.args.id) document step c.one_step_within_limit.result limited.made limited.within limited.refused
-    (id_prepared choice feature_choice c.args.id document holder.ordinal holder.position (layer_of holder.layer.now) holds.meant holds.placed holds.there found.ordinal found.position (feature_of found.feature.now) is.meant is.placed is.there step c.in_ok-step.ensures)
-    (id_too_large choice feature_choice c.args.id document holder.ordinal holder.position (layer_of holder.layer.now) holds.meant holds.placed holds.there found.ordinal found.position (feature_of found.feature.now) is.meant is.placed is.there step c.in_ok-step.ensures)
+    (id_prepared choice feature_choice c.args.id document holder.ordinal holder.position (layer_of holder.layer.now) holds.selects holds.placed holds.there found.ordinal found.position (feature_of found.feature.now) is.selects is.placed is.there step c.in_ok-step.ensures)
+    (id_too_large choice feature_choice c.args.id document holder.ordinal holder.position (layer_of holder.layer.now) holds.selects holds.placed holds.there found.ordinal found.position (feature_of found.feature.now) is.selects is.placed is.there step c.in_ok-step.ensures)
 
 pub returns-in_err-found : goal.returns-in_err-found
 returns-in_err-found c =
@@ -29,4 +29,4 @@ returns-in_err-found c =
     let holder = c.in_ok-holder.holder in
     let holds = c.in_ok-holder.ensures.found in
     let same : out_of_memory.0 ≡ c.in_err-found.field-0.0 = out_of_memory.2 in
-    rw (out_of_memory.1, same) (inr (feature_refused (layer_choice_of c.args.choice.now) (feature_choice_of c.args.feature.now) c.args.id (document_of c.args.document.now) holder.ordinal holder.position (layer_of holder.layer.now) holds.meant holds.placed holds.there c.in_err-found.field-0.0 c.in_err-found.ensures.refused))
+    rw (out_of_memory.1, same) (inr (feature_refused (layer_choice_of c.args.choice.now) (feature_choice_of c.args.feature.now) c.args.id (document_of c.args.document.now) holder.ordinal holder.position (layer_of holder.layer.now) holds.selects holds.placed holds.there c.in_err-found.field-0.0 c.in_err-found.ensures.refused))

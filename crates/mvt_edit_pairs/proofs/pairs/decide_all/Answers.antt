@@ -16,7 +16,7 @@ loop-tags-init g c =
     let read = c.into_iter-tags-iterator.ensures.into_iter_gives ∙ c.tag_pairs-tags-items.ensures in
     let left = plain_pairs c.into_iter-tags-iterator.result in
     record {
-      decided = λ said tells. record {
+      decided = λ said means. record {
         decided = ap (λ (list : List (Option ℕ)). option_map (decided_behind said list) left) c.clear.ensures.items ∙ decided_none said left ∙ ap (λ found. option_map (decided_by said) (plain_pairs found)) read;
         counted = counted_none said left ∙ ap (λ found. option_map (counted_by said) (plain_pairs found)) read;
       };
@@ -40,9 +40,9 @@ loop-tags-preserved g c =
       | inr other ↦ (let none : c.from.result ≡ 0 = rw other at c.from.ensures in rw other none)
     ] in
     record {
-      decided = λ said tells.
-          let is : made ≡ said pair = tells found.pair made (says g.D.Fn c.decide-key.ensures refl) in
-          let so_far = c.loop-tags.invariant.decided said tells in
+      decided = λ said means.
+          let is : made ≡ said pair = means found.pair made (says g.D.Fn c.decide-key.ensures refl) in
+          let so_far = c.loop-tags.invariant.decided said means in
           record {
             decided = ap (λ (list : List (Option ℕ)). option_map (decided_behind said list) rest) (pushed ∙ ap (λ (d : Option ℕ × Option ℕ × Bool). front ++ d.0 ∷ d.1 ∷ []) is)
                 ∙ sym (decided_more said front pair rest)
@@ -68,8 +68,8 @@ returns-in_err-pair-clause-bad_tags g c = λ bad.
     none_is _ (sym c.loop-tags.invariant.read ∙ ap (λ left. is_some (plain_pairs left)) read)
 
 pub returns-clause-decided : goal.returns-clause-decided
-returns-clause-decided g c = λ said tells.
-    let so_far = c.loop-tags.invariant.decided said tells in
+returns-clause-decided g c = λ said means.
+    let so_far = c.loop-tags.invariant.decided said means in
     let none = c.in-None.ensures.steps.0 in
     let decisions = c.loop-tags.decisions.items in
     let count = c.loop-tags.count in

@@ -10,7 +10,7 @@ use Rattle.mvt_layers.specs.Seen.{found_layer_seen}
 use Rattle.mvt_select.specs.Found.{layers_left}
 use Rattle.mvt_edit_pairs.proofs.StepsPassed.{steps_more}
 use Rattle.mvt_edit_pools.specs.Pools.{compacting, keys_stay, values_stay}
-use Rattle.mvt_edit_pools.proofs.Compacted.{compacts, layer_refused, none_meant, readable_behind}
+use Rattle.mvt_edit_pools.proofs.Compacted.{compacts, layer_refused, none_selected, readable_behind}
 use Rattle.mvt_edit_pools.proofs.compact.compact.Goals as goal
 
 pub returns : goal.returns
@@ -31,7 +31,7 @@ returns c =
 pub returns-in_err-layers : goal.returns-in_err-layers
 returns-in_err-layers c =
     let passed = err_from_is_err_and c.from_residual.result c.from_residual.ensures.1 in
-    rw (passed.1, passed.2) (inr (none_meant c.args.pools (layers_choice_of c.args.choice.now) (document_of c.args.document.now) _ c.in_err-layers.ensures.refused))
+    rw (passed.1, passed.2) (inr (none_selected c.args.pools (layers_choice_of c.args.choice.now) (document_of c.args.document.now) _ c.in_err-layers.ensures.refused))
 
 pub loop-found-preserved : goal.loop-found-preserved
 loop-found-preserved c =

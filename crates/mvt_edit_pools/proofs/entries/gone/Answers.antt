@@ -10,12 +10,12 @@ loop-index-preserved c =
     let index = c.loop-index.index in
     let front = c.loop-index.gone.items in
     let rest = map layer_item_of (drop (index + 1) items) in
-    let told = c.item_goes-goes.result in
+    let goes = c.item_goes-goes.result in
     record {
-      told = ap (λ list. list ++ gone_by told.1.now told.2.now rest) c.push_reserved.ensures.items
-          ∙ append_assoc front (told.0 ∷ []) (gone_by told.1.now told.2.now rest)
+      so_far = ap (λ list. list ++ gone_by goes.1.now goes.2.now rest) c.push_reserved.ensures.items
+          ∙ append_assoc front (goes.0 ∷ []) (gone_by goes.1.now goes.2.now rest)
           ∙ ap (λ list. front ++ list) (sym c.item_goes-goes.ensures)
-          ∙ c.loop-index.invariant.told;
+          ∙ c.loop-index.invariant.so_far;
       put = omega (arith, c.loop-index.invariant.put, c.push_reserved.ensures.len);
       room = omega (arith, c.loop-index.invariant.room, c.push_reserved.ensures.capacity);
     }
@@ -27,5 +27,5 @@ returns c =
     let front = c.loop-index.gone.items in
     sym (append-nil front)
     ∙ ap (λ list. front ++ gone_by c.loop-index.keys_left.now c.loop-index.values_left.now (map layer_item_of list)) (sym (drop_all c.loop-index.index items all))
-    ∙ c.loop-index.invariant.told
+    ∙ c.loop-index.invariant.so_far
     ∙ ap (λ listed. gone_by c.args.keys.now c.args.values.now (map layer_item_of listed)) c.as_slice-items.ensures

@@ -1,4 +1,4 @@
-use Rattle.mvt_edit_pools.proofs.Told.{none_before, ones_from}
+use Rattle.mvt_edit_pools.proofs.EntryRuns.{none_before, ones_from}
 use Rattle.mvt_edit_pools.proofs.entries.is_entry_at.Goals as goal
 
 pub returns-then-index-entries-2 : goal.returns-then-index-entries-2

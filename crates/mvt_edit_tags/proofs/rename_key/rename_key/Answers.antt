@@ -30,7 +30,7 @@ returns-then-not-keys c =
     let found = c.in_ok-found.found in
     let is = c.in_ok-found.ensures.found in
     let layer = layer_of found.layer.now in
-    inr (key_missing choice old new document found.ordinal found.position layer is.meant is.placed is.there (sym (rw c.as_slice-items.ensures at c.look_for-keys.ensures.old_there) ∙ c.if-not-keys.true))
+    inr (key_missing choice old new document found.ordinal found.position layer is.selects is.placed is.there (sym (rw c.as_slice-items.ensures at c.look_for-keys.ensures.old_there) ∙ c.if-not-keys.true))
 
 pub returns-then-ne : goal.returns-then-ne
 returns-then-ne c =
@@ -43,7 +43,7 @@ returns-then-ne c =
     let layer = layer_of found.layer.now in
     let has : list_any (is_key old) layer.items ≡ true = sym (rw c.as_slice-items.ensures at c.look_for-keys.ensures.old_there) ∙ c.if-not-keys.false in
     let taken : list_any (is_key new) layer.items ≡ true = sym (rw c.as_slice-items.ensures at c.look_for-keys.ensures.new_there) ∙ c.if-keys.true in
-    inr (key_taken choice old new document found.ordinal found.position layer is.meant is.placed is.there has taken (not_true (bytes_eq old new) (sym c.ne.ensures ∙ c.if-ne.true)))
+    inr (key_taken choice old new document found.ordinal found.position layer is.selects is.placed is.there has taken (not_true (bytes_eq old new) (sym c.ne.ensures ∙ c.if-ne.true)))
 
 pub returns-then-not-fits_with_items : goal.returns-then-not-fits_with_items
 returns-then-not-fits_with_items c =
@@ -62,8 +62,8 @@ returns-then-not-fits_with_items c =
       | else-keys-via-else-keys w ↦ (let none = sym taken ∙ w.if-keys.false in rw none refl)
     ] in
     let size = rw c.as_slice-items.ensures at c.look_for-keys.ensures.renamed_size in
-    let told = c.fits_with_items.ensures (renamed_keys old new) (items_there found.position document layer (λ items. IsFileSize c.look_for-keys.result.size (length (flat_map layer_item_bytes (renamed_keys old new items)))) is.there size) in
-    inr (keys_too_large choice old new document found.ordinal found.position layer is.meant is.placed is.there has free (not_false (nat_lt MAX_FILE (length (bytes_of (change_items (renamed_keys old new) found.position document)))) (sym told ∙ c.if-not-fits_with_items.true)))
+    let answered = c.fits_with_items.ensures (renamed_keys old new) (items_there found.position document layer (λ items. IsFileSize c.look_for-keys.result.size (length (flat_map layer_item_bytes (renamed_keys old new items)))) is.there size) in
+    inr (keys_too_large choice old new document found.ordinal found.position layer is.selects is.placed is.there has free (not_false (nat_lt MAX_FILE (length (bytes_of (change_items (renamed_keys old new) found.position document)))) (sym answered ∙ c.if-not-fits_with_items.true)))
 
 pub returns-then-eq : goal.returns-then-eq
 returns-then-eq c =
@@ -82,10 +82,10 @@ returns-then-eq c =
       | else-keys-via-else-keys w ↦ (let none = sym taken ∙ w.if-keys.false in rw none refl)
     ] in
     let size = rw c.as_slice-items.ensures at c.look_for-keys.ensures.renamed_size in
-    let told = c.fits_with_items.ensures (renamed_keys old new) (items_there found.position document layer (λ items. IsFileSize c.look_for-keys.result.size (length (flat_map layer_item_bytes (renamed_keys old new items)))) is.there size) in
-    let fits = not_true (nat_lt MAX_FILE (length (bytes_of (change_items (renamed_keys old new) found.position document)))) (sym told ∙ c.if-not-fits_with_items.false) in
+    let answered = c.fits_with_items.ensures (renamed_keys old new) (items_there found.position document layer (λ items. IsFileSize c.look_for-keys.result.size (length (flat_map layer_item_bytes (renamed_keys old new items)))) is.there size) in
+    let fits = not_true (nat_lt MAX_FILE (length (bytes_of (change_items (renamed_keys old new) found.position document)))) (sym answered ∙ c.if-not-fits_with_items.false) in
     let same : old ≡ new = (bytes_eq-Decides old new).0 (sym c.eq.ensures ∙ c.if-eq.true) in
-    subst (IsPrepared (RenameKey choice old new) document) (sym (c.new-then-eq.ensures.change ∙ ap (map step_of) c.new.ensures.items)) (keys_stay choice old new document found.ordinal found.position layer is.meant is.placed is.there has free fits same)
+    subst (IsPrepared (RenameKey choice old new) document) (sym (c.new-then-eq.ensures.change ∙ ap (map step_of) c.new.ensures.items)) (keys_stay choice old new document found.ordinal found.position layer is.selects is.placed is.there has free fits same)
 
 pub returns : goal.returns
 returns c =
@@ -104,8 +104,8 @@ returns c =
       | else-keys-via-else-keys w ↦ (let none = sym taken ∙ w.if-keys.false in rw none refl)
     ] in
     let size = rw c.as_slice-items.ensures at c.look_for-keys.ensures.renamed_size in
-    let told = c.fits_with_items.ensures (renamed_keys old new) (items_there found.position document layer (λ items. IsFileSize c.look_for-keys.result.size (length (flat_map layer_item_bytes (renamed_keys old new items)))) is.there size) in
-    let fits = not_true (nat_lt MAX_FILE (length (bytes_of (change_items (renamed_keys old new) found.position document)))) (sym told ∙ c.if-not-fits_with_items.false) in
+    let answered = c.fits_with_items.ensures (renamed_keys old new) (items_there found.position document layer (λ items. IsFileSize c.look_for-keys.result.size (length (flat_map layer_item_bytes (renamed_keys old new items)))) is.there size) in
+    let fits = not_true (nat_lt MAX_FILE (length (bytes_of (change_items (renamed_keys old new) found.position document)))) (sym answered ∙ c.if-not-fits_with_items.false) in
     let items = found.layer.now.items.items in
-    keys_renamed choice old new document found.ordinal found.position layer is.meant is.placed is.there has free fits (sym c.eq.ensures ∙ c.if-eq.false) (keys_valid old new items) (heavy layer_item_bytes layer_item_of (is_key old) (key_has_bytes old new) items)
+    keys_renamed choice old new document found.ordinal found.position layer is.selects is.placed is.there has free fits (sym c.eq.ensures ∙ c.if-eq.false) (keys_valid old new items) (heavy layer_item_bytes layer_item_of (is_key old) (key_has_bytes old new) items)
     (change_of c.in_ok-renaming.field-0) (rw c.as_slice-items.ensures at c.in_ok-renaming.ensures)

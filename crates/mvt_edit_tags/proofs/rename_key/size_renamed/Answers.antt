@@ -4,7 +4,7 @@ use Rattle.mvt_document.specs.declared.TheConstants.{MAX_FILE}
 use Rattle.mvt_document.specs.Plain.{LayerItem, PlainInLayer, Delimited}
 use Rattle.mvt_document.specs.Stands.{layer_item_of}
 use Rattle.mvt_document.specs.Wire.{layer_item_bytes, minimal_width}
-use Rattle.mvt_document.proofs.Sizes.{length-message, told_so}
+use Rattle.mvt_document.proofs.Sizes.{length-message, same_size}
 use Rattle.mvt_meaning.specs.Fields.{with_text}
 use Rattle.mvt_meaning.specs.Tagging.{is_key}
 use Rattle.mvt_edit_tags.proofs.rename_key.size_renamed.Goals as goal
@@ -19,4 +19,4 @@ pub returns-in-Some : goal.returns-in-Some
 returns-in-Some c =
     let key : is_key c.args.old.now (layer_item_of c.args.item.now) ≡ true = sym c.in-Some.ensures.there in
     let long = length-renamed _ _ _ (layer_item_of c.args.item.now) c.args.old.now c.args.new.now c.in-Some.ensures.parts in
-    rw key (told_so MAX_FILE c.message_size.result _ _ long c.message_size.ensures)
+    rw key (same_size MAX_FILE c.message_size.result _ _ long c.message_size.ensures)

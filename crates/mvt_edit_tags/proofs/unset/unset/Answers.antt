@@ -14,7 +14,7 @@ use Rattle.mvt_edit_tags.proofs.unset.unset.Goals as goal
 pub returns-in_err-found : goal.returns-in_err-found
 returns-in_err-found c =
     let holder = c.in_ok-holder.ensures.found in
-    let refused = no_feature_loses (layer_choice_of c.args.choice.now) c.args.key.now (document_of c.args.document.now) c.in_ok-holder.holder.ordinal c.in_ok-holder.holder.position (layer_of c.in_ok-holder.holder.layer.now) holder.meant holder.placed holder.there (feature_choice_of c.args.feature.now) _ c.in_err-found.ensures.refused in
+    let refused = no_feature_loses (layer_choice_of c.args.choice.now) c.args.key.now (document_of c.args.document.now) c.in_ok-holder.holder.ordinal c.in_ok-holder.holder.position (layer_of c.in_ok-holder.holder.layer.now) holder.selects holder.placed holder.there (feature_choice_of c.args.feature.now) _ c.in_err-found.ensures.refused in
     let passed = err_from_is_err_and c.from_residual-in_err-found.result c.from_residual-in_err-found.ensures.1 in
     rw (passed.1, passed.2) (inr refused)
 
@@ -34,8 +34,8 @@ returns-in_err-decisions c =
       | inl memory ↦ inl memory
       | inr other ↦ (
           elim other [
-            | inl lacks ↦ inr (key_lacks choice key (document_of c.args.document.now) holder.ordinal holder.position layer is.meant is.placed is.there (feature_choice_of c.args.feature.now) found.ordinal found.position feature here.meant here.placed here.there lacks.1 ∙ ap Err (sym lacks.0))
-            | inr bad ↦ inr (pairs_lack choice key (document_of c.args.document.now) holder.ordinal holder.position layer is.meant is.placed is.there (feature_choice_of c.args.feature.now) found.ordinal found.position feature here.meant here.placed here.there bad.1 bad.2 ∙ ap Err (sym bad.0))
+            | inl lacks ↦ inr (key_lacks choice key (document_of c.args.document.now) holder.ordinal holder.position layer is.selects is.placed is.there (feature_choice_of c.args.feature.now) found.ordinal found.position feature here.selects here.placed here.there lacks.1 ∙ ap Err (sym lacks.0))
+            | inr bad ↦ inr (pairs_lack choice key (document_of c.args.document.now) holder.ordinal holder.position layer is.selects is.placed is.there (feature_choice_of c.args.feature.now) found.ordinal found.position feature here.selects here.placed here.there bad.1 bad.2 ∙ ap Err (sym bad.0))
           ]
           )
     ])
@@ -51,5 +51,5 @@ returns c =
     let feature = feature_of found.feature.now in
     let decided = c.in_ok-decisions.ensures in
     let left = fields_left 2 (removals key layer.items feature.fields) found.feature.now.fields.items (removals_short key layer.items feature.fields) in
-    tags_lose (layer_choice_of c.args.choice.now) key (document_of c.args.document.now) holder.ordinal holder.position layer is.meant is.placed is.there (feature_choice_of c.args.feature.now) found.ordinal found.position feature here.meant here.placed here.there decided.has decided.readable left _
+    tags_lose (layer_choice_of c.args.choice.now) key (document_of c.args.document.now) holder.ordinal holder.position layer is.selects is.placed is.there (feature_choice_of c.args.feature.now) found.ordinal found.position feature here.selects here.placed here.there decided.has decided.readable left _
     (c.in_ok-removing.ensures ∙ ap (λ decisions. feature_steps (field_fates 2 decisions) holder.position (found_feature_seen found)) (c.as_slice.ensures.value ∙ decided.decided))

@@ -13,8 +13,8 @@ use Rattle.mvt_fates.proofs.fates.put_once.Goals as goal
 pub loop-index-init : goal.loop-index-init
 loop-index-init g c = rw c.first-walk.ensures (record {
   fates = [];
-  said = record { picked = []; told = tt; fates_so = refl; left_so = refl };
-  so_far = λ step_with tells rest. refl;
+  said = record { picked = []; answered = tt; fates_so = refl; left_so = refl };
+  so_far = λ step_with means rest. refl;
   ends = tt;
   taken = tt;
   short = omega arith;
@@ -32,20 +32,20 @@ loop-index-preserved g c =
     goes_on kept fate c.pass.new.steps.items c.in_ok-walk.walk said made.steps made.ends (made.take c.loop-index.index kept.taken) made.next made.changed
 
 pub returns : goal.returns
-returns g c = λ step_with tells.
+returns g c = λ step_with means.
     let kept = c.loop-index.invariant in
     let given = map step_of c.args.steps.now.items in
     let all : length c.args.items.now ≤ c.loop-index.index = let done = c.loop-index-test.false in omega arith in
     let said = kept.said in
     let picked = said.picked in
-    let told = subst (λ items. AllZip (λ item is. FnReturnsAt g.P.Fn c.args.passes item is) items picked) (take_all c.loop-index.index c.args.items.now all) said.told in
+    let answered = subst (λ items. AllZip (λ item is. FnReturnsAt g.P.Fn c.args.passes item is) items picked) (take_all c.loop-index.index c.args.items.now all) said.answered in
     let first = splices_of (once_fates picked (Some c.args.new)) in
     let last = at_end (left_once picked (Some c.args.new)) c.args.end in
-    let ended = all_steps kept c.end.new.steps.items step_with tells (c.in_ok-end.ensures step_with tells).0 ∙ ap (λ fates. given ++ map step_with (splices_of fates)) said.fates_so in
-    let put = c.in_ok-put_step.ensures step_with tells in
+    let ended = all_steps kept c.end.new.steps.items step_with means (c.in_ok-end.ensures step_with means).0 ∙ ap (λ fates. given ++ map step_with (splices_of fates)) said.fates_so in
+    let put = c.in_ok-put_step.ensures step_with means in
     let run = c.in_ok-end_run.ensures ∙ ap (λ left. at_end left c.args.end) said.left_so in (
       picked,
-      told,
+      answered,
       put
           ∙ ap (λ before. before ++ map step_with (map splice_of (cons_option c.in_ok-end_run.field-0 []))) ended
           ∙ ap (λ splices. (given ++ map step_with first) ++ map step_with splices) run

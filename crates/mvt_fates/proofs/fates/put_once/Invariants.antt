@@ -1,12 +1,12 @@
 use Rattle.std.proofs.Common.{Ok, Some, take}
 use Rattle.std.specs.Fn.{FnReturns, FnReturnsAt}
 use Rattle.mvt_change.specs.ChangeStands.{step_of}
-use Rattle.mvt_fates.specs.Fates.{Tells, splice_of}
+use Rattle.mvt_fates.specs.Fates.{Means, splice_of}
 use Rattle.mvt_fates.proofs.Following.{SoFar}
 use Rattle.mvt_fates.proofs.Once.{Once}
 use Rattle.mvt_fates.proofs.fates.put_once.Given as goal
 
 abbrev pub invariant-loop-index : goal.invariant-loop-index
 invariant-loop-index g l =
-    SoFar (Once (λ item is. FnReturnsAt g.P.Fn l.passes item is) (take l.index l.items) (Some l.fn.new) l.left) (λ step_with. Tells (λ run made. FnReturns g.S.Fn l.step (run, tt) (Ok made)) step_of (λ run. step_with (splice_of run)))
+    SoFar (Once (λ item is. FnReturnsAt g.P.Fn l.passes item is) (take l.index l.items) (Some l.fn.new) l.left) (λ step_with. Means (λ run made. FnReturns g.S.Fn l.step (run, tt) (Ok made)) step_of (λ run. step_with (splice_of run)))
     l.initial.steps.items l.steps.items l.walk l.index

@@ -16,7 +16,7 @@ loop-index-init g c = rw c.first-walk.ensures (record {
   steps = record {
     fates = [];
     said = λ more. refl;
-    so_far = λ step_with tells rest. refl;
+    so_far = λ step_with means rest. refl;
     ends = tt;
     taken = tt;
     short = omega arith;
@@ -41,13 +41,13 @@ loop-index-preserved g c =
     }
 
 pub returns-clause-steps : goal.returns-clause-steps
-returns-clause-steps g c = λ step_with tells.
+returns-clause-steps g c = λ step_with means.
     let kept = c.loop-index.invariant.steps in
     let all : length c.args.fields.now ≤ c.loop-index.index = let done = c.loop-index-test.false in omega arith in
     let decided = subst (λ fields. Decided c.args.number c.args.decisions.now c.loop-index.left.now fields kept.fates) (take_all c.loop-index.index c.args.fields.now all) kept.said in
     let fates = all_decided c.args.number c.args.decisions.now c.loop-index.left.now c.args.fields.now kept.fates decided in
     let steps_with = λ (s : Splice Field). step_with (seen field_of s) in
-    all_steps kept c.end.new.steps.items steps_with tells (c.in_ok-end.ensures steps_with tells).0
+    all_steps kept c.end.new.steps.items steps_with means (c.in_ok-end.ensures steps_with means).0
     ∙ ap (λ more. map step_of c.args.steps.now.items ++ more) (sym (map-map step_with (seen field_of) (splices_of kept.fates)) ∙ ap (map step_with) (splices_seen field_of 0 kept.fates ∙ ap splices_of fates))
 
 pub returns-clause-size : goal.returns-clause-size

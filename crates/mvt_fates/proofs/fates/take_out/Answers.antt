@@ -12,7 +12,7 @@ pub loop-index-init : goal.loop-index-init
 loop-index-init g c = rw c.first-walk.ensures (record {
   fates = [];
   said = refl;
-  so_far = λ step_with tells rest. refl;
+  so_far = λ step_with means rest. refl;
   ends = tt;
   taken = tt;
   short = omega arith;
@@ -28,12 +28,12 @@ loop-index-preserved g c =
     goes_on kept c.goes_if.result c.pass.new.steps.items c.in_ok-walk.walk said made.steps made.ends (made.take c.loop-index.index kept.taken) made.next made.changed
 
 pub returns : goal.returns
-returns g c = λ step_with tells.
+returns g c = λ step_with means.
     let kept = c.loop-index.invariant in
     let given = map step_of c.args.steps.now.items in
     let all : length c.args.picked.now ≤ c.loop-index.index = let done = c.loop-index-test.false in omega arith in
     let fates = kept.said ∙ ap (λ picked. map (λ is. goes_if is) picked) (take_all c.loop-index.index c.args.picked.now all) in
     IfOk-weaker c.end.result _ _ (λ changed ended. record {
-      behind = all_steps kept c.end.new.steps.items step_with tells ended.0 ∙ ap (λ all. given ++ map step_with (splices_of all)) fates;
+      behind = all_steps kept c.end.new.steps.items step_with means ended.0 ∙ ap (λ all. given ++ map step_with (splices_of all)) fates;
       counted = ended.1 ∙ kept.counted ∙ ap (λ all. length (filter changes all)) fates;
-    }) (c.end.ensures step_with tells)
+    }) (c.end.ensures step_with means)

@@ -2,7 +2,7 @@ use Rattle.std.proofs.Common.{slice_get, ap, ◌∙◌}
 use Rattle.mvt_document.specs.Plain as plain
 use Rattle.mvt_messages.specs.Found.{found_features}
 use Rattle.mvt_document.specs.Stands.{layer_of}
-use Rattle.mvt_select.proofs.Meant.{feature_at_ordinal, feature_of_id, no_feature_at_ordinal, no_feature_of_id}
+use Rattle.mvt_select.proofs.Selected.{feature_at_ordinal, feature_of_id, no_feature_at_ordinal, no_feature_of_id}
 use Rattle.mvt_select.proofs.find.find_feature.Goals as goal
 
 pub returns-in-Ordinal-clause-found : goal.returns-in-Ordinal-clause-found

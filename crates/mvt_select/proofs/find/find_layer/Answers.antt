@@ -1,5 +1,5 @@
 use Rattle.mvt_document.specs.Stands.{document_of}
-use Rattle.mvt_select.proofs.Meant.{layer_at_ordinal, layer_of_name, no_layer_at_ordinal, no_layer_of_name}
+use Rattle.mvt_select.proofs.Selected.{layer_at_ordinal, layer_of_name, no_layer_at_ordinal, no_layer_of_name}
 use Rattle.mvt_select.proofs.find.find_layer.Goals as goal
 
 pub returns-in-Ordinal-clause-found : goal.returns-in-Ordinal-clause-found

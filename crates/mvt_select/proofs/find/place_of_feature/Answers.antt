@@ -4,7 +4,7 @@ use Rattle.mvt_document.specs.Stands.{layer_of}
 use Rattle.mvt_messages.specs.Found.{found_features}
 use Rattle.mvt_layers.specs.Seen.{found_feature_seen}
 use Rattle.mvt_messages.specs.Views.{feature_in}
-use Rattle.mvt_select.proofs.Meant.{no_position_there, position_there}
+use Rattle.mvt_select.proofs.Selected.{no_position_there, position_there}
 use Rattle.mvt_select.proofs.find.place_of_feature.Goals as goal
 
 pub returns-in-Some : goal.returns-in-Some

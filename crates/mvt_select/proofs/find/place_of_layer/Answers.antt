@@ -2,7 +2,7 @@ use Rattle.std.proofs.Common.{sym, ap, option_map, ◌∙◌}
 use Rattle.mvt_document.specs.Stands.{document_of}
 use Rattle.mvt_layers.specs.Seen.{found_layer_seen}
 use Rattle.mvt_messages.specs.Views.{layer_in}
-use Rattle.mvt_select.proofs.Meant.{no_position_there, position_there}
+use Rattle.mvt_select.proofs.Selected.{no_position_there, position_there}
 use Rattle.mvt_select.proofs.find.place_of_layer.Goals as goal
 
 pub returns-in-Some : goal.returns-in-Some

@@ -4,7 +4,7 @@ use Rattle.mvt_command.specs.Command.{Named}
 use Rattle.mvt_command.specs.CommandStands.{layer_choice_of}
 use Rattle.mvt_meaning.specs.Selection.{selected}
 use Rattle.mvt_select.specs.Found.{IsFoundLayer}
-use Rattle.mvt_select.proofs.Meant.{layer_of_name, named_ordinal, no_layer_of_name}
+use Rattle.mvt_select.proofs.Selected.{layer_of_name, named_ordinal, no_layer_of_name}
 use Rattle.mvt_select.proofs.Named.{err_with, ok_with}
 use Rattle.mvt_select.proofs.taken.find_and_taken.Goals as goal
 

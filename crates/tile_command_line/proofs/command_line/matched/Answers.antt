@@ -26,8 +26,8 @@ has_depth c matches parsed =
     let got = last_option_text c.in_ok-described.field-0 c.in_ok-arg.field-0 c.depth_option.result matches depth_range c.in_ok-arg.ensures
     (subst (λ (t : List ℕ). Awaits t c.in_ok-described.field-0) (sym c.depth_option.ensures.id) c.in_ok-described.ensures) c.depth_option.ensures.number parsed in
     let number = in_range 1 MAX_DEPTH got.0 (omega arith) got.2 in
-    let told : one_text (found_of matches) depth_id ≡ Some (without_minus got.0) = subst (λ (t : List ℕ). one_text (found_of matches) t ≡ Some (without_minus got.0)) c.depth_option.ensures.id got.1 in
-    (_, (without_minus got.0, told, number.0, refl), number.1, number.2)
+    let given : one_text (found_of matches) depth_id ≡ Some (without_minus got.0) = subst (λ (t : List ℕ). one_text (found_of matches) t ≡ Some (without_minus got.0)) c.depth_option.ensures.id got.1 in
+    (_, (without_minus got.0, given, number.0, refl), number.1, number.2)
 
 pub returns : goal.returns
 returns c = IfOk-weaker c.try_get_matches_from.result _ _ (has_depth c) c.try_get_matches_from.ensures.parsed

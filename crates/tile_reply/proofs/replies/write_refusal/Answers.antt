@@ -7,14 +7,14 @@ use Rattle.tile_reply.proofs.replies.write_refusal.Goals as goal
 pub returns-in_err-write_reason : goal.returns-in_err-write_reason
 returns-in_err-write_reason g c =
     let front = refused_front c.args.line c.args.reason in
-    let told = behind_name c.args.reason in
+    let behind = behind_name c.args.reason in
     let p = err_from_is_err_and c.from_residual.result c.from_residual.ensures.1 in
-    rw (p.1 ∙ ap Err p.2, append_assoc front told (codes "\n"))
-    (stops_early _ _ _ _ front (told ++ codes "\n") _ c.in_err-write_reason.ensures)
+    rw (p.1 ∙ ap Err p.2, append_assoc front behind (codes "\n"))
+    (stops_early _ _ _ _ front (behind ++ codes "\n") _ c.in_err-write_reason.ensures)
 
 pub returns : goal.returns
 returns g c =
     let front = refused_front c.args.line c.args.reason in
-    let told = behind_name c.args.reason in
-    rw (append_assoc front told (codes "\n"))
-    (sends_more _ _ _ _ _ _ front (told ++ codes "\n") _ c.in_ok-write_reason.ensures c.write_end.ensures)
+    let behind = behind_name c.args.reason in
+    rw (append_assoc front behind (codes "\n"))
+    (sends_more _ _ _ _ _ _ front (behind ++ codes "\n") _ c.in_ok-write_reason.ensures c.write_end.ensures)

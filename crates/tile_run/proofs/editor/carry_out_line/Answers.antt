@@ -8,7 +8,7 @@ returns-in-Ok-None c p line stands is = let e = rw c.in-Ok-None.field-0-is at c.
 pub returns-in-Ok-Some : goal.returns-in-Ok-Some
 returns-in-Ok-Some c p line stands is =
     let e = rw c.in-Ok-Some.field-0-is at c.in-Ok-Some.ensures.answer line is in
-    carries_request _ _ _ p _ e (c.carry_out-answer.ensures.answer p.history stands)
+    carries_request _ _ _ p _ e (c.carry_out_request-answer.ensures.answer p.history stands)
 
 pub returns-in-Err : goal.returns-in-Err
 returns-in-Err c p line stands is = carries_refusal _ _ _ p (λ out_of_memory. c.in-Err.ensures.no_memory line is (ap Err out_of_memory)) (c.in-Err.ensures.answer line is) stands

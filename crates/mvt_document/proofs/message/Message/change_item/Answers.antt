@@ -5,7 +5,7 @@ use Rattle.std.specs.Prelude.{slice_set, IfSome, vec_len, vec_capacity}
 use Rattle.mvt_document.specs.Hashes.{AreHashes}
 use Rattle.mvt_document.specs.Kept.{IsKept}
 use Rattle.mvt_document.specs.Runs.{AreRunsOf}
-use Rattle.mvt_document.proofs.Options.{if_told}
+use Rattle.mvt_document.proofs.Options.{if_known}
 use Rattle.mvt_document.proofs.Running.{runs_set}
 use Rattle.mvt_document.proofs.Placing.{read_there, set_changed}
 use Rattle.mvt_document.proofs.message.Message.change_item.Goals as goal
@@ -20,7 +20,7 @@ invariant_of-self g c =
     let inside = slice_get_within items c.args.index c.index_mut.result.now there.0 in
     let size = rw c.as_slice.ensures.value at c.size_with-size.ensures in
     let runs = runs_set g.T.Measured.of_kind c.self.inside.kept.runs items c.args.index c.index_mut.result.now new there.0 same c.self.invariant.1 in (
-      subst (IsKept g.T.Measured.bytes (slice_set items c.args.index new)) (sym c.set_hash.ensures.size) (if_told c.set_size.new.self.size c.size_with-size.result _ c.set_size.ensures.size size),
+      subst (IsKept g.T.Measured.bytes (slice_set items c.args.index new)) (sym c.set_hash.ensures.size) (if_known c.set_size.new.self.size c.size_with-size.result _ c.set_size.ensures.size size),
       subst (λ kept. IfSome kept (λ runs. AreRunsOf g.T.Measured.of_kind runs (slice_set items c.args.index new))) (sym (c.set_hash.ensures.runs ∙ c.set_size.ensures.runs)) runs,
       subst (λ x. AreHashes g.T.Measured.id_hash c.set_hash.new.self.hashes (slice_set items c.args.index x)) (c.index.ensures ∙ get_or-set_same items c.args.index new _ inside)
           (c.set_hash.ensures.hashes items (subst (λ hashes. AreHashes g.T.Measured.id_hash hashes items) (sym c.set_size.ensures.hashes) c.self.invariant.2)),

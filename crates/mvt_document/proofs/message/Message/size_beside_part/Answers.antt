@@ -1,6 +1,6 @@
 use Rattle.std.proofs.Common.{◌≡◌, ◌+◌, ◌-◌, [], arith}
 use Rattle.mvt_document.proofs.Beside.{part_size, spliced_size}
-use Rattle.mvt_document.proofs.Sizes.{told_so}
+use Rattle.mvt_document.proofs.Sizes.{same_size}
 use Rattle.mvt_document.proofs.message.Message.size_beside_part.Goals as goal
 
 pub returns-in_err-part : goal.returns-in_err-part
@@ -17,4 +17,4 @@ returns g c =
     let exact : c.args.index + c.args.count - c.args.index ≡ c.args.count = omega arith in
     let gone = rw (c.deref.ensures.value, exact) at c.in_ok-part.ensures.1 in
     let whole = spliced_size g.T.Measured.bytes c.args.index c.args.count [] c.self.inside.inner.items in
-    rw (← c.self.view_is) (told_so c.args.limit c.sum_within.result _ _ (omega (arith, sum, whole, gone)) c.sum_within.ensures)
+    rw (← c.self.view_is) (same_size c.args.limit c.sum_within.result _ _ (omega (arith, sum, whole, gone)) c.sum_within.ensures)

@@ -9,11 +9,11 @@ returns-in_default-clause-answers g c script strict p line at on is =
 
 pub returns-then-is_err-clause-answers : goal.returns-then-is_err-clause-answers
 returns-then-is_err-clause-answers g c script strict p line at on is =
-    falters _ _ p line _ c.in-Some.answer (answer_seen c.told_in.result) _ c.reply.result (c.in-Some.ensures p line at.stands is) (ap (λ (n : ℕ). n + 1) (sym at.lines))
-    (sym c.is_err.ensures.value ∙ c.if-is_err.true) c.told_in.ensures c.reply.ensures
+    falters _ _ p line _ c.in-Some.answer (answer_seen c.printed_in.result) _ c.reply.result (c.in-Some.ensures p line at.stands is) (ap (λ (n : ℕ). n + 1) (sym at.lines))
+    (sym c.is_err.ensures.value ∙ c.if-is_err.true) c.printed_in.ensures c.reply.ensures
 
 pub returns-clause-answers : goal.returns-clause-answers
 returns-clause-answers g c script strict p line at on is =
-    settles _ _ strict p line _ c.in-Some.answer (answer_seen c.told_in.result) _ _ _ c.reply.result _ _ on (c.in-Some.ensures p line at.stands is)
+    settles _ _ strict p line _ c.in-Some.answer (answer_seen c.printed_in.result) _ _ _ c.reply.result _ _ on (c.in-Some.ensures p line at.stands is)
     refl at.strict refl (ap (λ (n : ℕ). n + 1) (sym at.lines)) at.refused c.is_err-refused.ensures.value c.settle.ensures.editor c.settle.ensures.ends
-    (sym c.is_err.ensures.value ∙ c.if-is_err.false) c.told_in.ensures c.reply.ensures
+    (sym c.is_err.ensures.value ∙ c.if-is_err.false) c.printed_in.ensures c.reply.ensures

@@ -1,0 +1,19 @@
+//! Laws of how requests are answered. Each function does nothing: its contract is the law.
+
+ghost use Rattle.tile_answers.specs.Laws.{RequestsPrintLines, NoRequestIsOutOfMemory, LooksLeaveHistory};
+
+/// What a request prints before `ok` is whole lines, and none of them begins as a refusal does.
+pub fn requests_print_lines()
+    ensures { RequestsPrintLines }
+{}
+
+/// With all memory no request is refused with 60, or stopped with 54.
+pub fn no_request_is_out_of_memory()
+    ensures { NoRequestIsOutOfMemory }
+{}
+
+/// The size, a listing, the marks and the history, where they are printed, leave the history as it
+/// was, and so the tile and what undo takes back.
+pub fn looks_leave_history()
+    ensures { LooksLeaveHistory }
+{}

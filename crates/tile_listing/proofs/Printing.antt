@@ -1,0 +1,37 @@
+-- Lines that may be printed.
+use Rattle.std.proofs.Common.{◌≡◌, ℕ, zero, suc, ◌/◌, ◌%◌, ◌==◌, Bool, true, false, List, [], ◌∷◌, ◌++◌, decimal, refl, sym, append-nil, arith}
+use Rattle.std.specs.Prelude.{nat_lt, if◌then◌else◌}
+use Rattle.std.specs.Fmt.{digits, digits_onto, digit_glyph}
+use Rattle.std.proofs.lemmas.Bool.Decides.{nat_tests}
+use Rattle.std.proofs.lemmas.List.Elements.{All-nil, All-cons}
+use Rattle.tile_lines.specs.Lines.{is_line_feed, HasNoLineFeed, with_feed}
+use Rattle.tile_listing.specs.Printed.{MayBePrinted, AreLinesToPrint}
+
+-- ---- texts without a line feed
+
+pub uncut-append : (xs ys : List ℕ) → HasNoLineFeed xs → HasNoLineFeed ys → HasNoLineFeed (xs ++ ys)
+uncut-append [] ys none others = others
+uncut-append (x ∷ xs) ys (other, none) others = (other, uncut-append xs ys none others)
+
+digit_other : (n : ℕ) → is_line_feed (digit_glyph false (n % 10)) ≡ false
+digit_other n = let low : nat_lt (n % 10) 10 ≡ true = grind (arith, nat_tests) in rw low (grind (arith, nat_tests))
+
+one_of : (q : Bool) (xs ys : List ℕ) → HasNoLineFeed xs → HasNoLineFeed ys → HasNoLineFeed (if q then xs else ys)
+one_of true xs ys first second = first
+one_of false xs ys first second = second
+
+digits_uncut : (k n : ℕ) (behind : List ℕ) → HasNoLineFeed behind → HasNoLineFeed (digits_onto k 10 false n behind)
+digits_uncut zero n behind none = none
+digits_uncut (suc k) n behind none = one_of (n / 10 == 0) _ _ (digit_other n, none) (digits_uncut k (n / 10) (digit_glyph false (n % 10) ∷ behind) (digit_other n, none))
+
+pub decimal_uncut : (n : ℕ) → HasNoLineFeed (decimal n)
+unfolding digits
+decimal_uncut n = digits_uncut 64 n [] tt
+
+-- ---- lines to print
+
+pub none_to_print : AreLinesToPrint []
+none_to_print = record { lines = []; spelled = refl; each = All-nil MayBePrinted }
+
+pub one_to_print : (line : List ℕ) → MayBePrinted line → AreLinesToPrint (with_feed line)
+one_to_print line may = record { lines = line ∷ []; spelled = sym (append-nil (with_feed line)); each = All-cons MayBePrinted line [] may (All-nil MayBePrinted) }

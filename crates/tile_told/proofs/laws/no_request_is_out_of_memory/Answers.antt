@@ -1,5 +1,0 @@
-use Rattle.tile_told.proofs.AnswerLaws.{no_request_is_out_of_memory}
-use Rattle.tile_told.proofs.laws.no_request_is_out_of_memory.Goals as goal
-
-pub returns : goal.returns
-returns c = no_request_is_out_of_memory
