@@ -214,7 +214,7 @@ fn replies_that_nobody_takes_are_a_fault(rt: HostRuntime) -> Result<(), Fail> {
 }
 
 #[test]
-fn what_a_failed_file_took_is_a_front(rt: HostRuntime) {
+fn what_a_failed_file_took_is_a_prefix(rt: HostRuntime) {
     let mut drips = Drips::new(rt.alloc(), &T0, RENAME);
     drips.out = DripSink::of_most(rt.alloc(), 10, Calls::failing_at(1));
     assert_eq!(rt; drips.run(rt.alloc(), options(false)), FAULT_OF_OUT);

@@ -117,7 +117,7 @@ fn writes_to_a_vector(rt: HostRuntime) -> Result<(), Fail> {
 }
 
 #[test]
-fn tells_interruptions_from_failures(rt: HostRuntime) {
+fn distinguishes_interruptions_from_failures(rt: HostRuntime) {
     let mut buffer = [0; 4];
     for (kind, trouble) in [
         (ErrorKind::Interrupted, Trouble::Interrupted),
