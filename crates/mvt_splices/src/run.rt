@@ -13,7 +13,7 @@ use std::alloc::{AllocError, Global};
 
 /// Carries out the first steps that are on the list at this place, in one pass over it, and makes each the step that leads
 /// back. How many they are. An `Err` changes nothing but room.
-pub fn splice_items<T, S: Splices<T>>(
+pub fn splice_items<T: Measured, S: Splices<T>>(
     alloc: Global,
     list: &mut Items<T>,
     place: &S::Place,
@@ -22,7 +22,7 @@ pub fn splice_items<T, S: Splices<T>>(
     requires { FitRun (S.on_list place.now) S.splice_of steps.old (length list.old.items) }
     ensures { CarriesOut (S.on_list place.now) S.splice_of S.turned S.roomier result steps.old steps.new list.old list.new }
 {
-    splice_vec(alloc, list.as_vec_mut(), place, steps)
+    splice_vec(alloc, list.as_vec_mut(), &mut None, place, steps)
 }
 
 /// The same on a message. Its size, where it is known then, is the right one; that it stays known no
@@ -37,28 +37,13 @@ pub fn splice_message<T: Measured, S: Splices<T>>(
     ensures { CarriesOut (S.on_list place.now) S.splice_of S.turned S.roomier result steps.old steps.new list.old list.new }
 {
     let mut size = list.known_size();
-    let made = splice_measured(alloc, list.as_vec_mut(), &mut size, place, steps);
+    let made = splice_vec(alloc, list.as_vec_mut(), &mut size, place, steps);
     list.know_size(size);
     made
 }
 
-fn splice_vec<T, S: Splices<T>>(
-    alloc: Global,
-    list: &mut Vec<T>,
-    place: &S::Place,
-    steps: &mut [S],
-) -> Result<usize, AllocError>
-    requires { FitRun (S.on_list place.now) S.splice_of steps.old (vec_len list.old) }
-    ensures { CarriesOut (S.on_list place.now) S.splice_of S.turned S.roomier result steps.old steps.new (held_in list.old) (held_in list.new) }
-{
-    let mut gap = Gap::open(alloc, list);
-    let made = exchange_all(&mut gap, place, steps);
-    gap.close(list);
-    made
-}
-
-/// The same, where the list takes `size` bytes, if that is known; and how many it takes then.
-fn splice_measured<T: Measured, S: Splices<T>>(
+/// The same on a list that takes `size` bytes, if that is known; and how many it takes then.
+fn splice_vec<T: Measured, S: Splices<T>>(
     alloc: Global,
     list: &mut Vec<T>,
     size: &mut Option<usize>,
@@ -71,36 +56,14 @@ fn splice_measured<T: Measured, S: Splices<T>>(
     ensures size { IsKept T.bytes list.new.items size.new }
 {
     let mut gap = Gap::open(alloc, list);
-    let made = exchange_measured(&mut gap, size, place, steps);
+    let made = exchange_all(&mut gap, size, place, steps);
     gap.close(list);
     made
 }
 
 /// Carries out the first steps that are on the list at this place. Where memory runs out at one, those
 /// before it are taken back, for which there is room, and the gap goes back the way it came.
-fn exchange_all<T, S: Splices<T>>(
-    gap: &mut Gap<T>,
-    place: &S::Place,
-    steps: &mut [S],
-) -> Result<usize, AllocError>
-    requires { FitRun (S.on_list place.now) S.splice_of steps.old (length gap.old.items) }
-    ensures { CarriesOut (S.on_list place.now) S.splice_of S.turned S.roomier result steps.old steps.new gap.old gap.new }
-{
-    let mut made = 0;
-    while made < steps.len() && steps[made].is_on(place) {
-        match exchange_next(gap, &mut steps[made]) {
-            Ok(()) => made += 1,
-            Err(error) => {
-                exchange_back(gap, &mut steps[..made]);
-                return Err(error);
-            }
-        }
-    }
-    Ok(made)
-}
-
-/// The same, where the list takes `size` bytes, if that is known; and how many it takes then.
-fn exchange_measured<T: Measured, S: Splices<T>>(
+fn exchange_all<T: Measured, S: Splices<T>>(
     gap: &mut Gap<T>,
     size: &mut Option<usize>,
     place: &S::Place,
@@ -114,7 +77,7 @@ fn exchange_measured<T: Measured, S: Splices<T>>(
     let before = *size;
     let mut made = 0;
     while made < steps.len() && steps[made].is_on(place) {
-        match measure_next(gap, size, &mut steps[made]) {
+        match exchange_next(gap, size, &mut steps[made]) {
             Ok(()) => made += 1,
             Err(error) => {
                 exchange_back(gap, &mut steps[..made]);
@@ -138,20 +101,7 @@ fn exchange_back<T, S: Splices<T>>(gap: &mut Gap<T>, steps: &mut [S])
 }
 
 /// Carries out one step, with room for what it puts and for what it takes out. An `Err` changes nothing but room.
-fn exchange_next<T, S: Splices<T>>(gap: &mut Gap<T>, step: &mut S) -> Result<(), AllocError>
-    requires { (S.splice_of step.old).index + (S.splice_of step.old).taken ≤ length gap.old.items }
-    ensures items { gap.new.items ≡ (if is_ok result then spliced (S.splice_of step.old) gap.old.items else gap.old.items) }
-    ensures room { length gap.old.items + gap.old.room ≤ length gap.new.items + gap.new.room }
-    ensures turned { OnOk result ((roomy : S) × S.roomier step.old roomy × FindsRoom (S.splice_of roomy) × (step.new ≡ S.turned roomy gap.old.items)) }
-    ensures err { OnErr result (S.roomier step.old step.new) }
-{
-    make_room(gap, step)?;
-    step.exchange(gap);
-    Ok(())
-}
-
-/// The same, where the list takes `size` bytes, if that is known; and how many it takes then.
-fn measure_next<T: Measured, S: Splices<T>>(
+fn exchange_next<T: Measured, S: Splices<T>>(
     gap: &mut Gap<T>,
     size: &mut Option<usize>,
     step: &mut S,
@@ -181,7 +131,7 @@ fn make_room<T, S: Splices<T>>(gap: &mut Gap<T>, step: &mut S) -> Result<(), All
     step.reserve()
 }
 
-/// Carries out one step, and measures what comes and what goes.
+/// Carries out one step, and measures what comes and what goes where the size of all is known.
 fn exchange_one<T: Measured, S: Splices<T>>(
     gap: &mut Gap<T>,
     size: Option<usize>,
@@ -196,10 +146,14 @@ fn exchange_one<T: Measured, S: Splices<T>>(
     ensures turned { step.new ≡ S.turned step.old gap.old.items }
     ensures size { IsKept T.bytes gap.new.items result }
 {
+    let Some(known) = size else {
+        step.exchange(gap);
+        return None;
+    };
     let come = size_of_few(step.put());
     step.exchange(gap);
     let gone = size_of_few(step.put());
-    Some(size?.checked_add(come?)? - gone?)
+    Some(known.checked_add(come?)? - gone?)
 }
 
 /// How many bytes the items of a step take. Mostly that is one item, or none.

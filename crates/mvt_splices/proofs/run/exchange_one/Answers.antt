@@ -8,12 +8,12 @@ overflow_sub-result g c =
     let bytes = g.T.Measured.bytes in
     let items = c.args.gap.now.items in
     let of = g.S.Splices.splice_of in
-    let gone = c.put-2.ensures ∙ ap (λ s. (of s).put.items) c.exchange.ensures.turned ∙ ap (λ s. s.put.items) (g.met.S.Splices.turned_splice c.args.step.now items) in
+    let gone = c.put-2.ensures ∙ ap (λ s. (of s).put.items) c.exchange-2.ensures.turned ∙ ap (λ s. s.put.items) (g.met.S.Splices.turned_splice c.args.step.now items) in
     omega (
       arith,
       weighed bytes (of c.args.step.now) items c.put-2.result.now gone,
       ap (λ put. length (flat_map bytes put)) c.put.ensures,
-      known_is c.args.size (length (flat_map bytes items)) c.in_ok-size.field-0 c.requires.size c.in_ok-size.was,
+      known_is c.args.size (length (flat_map bytes items)) c.in-Some.known c.requires.size c.in-Some.is,
       c.in_ok-come.ensures,
       c.in_ok-checked_add.ensures,
       c.in_ok-gone.ensures,
@@ -24,13 +24,13 @@ returns-clause-size g c =
     let bytes = g.T.Measured.bytes in
     let items = c.args.gap.now.items in
     let of = g.S.Splices.splice_of in
-    let gone = c.put-2.ensures ∙ ap (λ s. (of s).put.items) c.exchange.ensures.turned ∙ ap (λ s. s.put.items) (g.met.S.Splices.turned_splice c.args.step.now items) in
+    let gone = c.put-2.ensures ∙ ap (λ s. (of s).put.items) c.exchange-2.ensures.turned ∙ ap (λ s. s.put.items) (g.met.S.Splices.turned_splice c.args.step.now items) in
     omega (
       arith,
       weighed bytes (of c.args.step.now) items c.put-2.result.now gone,
       ap (λ put. length (flat_map bytes put)) c.put.ensures,
-      ap (λ list. length (flat_map bytes list)) c.exchange.ensures.items,
-      known_is c.args.size (length (flat_map bytes items)) c.in_ok-size.field-0 c.requires.size c.in_ok-size.was,
+      ap (λ list. length (flat_map bytes list)) c.exchange-2.ensures.items,
+      known_is c.args.size (length (flat_map bytes items)) c.in-Some.known c.requires.size c.in-Some.is,
       c.in_ok-come.ensures,
       c.in_ok-checked_add.ensures,
       c.in_ok-gone.ensures,
