@@ -13,8 +13,8 @@ LEN, GROUP, END = 2, 3, 4
 SIZES = {1: 8, 5: 4}
 KINDS = ["unknown", "point", "line", "polygon"]
 
-# How far a way goes at most, and how often a command is carried out.
-MAX_WAY, MAX_COUNT = 2**31 - 1, 2**29 - 1
+# How far a delta goes at most, and how often a command is carried out.
+MAX_DELTA, MAX_COUNT = 2**31 - 1, 2**29 - 1
 
 # The commands of a part of each kind: which one, how often at least, and at most.
 PATHS = {1: [(1, 1, MAX_COUNT)], 2: [(1, 1, 1), (2, 1, MAX_COUNT)], 3: [(1, 1, 1), (2, 2, MAX_COUNT), (7, 1, 1)]}
@@ -238,8 +238,8 @@ def unzigzag(number):
     return number // 2 if number % 2 == 0 else -(number // 2) - 1
 
 
-def in_range(way):
-    return way if abs(way) <= MAX_WAY else refuse(42)
+def in_range(delta):
+    return delta if abs(delta) <= MAX_DELTA else refuse(42)
 
 
 def move_feature(tile, chosen, feature, index):
@@ -458,7 +458,7 @@ def end_of_run(numbers, at, command, least, most):
     found, end = command_at(numbers, at) if at < len(numbers) else (None, 0)
     if found != command or not least <= numbers[at] >> 3 <= most or end > len(numbers):
         raise ValueError
-    if max(numbers[at + 1:end], default=0) > zigzag(MAX_WAY):
+    if max(numbers[at + 1:end], default=0) > zigzag(MAX_DELTA):
         raise ValueError
     return end
 
@@ -485,8 +485,8 @@ def shift(tile, chosen, feature, dx, dy):
         command, x, y, *more = integers_of(fields)
     except ValueError:
         refuse(32, feature_shown(tile, place, found))
-    ways = [in_range(unzigzag(x) + dx), in_range(unzigzag(y) + dy)]
-    return in_feature(tile, place, found, with_numbers(fields, [command, *map(zigzag, ways), *more], INTEGER, GEOMETRY))
+    deltas = [in_range(unzigzag(x) + dx), in_range(unzigzag(y) + dy)]
+    return in_feature(tile, place, found, with_numbers(fields, [command, *map(zigzag, deltas), *more], INTEGER, GEOMETRY))
 
 
 def set_geometry(tile, chosen, feature, geometry):

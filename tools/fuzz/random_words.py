@@ -74,7 +74,7 @@ def layers(draw, tile):
     return ("*", next((tile[place].content for place in places(tile, LAYER)), ())) if one_in(draw, 3) else (word, items)
 
 
-def way(draw):
+def delta(draw):
     return number(draw, draw.choice([0, 1, 5, 30, 4096, MAX - 70])) if one_in(draw, 2) else f"-{draw.choice([0, 1, 30, MAX])}"
 
 
@@ -166,7 +166,7 @@ COMMANDS = {
     "clear-id": of_feature,
     "set": lambda draw, tile: [*of_key(draw, tile), *value(draw)],
     "unset": of_key, "rename-key": rename_key, "exclude": exclude, "exclude-all": of_layers,
-    "shift": lambda draw, tile: [*of_feature(draw, tile), way(draw), way(draw)],
+    "shift": lambda draw, tile: [*of_feature(draw, tile), delta(draw), delta(draw)],
     "set-geometry": lambda draw, tile: [*of_feature(draw, tile), *geometry(draw)],
     "compact-keys": of_layers, "compact-values": of_layers, "compact": of_layers,
 }

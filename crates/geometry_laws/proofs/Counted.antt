@@ -1,5 +1,5 @@
 -- A feature of a document has no more numbers than the document has bytes, so that its geometry reaches no further than
--- as many ways lead.
+-- as many deltas lead.
 use Rattle.std.proofs.Common.{◌≡◌, ℕ, zero, suc, ◌*◌, ◌/◌, ◌^◌, ◌==◌, ◌≤◌, Option, Some, None, List, [], ◌∷◌, length, length-append, slice_get, refl, sym, ap, ◌∙◌, inl, inr, subst, arith}
 use Rattle.std.proofs.lemmas.Bool.{cases_Bool}
 use Rattle.std.proofs.lemmas.List.{length-map}

@@ -40,7 +40,7 @@ use Rattle.command_laws.proofs.ReadValues.{numbers_of_values, value_list, values
 use Rattle.geometry_laws.specs.Laws.{ShiftByNothing, ShiftShifts, Shifts, led_further, moved, without_geometry}
 use Rattle.geometry_laws.proofs.Counted.{numbers_within}
 use Rattle.geometry_laws.proofs.Renumbered.{AllSome, all_stay, counts_stay, fronts_stay}
-use Rattle.geometry_laws.proofs.Translated.{first_ways, has_moved, led}
+use Rattle.geometry_laws.proofs.Translated.{first_deltas, has_moved, led}
 
 -- ---- the numbers
 
@@ -122,7 +122,7 @@ module _ (dx dy : ℤ) where
       let g = geometry_of old drawn in
       let h = g.1 in
       let n = numbers_of_values 4 old.fields h.integers h.read in
-      let w = first_ways dx dy (kind_of old) h.integers g.0 h.has in
+      let w = first_deltas dx dy (kind_of old) h.integers g.0 h.has in
       let t = three n.list w.number w.x w.y w.more (n.are ∙ w.spelled) in
       let were : read_numbers 4 old.fields ≡ Some (t.command ∷ t.along ∷ t.down ∷ t.more) = n.read ∙ ap Some t.is in
       let short = moves_short dx dy old.fields drawn can in
@@ -201,13 +201,13 @@ shift_shifts choice feature dx dy old new valid within e =
 
 -- ---- a shift by nothing
 
-no_way : (z : ℤ) → z +ℤ pos 0 ≡ z
-no_way z = omega (arith, ints)
+no_delta : (z : ℤ) → z +ℤ pos 0 ≡ z
+no_delta z = omega (arith, ints)
 
 -- a parameter that leads no further
 pub no_further : (number : Number) → led_further (pos 0) number ≡ number
 no_further number =
-    with_number-same (zigzag (further (pos 0) number.value)) number (sym (ap zigzag (no_way (unzigzag number.value)) ∙ zigzag-unzigzag number.value))
+    with_number-same (zigzag (further (pos 0) number.value)) number (sym (ap zigzag (no_delta (unzigzag number.value)) ∙ zigzag-unzigzag number.value))
 
 nothing_decided : (list : List Number) → renumbered (moved_integers (pos 0) (pos 0) (value_list list)) list ≡ list
 nothing_decided [] = refl

@@ -11,7 +11,7 @@ use Rattle.mvt_document.specs.Plain.{Number, Field, Feature, LayerItem, OfFeatur
 use Rattle.mvt_document.specs.Signed.{unzigzag, zigzag}
 use Rattle.mvt_document.specs.Wire.{bytes_of, minimal}
 use Rattle.mvt_document.proofs.Signed.{unzigzag-zigzag, zigzag-unzigzag}
-use Rattle.mvt_geometry.specs.Checks.{is_way}
+use Rattle.mvt_geometry.specs.Checks.{is_delta}
 use Rattle.mvt_geometry.specs.Found.{geometry_in}
 use Rattle.mvt_geometry.specs.Shapes.{Geometry}
 use Rattle.mvt_geometry.proofs.Found.{found_geometry}
@@ -39,30 +39,30 @@ use Rattle.command_laws.proofs.SelectedAgain.{feature_again, layer_again}
 use Rattle.geometry_laws.specs.Laws.{ShiftBack, Shifts, led_further, moved}
 use Rattle.geometry_laws.proofs.Renumbered.{both_back}
 use Rattle.geometry_laws.proofs.Shifted.{decided_so, is_shift, moves_found, moves_some, no_further, same_integers, shift_shifts, shifted_read}
-use Rattle.geometry_laws.proofs.Translated.{first_ways}
+use Rattle.geometry_laws.proofs.Translated.{first_deltas}
 
--- ---- ways back
+-- ---- deltas back
 
-there_and_back : (z way : ℤ) → (z +ℤ way) +ℤ neg_ℤ way ≡ z
-there_and_back z way = omega (arith, ints)
+there_and_back : (z delta : ℤ) → (z +ℤ delta) +ℤ neg_ℤ delta ≡ z
+there_and_back z delta = omega (arith, ints)
 
-way_back : (way : ℤ) (parameter : ℕ) → further (neg_ℤ way) (zigzag (further way parameter)) ≡ unzigzag parameter
-way_back way parameter =
-    ap (λ (z : ℤ). z +ℤ neg_ℤ way) (unzigzag-zigzag (unzigzag parameter +ℤ way)) ∙ there_and_back (unzigzag parameter) way
+delta_back : (delta : ℤ) (parameter : ℕ) → further (neg_ℤ delta) (zigzag (further delta parameter)) ≡ unzigzag parameter
+delta_back delta parameter =
+    ap (λ (z : ℤ). z +ℤ neg_ℤ delta) (unzigzag-zigzag (unzigzag parameter +ℤ delta)) ∙ there_and_back (unzigzag parameter) delta
 
-short_back : (way : ℤ) (number : Number) → number ≡ minimal number.value → led_further (neg_ℤ way) (led_further way number) ≡ number
-short_back way number shortest =
-    let value : ℕ = zigzag (further way number.value) in
-    let led : Number = led_further way number in
-    let back : zigzag (further (neg_ℤ way) led.value) ≡ number.value =
-    ap (λ (n : ℕ). zigzag (further (neg_ℤ way) n)) (number_given value number) ∙ ap zigzag (way_back way number.value) ∙ zigzag-unzigzag number.value in
+short_back : (delta : ℤ) (number : Number) → number ≡ minimal number.value → led_further (neg_ℤ delta) (led_further delta number) ≡ number
+short_back delta number shortest =
+    let value : ℕ = zigzag (further delta number.value) in
+    let led : Number = led_further delta number in
+    let back : zigzag (further (neg_ℤ delta) led.value) ≡ number.value =
+    ap (λ (n : ℕ). zigzag (further (neg_ℤ delta) n)) (number_given value number) ∙ ap zigzag (delta_back delta number.value) ∙ zigzag-unzigzag number.value in
     ap (λ (n : ℕ). with_number n led) back
     ∙ cond_both (led.value == number.value) led (minimal number.value) (λ (n : Number). n ≡ number)
     (λ same. with_number-same value number (sym (eqb-true led.value number.value same) ∙ number_given value number))
     (λ other. sym shortest)
 
 -- a parameter in its shortest spelling is the same again, and so is one that stays
-led_back : (way : ℤ) (number : Number) → (way ≢ pos 0 → number ≡ minimal number.value) → led_further (neg_ℤ way) (led_further way number) ≡ number
+led_back : (delta : ℤ) (number : Number) → (delta ≢ pos 0 → number ≡ minimal number.value) → led_further (neg_ℤ delta) (led_further delta number) ≡ number
 led_back (pos zero) number shortest = ap (led_further (pos 0)) (no_further number) ∙ no_further number
 led_back (pos (suc n)) number shortest = short_back (pos (suc n)) number (shortest (λ e. absurd cc))
 led_back (negsuc n) number shortest = short_back (negsuc n) number (shortest (λ e. absurd cc))
@@ -136,19 +136,19 @@ drawn_again feature geometry h =
 -- the first parameters of a feature that was shifted can lead back
 can_back : (dx dy : ℤ) (old new : Feature) → Shifts dx dy old new → can_move (neg_ℤ dx) (neg_ℤ dy) new.fields ≡ true
 can_back dx dy old new s =
-    let w = first_ways dx dy (kind_of old) s.had.integers s.geometry s.had.has in
+    let w = first_deltas dx dy (kind_of old) s.had.integers s.geometry s.had.has in
     let values : s.command.value ∷ s.along.value ∷ s.down.value ∷ value_list s.more ≡ w.number ∷ w.x ∷ w.y ∷ w.more =
     same_integers (values_in (numbers 4 old.fields)) _ _ s.had.read (values_of_read 4 old.fields (s.command ∷ s.along ∷ s.down ∷ s.more) s.were) ∙ w.spelled in
     let x : s.along.value ≡ w.x = cc in
     let y : s.down.value ≡ w.y = cc in
     let along : further (neg_ℤ dx) (led_further dx s.along).value ≡ unzigzag w.x =
-    ap (further (neg_ℤ dx)) (number_given (zigzag (further dx s.along.value)) s.along) ∙ way_back dx s.along.value ∙ ap unzigzag x in
+    ap (further (neg_ℤ dx)) (number_given (zigzag (further dx s.along.value)) s.along) ∙ delta_back dx s.along.value ∙ ap unzigzag x in
     let down : further (neg_ℤ dy) (led_further dy s.down).value ≡ unzigzag w.y =
-    ap (further (neg_ℤ dy)) (number_given (zigzag (further dy s.down.value)) s.down) ∙ way_back dy s.down.value ∙ ap unzigzag y in
+    ap (further (neg_ℤ dy)) (number_given (zigzag (further dy s.down.value)) s.down) ∙ delta_back dy s.down.value ∙ ap unzigzag y in
     ap (λ (found : Option (List ℕ)). option_map_or (can_move_integers (neg_ℤ dx) (neg_ℤ dy)) found true) (values_of_read 4 new.fields (s.command ∷ led_further dx s.along ∷ led_further dy s.down ∷ s.more) s.are)
-    ∙ and_from (is_way (further (neg_ℤ dx) (led_further dx s.along).value)) (is_way (further (neg_ℤ dy) (led_further dy s.down).value))
-    (ap is_way along ∙ lt-ltb (unsigned_abs (unzigzag w.x)) (2 ^ 31) w.along)
-    (ap is_way down ∙ lt-ltb (unsigned_abs (unzigzag w.y)) (2 ^ 31) w.down)
+    ∙ and_from (is_delta (further (neg_ℤ dx) (led_further dx s.along).value)) (is_delta (further (neg_ℤ dy) (led_further dy s.down).value))
+    (ap is_delta along ∙ lt-ltb (unsigned_abs (unzigzag w.x)) (2 ^ 31) w.along)
+    (ap is_delta down ∙ lt-ltb (unsigned_abs (unzigzag w.y)) (2 ^ 31) w.down)
 
 pub shift_back : ShiftBack
 shift_back choice feature dx dy old between valid within shortest e =

@@ -7,8 +7,8 @@ use Rattle.std.proofs.lemmas.List.{length-map, map-append}
 use Rattle.std.specs.List.{AllByRecursion}
 use Rattle.mvt_document.specs.Signed.{unzigzag, zigzag}
 use Rattle.mvt_document.proofs.Signed.{unzigzag-zigzag}
-use Rattle.mvt_geometry.specs.Checks.{is_way}
-use Rattle.mvt_geometry.specs.Integers.{HasGeometry, IsInRange, IsRepeated, IsWay, all_points, closing_of, command, integers, last_from, origin, parameters, path, paths, repeats, ways}
+use Rattle.mvt_geometry.specs.Checks.{is_delta}
+use Rattle.mvt_geometry.specs.Integers.{HasGeometry, IsInRange, IsRepeated, IsDelta, all_points, closing_of, command, integers, last_from, origin, parameters, path, paths, repeats, deltas}
 use Rattle.mvt_geometry.specs.Laws.{IsWithin}
 use Rattle.mvt_geometry.specs.Shapes.{Geometry, IsGeometry, IsPart, IsPartCount, IsPlaced, least_points}
 use Rattle.mvt_geometry.specs.declared.shapes.Kind.{Kind}
@@ -20,15 +20,15 @@ use Rattle.mvt_meaning.specs.Geometries.{can_move_integers, further}
 use Rattle.geometry_laws.specs.Laws.{moved, moved_point}
 use Rattle.geometry_laws.proofs.Counted.{parts_by}
 
--- ---- ways
+-- ---- deltas
 
-shifted_way : (a b d : ℤ) → (a +ℤ d) -ℤ (b +ℤ d) ≡ a -ℤ b
-shifted_way a b d = omega (arith, ints)
+shifted_delta : (a b d : ℤ) → (a +ℤ d) -ℤ (b +ℤ d) ≡ a -ℤ b
+shifted_delta a b d = omega (arith, ints)
 
-first_way : (d a : ℤ) → (a +ℤ d) -ℤ pos 0 ≡ further d (zigzag (a -ℤ pos 0))
-first_way d a =
+first_delta : (d a : ℤ) → (a +ℤ d) -ℤ pos 0 ≡ further d (zigzag (a -ℤ pos 0))
+first_delta d a =
     let there : (a +ℤ d) -ℤ pos 0 ≡ (a -ℤ pos 0) +ℤ d = omega (arith, ints) in
-    there ∙ ap (λ (way : ℤ). way +ℤ d) (sym (unzigzag-zigzag (a -ℤ pos 0)))
+    there ∙ ap (λ (delta : ℤ). delta +ℤ d) (sym (unzigzag-zigzag (a -ℤ pos 0)))
 
 -- integers of which the second and the third lead further
 abbrev pub led : ℤ → ℤ → List ℕ → List ℕ
@@ -41,15 +41,15 @@ length-led dx dy (command ∷ []) = refl
 length-led dx dy (command ∷ x ∷ []) = refl
 length-led dx dy (command ∷ x ∷ y ∷ more) = refl
 
--- the ways to the first point, as its integers hold them, are in range
-pub record FirstWays (list : List ℕ) : Type 0 where
+-- the deltas to the first point, as its integers hold them, are in range
+pub record FirstDeltas (list : List ℕ) : Type 0 where
   pub number : ℕ
   pub x : ℕ
   pub y : ℕ
   pub more : List ℕ
   pub spelled : list ≡ number ∷ x ∷ y ∷ more
-  pub along : IsWay (unzigzag x)
-  pub down : IsWay (unzigzag y)
+  pub along : IsDelta (unzigzag x)
+  pub down : IsDelta (unzigzag y)
 
 -- ---- placed points
 
@@ -61,18 +61,18 @@ module _ (dx dy : ℤ) where
   abbrev further_on : Point → Point
   further_on point = moved_point dx dy point
 
-  -- ---- the ways between points that move
+  -- ---- the deltas between points that move
 
-  moved_ways : (from : Point) (points : List Point) → ways (further_on from) (map further_on points) ≡ ways from points
-  moved_ways from [] = refl
-  moved_ways from (to ∷ points) =
-      let more : List ℤ = ways (further_on to) (map further_on points) in
-      ap (λ (way : ℤ). way ∷ ((to.y +ℤ dy) -ℤ (from.y +ℤ dy)) ∷ more) (shifted_way to.x from.x dx)
-      ∙ ap (λ (way : ℤ). (to.x -ℤ from.x) ∷ way ∷ more) (shifted_way to.y from.y dy)
-      ∙ ap (λ (rest : List ℤ). (to.x -ℤ from.x) ∷ (to.y -ℤ from.y) ∷ rest) (moved_ways to points)
+  moved_deltas : (from : Point) (points : List Point) → deltas (further_on from) (map further_on points) ≡ deltas from points
+  moved_deltas from [] = refl
+  moved_deltas from (to ∷ points) =
+      let more : List ℤ = deltas (further_on to) (map further_on points) in
+      ap (λ (delta : ℤ). delta ∷ ((to.y +ℤ dy) -ℤ (from.y +ℤ dy)) ∷ more) (shifted_delta to.x from.x dx)
+      ∙ ap (λ (delta : ℤ). (to.x -ℤ from.x) ∷ delta ∷ more) (shifted_delta to.y from.y dy)
+      ∙ ap (λ (rest : List ℤ). (to.x -ℤ from.x) ∷ (to.y -ℤ from.y) ∷ rest) (moved_deltas to points)
 
   moved_parameters : (from : Point) (points : List Point) → parameters (further_on from) (map further_on points) ≡ parameters from points
-  moved_parameters from points = ap (map zigzag) (moved_ways from points)
+  moved_parameters from points = ap (map zigzag) (moved_deltas from points)
 
   moved_last : (from : Point) (points : List Point) → last_from (further_on from) (map further_on points) ≡ further_on (last_from from points)
   moved_last from [] = refl
@@ -104,7 +104,7 @@ module _ (dx dy : ℤ) where
 
   -- ---- the first point
 
-  -- the integers of a geometry begin with a command and the ways to its first point; where it moves, these are further,
+  -- the integers of a geometry begin with a command and the deltas to its first point; where it moves, these are further,
   -- and all else is the same
   record Begins (g : Geometry) : Type 0 where
     number : ℕ
@@ -112,15 +112,15 @@ module _ (dx dy : ℤ) where
     more : List ℕ
     spelled : integers g ≡ number ∷ zigzag (first.x -ℤ pos 0) ∷ zigzag (first.y -ℤ pos 0) ∷ more
     again : integers (moved dx dy g) ≡ number ∷ zigzag ((first.x +ℤ dx) -ℤ pos 0) ∷ zigzag ((first.y +ℤ dy) -ℤ pos 0) ∷ more
-    along : IsWay (first.x -ℤ pos 0)
-    down : IsWay (first.y -ℤ pos 0)
-    short : IsWay ((first.x +ℤ dx) -ℤ pos 0) → IsWay ((first.y +ℤ dy) -ℤ pos 0) → AllByRecursion IsWay (ways origin (all_points (moved dx dy g).parts))
+    along : IsDelta (first.x -ℤ pos 0)
+    down : IsDelta (first.y -ℤ pos 0)
+    short : IsDelta ((first.x +ℤ dx) -ℤ pos 0) → IsDelta ((first.y +ℤ dy) -ℤ pos 0) → AllByRecursion IsDelta (deltas origin (all_points (moved dx dy g).parts))
 
-  short_again : (first : Point) (points : List Point) (parts : List (List Point)) → AllByRecursion IsWay (ways first (points ++ all_points parts)) → AllByRecursion IsWay (ways (further_on first) (map further_on points ++ all_points (map (map further_on) parts)))
+  short_again : (first : Point) (points : List Point) (parts : List (List Point)) → AllByRecursion IsDelta (deltas first (points ++ all_points parts)) → AllByRecursion IsDelta (deltas (further_on first) (map further_on points ++ all_points (map (map further_on) parts)))
   short_again first points parts short =
       let joined : map further_on points ++ all_points (map (map further_on) parts) ≡ map further_on (points ++ all_points parts) =
       ap (λ (rest : List Point). map further_on points ++ rest) (moved_points parts) ∙ sym (map-append further_on points (all_points parts)) in
-      subst (AllByRecursion IsWay) (sym (ap (ways (further_on first)) joined ∙ moved_ways first (points ++ all_points parts))) short
+      subst (AllByRecursion IsDelta) (sym (ap (deltas (further_on first)) joined ∙ moved_deltas first (points ++ all_points parts))) short
 
   dots_begin : (first : Point) (points : List Point) → IsInRange (with Dots ((first ∷ points) ∷ [])) → Begins (with Dots ((first ∷ points) ∷ []))
   dots_begin first points range =
@@ -202,8 +202,8 @@ module _ (dx dy : ℤ) where
     parts_again kind parts all.1 placed.1,
   )
 
-  pub first_ways : (kind : ℕ) (list : List ℕ) (g : Geometry) → HasGeometry kind list g → FirstWays list
-  first_ways kind list g h =
+  pub first_deltas : (kind : ℕ) (list : List ℕ) (g : Geometry) → HasGeometry kind list g → FirstDeltas list
+  first_deltas kind list g h =
       let b = begins g.kind g.parts h.valid h.in_range in
       record {
         number = b.number;
@@ -211,8 +211,8 @@ module _ (dx dy : ℤ) where
         y = zigzag (b.first.y -ℤ pos 0);
         more = b.more;
         spelled = h.spelled ∙ b.spelled;
-        along = subst IsWay (sym (unzigzag-zigzag (b.first.x -ℤ pos 0))) b.along;
-        down = subst IsWay (sym (unzigzag-zigzag (b.first.y -ℤ pos 0))) b.down;
+        along = subst IsDelta (sym (unzigzag-zigzag (b.first.x -ℤ pos 0))) b.along;
+        down = subst IsDelta (sym (unzigzag-zigzag (b.first.y -ℤ pos 0))) b.down;
       }
 
   -- integers that can lead further have the geometry that moves as far, where they are few enough
@@ -222,14 +222,14 @@ module _ (dx dy : ℤ) where
       let x : ℕ = zigzag (b.first.x -ℤ pos 0) in
       let y : ℕ = zigzag (b.first.y -ℤ pos 0) in
       let begun : list ≡ b.number ∷ x ∷ y ∷ b.more = h.spelled ∙ b.spelled in
-      let both = and_parts (is_way (further dx x)) (is_way (further dy y)) (ap (can_move_integers dx dy) (sym begun) ∙ can) in
-      let along : IsWay ((b.first.x +ℤ dx) -ℤ pos 0) = subst IsWay (sym (first_way dx b.first.x)) (ltb-true (unsigned_abs (further dx x)) (2 ^ 31) both.0) in
-      let down : IsWay ((b.first.y +ℤ dy) -ℤ pos 0) = subst IsWay (sym (first_way dy b.first.y)) (ltb-true (unsigned_abs (further dy y)) (2 ^ 31) both.1) in
+      let both = and_parts (is_delta (further dx x)) (is_delta (further dy y)) (ap (can_move_integers dx dy) (sym begun) ∙ can) in
+      let along : IsDelta ((b.first.x +ℤ dx) -ℤ pos 0) = subst IsDelta (sym (first_delta dx b.first.x)) (ltb-true (unsigned_abs (further dx x)) (2 ^ 31) both.0) in
+      let down : IsDelta ((b.first.y +ℤ dy) -ℤ pos 0) = subst IsDelta (sym (first_delta dy b.first.y)) (ltb-true (unsigned_abs (further dy y)) (2 ^ 31) both.1) in
       let range : IsInRange (moved dx dy g) = record { short = b.short along down; repeated = repeated_again g.kind g.parts h.in_range.repeated } in
       let spelled : integers (moved dx dy g) ≡ led dx dy list =
       b.again
-      ∙ ap (λ (way : ℤ). b.number ∷ zigzag way ∷ zigzag ((b.first.y +ℤ dy) -ℤ pos 0) ∷ b.more) (first_way dx b.first.x)
-      ∙ ap (λ (way : ℤ). b.number ∷ zigzag (further dx x) ∷ zigzag way ∷ b.more) (first_way dy b.first.y)
+      ∙ ap (λ (delta : ℤ). b.number ∷ zigzag delta ∷ zigzag ((b.first.y +ℤ dy) -ℤ pos 0) ∷ b.more) (first_delta dx b.first.x)
+      ∙ ap (λ (delta : ℤ). b.number ∷ zigzag (further dx x) ∷ zigzag delta ∷ b.more) (first_delta dy b.first.y)
       ∙ ap (led dx dy) (sym begun) in
       let most : ℕ = length (integers (moved dx dy g)) * 2 ^ 31 in
       let low : most ≤ 2 ^ 62 = omega (arith, few, ap length spelled, length-led dx dy list) in

@@ -49,7 +49,7 @@ number_count field = length (field_numbers 4 field)
 -- ---- how far a geometry reaches
 
 -- in a valid document of at most 67,108,864 bytes the integers of a feature lead no further from 0 than 2^57 along either
--- axis, where its ways are in range: that no coordinate may be further than 2^62 asks nothing more of a geometry
+-- axis, where its deltas are in range: that no coordinate may be further than 2^62 asks nothing more of a geometry
 -- (tiles 4.3.2, 4.3.3)
 abbrev pub NoCoordinateIsFar : Type 0
 NoCoordinateIsFar = (document : Document) (ordinal index : ℕ) (layer : Layer) (feature : Feature) (geometry : Geometry) → IsDocument document → length (bytes_of document) ≤ MAX_FILE → slice_get (layers document) ordinal ≡ Some layer → slice_get (features layer) index ≡ Some feature
@@ -65,10 +65,10 @@ moved_point dx dy point = record { x = point.x +ℤ dx; y = point.y +ℤ dy }
 abbrev pub moved : ℤ → ℤ → Geometry → Geometry
 moved dx dy geometry = record { kind = geometry.kind; parts = map (map (moved_point dx dy)) geometry.parts }
 
--- a parameter that leads further by this way, as it is spelled where its value stays, and in its shortest spelling where
+-- a parameter that leads further by this delta, as it is spelled where its value stays, and in its shortest spelling where
 -- it does not (tiles 4.3.2)
 abbrev pub led_further : ℤ → Number → Number
-led_further way number = with_number (zigzag (further way number.value)) number
+led_further delta number = with_number (zigzag (further delta number.value)) number
 
 -- the feature has the geometry that it had, moved by dx and dy, and no other. Of the numbers in its geometry fields the
 -- second leads further by dx and the third by dy, and each other one is spelled as it was; each field has its tag, its

@@ -4,7 +4,7 @@
 ghost use Rattle.geometry_laws.specs.Laws.{NoCoordinateIsFar, SetGeometrySets, ShiftBack, ShiftByNothing, ShiftShifts};
 
 /// In a valid document of at most 67,108,864 bytes no coordinate of a feature's geometry is further
-/// from 0 than 2^57: its ways are below 2^31, and it has no more integers than the document has bytes.
+/// from 0 than 2^57: its deltas are below 2^31, and it has no more integers than the document has bytes.
 /// So the bound of 2^62 on coordinates asks nothing more of a geometry.
 pub fn no_coordinate_is_far()
     ensures { NoCoordinateIsFar }

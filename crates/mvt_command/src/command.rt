@@ -98,7 +98,7 @@ pub enum Command {
     ExcludeAll {
         layers: LayersChoice,
     },
-    /// The geometry moves by these ways.
+    /// The geometry moves by these deltas.
     Shift {
         layer: LayerChoice,
         feature: FeatureChoice,

@@ -1,21 +1,21 @@
--- A parameter that leads further: the way that it holds then.
+-- A parameter that leads further: the delta that it holds then.
 use Rattle.std.proofs.Common.{◌≡◌, ◌^◌, ℕ, true, false, ℤ, ◌+ℤ◌, unsigned_abs, SFits, of_z, to_z, w64, subst, sym, ap, ◌∙◌, inl, inr, arith}
 use Rattle.std.proofs.lemmas.Bool.{cases_Bool, ltb-true}
 use Rattle.std.proofs.lemmas.Int.{fits_signed_from_abs, to_z-of_z}
 use Rattle.mvt_document.specs.Signed.{zigzag, unzigzag}
 use Rattle.mvt_document.proofs.Signed.{unzigzag-zigzag}
-use Rattle.mvt_geometry.specs.Checks.{is_way}
+use Rattle.mvt_geometry.specs.Checks.{is_delta}
 use Rattle.mvt_meaning.specs.Geometries.{further}
 
--- what no `i64` holds is no way
-none_so_far : (way : ℤ) → (SFits w64 way → ⊥) → false ≡ is_way way
-none_so_far way none =
-    elim (cases_Bool (is_way way)) [
-      | inl is ↦ absurd (none (fits_signed_from_abs w64 way (let near = ltb-true (unsigned_abs way) (2 ^ 31) is in omega arith)))
+-- what no `i64` holds is no delta
+none_so_far : (delta : ℤ) → (SFits w64 delta → ⊥) → false ≡ is_delta delta
+none_so_far delta none =
+    elim (cases_Bool (is_delta delta)) [
+      | inl is ↦ absurd (none (fits_signed_from_abs w64 delta (let near = ltb-true (unsigned_abs delta) (2 ^ 31) is in omega arith)))
       | inr not ↦ sym not
     ]
 
--- the way that a parameter holds, and so much more
+-- the delta that a parameter holds, and so much more
 module _ (parameter : ℕ) (read more : ℤ) (read_fits : SFits w64 read) (more_fits : SFits w64 more) (is : zigzag read ≡ parameter) where
   abbrev sum : ℤ
   sum = to_z w64 (of_z w64 read) +ℤ to_z w64 (of_z w64 more)
@@ -23,8 +23,8 @@ module _ (parameter : ℕ) (read more : ℤ) (read_fits : SFits w64 read) (more_
   leads : sum ≡ further more parameter
   leads = rw (to_z-of_z w64 read read_fits, to_z-of_z w64 more more_fits) (ap (λ from. from +ℤ more) (sym (unzigzag-zigzag read) ∙ ap unzigzag is))
 
-  pub leads_to : (way : ℤ) → SFits w64 sum × (way ≡ sum) → to_z w64 (of_z w64 way) ≡ further more parameter
-  leads_to way made = to_z-of_z w64 way (subst (SFits w64) (sym made.1) made.0) ∙ made.1 ∙ leads
+  pub leads_to : (delta : ℤ) → SFits w64 sum × (delta ≡ sum) → to_z w64 (of_z w64 delta) ≡ further more parameter
+  leads_to delta made = to_z-of_z w64 delta (subst (SFits w64) (sym made.1) made.0) ∙ made.1 ∙ leads
 
-  pub too_far : (SFits w64 sum → ⊥) → false ≡ is_way (further more parameter)
-  too_far none = none_so_far sum none ∙ ap is_way leads
+  pub too_far : (SFits w64 sum → ⊥) → false ≡ is_delta (further more parameter)
+  too_far none = none_so_far sum none ∙ ap is_delta leads

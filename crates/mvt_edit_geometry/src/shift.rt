@@ -7,7 +7,7 @@ ghost use Rattle.std.specs.Result.{result_ok};
 ghost use Rattle.mvt_document.specs.Signed.{zigzag};
 ghost use Rattle.mvt_document.specs.Stands.{document_of, feature_of, field_of};
 ghost use Rattle.mvt_document.specs.Wire.{field_bytes};
-ghost use Rattle.mvt_geometry.specs.Checks.{is_way};
+ghost use Rattle.mvt_geometry.specs.Checks.{is_delta};
 ghost use Rattle.mvt_renumber.specs.Renumbering.{renumber};
 ghost use Rattle.mvt_change.specs.Changes.{FeatureStep};
 ghost use Rattle.mvt_change.specs.ChangeStands.{step_of};
@@ -26,7 +26,7 @@ use mvt_change::{Change, Step};
 use mvt_document::tags::GEOMETRY;
 use mvt_document::{Document, from_zigzag, to_zigzag};
 use mvt_edit_pairs::renumber_feature;
-use mvt_geometry::is_way;
+use mvt_geometry::is_delta;
 use mvt_layers::FeatureView;
 use mvt_numbers::Numbers;
 use mvt_select::{FeatureChoice, FoundFeature, LayerChoice, Refusal, find_feature, find_layer};
@@ -125,14 +125,14 @@ fn next_value(numbers: &mut Numbers<'_>) -> Option<u64>
     }
 }
 
-/// The parameter that holds the way of this one and so much more, where one can hold it.
+/// The parameter that holds the delta of this one and so much more, where one can hold it.
 fn further(parameter: u64, more: i64) -> Option<u64>
-    ensures held { is_some result ≡ is_way (further more parameter) }
+    ensures held { is_some result ≡ is_delta (further more parameter) }
     ensures holds { IfSome result (λ made. made ≡ zigzag (further more parameter)) }
 {
-    let way = from_zigzag(parameter).checked_add(more)?;
-    if is_way(way) {
-        Some(to_zigzag(way))
+    let delta = from_zigzag(parameter).checked_add(more)?;
+    if is_delta(delta) {
+        Some(to_zigzag(delta))
     } else {
         None
     }

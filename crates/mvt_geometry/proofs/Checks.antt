@@ -9,8 +9,8 @@ use Rattle.mvt_geometry.specs.declared.shapes.Point.{Point}
 use Rattle.mvt_geometry.specs.declared.shapes.Kind.{Kind}
 use Rattle.mvt_geometry.specs.declared.shapes.Kind.TheVariants.{Dots, Lines, Areas}
 use Rattle.mvt_geometry.specs.Shapes.{kind_number, Geometry, IsPartCount, least_points, IsPlaced, IsPart, IsGeometry}
-use Rattle.mvt_geometry.specs.Integers.{origin, ways, all_points, integers, IsWay, repeats, IsRepeated, IsInRange, HasGeometry}
-use Rattle.mvt_geometry.specs.Checks.{is_part_count, is_placed, is_part, is_geometry, is_way, is_repeated, is_in_range, has_geometry}
+use Rattle.mvt_geometry.specs.Integers.{origin, deltas, all_points, integers, IsDelta, repeats, IsRepeated, IsInRange, HasGeometry}
+use Rattle.mvt_geometry.specs.Checks.{is_part_count, is_placed, is_part, is_geometry, is_delta, is_repeated, is_in_range, has_geometry}
 
 leb-Decides : (a b : ℕ) → Decides (leb a b) (a ≤ b)
 leb-Decides a b = (leb-true a b, le-leb a b)
@@ -41,8 +41,8 @@ geometry g =
 
 pub in_range-Decides : (g : Geometry) → Decides (is_in_range g) (IsInRange g)
 in_range-Decides g =
-    Decides-like (is_in_range g) (λ (h : AllByRecursion IsWay (ways origin (all_points g.parts)) × AllByRecursion (IsRepeated g.kind) g.parts). record { short = h.0; repeated = h.1 }) (λ h. (h.short, h.repeated))
-    (Decides-and _ _ (each is_way IsWay (λ way. Decides-ltb (unsigned_abs way) (2 ^ 31)) (ways origin (all_points g.parts))) (each (is_repeated g.kind) (IsRepeated g.kind) (λ points. Decides-ltb (repeats g.kind points) (2 ^ 29)) g.parts))
+    Decides-like (is_in_range g) (λ (h : AllByRecursion IsDelta (deltas origin (all_points g.parts)) × AllByRecursion (IsRepeated g.kind) g.parts). record { short = h.0; repeated = h.1 }) (λ h. (h.short, h.repeated))
+    (Decides-and _ _ (each is_delta IsDelta (λ delta. Decides-ltb (unsigned_abs delta) (2 ^ 31)) (deltas origin (all_points g.parts))) (each (is_repeated g.kind) (IsRepeated g.kind) (λ points. Decides-ltb (repeats g.kind points) (2 ^ 29)) g.parts))
 
 pub has_geometry-Decides : (kind : ℕ) (numbers : List ℕ) (g : Geometry) → Decides (has_geometry kind numbers g) (HasGeometry kind numbers g)
 unfolding has_geometry

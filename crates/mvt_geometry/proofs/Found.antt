@@ -22,20 +22,20 @@ use Rattle.mvt_geometry.proofs.Checks.{has_geometry-Decides}
 
 step : (from to : ℤ) → from +ℤ unzigzag (zigzag (to -ℤ from)) ≡ to
 step from to =
-    ap (λ (way : ℤ). from +ℤ way) (unzigzag-zigzag (to -ℤ from)) ∙ back
+    ap (λ (delta : ℤ). from +ℤ delta) (unzigzag-zigzag (to -ℤ from)) ∙ back
   where
     back : from +ℤ (to -ℤ from) ≡ to
     back = omega (arith, ints)
 
-moved-way : (from to : Point) → point_after from (zigzag (to.x -ℤ from.x)) (zigzag (to.y -ℤ from.y)) ≡ to
-moved-way from to =
+moved-delta : (from to : Point) → point_after from (zigzag (to.x -ℤ from.x)) (zigzag (to.y -ℤ from.y)) ≡ to
+moved-delta from to =
     ap (λ (x : ℤ). record { x = x; y = from.y +ℤ unzigzag (zigzag (to.y -ℤ from.y)) }) (step from.x to.x)
     ∙ ap (λ (y : ℤ). record { x = to.x; y = y }) (step from.y to.y)
 
 points_in-parameters : (from : Point) (points : List Point) → points_in from (parameters from points) ≡ points
 points_in-parameters from [] = refl
 points_in-parameters from (to ∷ points) =
-    ap (λ (p : Point). p ∷ points_in p (parameters to points)) (moved-way from to)
+    ap (λ (p : Point). p ∷ points_in p (parameters to points)) (moved-delta from to)
     ∙ ap (λ (rest : List Point). to ∷ rest) (points_in-parameters to points)
 
 length-parameters : (from : Point) (points : List Point) → length (parameters from points) ≡ 2 * length points

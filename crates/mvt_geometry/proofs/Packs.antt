@@ -5,20 +5,20 @@ use Rattle.std.proofs.lemmas.List.{append-nil}
 use Rattle.std.proofs.lemmas.List.Concat.{flat_map-append}
 use Rattle.mvt_geometry.specs.Shapes.{Point, Kind, Dots, Lines, Areas, IsPartCount, IsPart}
 use Rattle.mvt_document.specs.Wire.{shortest}
-use Rattle.mvt_geometry.specs.Integers.{ways, parameters, last_from, path, paths, closing_of, all_points, origin, integers_of, IsWay, IsRepeated, IsInRange, packed}
+use Rattle.mvt_geometry.specs.Integers.{deltas, parameters, last_from, path, paths, closing_of, all_points, origin, integers_of, IsDelta, IsRepeated, IsInRange, packed}
 use Rattle.mvt_geometry.specs.Walks.{integers_of_part, integers_from, AreInRange}
-use Rattle.mvt_geometry.proofs.Parts.{ways_apart, ways_together, with}
+use Rattle.mvt_geometry.proofs.Parts.{deltas_apart, deltas_together, with}
 
 -- ---- points
 
 -- of the points in `all` those in `left` are yet to be put, behind `last`
 pub record Putting (from : Point) (all : List Point) (old : List ℕ) (last : Point) (left : List Point) (now : List ℕ) : Type 0 where
   pub put : now ++ packed (parameters last left) ≡ old ++ packed (parameters from all)
-  pub short : AllByRecursion IsWay (ways last left) → AllByRecursion IsWay (ways from all)
-  pub only : AllByRecursion IsWay (ways from all) → AllByRecursion IsWay (ways last left)
+  pub short : AllByRecursion IsDelta (deltas last left) → AllByRecursion IsDelta (deltas from all)
+  pub only : AllByRecursion IsDelta (deltas from all) → AllByRecursion IsDelta (deltas last left)
   pub ends : last_from last left ≡ last_from from all
 
-pub put_point : (from : Point) (all : List Point) (old : List ℕ) (last p : Point) (left : List Point) (now new : List ℕ) → Putting from all old last (p ∷ left) now → new ≡ now ++ packed (parameters last (p ∷ [])) → AllByRecursion IsWay (ways last (p ∷ [])) → Putting from all old p left new
+pub put_point : (from : Point) (all : List Point) (old : List ℕ) (last p : Point) (left : List Point) (now new : List ℕ) → Putting from all old last (p ∷ left) now → new ≡ now ++ packed (parameters last (p ∷ [])) → AllByRecursion IsDelta (deltas last (p ∷ [])) → Putting from all old p left new
 put_point from all old last p left now new r e short = record {
   put = ap (λ (s : List ℕ). s ++ packed (parameters p left)) e ∙ append_assoc now (packed (parameters last (p ∷ []))) (packed (parameters p left))
       ∙ ap (λ (s : List ℕ). now ++ s) (sym (flat_map-append shortest (parameters last (p ∷ [])) (parameters p left))) ∙ r.put;
@@ -59,9 +59,9 @@ integers-from Dots parts counted = from_dots parts counted
 integers-from Lines parts counted = from_lines origin parts
 integers-from Areas parts counted = from_areas origin parts
 
-all_short : (kind : Kind) (from : Point) (parts : List (List Point)) → AreInRange kind from parts → AllByRecursion IsWay (ways from (all_points parts))
+all_short : (kind : Kind) (from : Point) (parts : List (List Point)) → AreInRange kind from parts → AllByRecursion IsDelta (deltas from (all_points parts))
 all_short kind from [] h = tt
-all_short kind from (part ∷ parts) h = ways_together from part (all_points parts) h.0.short (all_short kind (last_from from part) parts h.1)
+all_short kind from (part ∷ parts) h = deltas_together from part (all_points parts) h.0.short (all_short kind (last_from from part) parts h.1)
 
 all_repeated : (kind : Kind) (from : Point) (parts : List (List Point)) → AreInRange kind from parts → AllByRecursion (IsRepeated kind) parts
 all_repeated kind from [] h = tt
@@ -70,10 +70,10 @@ all_repeated kind from (part ∷ parts) h = (h.0.repeated, all_repeated kind (la
 pub whole_in_range : (kind : Kind) (parts : List (List Point)) → AreInRange kind origin parts → IsInRange (with kind parts)
 whole_in_range kind parts h = record { short = all_short kind origin parts h; repeated = all_repeated kind origin parts h }
 
-are_from : (kind : Kind) (from : Point) (parts : List (List Point)) → AllByRecursion IsWay (ways from (all_points parts)) → AllByRecursion (IsRepeated kind) parts → AreInRange kind from parts
+are_from : (kind : Kind) (from : Point) (parts : List (List Point)) → AllByRecursion IsDelta (deltas from (all_points parts)) → AllByRecursion (IsRepeated kind) parts → AreInRange kind from parts
 are_from kind from [] short repeated = tt
 are_from kind from (part ∷ parts) short repeated =
-    let apart = ways_apart from part (all_points parts) short in
+    let apart = deltas_apart from part (all_points parts) short in
     (record { short = apart.0; repeated = repeated.0 }, are_from kind (last_from from part) parts apart.1 repeated.1)
 
 pub parts_in_range : (kind : Kind) (parts : List (List Point)) → IsInRange (with kind parts) → AreInRange kind origin parts

@@ -3,7 +3,7 @@ use Rattle.std.proofs.Common.{◌≡◌, ℕ, ◌-◌, ◌^◌, ◌<◌, ◌≤�
 use Rattle.std.specs.List.{AllByRecursion}
 use Rattle.std.proofs.lemmas.List.{append-nil, length-append}
 use Rattle.mvt_geometry.specs.Shapes.{Point, Kind, Dots, Lines, Areas, kind_number, least_points, Geometry, IsPlaced, IsPart, IsGeometry}
-use Rattle.mvt_geometry.specs.Integers.{ways, last_from, path, paths, closing_of, all_points, origin, integers_of, IsWay, IsInRange, HasGeometry}
+use Rattle.mvt_geometry.specs.Integers.{deltas, last_from, path, paths, closing_of, all_points, origin, integers_of, IsDelta, IsInRange, HasGeometry}
 use Rattle.mvt_geometry.specs.Walks.{BeginsWithPart, ArePaths, Goes, IsDrawn}
 use Rattle.mvt_geometry.proofs.Fronts.{begins_once, last_placed}
 
@@ -78,14 +78,14 @@ parts_end least closing start all from read r =
 
 -- ---- paths and geometries
 
-pub ways_apart : (from : Point) (a b : List Point) → AllByRecursion IsWay (ways from (a ++ b)) → AllByRecursion IsWay (ways from a) × AllByRecursion IsWay (ways (last_from from a) b)
-ways_apart from [] b all = (tt, all)
-ways_apart from (p ∷ a) b all =
-    let others = ways_apart p a b all.1.1 in ((all.0, (all.1.0, others.0)), others.1)
+pub deltas_apart : (from : Point) (a b : List Point) → AllByRecursion IsDelta (deltas from (a ++ b)) → AllByRecursion IsDelta (deltas from a) × AllByRecursion IsDelta (deltas (last_from from a) b)
+deltas_apart from [] b all = (tt, all)
+deltas_apart from (p ∷ a) b all =
+    let others = deltas_apart p a b all.1.1 in ((all.0, (all.1.0, others.0)), others.1)
 
-pub ways_together : (from : Point) (a b : List Point) → AllByRecursion IsWay (ways from a) → AllByRecursion IsWay (ways (last_from from a) b) → AllByRecursion IsWay (ways from (a ++ b))
-ways_together from [] b first second = second
-ways_together from (p ∷ a) b first second = (first.0, (first.1.0, ways_together p a b first.1.1 second))
+pub deltas_together : (from : Point) (a b : List Point) → AllByRecursion IsDelta (deltas from a) → AllByRecursion IsDelta (deltas (last_from from a) b) → AllByRecursion IsDelta (deltas from (a ++ b))
+deltas_together from [] b first second = second
+deltas_together from (p ∷ a) b first second = (first.0, (first.1.0, deltas_together p a b first.1.1 second))
 
 abbrev pub IsShortPart : List Point → Type 0
 IsShortPart points = length points - 1 < 2 ^ 29
@@ -94,18 +94,18 @@ pub are_parts : (kind : Kind) (from : Point) (parts : List (List Point)) → Are
 are_parts kind from [] all = tt
 are_parts kind from (part ∷ parts) all = (record { enough = all.0.enough; placed = all.0.placed }, are_parts kind (last_from from part) parts all.1)
 
-pub are_short : (least : ℕ) (from : Point) (parts : List (List Point)) → ArePaths least from parts → AllByRecursion IsWay (ways from (all_points parts))
+pub are_short : (least : ℕ) (from : Point) (parts : List (List Point)) → ArePaths least from parts → AllByRecursion IsDelta (deltas from (all_points parts))
 are_short least from [] all = tt
-are_short least from (part ∷ parts) all = ways_together from part (all_points parts) all.0.short (are_short least (last_from from part) parts all.1)
+are_short least from (part ∷ parts) all = deltas_together from part (all_points parts) all.0.short (are_short least (last_from from part) parts all.1)
 
 pub are_repeated : (least : ℕ) (from : Point) (parts : List (List Point)) → ArePaths least from parts → AllByRecursion IsShortPart parts
 are_repeated least from [] all = tt
 are_repeated least from (part ∷ parts) all = (all.0.repeated, are_repeated least (last_from from part) parts all.1)
 
-pub are_paths : (kind : Kind) (from : Point) (parts : List (List Point)) → AllByRecursion (IsPart kind) parts → AllByRecursion IsWay (ways from (all_points parts)) → AllByRecursion IsShortPart parts → ArePaths (least_points kind) from parts
+pub are_paths : (kind : Kind) (from : Point) (parts : List (List Point)) → AllByRecursion (IsPart kind) parts → AllByRecursion IsDelta (deltas from (all_points parts)) → AllByRecursion IsShortPart parts → ArePaths (least_points kind) from parts
 are_paths kind from [] parts short repeated = tt
 are_paths kind from (part ∷ more) parts short repeated =
-    let apart = ways_apart from part (all_points more) short in
+    let apart = deltas_apart from part (all_points more) short in
     (record { enough = parts.0.enough; placed = parts.0.placed; short = apart.0; repeated = repeated.0 }, are_paths kind (last_from from part) more parts.1 apart.1 repeated.1)
 
 abbrev pub with : Kind → List (List Point) → Geometry

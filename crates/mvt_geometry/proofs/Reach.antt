@@ -1,11 +1,11 @@
--- How far from the origin ways in range lead: with each point at most 2^31 further.
+-- How far from the origin deltas in range lead: with each point at most 2^31 further.
 use Rattle.std.proofs.Common.{ℕ, ◌+◌, ◌*◌, ◌^◌, ◌≤◌, ℤ, pos, negsuc, ◌-ℤ◌, List, [], ◌∷◌, length, length-append, arith}
 use Rattle.std.specs.Prelude.{unsigned_abs}
 use Rattle.std.proofs.lemmas.Int.{ints}
 use Rattle.std.specs.List.{AllByRecursion}
 use Rattle.mvt_document.proofs.EachItem.{all_apart}
 use Rattle.mvt_geometry.specs.Shapes.{Point, Kind, Dots, Lines, Areas}
-use Rattle.mvt_geometry.specs.Integers.{ways, parameters, last_from, path, paths, closing_of, all_points, origin, integers_of, IsWay}
+use Rattle.mvt_geometry.specs.Integers.{deltas, parameters, last_from, path, paths, closing_of, all_points, origin, integers_of, IsDelta}
 use Rattle.mvt_geometry.specs.Laws.{IntegersReach, IsWithin}
 use Rattle.mvt_geometry.proofs.Fronts.{length-parameters}
 
@@ -19,7 +19,7 @@ abs_step (negsuc m) (negsuc n) = omega (arith, ints)
 
 -- ---- all points
 
-reaches : (most far : ℕ) (from : Point) (points : List Point) → IsWithin far from → AllByRecursion IsWay (ways from points) → far + length points * 2 ^ 31 ≤ most → AllByRecursion (IsWithin most) points
+reaches : (most far : ℕ) (from : Point) (points : List Point) → IsWithin far from → AllByRecursion IsDelta (deltas from points) → far + length points * 2 ^ 31 ≤ most → AllByRecursion (IsWithin most) points
 reaches most far from [] within short bound = tt
 reaches most far from (to ∷ points) within short bound =
     let next : IsWithin (far + 2 ^ 31) to = record {

@@ -3,7 +3,7 @@ use Rattle.std.proofs.Common.{◌≡◌, ℕ, ◌+◌, ◌*◌, ◌^◌, ◌<◌
 use Rattle.std.specs.List.{AllByRecursion}
 use Rattle.std.proofs.lemmas.List.{append-nil}
 use Rattle.mvt_geometry.specs.Shapes.{Point, Kind, Dots, Geometry, IsGeometry}
-use Rattle.mvt_geometry.specs.Integers.{ways, parameters, origin, integers_of, IsWay, IsInRange, HasGeometry}
+use Rattle.mvt_geometry.specs.Integers.{deltas, parameters, origin, integers_of, IsDelta, IsInRange, HasGeometry}
 use Rattle.mvt_geometry.specs.Walks.{IsMove, LeadsThrough, GoesOn}
 use Rattle.mvt_geometry.proofs.Fronts.{length-parameters}
 use Rattle.mvt_geometry.proofs.Parts.{same_kind, with}
@@ -29,7 +29,7 @@ are_dots numbers ((first ∷ others) ∷ []) valid range e =
       spelled = e ∙ ap (λ (s : List Point). (1 + 8 * length s) ∷ parameters origin s) same;
       leads = record {
         spelled = refl;
-        short = subst (λ (s : List Point). AllByRecursion IsWay (ways origin s)) same range.short;
+        short = subst (λ (s : List Point). AllByRecursion IsDelta (deltas origin s)) same range.short;
         placed = valid.parts.0.placed;
       };
     }
@@ -92,12 +92,12 @@ dots_have x y n behind first (p ∷ points) m g count few =
     let same : p ∷ points ≡ p ∷ (points ++ []) = ap (λ (s : List Point). p ∷ s) (sym (append-nil points)) in
     let line : 1 + 8 * n ≡ 1 + 8 * suc (length points) = omega arith in
     let spelled : (1 + 8 * n) ∷ x ∷ y ∷ behind ≡ (1 + 8 * suc (length points)) ∷ parameters origin (p ∷ points) = cc in
-    let short : AllByRecursion IsWay (ways origin (p ∷ points)) = (move.along.short, (move.down.short, l.short)) in
+    let short : AllByRecursion IsDelta (deltas origin (p ∷ points)) = (move.along.short, (move.down.short, l.short)) in
     record {
       of_kind = refl;
       valid = record { counted = refl; parts = (record { enough = omega arith; placed = (record { x = move.along.placed; y = move.down.placed }, l.placed) }, tt) };
       in_range = record {
-        short = subst (λ (s : List Point). AllByRecursion IsWay (ways origin s)) same short;
+        short = subst (λ (s : List Point). AllByRecursion IsDelta (deltas origin s)) same short;
         repeated = (omega arith, tt);
       };
       spelled = spelled ∙ ap (λ (s : List Point). (1 + 8 * length s) ∷ parameters origin s) same;

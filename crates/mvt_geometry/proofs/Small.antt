@@ -8,7 +8,7 @@ use Rattle.mvt_document.proofs.EachItem.{all_joined}
 use Rattle.mvt_document.proofs.Spelling.{minimal_spelling}
 use Rattle.mvt_document.specs.Signed.{zigzag}
 use Rattle.mvt_geometry.specs.Shapes.{Point, Kind, Dots, Lines, Areas, Geometry, IsGeometry}
-use Rattle.mvt_geometry.specs.Integers.{ways, parameters, last_from, path, origin, integers, IsWay, IsInRange}
+use Rattle.mvt_geometry.specs.Integers.{deltas, parameters, last_from, path, origin, integers, IsDelta, IsInRange}
 use Rattle.mvt_geometry.specs.Walks.{integers_of_part, integers_from, IsPartInRange, AreInRange}
 use Rattle.mvt_geometry.specs.Laws.{PacksIntegers}
 use Rattle.mvt_geometry.proofs.Packs.{integers-from, parts_in_range}
@@ -16,20 +16,20 @@ use Rattle.mvt_geometry.proofs.Packs.{integers-from, parts_in_range}
 abbrev pub IsSmall : ℕ → Type 0
 IsSmall integer = integer < 2 ^ 32
 
-pub small_way : (way : ℤ) → IsWay way → IsSmall (zigzag way)
-small_way (pos n) h = omega arith
-small_way (negsuc n) h = omega arith
+pub small_delta : (delta : ℤ) → IsDelta delta → IsSmall (zigzag delta)
+small_delta (pos n) h = omega arith
+small_delta (negsuc n) h = omega arith
 
-small_parameters : (from : Point) (points : List Point) → AllByRecursion IsWay (ways from points) → AllByRecursion IsSmall (parameters from points)
+small_parameters : (from : Point) (points : List Point) → AllByRecursion IsDelta (deltas from points) → AllByRecursion IsSmall (parameters from points)
 small_parameters from [] h = tt
-small_parameters from (p ∷ points) h = (small_way _ h.0, (small_way _ h.1.0, small_parameters p points h.1.1))
+small_parameters from (p ∷ points) h = (small_delta _ h.0, (small_delta _ h.1.0, small_parameters p points h.1.1))
 
 small_path : (closing : List ℕ) (from : Point) (points : List Point) → AllByRecursion IsSmall closing → IsPartInRange Lines from points → AllByRecursion IsSmall (path closing from points)
 small_path closing from [] small r = tt
 small_path closing from (first ∷ points) small r =
     let few = r.repeated in
     let count : IsSmall (2 + 8 * length points) = omega arith in
-    (omega arith, (small_way _ r.short.0, (small_way _ r.short.1.0, (count, all_joined IsSmall (parameters first points) closing (small_parameters first points r.short.1.1) small))))
+    (omega arith, (small_delta _ r.short.0, (small_delta _ r.short.1.0, (count, all_joined IsSmall (parameters first points) closing (small_parameters first points r.short.1.1) small))))
 
 small_part : (kind : Kind) (from : Point) (points : List Point) → IsPartInRange kind from points → AllByRecursion IsSmall (integers_of_part kind from points)
 small_part Dots from points r = let few = r.repeated in (omega arith, small_parameters from points r.short)

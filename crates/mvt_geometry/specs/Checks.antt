@@ -6,7 +6,7 @@ use Rattle.mvt_geometry.specs.declared.shapes.Point.{Point}
 use Rattle.mvt_geometry.specs.declared.shapes.Kind.{Kind}
 use Rattle.mvt_geometry.specs.declared.shapes.Kind.TheVariants.{Dots}
 use Rattle.mvt_geometry.specs.Shapes.{kind_number, Geometry, least_points}
-use Rattle.mvt_geometry.specs.Integers.{origin, ways, all_points, integers, repeats}
+use Rattle.mvt_geometry.specs.Integers.{origin, deltas, all_points, integers, repeats}
 
 -- dots are one part; there is at least one line or ring
 abbrev pub is_part_count : Kind → ℕ → Bool
@@ -25,9 +25,9 @@ is_part kind points = nat_le (least_points kind) (length points) && list_all is_
 abbrev pub is_geometry : Geometry → Bool
 is_geometry g = is_part_count g.kind (length g.parts) && list_all (is_part g.kind) g.parts
 
--- `IsWay` as a truth value (tiles 4.3.2)
-abbrev pub is_way : ℤ → Bool
-is_way way = nat_lt (unsigned_abs way) (2 ^ 31)
+-- `IsDelta` as a truth value (tiles 4.3.2)
+abbrev pub is_delta : ℤ → Bool
+is_delta delta = nat_lt (unsigned_abs delta) (2 ^ 31)
 
 -- `IsRepeated` as a truth value (tiles 4.3.1)
 abbrev pub is_repeated : Kind → List Point → Bool
@@ -35,7 +35,7 @@ is_repeated kind points = nat_lt (repeats kind points) (2 ^ 29)
 
 -- `IsInRange` as a truth value (tiles 4.3.1, 4.3.2)
 abbrev pub is_in_range : Geometry → Bool
-is_in_range g = list_all is_way (ways origin (all_points g.parts)) && list_all (is_repeated g.kind) g.parts
+is_in_range g = list_all is_delta (deltas origin (all_points g.parts)) && list_all (is_repeated g.kind) g.parts
 
 -- `HasGeometry` as a truth value (tiles 4.3)
 unfoldable pub has_geometry : ℕ → List ℕ → Geometry → Bool

@@ -17,14 +17,14 @@ command id count = id + 8 * count
 abbrev pub origin : Point
 origin = record { x = pos 0; y = pos 0 }
 
--- the ways from each point to the next, beginning at `from`: dx, dy, dx, dy and so on (tiles 4.3.2)
-abbrev pub ways : Point → List Point → List ℤ
-ways from [] = []
-ways from (to ∷ points) = (to.x -ℤ from.x) ∷ (to.y -ℤ from.y) ∷ ways to points
+-- the deltas from each point to the next, beginning at `from`: dx, dy, dx, dy and so on (tiles 4.3.2)
+abbrev pub deltas : Point → List Point → List ℤ
+deltas from [] = []
+deltas from (to ∷ points) = (to.x -ℤ from.x) ∷ (to.y -ℤ from.y) ∷ deltas to points
 
--- the parameter integers of the points: their ways in ZigZag (tiles 4.3.2)
+-- the parameter integers of the points: their deltas in ZigZag (tiles 4.3.2)
 abbrev pub parameters : Point → List Point → List ℕ
-parameters from points = map zigzag (ways from points)
+parameters from points = map zigzag (deltas from points)
 
 -- ---- geometries
 
@@ -63,9 +63,9 @@ integers g = integers_of g.kind g.parts
 
 -- ---- what integers of 32 bits can say
 
--- a way that a parameter can hold: from -(2^31 - 1) to 2^31 - 1 (tiles 4.3.2)
-abbrev pub IsWay : ℤ → Type 0
-IsWay way = unsigned_abs way < 2 ^ 31
+-- a delta that a parameter can hold: from -(2^31 - 1) to 2^31 - 1 (tiles 4.3.2)
+abbrev pub IsDelta : ℤ → Type 0
+IsDelta delta = unsigned_abs delta < 2 ^ 31
 
 -- how often the longest command of a part is carried out: MoveTo for dots, LineTo for the points behind the first of a
 -- line or ring (tiles 4.3.1)
@@ -77,9 +77,9 @@ repeats kind points = length points - 1
 abbrev pub IsRepeated : Kind → List Point → Type 0
 IsRepeated kind points = repeats kind points < 2 ^ 29
 
--- all ways, the first one from the origin, and all counts fit into their integers (tiles 4.3.1, 4.3.2)
+-- all deltas, the first one from the origin, and all counts fit into their integers (tiles 4.3.1, 4.3.2)
 pub record IsInRange (g : Geometry) : Type 0 where
-  pub short : AllByRecursion IsWay (ways origin (all_points g.parts))
+  pub short : AllByRecursion IsDelta (deltas origin (all_points g.parts))
   pub repeated : AllByRecursion (IsRepeated g.kind) g.parts
 
 -- the numbers are the integers of this geometry, which is valid, in range, and of the kind with this number; no other

@@ -3,12 +3,12 @@ use Rattle.std.specs.Prelude.{◌≡◌, ℕ, ◌-◌, ◌^◌, ◌≤◌, ◌<�
 use Rattle.std.specs.List.{AllByRecursion}
 use Rattle.mvt_document.specs.Signed.{zigzag}
 use Rattle.mvt_geometry.specs.Shapes.{Point, Kind, Dots, IsPlaced}
-use Rattle.mvt_geometry.specs.Integers.{command, ways, parameters, last_from, closing_of, path, paths, IsWay, IsRepeated}
+use Rattle.mvt_geometry.specs.Integers.{command, deltas, parameters, last_from, closing_of, path, paths, IsDelta, IsRepeated}
 
--- the parameter leads from one coordinate to another, which is placed, by a way in range
+-- the parameter leads from one coordinate to another, which is placed, by a delta in range
 pub record IsStep (from : ℤ) (number : ℕ) (to : ℤ) : Type 0 where
   pub spelled : number ≡ zigzag (to -ℤ from)
-  pub short : IsWay (to -ℤ from)
+  pub short : IsDelta (to -ℤ from)
   pub placed : unsigned_abs to ≤ 2 ^ 62
 
 -- two parameters lead from one point to another
@@ -16,10 +16,10 @@ pub record IsMove (from : Point) (x y : ℕ) (to : Point) : Type 0 where
   pub along : IsStep from.x x to.x
   pub down : IsStep from.y y to.y
 
--- the parameters lead from `from` through these points, which are placed, by ways in range
+-- the parameters lead from `from` through these points, which are placed, by deltas in range
 pub record LeadsThrough (from : Point) (numbers : List ℕ) (points : List Point) : Type 0 where
   pub spelled : numbers ≡ parameters from points
-  pub short : AllByRecursion IsWay (ways from points)
+  pub short : AllByRecursion IsDelta (deltas from points)
   pub placed : AllByRecursion IsPlaced points
 
 -- points that begin with `first` and go on as the parameters lead
@@ -27,11 +27,11 @@ abbrev pub GoesOn : Point → List ℕ → List Point → Type 0
 GoesOn first numbers [] = ⊥
 GoesOn first numbers (point ∷ points) = (point ≡ first) × LeadsThrough first numbers points
 
--- the points are a part with a path from `from`: enough of them, all placed, ways and count in range
+-- the points are a part with a path from `from`: enough of them, all placed, deltas and count in range
 pub record IsPath (least : ℕ) (from : Point) (points : List Point) : Type 0 where
   pub enough : least ≤ length points
   pub placed : AllByRecursion IsPlaced points
-  pub short : AllByRecursion IsWay (ways from points)
+  pub short : AllByRecursion IsDelta (deltas from points)
   pub repeated : length points - 1 < 2 ^ 29
 
 -- the numbers begin with the path of a part, and `rest` is behind it
@@ -66,9 +66,9 @@ abbrev pub integers_from : Kind → Point → List (List Point) → List ℕ
 integers_from kind from [] = []
 integers_from kind from (part ∷ parts) = integers_of_part kind from part ++ integers_from kind (last_from from part) parts
 
--- the ways of a part from `from`, and the count of its longest command, are in range
+-- the deltas of a part from `from`, and the count of its longest command, are in range
 pub record IsPartInRange (kind : Kind) (from : Point) (points : List Point) : Type 0 where
-  pub short : AllByRecursion IsWay (ways from points)
+  pub short : AllByRecursion IsDelta (deltas from points)
   pub repeated : IsRepeated kind points
 
 -- each part is in range from where the one before it ended

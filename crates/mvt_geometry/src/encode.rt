@@ -4,8 +4,8 @@ ghost use Rattle.std.specs.Prelude.{◌≡◌, ◌+◌, ◌*◌, ◌^◌, ◌<�
 ghost use Rattle.std.specs.List.{AllByRecursion};
 ghost use Rattle.mvt_document.specs.Signed.{zigzag};
 ghost use Rattle.mvt_document.specs.Wire.{shortest};
-ghost use Rattle.mvt_geometry.specs.Checks.{is_way};
-ghost use Rattle.mvt_geometry.specs.Integers.{ways, parameters, last_from, IsWay, IsInRange, packed, encoded};
+ghost use Rattle.mvt_geometry.specs.Checks.{is_delta};
+ghost use Rattle.mvt_geometry.specs.Integers.{deltas, parameters, last_from, IsDelta, IsInRange, packed, encoded};
 ghost use Rattle.mvt_geometry.specs.Walks.{integers_of_part, IsPartInRange};
 
 use crate::faults::EncodeError;
@@ -19,8 +19,8 @@ use std::alloc::{AllocError, Global};
 /// How often a command may be carried out.
 const MAX_COUNT: usize = 0x1fff_ffff;
 
-/// How far a way may go.
-const MAX_WAY: u64 = 0x7fff_ffff;
+/// The greatest delta, and the greatest below zero.
+const MAX_DELTA: u64 = 0x7fff_ffff;
 
 /// The bytes of the geometry: its integers packed, each in its shortest spelling.
 pub fn encode_geometry(alloc: Global, geometry: &Geometry) -> Result<Items<u8>, EncodeError>
@@ -86,13 +86,13 @@ fn put_path(bytes: &mut Vec<u8>, from: Point, points: &[Point]) -> Result<Point,
     put_points(bytes, first, &points[1..])
 }
 
-/// Adds the ways to the points, from this one on, and returns the last point. There are two to each
+/// Adds the deltas to the points, from this one on, and returns the last point. There are two to each
 /// point, and each takes at least one byte.
 fn put_points(bytes: &mut Vec<u8>, from: Point, points: &[Point]) -> Result<Point, EncodeError>
     ensures bytes { OnOk result (bytes.new.items ≡ bytes.old.items ++ packed (parameters from points.now)) }
-    ensures short { OnOk result (AllByRecursion IsWay (ways from points.now)) }
+    ensures short { OnOk result (AllByRecursion IsDelta (deltas from points.now)) }
     ensures last { IfOk result (λ last. last ≡ last_from from points.now) }
-    ensures out_of_range { IsErrOf result EncodeError.OutOfRange → ¬ AllByRecursion IsWay (ways from points.now) }
+    ensures out_of_range { IsErrOf result EncodeError.OutOfRange → ¬ AllByRecursion IsDelta (deltas from points.now) }
 {
     bytes.reserve(points.len().saturating_mul(2))?;
     let mut last = from;
@@ -103,38 +103,38 @@ fn put_points(bytes: &mut Vec<u8>, from: Point, points: &[Point]) -> Result<Poin
     Ok(last)
 }
 
-/// Adds the ways from one point to another.
+/// Adds the deltas from one point to another.
 fn put_move(bytes: &mut Vec<u8>, from: Point, to: Point) -> Result<(), EncodeError>
     ensures bytes { OnOk result (bytes.new.items ≡ bytes.old.items ++ packed (parameters from (to ∷ []))) }
-    ensures short { OnOk result (AllByRecursion IsWay (ways from (to ∷ []))) }
-    ensures out_of_range { IsErrOf result EncodeError.OutOfRange → ¬ AllByRecursion IsWay (ways from (to ∷ [])) }
+    ensures short { OnOk result (AllByRecursion IsDelta (deltas from (to ∷ []))) }
+    ensures out_of_range { IsErrOf result EncodeError.OutOfRange → ¬ AllByRecursion IsDelta (deltas from (to ∷ [])) }
 {
-    put_way(bytes, from.x, to.x)?;
-    put_way(bytes, from.y, to.y)
+    put_delta(bytes, from.x, to.x)?;
+    put_delta(bytes, from.y, to.y)
 }
 
-/// Adds the way from one coordinate to another.
-fn put_way(bytes: &mut Vec<u8>, from: i64, to: i64) -> Result<(), EncodeError>
+/// Adds the delta from one coordinate to another.
+fn put_delta(bytes: &mut Vec<u8>, from: i64, to: i64) -> Result<(), EncodeError>
     ensures bytes { OnOk result (bytes.new.items ≡ bytes.old.items ++ shortest (zigzag (to -ℤ from))) }
-    ensures short { OnOk result (IsWay (to -ℤ from)) }
-    ensures out_of_range { IsErrOf result EncodeError.OutOfRange → ¬ IsWay (to -ℤ from) }
+    ensures short { OnOk result (IsDelta (to -ℤ from)) }
+    ensures out_of_range { IsErrOf result EncodeError.OutOfRange → ¬ IsDelta (to -ℤ from) }
 {
-    let Some(way) = to.checked_sub(from) else {
+    let Some(delta) = to.checked_sub(from) else {
         return Err(EncodeError::OutOfRange);
     };
-    if !is_way(way) {
+    if !is_delta(delta) {
         return Err(EncodeError::OutOfRange);
     }
-    put_integer(bytes, to_zigzag(way))?;
+    put_integer(bytes, to_zigzag(delta))?;
     Ok(())
 }
 
-/// Whether an integer of 32 bits can hold the way from one coordinate to another: it is -(2^31 - 1)
+/// Whether an integer of 32 bits can hold the delta from one coordinate to another: it is -(2^31 - 1)
 /// to 2^31 - 1.
-pub fn is_way(way: i64) -> bool
-    ensures { result ≡ is_way way }
+pub fn is_delta(delta: i64) -> bool
+    ensures { result ≡ is_delta delta }
 {
-    way.unsigned_abs() <= MAX_WAY
+    delta.unsigned_abs() <= MAX_DELTA
 }
 
 /// Adds a command that is carried out so often.

@@ -20,7 +20,7 @@ pub enum GeometryError {
 /// Why a geometry was not written.
 #[derive(Clone, Copy, Debug, PartialEq, Eq, Error)]
 pub enum EncodeError {
-    /// A way from a point to the next, or the count of a part's points, is too great for its number.
+    /// A delta from a point to the next, or the count of a part's points, is too great for its number.
     #[error("the geometry is out of range")]
     OutOfRange,
     /// A growth was refused.

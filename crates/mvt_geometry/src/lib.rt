@@ -8,9 +8,9 @@
 //!   where there is none of the kind (`bad`); out of memory alone may come in place of either:
 //!   `geometry_of`.
 //! - A geometry is written as its integers, each in its shortest spelling (`bytes`), only where
-//!   each way from point to point and each count fits an integer of 32 bits (`in_range`). It is
+//!   each delta from point to point and each count fits an integer of 32 bits (`in_range`). It is
 //!   refused as out of range only where one does not (`out_of_range`); out of memory alone may come
-//!   in place of either: `encode_geometry`. Whether a way fits: `is_way`.
+//!   in place of either: `encode_geometry`. Whether a delta fits: `is_delta`.
 #![tactic(auto)]
 
 mod encode;
@@ -23,7 +23,7 @@ mod shapes;
 mod steps;
 mod valid;
 
-pub use encode::{encode_geometry, is_way};
+pub use encode::{encode_geometry, is_delta};
 pub use faults::{EncodeError, GeometryError};
 pub use geometry::Geometry;
 pub use read::geometry_of;

@@ -12,7 +12,7 @@ pub struct Point {
     pub y: i64,
 }
 
-/// Where the first way of a geometry begins.
+/// Where the first delta of a geometry begins.
 pub(crate) const ORIGIN: Point = Point { x: 0, y: 0 };
 
 /// Points that belong together: all dots, or the points of one line or of one ring.

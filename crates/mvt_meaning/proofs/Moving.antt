@@ -7,7 +7,7 @@ use Rattle.std.specs.Option.{option_and_then, option_map_or, unwrap_or}
 use Rattle.mvt_document.specs.Plain.{Field}
 use Rattle.mvt_document.specs.Signed.{zigzag}
 use Rattle.mvt_renumber.specs.Laws.{AreShort}
-use Rattle.mvt_geometry.specs.Checks.{is_way}
+use Rattle.mvt_geometry.specs.Checks.{is_delta}
 use Rattle.mvt_geometry.specs.Found.{geometry_in}
 use Rattle.mvt_geometry.specs.Integers.{integers}
 use Rattle.mvt_geometry.specs.Shapes.{Geometry}
@@ -18,9 +18,9 @@ use Rattle.mvt_meaning.specs.Geometries.{can_move, can_move_integers, further, g
 
 -- ---- integers
 
-way_short : (way : ℤ) → unsigned_abs way < 2 ^ 31 → zigzag way < 2 ^ 64
-way_short (pos n) h = omega arith
-way_short (negsuc n) h = omega arith
+delta_short : (delta : ℤ) → unsigned_abs delta < 2 ^ 31 → zigzag delta < 2 ^ 64
+delta_short (pos n) h = omega arith
+delta_short (negsuc n) h = omega arith
 
 abbrev pub IsShort : ℕ → Type 0
 IsShort integer = integer < 2 ^ 32
@@ -37,9 +37,9 @@ moved_short dx dy [] all can = tt
 moved_short dx dy (command ∷ []) all can = tt
 moved_short dx dy (command ∷ x ∷ []) all can = tt
 moved_short dx dy (command ∷ x ∷ y ∷ more) all can =
-    let both = and_parts (is_way (further dx x)) (is_way (further dy y)) can in
-    let along = way_short (further dx x) (ltb-true (unsigned_abs (further dx x)) (2 ^ 31) both.0) in
-    let down = way_short (further dy y) (ltb-true (unsigned_abs (further dy y)) (2 ^ 31) both.1) in
+    let both = and_parts (is_delta (further dx x)) (is_delta (further dy y)) can in
+    let along = delta_short (further dx x) (ltb-true (unsigned_abs (further dx x)) (2 ^ 31) both.0) in
+    let down = delta_short (further dy y) (ltb-true (unsigned_abs (further dy y)) (2 ^ 31) both.1) in
     (omega (arith, all.0), (along, (down, tt)))
 
 -- ---- fields

@@ -5,7 +5,7 @@ use Rattle.mvt_document.specs.Plain.{Field}
 use Rattle.mvt_document.specs.Signed.{unzigzag, zigzag}
 use Rattle.mvt_numbers.specs.Numbers.{numbers}
 use Rattle.mvt_renumber.specs.Renumbering.{renumber}
-use Rattle.mvt_geometry.specs.Checks.{is_way}
+use Rattle.mvt_geometry.specs.Checks.{is_delta}
 use Rattle.mvt_geometry.specs.Found.{geometry_in}
 use Rattle.mvt_geometry.specs.Integers.{encoded}
 use Rattle.mvt_geometry.specs.Shapes.{Geometry, kind_number}
@@ -35,9 +35,9 @@ geometry_among fields = option_and_then (geometry_in (unwrap_or (last_value 3 fi
 
 -- ---- a geometry that moves
 
--- a way, and the one that this parameter holds (tiles 4.3.2)
+-- a delta, and the one that this parameter holds (tiles 4.3.2)
 abbrev pub further : ℤ → ℕ → ℤ
-further way parameter = unzigzag parameter +ℤ way
+further delta parameter = unzigzag parameter +ℤ delta
 
 -- what is decided on the integers of a geometry that moves: the two parameters behind the first command, which lead
 -- from (0, 0), lead further, and all else stays (tiles 4.3.2)
@@ -45,9 +45,9 @@ abbrev pub moved_integers : ℤ → ℤ → List ℕ → List (Option ℕ)
 moved_integers dx dy (command ∷ x ∷ y ∷ more) = Some command ∷ Some (zigzag (further dx x)) ∷ Some (zigzag (further dy y)) ∷ []
 moved_integers dx dy integers = []
 
--- these two parameters can hold the ways that they get (tiles 4.3.2)
+-- these two parameters can hold the deltas that they get (tiles 4.3.2)
 abbrev pub can_move_integers : ℤ → ℤ → List ℕ → Bool
-can_move_integers dx dy (command ∷ x ∷ y ∷ more) = is_way (further dx x) && is_way (further dy y)
+can_move_integers dx dy (command ∷ x ∷ y ∷ more) = is_delta (further dx x) && is_delta (further dy y)
 can_move_integers dx dy integers = true
 
 -- what is decided on the integers of a feature of these fields where its geometry moves; nothing where they cannot be

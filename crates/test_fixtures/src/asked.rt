@@ -64,7 +64,7 @@ pub fn insert_polygon(alloc: Global, index: u64) -> Result<Option<Command>, Allo
     }))
 }
 
-/// The first feature of the first layer moves by these ways.
+/// The first feature of the first layer moves by these deltas.
 pub fn shift(dx: i64, dy: i64) -> Command {
     Command::Shift {
         layer: FIRST,

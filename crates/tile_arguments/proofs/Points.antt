@@ -5,7 +5,7 @@ use Rattle.std.specs.List.{position, position_or_len}
 use Rattle.std.proofs.lemmas.Bool.{ltb-true, ltb-false}
 use Rattle.std.proofs.lemmas.List.{drop_all}
 use Rattle.tile_words.proofs.Places.{place_le}
-use Rattle.tile_arguments.specs.Arguments.{behind_mark, number_up_to, signed_of, way_of, point_at, point_in}
+use Rattle.tile_arguments.specs.Arguments.{behind_mark, number_up_to, signed_of, delta_of, point_at, point_in}
 
 place_found : (p : ℕ → Bool) (xs : List ℕ) (k : ℕ) → position p xs ≡ Some k → (position_or_len p xs ≡ k) × (k < length xs)
 place_found p xs k e = tested (ltb (position_or_len p xs) (length xs)) refl e
@@ -21,13 +21,13 @@ place_none p xs e = tested (ltb (position_or_len p xs) (length xs)) refl e
     tested true is e = absurd cc
     tested false is e = omega (arith, ltb-false _ _ is, place_le p xs)
 
-around_comma : (bytes : List ℕ) (k : ℕ) → position (λ b. b == 44) bytes ≡ Some k → point_in bytes ≡ point_at (way_of (take k bytes)) (way_of (drop (k + 1) bytes))
+around_comma : (bytes : List ℕ) (k : ℕ) → position (λ b. b == 44) bytes ≡ Some k → point_in bytes ≡ point_at (delta_of (take k bytes)) (delta_of (drop (k + 1) bytes))
 unfolding point_in
-around_comma bytes k e = ap (λ (n : ℕ). point_at (way_of (take n bytes)) (way_of (drop (n + 1) bytes))) (place_found (λ b. b == 44) bytes k e).0
+around_comma bytes k e = ap (λ (n : ℕ). point_at (delta_of (take n bytes)) (delta_of (drop (n + 1) bytes))) (place_found (λ b. b == 44) bytes k e).0
 
-no_way : way_of [] ≡ None
+no_delta : delta_of [] ≡ None
 unfolding signed_of number_up_to
-no_way = refl
+no_delta = refl
 
 no_second : (x : Option ℤ) → point_at x None ≡ None
 no_second None = refl
@@ -38,15 +38,15 @@ unfolding point_in
 without_comma bytes e =
     let place = place_none (λ b. b == 44) bytes e in
     let nothing : drop (position_or_len (λ b. b == 44) bytes + 1) bytes ≡ [] = drop_all (position_or_len (λ b. b == 44) bytes + 1) bytes (omega (arith, place)) in
-    ap (λ (rest : List ℕ). point_at (way_of (take (position_or_len (λ b. b == 44) bytes) bytes)) (way_of rest)) nothing
-    ∙ ap (λ (y : Option ℤ). point_at (way_of (take (position_or_len (λ b. b == 44) bytes) bytes)) y) no_way
-    ∙ no_second (way_of (take (position_or_len (λ b. b == 44) bytes) bytes))
+    ap (λ (rest : List ℕ). point_at (delta_of (take (position_or_len (λ b. b == 44) bytes) bytes)) (delta_of rest)) nothing
+    ∙ ap (λ (y : Option ℤ). point_at (delta_of (take (position_or_len (λ b. b == 44) bytes) bytes)) y) no_delta
+    ∙ no_second (delta_of (take (position_or_len (λ b. b == 44) bytes) bytes))
 
-pub without_x : (bytes x : List ℕ) (k : ℕ) → position (λ b. b == 44) bytes ≡ Some k → x ≡ take k bytes → way_of x ≡ None → point_in bytes ≡ None
+pub without_x : (bytes x : List ℕ) (k : ℕ) → position (λ b. b == 44) bytes ≡ Some k → x ≡ take k bytes → delta_of x ≡ None → point_in bytes ≡ None
 without_x bytes x k e front none = around_comma bytes k e ∙ rw (← front, none) refl
 
-pub without_y : (bytes y : List ℕ) (k : ℕ) → position (λ b. b == 44) bytes ≡ Some k → y ≡ drop (k + 1) bytes → way_of y ≡ None → point_in bytes ≡ None
-without_y bytes y k e behind_mark none = around_comma bytes k e ∙ rw (← behind_mark, none) (no_second (way_of (take k bytes)))
+pub without_y : (bytes y : List ℕ) (k : ℕ) → position (λ b. b == 44) bytes ≡ Some k → y ≡ drop (k + 1) bytes → delta_of y ≡ None → point_in bytes ≡ None
+without_y bytes y k e behind_mark none = around_comma bytes k e ∙ rw (← behind_mark, none) (no_second (delta_of (take k bytes)))
 
-pub with_both : (bytes x y : List ℕ) (k : ℕ) (along down : ℤ) → position (λ b. b == 44) bytes ≡ Some k → x ≡ take k bytes → y ≡ drop (k + 1) bytes → way_of x ≡ Some along → way_of y ≡ Some down → point_in bytes ≡ Some (record { x = along; y = down })
+pub with_both : (bytes x y : List ℕ) (k : ℕ) (along down : ℤ) → position (λ b. b == 44) bytes ≡ Some k → x ≡ take k bytes → y ≡ drop (k + 1) bytes → delta_of x ≡ Some along → delta_of y ≡ Some down → point_in bytes ≡ Some (record { x = along; y = down })
 with_both bytes x y k along down e front behind_mark first second = around_comma bytes k e ∙ rw (← front, ← behind_mark, first, second) refl

@@ -12,7 +12,7 @@ use Rattle.tile_words.specs.declared.parse_error.ParseError.{ParseError}
 use Rattle.tile_words.specs.declared.parse_error.ParseError.TheVariants as parse
 use Rattle.mvt_command.proofs.Others.{Other, either}
 use Rattle.tile_arguments.proofs.Judged.{only_other, texts_only, parts_only}
-use Rattle.tile_arguments.specs.Arguments.{behind_mark, is_number, number_of, number_in, way_of, distance_of, text_in, text_of, texts_of, layer_by, layer_of, is_star, layers_of, feature_by, feature_of, parts_of, kinds, kind_word, kind_of, are_parts, shaped, geometry_of, value_in, value_of}
+use Rattle.tile_arguments.specs.Arguments.{behind_mark, is_number, number_of, number_in, delta_of, distance_of, text_in, text_of, texts_of, layer_by, layer_of, is_star, layers_of, feature_by, feature_of, parts_of, kinds, kind_word, kind_of, are_parts, shaped, geometry_of, value_in, value_of}
 
 pub then_other : {A B : Type 0} (r : Result A ParseError) (f : A → Result B ParseError) → Other parse.NoMemory r → ((x : A) → Other parse.NoMemory (f x)) → Other parse.NoMemory (r >>= f)
 then_other (Ok x) f first second = second x
@@ -62,7 +62,7 @@ number_in_other (Quoted text) = λ e. cc
 
 pub distance_other : (word : Word) → Other parse.NoMemory (distance_of word)
 unfolding distance_of
-distance_other (Bare bytes) = ok_or_other (way_of bytes) parse.BadNumber (λ e. cc)
+distance_other (Bare bytes) = ok_or_other (delta_of bytes) parse.BadNumber (λ e. cc)
 distance_other (Quoted text) = λ e. cc
 
 pub value_other : (name word : Word) → Other parse.NoMemory (value_of name word)

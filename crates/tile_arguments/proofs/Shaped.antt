@@ -13,7 +13,7 @@ use Rattle.tile_words.specs.declared.parse_error.ParseError.{ParseError}
 use Rattle.tile_words.specs.declared.parse_error.ParseError.TheVariants.{BadGeometryText}
 use Rattle.mvt_geometry.specs.Checks.{is_part_count}
 use Rattle.mvt_geometry.proofs.Checks.{counted-Decides}
-use Rattle.tile_arguments.specs.Arguments.{behind_mark, are_digits, number_up_to, signed_by, signed_of, way_of, each, point_at, point_in, bare_in, point_of, part_of, is_bar, parts_of, are_parts, shaped}
+use Rattle.tile_arguments.specs.Arguments.{behind_mark, are_digits, number_up_to, signed_by, signed_of, delta_of, each, point_at, point_in, bare_in, point_of, part_of, is_bar, parts_of, are_parts, shaped}
 use Rattle.tile_arguments.proofs.Digits.{both_true}
 
 -- ---- coordinates
@@ -44,9 +44,9 @@ signed_le : (most : ℕ) (marked : Option (List ℕ)) (bytes : List ℕ) (z : �
 signed_le most (Some digits) bytes z e = negative_le most (number_up_to most digits) z (up_to_le most digits) e
 signed_le most None bytes z e = positive_le most (number_up_to most bytes) z (up_to_le most bytes) e
 
-way_le : (bytes : List ℕ) (z : ℤ) → way_of bytes ≡ Some z → unsigned_abs z ≤ 2147483647
+delta_le : (bytes : List ℕ) (z : ℤ) → delta_of bytes ≡ Some z → unsigned_abs z ≤ 2147483647
 unfolding signed_of
-way_le bytes z e = signed_le 2147483647 (behind_mark (codes "-") bytes) bytes z e
+delta_le bytes z e = signed_le 2147483647 (behind_mark (codes "-") bytes) bytes z e
 
 at_placed : (x y : Option ℤ) (p : Point) → ((z : ℤ) → x ≡ Some z → unsigned_abs z ≤ 2147483647) → ((z : ℤ) → y ≡ Some z → unsigned_abs z ≤ 2147483647) → point_at x y ≡ Some p → IsPlaced p
 at_placed None y p along down e = absurd cc
@@ -58,7 +58,7 @@ at_placed (Some x) (Some y) p along down e =
 
 in_placed : (bytes : List ℕ) (p : Point) → point_in bytes ≡ Some p → IsPlaced p
 unfolding point_in
-in_placed bytes p e = at_placed _ _ p (way_le (before_first (λ b. b == 44) bytes)) (way_le (after_first (λ b. b == 44) bytes)) e
+in_placed bytes p e = at_placed _ _ p (delta_le (before_first (λ b. b == 44) bytes)) (delta_le (after_first (λ b. b == 44) bytes)) e
 
 said_placed : (o : Option (List ℕ)) (p : Point) → ok_or (option_and_then point_in o) BadGeometryText ≡ Ok p → IsPlaced p
 said_placed None p e = absurd cc

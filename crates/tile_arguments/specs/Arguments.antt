@@ -59,12 +59,12 @@ abbrev pub integer_of : List ℕ → Option ℤ
 integer_of bytes = signed_of (2 ^ 63) (2 ^ 63 - 1) bytes
 
 -- a coordinate: a signed number from -2147483647 to 2147483647
-abbrev pub way_of : List ℕ → Option ℤ
-way_of bytes = signed_of 2147483647 2147483647 bytes
+abbrev pub delta_of : List ℕ → Option ℤ
+delta_of bytes = signed_of 2147483647 2147483647 bytes
 
 -- the coordinate that a bare word writes; else BadNumber
 unfoldable pub distance_of : Word → Result ℤ ParseError
-distance_of (Bare bytes) = ok_or (way_of bytes) BadNumber
+distance_of (Bare bytes) = ok_or (delta_of bytes) BadNumber
 distance_of (Quoted text) = Err BadNumber
 
 -- ---- texts
@@ -174,7 +174,7 @@ point_at x y = option_map (λ at. record { x = at.0; y = at.1 }) (option_zip x y
 
 -- the point that the bytes write: two coordinates with one comma between them
 unfoldable pub point_in : List ℕ → Option Point
-point_in bytes = point_at (way_of (before_first (λ b. b == 44) bytes)) (way_of (after_first (λ b. b == 44) bytes))
+point_in bytes = point_at (delta_of (before_first (λ b. b == 44) bytes)) (delta_of (after_first (λ b. b == 44) bytes))
 
 -- the point that a bare word writes; else BadGeometryText
 unfoldable pub point_of : Word → Result Point ParseError

@@ -9,7 +9,7 @@ ghost use Rattle.tile_words.specs.Answers.{Gives};
 ghost use Rattle.tile_words.specs.WordStands.{word_of};
 ghost use Rattle.tile_arguments.specs.Arguments.{point_in, point_of, part_of, is_bar, parts_of, shaped, kind_word, kind_of, geometry_of, DrawsPoints};
 
-use crate::numbers::way;
+use crate::numbers::delta;
 use mvt_document::Items;
 use mvt_geometry::{Geometry, Kind, Part, Point};
 use std::alloc::Global;
@@ -135,8 +135,8 @@ fn point_in(bytes: &[u8]) -> Option<Point>
     let (x, _) = bytes.split_at(comma);
     let (_, y) = bytes.split_at(comma + 1);
     Some(Point {
-        x: way(x)?,
-        y: way(y)?,
+        x: delta(x)?,
+        y: delta(y)?,
     })
 }
 

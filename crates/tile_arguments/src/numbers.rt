@@ -3,7 +3,7 @@
 ghost use Rattle.std.specs.Prelude.{◌≡◌, ◌+◌, ◌*◌, ◌^◌, ◌<◌, ◌≤◌, neg_ℤ, pos, IfSome};
 ghost use Rattle.std.specs.Option.{SomeIff};
 ghost use Rattle.tile_words.specs.WordStands.{word_of};
-ghost use Rattle.tile_arguments.specs.Arguments.{number_of, number_in, number_up_to, signed_of, way_of, distance_of};
+ghost use Rattle.tile_arguments.specs.Arguments.{number_of, number_in, number_up_to, signed_of, delta_of, distance_of};
 
 use crate::marks::behind_mark;
 use tile_words::{ParseError, Word};
@@ -82,8 +82,8 @@ fn below_zero(distance: u64) -> i64
 }
 
 /// How far a point moves or lies, from the bytes of a word.
-pub(crate) fn way(bytes: &[u8]) -> Option<i64>
-    ensures { result ≡ way_of bytes.now }
+pub(crate) fn delta(bytes: &[u8]) -> Option<i64>
+    ensures { result ≡ delta_of bytes.now }
 {
     signed(FARTHEST, FARTHEST, bytes)
 }
@@ -94,7 +94,7 @@ pub fn distance(word: Word<'_>) -> Result<i64, ParseError>
     ensures { result ≡ distance_of (word_of word.entry) }
 {
     match word {
-        Word::Bare(bytes) => way(bytes).ok_or(ParseError::BadNumber),
+        Word::Bare(bytes) => delta(bytes).ok_or(ParseError::BadNumber),
         Word::Quoted(_) => Err(ParseError::BadNumber),
     }
 }

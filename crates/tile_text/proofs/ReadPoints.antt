@@ -21,7 +21,7 @@ use Rattle.tile_words.specs.Spelling.{SpellsWord, SpellsWords}
 use Rattle.tile_words.specs.declared.parse_error.ParseError.{ParseError}
 use Rattle.tile_words.specs.declared.parse_error.ParseError.TheVariants.{BadGeometryText}
 use Rattle.mvt_geometry.proofs.Checks.{counted-Decides}
-use Rattle.tile_arguments.specs.Arguments.{way_of, each, point_at, point_in, point_of, part_of, is_bar, parts_of, kind_word, kind_of, shaped, geometry_of}
+use Rattle.tile_arguments.specs.Arguments.{delta_of, each, point_at, point_in, point_of, part_of, is_bar, parts_of, kind_word, kind_of, shaped, geometry_of}
 use Rattle.tile_text.specs.Texts.{point_form, part_words, geometry_words}
 use Rattle.tile_text.specs.TextStands.{with_leading_spaces}
 use Rattle.tile_text.specs.ReadBack.{IsNear, IsReadAsGeometry}
@@ -40,8 +40,8 @@ near_lies : (z : ℤ) → unsigned_abs z < 2 ^ 31 → Lies 2147483647 2147483647
 near_lies (pos n) lt = omega (arith, lt)
 near_lies (negsuc n) lt = omega (arith, lt)
 
-way_reads : (z : ℤ) → unsigned_abs z < 2 ^ 31 → way_of (signed_decimal z) ≡ Some z
-way_reads z lt = signed_reads 2147483647 2147483647 z (omega arith) (omega arith) (near_lies z lt)
+delta_reads : (z : ℤ) → unsigned_abs z < 2 ^ 31 → delta_of (signed_decimal z) ≡ Some z
+delta_reads z lt = signed_reads 2147483647 2147483647 z (omega arith) (omega arith) (near_lies z lt)
 
 -- ---- a point: what stands before the comma, and behind it
 
@@ -67,9 +67,9 @@ point_reads : (p : Point) → IsNear p → point_of (Bare (point_form p)) ≡ Ok
 unfolding point_of point_in
 point_reads p near =
     let comma = signed_all (λ b. eqb b 44 ≡ false) refl no_comma p.x (near_fits p.x near.x) in
-    let x = ap way_of (before_comma (signed_decimal p.x) (signed_decimal p.y) comma) ∙ way_reads p.x near.x in
-    let y = ap way_of (behind_comma (signed_decimal p.x) (signed_decimal p.y) comma) ∙ way_reads p.y near.y in
-    ap (λ (o : Option ℤ). ok_or (point_at o (way_of (after_first (λ b. eqb b 44) (point_form p)))) BadGeometryText) x
+    let x = ap delta_of (before_comma (signed_decimal p.x) (signed_decimal p.y) comma) ∙ delta_reads p.x near.x in
+    let y = ap delta_of (behind_comma (signed_decimal p.x) (signed_decimal p.y) comma) ∙ delta_reads p.y near.y in
+    ap (λ (o : Option ℤ). ok_or (point_at o (delta_of (after_first (λ b. eqb b 44) (point_form p)))) BadGeometryText) x
     ∙ ap (λ (o : Option ℤ). ok_or (point_at (Some p.x) o) BadGeometryText) y
 
 -- ---- parts

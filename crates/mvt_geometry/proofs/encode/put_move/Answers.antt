@@ -13,6 +13,6 @@ returns-clause-bytes c =
     let to_y : SFits w64 to.y = search rules in
     let from_x : SFits w64 from.x = search rules in
     let from_y : SFits w64 from.y = search rules in
-    let along = simp to_z-of_z at c.in_ok-put_way.ensures.bytes in
-    let down = simp to_z-of_z at c.put_way-2.ensures.bytes in
-    on_ok_weaker c.put_way-2.result (two_put (shortest (zigzag (to.x -ℤ from.x))) (shortest (zigzag (to.y -ℤ from.y))) c.args.bytes.now.items c.put_way.new.bytes.items c.put_way-2.new.bytes.items along) down
+    let along = simp to_z-of_z at c.in_ok-put_delta.ensures.bytes in
+    let down = simp to_z-of_z at c.put_delta-2.ensures.bytes in
+    on_ok_weaker c.put_delta-2.result (two_put (shortest (zigzag (to.x -ℤ from.x))) (shortest (zigzag (to.y -ℤ from.y))) c.args.bytes.now.items c.put_delta.new.bytes.items c.put_delta-2.new.bytes.items along) down
