@@ -76,7 +76,7 @@ fn script_option<'a>(alloc: Global) -> Arg<'a>
     Arg::new(alloc, "script")
         .long("script")
         .value_name("FILE")
-        .help("The script, in place of standard input")
+        .help("Read the script from this file, not from standard input")
 }
 
 /// The option `--strict`.
@@ -100,7 +100,7 @@ fn depth_option<'a>(alloc: Global) -> Arg<'a>
         .action(ArgAction::Set)
         .value_parser(depths())
         .default_value("100")
-        .help("How many steps undo goes back at most, from 1 to 10000")
+        .help("How many steps undo can go back, from 1 to 10000")
 }
 
 /// The numbers that `--depth` takes.

@@ -1,42 +1,42 @@
-//! What `--help` prints of the script, behind the options.
+//! What `--help` prints about the script, after the options.
 
 /// The requests of a script with their arguments, the statuses, the limits, and examples.
 pub(crate) const SCRIPT_HELP: &str = r#"Requests, one on each line of the script:
-  rename-layer LAYER TEXT              give the layer another name
-  move-layer LAYER INDEX               make it the layer of this ordinal
-  drop-layer LAYER                     take the layer out
-  keep TEXT ..                         take out all layers but those named so
-  insert LAYER INDEX GEOMETRY          put a new feature in
-  move-feature LAYER FEATURE INDEX     make it the feature of this ordinal
-  drop-feature LAYER FEATURE           take the feature out
-  set-id LAYER FEATURE NUMBER          give the feature an id
-  clear-id LAYER FEATURE               take its id out
-  set LAYER FEATURE KEY TYPE VALUE     give the feature an attribute
-  unset LAYER FEATURE KEY              take an attribute of the feature out
-  rename-key LAYER OLD NEW             give a key of the layer another name
-  exclude LAYERS KEY                   take an attribute out of all features
-  exclude-all LAYERS                   take all attributes out
+  rename-layer LAYER TEXT              rename the layer
+  move-layer LAYER INDEX               move the layer to this ordinal
+  drop-layer LAYER                     remove the layer
+  keep TEXT ..                         remove all layers but these
+  insert LAYER INDEX GEOMETRY          insert a new feature
+  move-feature LAYER FEATURE INDEX     move the feature to this ordinal
+  drop-feature LAYER FEATURE           remove the feature
+  set-id LAYER FEATURE NUMBER          set the id of the feature
+  clear-id LAYER FEATURE               remove its id
+  set LAYER FEATURE KEY TYPE VALUE     set an attribute of the feature
+  unset LAYER FEATURE KEY              remove an attribute of the feature
+  rename-key LAYER OLD NEW             rename a key of the layer
+  exclude LAYERS KEY                   remove an attribute from all features
+  exclude-all LAYERS                   remove all attributes
   shift LAYER FEATURE DX DY            move the geometry of the feature
-  set-geometry LAYER FEATURE GEOMETRY  give the feature another geometry
-  compact-keys LAYERS                  take out the keys that no feature uses
-  compact-values LAYERS                take out the values that none uses
-  compact LAYERS                       take out both
-  undo                                 take the last step back
-  redo                                 have the step stand again
+  set-geometry LAYER FEATURE GEOMETRY  replace the geometry of the feature
+  compact-keys LAYERS                  remove the keys that no feature uses
+  compact-values LAYERS                remove the values that no feature uses
+  compact LAYERS                       remove both
+  undo                                 take back the last step
+  redo                                 redo the step that was undone last
   begin                                open a step of several commands
   end                                  close the step
-  cancel                               take the commands of the step back
-  mark TEXT                            give the present point a name
-  unmark TEXT                          have the name mark nothing
+  cancel                               take back the commands of the step
+  mark TEXT                            name the present point of the history
+  unmark TEXT                          remove the mark of this name
   back TEXT                            go to the point that the name marks
   marks                                print the names, and where they lead
   history                              print how far undo and redo go
-  size                                 print how many bytes the tile has
+  size                                 print the size of the tile in bytes
   list                                 print the layers
   list LAYER                           print its keys, values and features
   list LAYER FEATURE                   print its attributes and its geometry
 
-A blank line, or one that begins with a #, asks for nothing.
+Blank lines, and lines that begin with a #, are ignored.
 
 Arguments of requests:
   LAYER       a TEXT, its name; or a # and its ordinal from 0, such as #2
@@ -57,9 +57,9 @@ Statuses:
   0  every line was accepted, and the tile was written
   1  a line was refused; the tile was written, unless the run is strict
   2  the command line was refused
-  3  TILE is no tile, or too large
+  3  TILE is not a tile, or is too large
   4  a file could not be read or written, or the script is too long
-  5  there was no memory to go on
+  5  out of memory
 
 Limits:
   a tile has at most 67108864 bytes, a script 16777216, a line 65536
