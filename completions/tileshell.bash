@@ -4,7 +4,7 @@ _tileshell()
 {
     local word=${COMP_WORDS[COMP_CWORD]} before=${COMP_WORDS[COMP_CWORD - 1]} given option options=()
 
-    # A word --script=FILE comes as three.
+    # A word --script=FILE arrives as three words.
     if [[ $word == = ]]; then
         word=
     elif [[ $before == = ]]; then
