@@ -77,12 +77,12 @@ PHASES_TOLD = "Where the time of one rename goes, tileshell alone"
 
 SESSIONS = "Renames, and undos and redos over them, tileshell alone"
 
-RUNS_MEASURED = f"medians of {RUNS} runs in turns, and of {FEWER_RUNS} where one of each takes more than {LONG_TURN} s in all"
+RUNS_MEASURED = f"medians of {RUNS} runs in turns, or of {FEWER_RUNS} if one of each takes more than {LONG_TURN} s in all"
 
 DASHES = """\
 A dash: not done, or not measured.
-`protozero, layers alone` reads a layer as far as its name and copies all else unread, so it checks nothing of that.
-protozero reads no groups."""
+`protozero, layers alone` reads a layer up to its name and copies all else unread, so it checks none of that.
+protozero does not read groups."""
 
 
 def programs(tileshell):

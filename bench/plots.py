@@ -173,8 +173,8 @@ def time_plot(run):
 def time_caption(run, panels):
     ours = run.programs[0]
     found = [f"{shares(panel, ours)} for {panel.job}" for panel in panels]
-    return (f"Both axes are logarithmic: what grows as the tile does is as steep as the dashed line, which goes through {ours}'s time "
-            f"on the largest tile. There {ours} takes, of the time of {' and of '.join(RIVALS)}: {'; '.join(found)}.")
+    return (f"Both axes are logarithmic: what grows in proportion to the tile is as steep as the dashed line, which goes through {ours}'s "
+            f"time on the largest tile. There {ours} takes these fractions of the time of {' and of '.join(RIVALS)}: {'; '.join(found)}.")
 
 
 def shares(panel, ours):
@@ -198,7 +198,7 @@ def memory_plot(run):
 
 def memory_caption(run, panels):
     found = [f"{panel.job} on {panel.kind}, {ends(panel, [run.programs[0], *RIVALS])}" for panel in panels]
-    return f"From the smallest tile to the largest it goes, for {'; for '.join(found)}."
+    return f"From the smallest tile to the largest it goes as follows: for {'; for '.join(found)}."
 
 
 def ends(panel, names):
@@ -229,7 +229,7 @@ def undo_plot(run):
         parts.append([f"set title {quoted(tile.name)}", f"set xrange [-0.6:{len(group) - 0.4}]", f"set xtics nomirror ({tics})",
                       plotted(bars(f"$tile{turn}"))])
     key = [f"keyentry with boxes fillstyle solid linecolor '{colour}' title {quoted(title)}" for _, _, colour, _, title in BARS]
-    return Plot("undo", "An undo or redo beside a rename, by depth", undo_caption(run, steps), [*data, *multiplot(key, scale, parts)])
+    return Plot("undo", "An undo or redo compared with a rename, by depth", undo_caption(run, steps), [*data, *multiplot(key, scale, parts)])
 
 
 def bars(data):
@@ -242,8 +242,8 @@ def bars(data):
 
 def undo_caption(run, steps):
     ratios = [each.ratio for each in steps]
-    return (f"{run.programs[0]} alone, the job `sessions`. An undo or redo takes {min(ratios):.2f} to {max(ratios):.2f} of the time of a rename. "
-            "It is what two runs differ by, so where it takes next to nothing it may come out below 0.")
+    return (f"{run.programs[0]} alone, the job `sessions`. An undo or redo takes {min(ratios):.2f} to {max(ratios):.2f} times as long as a rename. "
+            "Its time is the difference between two runs, so if it takes next to nothing it may come out below 0.")
 
 
 # ---- files
@@ -273,7 +273,7 @@ def drawn(run):
 def pictures(run, plots):
     """What RESULTS.md says of these plots, with links to their files."""
     parts = [f"![{plot.heading}]({FOLDER.name}/{plot.file(run.title)})\n\n{plot.heading}. {plot.caption}" for plot in plots]
-    return "\n\n".join(["A program has one colour in all plots, and what was not done is left out.", *parts]) if parts else ""
+    return "\n\n".join(["Each program has one colour in all plots, and what was not done is left out.", *parts]) if parts else ""
 
 
 def main():
