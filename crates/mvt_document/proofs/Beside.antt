@@ -1,4 +1,4 @@
--- The size of a list beside one of its items, before it and behind it.
+-- The size of a list apart from one of its items, before it and after it.
 use Rattle.std.proofs.Common.{◌≡◌, ℕ, zero, suc, ◌+◌, ◌<◌, ◌≤◌, Option, Some, None, List, [], ◌∷◌, ◌++◌, length, length-append, take, drop, get_or, take-append-drop, sym, ap, ◌∙◌, arith}
 use Rattle.std.specs.List.{flat_map}
 use Rattle.std.specs.Option.{SomeIff, IfSome}
@@ -20,7 +20,7 @@ pub known_so : (P : Type 0) (r : Option ℕ) (n m : ℕ) → SomeIff r P n → n
 known_so P None n m some is = tt
 known_so P (Some x) n m some is = some.1 ∙ is
 
--- what goes and what stays, what comes and what was
+-- what leaves and what stays, what is added and what was there
 pub spliced_size : {T : Type 0} (f : T → List ℕ) (index taken : ℕ) (put items : List T) → length (flat_map f (splice index taken put items)) + length (flat_map f (part index taken items)) ≡ length (flat_map f items) + length (flat_map f put)
 spliced_size f index taken put items =
     let joined = ap length (flat_map-append f (take index items ++ put) (drop (index + taken) items)) ∙ length-append (flat_map f (take index items ++ put)) (flat_map f (drop (index + taken) items)) in
@@ -37,7 +37,7 @@ pub pushed_size : {T : Type 0} (f : T → List ℕ) (items : List T) (x : T) →
 pushed_size f items x =
     omega (arith, ap length (flat_map-append f items (x ∷ [])), length-append (flat_map f items) (f x ++ []), length-append (f x) [])
 
--- an item that moves weighs the same
+-- an item that moves has the same size
 pub moved_size : {T : Type 0} (f : T → List ℕ) (from to : ℕ) (items : List T) → length (flat_map f (moved from to items)) ≡ length (flat_map f items)
 moved_size f from to items =
     let out = spliced_size f from 1 [] items in

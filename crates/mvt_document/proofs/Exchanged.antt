@@ -4,7 +4,7 @@ use Rattle.std.proofs.lemmas.List.{append-nil, length-take-le, take_all, take_at
 use borrow.Rule.Slice.PartMut.{put_mid}
 use Rattle.mvt_document.specs.Splicing.{moved, part, splice}
 
--- a part that came behind all others is what stands there
+-- a part that was moved to the end is what is there
 pub part_behind : {A : Type 0} (index count left : ℕ) (items turned : List A) → turned ≡ take index items ++ (drop (index + count) items ++ part index count items) → index + count ≤ length items → left + count ≡ length items → drop left turned ≡ part index count items
 part_behind index count left items turned is within rest =
     let front : length (take index items ++ drop (index + count) items) ≡ left =
@@ -12,7 +12,7 @@ part_behind index count left items turned is within rest =
     ap (drop left) (is ∙ sym (append_assoc (take index items) (drop (index + count) items) (part index count items)))
     ∙ drop_at (take index items ++ drop (index + count) items) (part index count items) left front
 
--- what came stands where it was put
+-- what was put in is where it was put
 pub part-splice : {A : Type 0} (index taken : ℕ) (put items : List A) → index ≤ length items → part index (length put) (splice index taken put items) ≡ put
 part-splice index taken put items within =
     rw (append_assoc, drop_at (take index items) (put ++ drop (index + taken) items) index (length-take-le index items within)) (take_at put (drop (index + taken) items) (length put) refl)
@@ -23,7 +23,7 @@ take_more_items n m items =
     ∙ ap (λ rest. take n (take (n + m) items) ++ rest) (sym (drop-take n m items))
     ∙ take-append-drop n (take (n + m) items)
 
--- ---- one item comes for one that is taken
+-- ---- one item is put for one that is taken
 
 pub set_one : {A : Type 0} (index : ℕ) (list : List A) (item : A) → index < length list → set list index item ≡ splice index 1 (item ∷ []) list
 set_one index list item within =
@@ -37,7 +37,7 @@ one_alone item [] one is = absurd (omega (arith, one))
 one_alone item (x ∷ []) one is = ap (λ first. first ∷ []) is
 one_alone item (x ∷ y ∷ items) one is = absurd (omega (arith, one))
 
--- ---- fewer items come than are taken: some change places, and the others that are taken follow
+-- ---- fewer items are put than are taken: some change places, and the others that are taken follow
 
 pub fewer_list : {A : Type 0} (index taken given : ℕ) (list put swapped : List A) → given ≡ length put → given ≤ taken → index + taken ≤ length list → swapped ≡ splice index given (take given put) list → take (index + given) swapped ++ drop (index + given + (taken - given)) swapped ≡ splice index taken put list
 fewer_list index taken given list put swapped all fewer within is =
@@ -67,7 +67,7 @@ fewer_put index taken given list put swapped got all fewer within is got_is =
 
 -- ---- an item that moves
 
--- a prefix, an item, the items that it goes past, and those behind
+-- a prefix, an item, the items that it goes past, and those after them
 pub moved_on : {A : Type 0} (a x b c : List A) (from to : ℕ) → length x ≡ 1 → from ≡ length a → to ≡ from + length b → moved from to (a ++ (x ++ (b ++ c))) ≡ a ++ (b ++ (x ++ c))
 moved_on a x b c from to one start stop =
     let whole = a ++ (x ++ (b ++ c)) in
@@ -106,13 +106,13 @@ moved_up a b x c from to one start stop =
     ∙ ap (λ y. a ++ x ++ y) (drop_at a (b ++ c) to (sym start))
     ∙ append_assoc a x (b ++ c)
 
--- a range of a list in three pieces: before it, a part of it, the rest of it, and what is behind
+-- a range of a list in three pieces: before it, a part of it, the rest of it, and what is after it
 pieces : {A : Type 0} (at first second : ℕ) (items : List A) → items ≡ take at items ++ (take first (drop at items) ++ (take second (drop first (drop at items)) ++ drop second (drop first (drop at items))))
 pieces at first second items =
     sym (take-append-drop at items)
     ∙ ap (λ y. take at items ++ y) (sym (take-append-drop first (drop at items)) ∙ ap (λ y. take first (drop at items) ++ y) (sym (take-append-drop second (drop first (drop at items)))))
 
--- a range turned by one is an item moved on
+-- a range rotated by one is an item moved on
 pub turned_left : {A : Type 0} (from to : ℕ) (items : List A) → from ≤ to → to < length items
     → put_mid from (to + 1 - from) items (drop 1 (take (to + 1 - from) (drop from items)) ++ take 1 (take (to + 1 - from) (drop from items))) ≡ moved from to items
 turned_left from to items low within =

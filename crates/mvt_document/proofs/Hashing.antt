@@ -77,7 +77,7 @@ module _ {T : Type 0} (f : T → ℕ) where
   cut_spliced_so index taken put hashes items is =
       spliced_so index taken put (take index hashes) items (omega (arith, length-take index hashes)) (cut_so index hashes items is)
 
-  -- an item moves behind those that have hashes
+  -- an item moves to a position after those that have hashes
   pub moved_behind : (from to : ℕ) (hashes : List ℕ) (items : List T) → length hashes ≤ from → length hashes ≤ to → AreHashes f hashes items → AreHashes f hashes (moved from to items)
   moved_behind from to hashes items out back is = spliced_so to 0 (part from 1 items) hashes (splice from 1 [] items) back (spliced_so from 1 [] hashes items out is)
 
@@ -132,6 +132,6 @@ spliced_within f index taken put come hashes items within all is =
     subst (λ whole. AreHashes f whole (splice index taken put items)) (sym mapped)
     (subst (AreHashes f (map f now)) (sym parts) (joined_so f (map f now) now behind (whole_so f now)))
 
--- as many hashes as items are those of all of them
+-- if there are as many hashes as items, they are those of all of them
 pub all_hashes : {T : Type 0} (f : T → ℕ) (hashes : List ℕ) (items : List T) → length items ≤ length hashes → AreHashes f hashes items → hashes ≡ map f items
 all_hashes f hashes items many is = is ∙ ap (map f) (take_all (length hashes) items many)

@@ -1,9 +1,9 @@
--- What holds of what an option has, and of what is made of it.
+-- What holds of the value of an option, and of what is made of it.
 use Rattle.std.proofs.Common.{◌≡◌, Option, Some, None, option_map, sym, subst}
 use Rattle.std.specs.Option.{IfSome, IsSomeAnd}
 
 module _ {X : Type 0} where
-  -- what holds of an option where it has something of which this holds
+  -- what holds of an option if its value is one of which this holds
   pub where_some : (o : Option X) (P : X → Type 0) (Q : Option X → Type 0) → ((x : X) → P x → Q (Some x)) → IsSomeAnd o P → Q o
   where_some None P Q each there = absurd there
   where_some (Some x) P Q each there = each x there

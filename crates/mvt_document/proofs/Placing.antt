@@ -1,4 +1,4 @@
--- A list inside a document, changed where it stands: what the layers and the features around it are, and what is found.
+-- A list inside a document, changed in place: what the layers and the features around it are, and what is found.
 use Rattle.std.proofs.Common.{◌≡◌, ℕ, zero, suc, List, [], ◌∷◌, get_or, slice_get, slice_set, Option, Some, None, refl, sym, ap, ◌∙◌, subst}
 use Rattle.std.specs.Option.{IsSomeAnd, option_and_then}
 use Rattle.std.proofs.lemmas.Option.{get_or_from_slice_get}
@@ -21,7 +21,7 @@ use Rattle.mvt_document.specs.HeldPlaces.{held_items_in, held_items_at, held_fie
 use Rattle.mvt_document.proofs.Options.{some_each, where_some}
 use Rattle.mvt_document.specs.Made.{Makes, MakesThere}
 
--- ---- what differs in nothing but the facts that it keeps is the same
+-- ---- values that differ only in the facts that they keep are the same
 
 pub same_layer : (a b : Layer) → a.tag ≡ b.tag → a.width ≡ b.width → a.items ≡ b.items → a ≡ b
 same_layer a b tag width items = λ i. record {
@@ -81,7 +81,7 @@ items_made f (suc layer) (item ∷ items) list is = ap (λ rest. item ∷ rest) 
 
 -- ---- what a closure takes and made there
 
--- what is so of the list and the values is so of any `&mut` to them
+-- what holds of the list and the values holds of any `&mut` to them
 pub takes_there : {L W : Type 0} (o : Option L) (beside : W) (P : L → W → Type 0) → IsSomeAnd o (λ list. P list beside) → IsSomeAnd o (λ list. (x : MutBor L) (y : MutBor W) → x.now ≡ list → y.now ≡ beside → P x.now y.now)
 takes_there o beside P there = some_each o _ _ (λ list holds x y is given. subst (λ l. P l y.now) (sym is) (subst (P list) (sym given) holds)) there
 

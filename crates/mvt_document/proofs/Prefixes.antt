@@ -1,4 +1,4 @@
--- No field begins another, and no group, so a list of fields is known by its bytes.
+-- No field is a prefix of another, nor is any group, so a list of fields is determined by its bytes.
 use Rattle.std.proofs.Common.{◌≡◌, ℕ, zero, suc, ◌/◌, ◌%◌, ◌≤◌, max, List, [], ◌∷◌, ◌++◌, length, refl, sym, ap, ◌∙◌, subst, append_assoc, arith}
 use Rattle.std.specs.List.{flat_map, AllByRecursion}
 use Rattle.std.proofs.lemmas.List.{length-append, append-nil}
@@ -111,7 +111,7 @@ field_no_end is_group number last f x y ends p e =
     let kinds : last.value % 8 ≡ f.tag.value % 8 = ap (λ (n : Number). n.value % 8) t.0 in
     no_end f.body (sym p.valid.tag.typed ∙ sym kinds ∙ ends.tag.typed)
 
--- what follows fields and an end tag is known, and so are they
+-- what follows fields and an end tag is determined, and so are they
 one_inside : (is_group : ℕ → List ℕ → Type 0) → Separates is_group → (number : ℕ) (fs gs : List Field) (m n : Number) (x y : List ℕ)
     → AllByRecursion (IsWholeFieldWith is_group) fs → AllByRecursion (IsWholeFieldWith is_group) gs → IsEnd number m → IsEnd number n
     → flat_map field_bytes fs ++ (spelling m ++ x) ≡ flat_map field_bytes gs ++ (spelling n ++ y) → (fs ≡ gs) × (m ≡ n) × (x ≡ y)
@@ -154,7 +154,7 @@ pub length-field : (f : Field) → IsWholeField f → 1 ≤ length (field_bytes 
 length-field f p =
     omega (arith, length-append (spelling f.tag) (body_bytes f.body), length-spell f.tag.value f.tag.width, spelling_some f.tag.value f.tag.width p.valid.number)
 
--- fields whose bytes begin those of others are the first of these
+-- fields whose bytes are a prefix of those of others are the first of these
 pub fields_begin : (P : Field → Type 0) (fs gs : List Field) (x : List ℕ) → AllByRecursion IsWholeField fs → AllByRecursion IsWholeField gs → AllByRecursion P gs → flat_map field_bytes fs ++ x ≡ flat_map field_bytes gs
     → (more : List Field) × (gs ≡ fs ++ more) × (x ≡ flat_map field_bytes more) × AllByRecursion IsWholeField more × AllByRecursion P more
 fields_begin P [] gs x p q r e = (gs, refl, e, q, r)
@@ -167,13 +167,13 @@ fields_begin P (f ∷ fs) (g ∷ gs) x p q r e =
     let last : gs ≡ fs ++ others.0 = others.1 in
     (others.0, (cc), others.2, others.3, others.4)
 
--- no bytes are of no fields
+-- no bytes are those of no fields
 pub no_fields : (fs : List Field) → AllByRecursion IsWholeField fs → flat_map field_bytes fs ≡ [] → fs ≡ []
 no_fields [] p e = refl
 no_fields (f ∷ fs) p e =
     absurd (omega (arith, length-field f p.0, ap length e, length-append (field_bytes f) (flat_map field_bytes fs)))
 
--- equal bytes are of equal fields
+-- equal bytes are those of equal fields
 pub one_list : (fs gs : List Field) → AllByRecursion IsWholeField fs → AllByRecursion IsWholeField gs → flat_map field_bytes fs ≡ flat_map field_bytes gs → fs ≡ gs
 one_list fs gs p q e =
     let r = fields_begin IsWholeField fs gs [] p q q (append-nil (flat_map field_bytes fs) ∙ e) in

@@ -1,4 +1,4 @@
--- Lists of which one run is true, as far as they are known: joined, parted and spliced.
+-- Lists in which one run is true, as far as they are known: joined, split and spliced.
 use Rattle.std.proofs.Common.{◌≡◌, ℕ, zero, suc, ◌+◌, ◌-◌, ◌<◌, ◌≤◌, Bool, true, false, Option, Some, None, List, [], ◌∷◌, ◌++◌, length, length-append, length-drop, take, drop, take-append-drop, get_or, map, min, refl, sym, ap, ◌∙◌, subst, append_assoc, arith}
 use Rattle.std.specs.Prelude.{if◌then◌else◌, replicate, slice_get, slice_set, IfSome, IsTrue}
 use Rattle.std.proofs.lemmas.List.{append-nil, drop-map, drop-replicate, drop_all, drop_more, length-map, length-replicate, length-take-le, map-append, replicate-append-replicate, replicate_more, take-map, take_all, take_more}
@@ -46,7 +46,7 @@ take_same (suc k) (suc n) y =
 
 -- ---- parts of a list with one run
 
--- how long a list with one run is
+-- the length of a list with one run
 pub run_length : (f c b : ℕ) → length (one_run f c b) ≡ f + (c + b)
 run_length f c b =
     let whole : length (one_run f c b) ≡ length (replicate f false) + length (replicate c true ++ replicate b false) = length-append (replicate f false) (replicate c true ++ replicate b false) in
@@ -74,7 +74,7 @@ drop_run k f c b =
     ∙ ap (λ rest. rest ++ drop (k - f - c) (replicate b false)) (drop-replicate (k - f) c true)
     ∙ ap (λ rest. replicate (c - (k - f)) true ++ rest) (drop-replicate (k - f - c) b false))
 
--- ---- runs of lists that are parted
+-- ---- runs of lists that are split
 
 pub front_of : (run made : Run) (k : ℕ) (items : List Bool) → made.first ≡ min run.first k → made.count ≡ min run.count (k - run.first) → made.until ≡ min run.until k → IsRun run items → IsRun made (take k items)
 front_of run made k items first count until h =
@@ -106,7 +106,7 @@ back_of run made k items first count until within h =
           ∙ ap (λ c. one_run made.first c b) (sym count));
     }
 
--- what is known of a list holds of each that begins with it
+-- what is known of the list holds of each list that begins with it
 pub run_more : (run : Run) (items more : List Bool) → IsRun run items → IsRun run (items ++ more)
 run_more run items more h = record {
   behind = h.behind;
@@ -129,7 +129,7 @@ nothing_left : (items : List Bool) → length items ≡ 0 → items ≡ []
 nothing_left [] none = refl
 nothing_left (x ∷ items) none = absurd (omega arith)
 
--- of a list of which all is known nothing is left
+-- of a list of which everything is known nothing is left
 all_known : (run : Run) (items : List Bool) (h : IsRun run items) → run.until ≡ length items → items ≡ one_run run.first run.count h.behind
 all_known run items h all =
     let known = one_run run.first run.count h.behind in
@@ -144,7 +144,7 @@ joined_known run items more h all =
     let B = replicate h.behind false in
     ap (λ t. t ++ more) (all_known run items h all) ∙ append_assoc F (C ++ B) more ∙ ap (λ t. F ++ t) (append_assoc C B more)
 
--- what is known of the list behind, in parts
+-- what is known of the second list, in parts
 parts_known : (run : Run) (items : List Bool) (h : IsRun run items) → items ≡ replicate run.first false ++ (replicate run.count true ++ (replicate h.behind false ++ h.rest))
 parts_known run items h =
     let F = replicate run.first false in
@@ -169,7 +169,7 @@ known_parts run behind rest items until is =
 same_joined : (n m : ℕ) (y : Bool) (rest : List Bool) → replicate n y ++ (replicate m y ++ rest) ≡ replicate (n + m) y ++ rest
 same_joined n m y rest = sym (append_assoc (replicate n y) (replicate m y) rest) ∙ ap (λ t. t ++ rest) (replicate-append-replicate n m y)
 
--- before a list stands one of which nothing is true
+-- preceded by a list of which nothing is true
 pub after_none : (run behind made : Run) (items more : List Bool) → run.count ≡ 0 → made.first ≡ run.until + behind.first → made.count ≡ behind.count → made.until ≡ run.until + behind.until → IsRun run items → run.until ≡ length items → IsRun behind more → IsRun made (items ++ more)
 after_none run behind made items more none first count until h all m =
     let tail = replicate behind.count true ++ (replicate m.behind false ++ m.rest) in
@@ -183,7 +183,7 @@ after_none run behind made items more none first count until h all m =
     ∙ ap (λ f. replicate f false ++ tail) sum
     ∙ ap (λ c. replicate made.first false ++ (replicate c true ++ (replicate m.behind false ++ m.rest))) (sym count))
 
--- what is true at the end of a list goes on at the front of the one behind it
+-- what is true at the end of a list continues at the front of the next one
 pub runs_meet : (run behind made : Run) (items more : List Bool) → run.first + run.count ≡ run.until → behind.first ≡ 0 → made.first ≡ run.first → made.count ≡ run.count + behind.count → made.until ≡ run.until + behind.until → IsRun run items → run.until ≡ length items → IsRun behind more → IsRun made (items ++ more)
 runs_meet run behind made items more last start first count until h all m =
     let F = replicate run.first false in
@@ -198,7 +198,7 @@ runs_meet run behind made items more last start first count until h all m =
     ∙ ap (λ f. replicate f false ++ (replicate (run.count + behind.count) true ++ tail)) (sym first)
     ∙ ap (λ c. replicate made.first false ++ (replicate c true ++ tail)) (sym count))
 
--- behind a list comes one of which nothing that is known is true
+-- followed by a list of which nothing that is known is true
 pub with_none : (run behind made : Run) (items more : List Bool) → behind.count ≡ 0 → made.first ≡ run.first → made.count ≡ run.count → made.until ≡ run.until + behind.until → IsRun run items → run.until ≡ length items → IsRun behind more → IsRun made (items ++ more)
 with_none run behind made items more none first count until h all m =
     let F = replicate run.first false in
@@ -213,7 +213,7 @@ with_none run behind made items more none first count until h all m =
     ∙ ap (λ f. replicate f false ++ (C ++ (replicate b false ++ m.rest))) (sym first)
     ∙ ap (λ c. replicate made.first false ++ (replicate c true ++ (replicate b false ++ m.rest))) (sym count))
 
--- behind a list comes one of which some is true, with others before: up to there it is known
+-- followed by a list of which some is true, with others before: up to there it is known
 pub with_others : (run behind made : Run) (items more : List Bool) → made.first ≡ run.first → made.count ≡ run.count → made.until ≡ run.until + behind.first → IsRun run items → run.until ≡ length items → IsRun behind more → IsRun made (items ++ more)
 with_others run behind made items more first count until h all m =
     let F = replicate run.first false in
@@ -307,7 +307,7 @@ never_true : (value : Bool) → (IsTrue value → ⊥) → value ≡ false
 never_true false never = refl
 never_true true never = absurd (never refl)
 
--- items that are all of a kind are of no other
+-- items that are all of one kind are of no other
 none_other : {T : Type 0} (of_kind : Kind → T → Bool) → ((is other : Kind) (x : T) → IsTrue (of_kind is x) → IsTrue (of_kind other x) → is ≡ other) → (is other : Kind) → (is ≡ other → ⊥) → (items : List T) → map (of_kind is) items ≡ replicate (length items) true → map (of_kind other) items ≡ replicate (length items) false
 none_other of_kind one is other differ [] all = refl
 none_other of_kind one is other differ (x ∷ items) all =
@@ -324,7 +324,7 @@ all_of_one is_of items run all known = subst (IsRun run) (sym all) known
 pub none_of_others : {T : Type 0} (of_kind : Kind → T → Bool) → ((is other : Kind) (x : T) → IsTrue (of_kind is x) → IsTrue (of_kind other x) → is ≡ other) → (is other : Kind) → (is ≡ other → ⊥) → (items : List T) (run : Run) → map (of_kind is) items ≡ replicate (length items) true → IsRun run (replicate (length items) false) → IsRunOf (of_kind other) run items
 none_of_others of_kind one is other differ items run all known = subst (IsRun run) (sym (none_other of_kind one is other differ items all)) known
 
--- ---- an item behind the others
+-- ---- an item after the others
 
 pub spliced_at_end : {A : Type 0} (items put : List A) (n : ℕ) → n ≡ length items → splice n 0 put items ≡ items ++ put
 spliced_at_end items put n all =
@@ -334,7 +334,7 @@ spliced_at_end items put n all =
     ∙ ap (λ t. (items ++ put) ++ t) (drop_all n items (omega (arith, all)))
     ∙ append-nil (items ++ put)
 
--- the run of a list and of a part behind it, which is spliced in at its end
+-- the run of a list and of a part after it, which is spliced in at its end
 pub run_with_part : {T : Type 0} (f : T → Bool) (items put : List T) (seen : ℕ) {run behind made : Run} → seen ≡ length items → IsRunOf f run items → IsRunOf f behind put
     → ((values come : List Bool) → IsRun run values → seen ≤ length values → IsRun behind come → length put ≡ length come → IsRun made (splice seen 0 come values)) → IsRunOf f made (items ++ put)
 run_with_part f items put seen all known found spliced =

@@ -10,7 +10,7 @@ use Rattle.mvt_document.proofs.Prefixes.{one_list}
 use Rattle.mvt_document.proofs.EachItem.{all_with}
 use Rattle.mvt_document.proofs.Wholes.{layer_items_whole, tile_items_whole, layer_items_are_fields, tile_items_are_fields, layer_items-bytes_as_fields, tile_items-bytes_as_fields}
 
--- lists are equal where their images are, each item being known by its image
+-- lists are equal if their images are, each item being determined by its image
 pub same_by : {S T : Type 0} (f : S → T) (P : S → Type 0) → ((x y : S) → P x → P y → f x ≡ f y → x ≡ y) → (xs ys : List S) → AllByRecursion P xs → AllByRecursion P ys → map f xs ≡ map f ys → xs ≡ ys
 same_by f P h [] [] p q e = refl
 same_by f P h [] (y ∷ ys) p q e = absurd (cc)

@@ -1,4 +1,4 @@
--- A ZigZag is that of one number alone, and is read as it.
+-- A ZigZag is that of only one number, and is read as that number.
 use Rattle.std.proofs.Common.{◌≡◌, ℕ, suc, ◌-◌, ◌*◌, ◌/◌, ◌%◌, ℤ, pos, negsuc, eqb, ap, ◌∙◌, arith}
 use Rattle.std.proofs.lemmas.Bool.{cond-true, cond-false, cond_both, eqb-true, eqb-false, eq-eqb, ne_eqb}
 use Rattle.mvt_document.specs.Signed.{zigzag, unzigzag}

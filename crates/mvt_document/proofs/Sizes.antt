@@ -8,7 +8,7 @@ use Rattle.std.proofs.lemmas.List.Concat.{flat_map-append}
 use Rattle.mvt_document.specs.Wire.{spell, minimal_width, delimited}
 use Rattle.mvt_document.proofs.Spelling.{length-spell, width_within_grows}
 
--- a prefix and the item behind it are no longer than all items
+-- a prefix and the item after it are no longer than all items
 pub item_within : {T : Type 0} (f : T → List ℕ) (xs : List T) (i : ℕ) (x : T) → i < length xs → x ≡ get_or xs i x → length (flat_map f (take i xs)) + length (f x) ≤ length (flat_map f xs)
 item_within f xs i x inside is = rw is (length-flat_map-take f xs i x inside)
 
@@ -32,6 +32,6 @@ pub length-message_grows : (value tag_width width : ℕ) (short long : List ℕ)
 length-message_grows value tag_width width short long less =
     omega (arith, length-message value tag_width width short, length-message value tag_width width long, width_within_grows 9 (length short) (length long) less)
 
--- what is answered of a number within a limit is answered of an equal one
+-- the answer for a number within a limit is the answer for an equal one
 pub same_size : (limit : ℕ) (answered : Option ℕ) (n m : ℕ) → n ≡ m → SomeIff answered (n ≤ limit) n → SomeIff answered (m ≤ limit) m
 same_size limit answered n m same = subst (λ k. SomeIff answered (k ≤ limit) k) same

@@ -1,4 +1,4 @@
--- Numbers in base 128: how wide a spelling is, and that no spelling begins another.
+-- Numbers in base 128: how wide a spelling is, and that no spelling is a prefix of another.
 use Rattle.std.proofs.Common.{◌≡◌, ℕ, zero, suc, ◌+◌, ◌*◌, ◌/◌, ◌%◌, ◌^◌, ◌<◌, ◌≤◌, List, [], ◌∷◌, ◌++◌, length, max, ltb, refl, ap, ◌∙◌, subst, arith}
 use Rattle.std.proofs.lemmas.Bool.{cond_both, ltb-true, ltb-false}
 use Rattle.std.proofs.lemmas.Nat.{pow-add, div_below}
@@ -123,7 +123,7 @@ max_spelling v w s = omega (arith, s.wide)
 pub minimal_spelling : (v : ℕ) → v < 2 ^ 64 → IsSpelling v (minimal_width v)
 minimal_spelling v fits = record { fits = fits; wide = omega arith; short = minimal_width_short v }
 
--- ---- no spelling begins another
+-- ---- no spelling is a prefix of another
 
 apart : (w w' v v' : ℕ) (x y : List ℕ) → v < 2 ^ (7 * suc w) → v' < 2 ^ (7 * suc w') → spell v (suc w) ++ x ≡ spell v' (suc w') ++ y → (v ≡ v') × (w ≡ w') × (x ≡ y)
 unfolding spell

@@ -245,7 +245,7 @@ two_are (one ∷ two ∷ bytes) low high long first last l h =
     ∙ ap (λ xs. ((high * 128 + low) % 128 + 128) ∷ xs) (sym (spell-one ((high * 128 + low) / 128)))
     ∙ sym (spell-more (high * 128 + low) 0)
 
--- ---- where no spelling stands at the front
+-- ---- no spelling is at the front
 
 last_low : (w v : ℕ) → get_or (spell v (suc w)) w 0 < 128
 unfolding spell

@@ -1,4 +1,4 @@
--- Items of messages as the fields that stand in their places.
+-- Items of messages as the fields in their places.
 use Rattle.std.proofs.Common.{◌≡◌, ℕ, ◌%◌, List, [], ◌∷◌, ◌++◌, map, refl, sym, ap, ◌∙◌, arith}
 use Rattle.std.specs.List.{flat_map, AllByRecursion}
 use Rattle.std.proofs.lemmas.List.Folds.{flat_map-map}
@@ -99,7 +99,7 @@ tile_items-bytes_as_fields items =
     flat_map-map field_bytes tile_item_field items
     ∙ same_bytes (λ i. field_bytes (tile_item_field i)) tile_item_bytes (λ i. sym (tile_item-bytes i)) items
 
--- ---- a message inside that is no list of items makes no item
+-- ---- a message inside that is not a list of items makes no item
 
 content_of : (v w : ℕ) (a b : List ℕ) → Delimited v a ≡ Delimited w b → a ≡ b
 content_of v w a b e = cc

@@ -1,4 +1,5 @@
--- What a field keeps of its body beside its wire type: the width that is stored with a length, and that a group ends.
+-- What a field keeps of its body in addition to its wire type: the width that is stored with a length, and that a group
+-- ends.
 use Rattle.std.specs.Prelude.{ℕ}
 use Rattle.mvt_document.specs.Plain.{Body, Delimited, Group}
 use Rattle.mvt_document.specs.Groups.{IsGroup}

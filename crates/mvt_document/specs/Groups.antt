@@ -29,7 +29,7 @@ StoresBody body = Unit {0}
 abbrev pub StoresField : Field → Type 0
 StoresField f = StoresBody f.body
 
--- ---- fields, where it is said which bytes are those of a group of a number
+-- ---- fields, given which bytes are those of a group of a number
 
 module _ (is_group : ℕ → List ℕ → Type 0) where
   -- a body of a field of this number: a valid number, 8 bytes, 4 bytes, a valid stored width, or a group of this number
@@ -76,23 +76,24 @@ pub record IsGroupWith (is_group : ℕ → List ℕ → Type 0) (number : ℕ) (
   pub ends : IsEnd number last
   pub spelled : bytes ≡ flat_map field_bytes fields ++ spelling last
 
--- a group of this number in which no more groups are open at one place, itself counted, than levels are given
+-- a group of this number in which, itself counted, no more groups are open at one place than the number of levels given
 -- (guide, Groups)
 unfoldable pub IsGroupWithin : ℕ → ℕ → List ℕ → Type 0
 IsGroupWithin zero number bytes = ⊥
 IsGroupWithin (suc levels) number bytes = IsGroupWith (IsGroupWithin levels) number bytes
 
--- the bytes behind the start tag of a group of this number: fields and its end tag, with at most 100 groups open at one
+-- the bytes after the start tag of a group of this number: fields and its end tag, with at most 100 groups open at one
 -- place (guide, Groups)
 abbrev pub IsGroup : ℕ → List ℕ → Type 0
 IsGroup number bytes = IsGroupWithin MAX_GROUPS number bytes
 
--- ---- fields that are no groups
+-- ---- fields that are not groups
 
 -- no bytes are a group
 abbrev pub NoGroup : ℕ → List ℕ → Type 0
 NoGroup number bytes = ⊥
 
--- a body of this wire type that is no group, whose length can be spelled in its stored width (guide, Message Structure)
+-- a body of this wire type that is not a group, whose length can be spelled in its stored width
+-- (guide, Message Structure)
 abbrev pub IsFlatBody : ℕ → Body → Type 0
 IsFlatBody kind body = IsWholeBodyWith NoGroup kind 0 body

@@ -1,4 +1,4 @@
--- The lists of a document of the program, with their room, as Places has those of a plain one.
+-- The lists of a document of the program, with their room, as Places gives those of a plain one.
 use Rattle.std.specs.Prelude.{ℕ, slice_get, Option, Some, None}
 use Rattle.std.specs.Option.{option_and_then}
 use Rattle.mvt_document.specs.Held.{Held}
@@ -32,19 +32,19 @@ held_fields_in_at item list = option_and_then held_fields_in (slice_get list.ite
 abbrev pub held_fields_at : ℕ → ℕ → Document → Option (Held Field)
 held_fields_at layer item document = option_and_then (held_fields_in_at item) (held_items_at layer document)
 
--- ---- the document with the list at a place changed, and nothing where there is none
+-- ---- the document with the list at a place changed, and unchanged where there is none
 
--- the layer with its items changed; a field of the tile as it is
+-- the layer with its items changed; a field of the tile stays as it is
 abbrev pub in_held_layer : (Held LayerItem → Held LayerItem) → TileItem → TileItem
 in_held_layer change (in_tile.Layer layer) = in_tile.Layer (record layer { items = change layer.items })
 in_held_layer change (in_tile.Plain field) = in_tile.Plain field
 
--- the feature with its fields changed; another field of the layer as it is
+-- the feature with its fields changed; another field of the layer stays as it is
 abbrev pub in_held_feature : (Held Field → Held Field) → LayerItem → LayerItem
 in_held_feature change (in_layer.Feature feature) = in_layer.Feature (record feature { fields = change feature.fields })
 in_held_feature change (in_layer.Plain field) = in_layer.Plain field
 
--- the list with the item at this position changed, and the same room
+-- the list with the item at this position changed, and with the same room
 abbrev pub change_held_at : {T : Type 0} → (T → T) → ℕ → Held T → Held T
 change_held_at change at list = record list { items = change_at change at list.items }
 
@@ -52,10 +52,10 @@ change_held_at change at list = record list { items = change_at change at list.i
 abbrev pub change_held_tile : (Held TileItem → Held TileItem) → Document → Document
 change_held_tile change document = record document { items = change document.items }
 
--- the document with the items of the layer at this position changed; as it is where there is no layer
+-- the document with the items of the layer at this position changed; unchanged where there is no layer
 abbrev pub change_held_items : (Held LayerItem → Held LayerItem) → ℕ → Document → Document
 change_held_items change layer document = change_held_tile (change_held_at (in_held_layer change) layer) document
 
--- the document with the fields of the feature at this position of that layer changed; as it is where there is none
+-- the document with the fields of the feature at this position of that layer changed; unchanged where there is none
 abbrev pub change_held_fields : (Held Field → Held Field) → ℕ → ℕ → Document → Document
 change_held_fields change layer item document = change_held_items (change_held_at (in_held_feature change) item) layer document

@@ -1,4 +1,4 @@
--- What a message keeps of its size, of its runs and of the ids in it.
+-- What a message keeps about its size, its runs and the ids in it.
 use Rattle.std.specs.Prelude.{◌≡◌, ℕ, suc, ◌+◌, List, length, take, drop, Option, IfSome}
 use Rattle.std.specs.List.{flat_map}
 use Rattle.mvt_document.specs.declared.run.Runs.{Runs}
@@ -14,6 +14,6 @@ pub record Kept : Type 0 where
 abbrev pub IsKept : {T : Type 0} → (T → List ℕ) → List T → Option ℕ → Type 0
 IsKept bytes items sum = IfSome sum (λ n. n ≡ length (flat_map bytes items))
 
--- how many bytes the items before and behind this index take
+-- how many bytes the items before and after this index take
 abbrev pub bytes_beside : {T : Type 0} → (T → List ℕ) → ℕ → List T → ℕ
 bytes_beside bytes index items = length (flat_map bytes (take index items)) + length (flat_map bytes (drop (suc index) items))

@@ -1,4 +1,4 @@
--- Laws of kinds, with their proofs: an item of a list is of one kind at most.
+-- Laws of kinds, with their proofs: an item of a list is of at most one kind.
 use Rattle.std.specs.Prelude.{◌≡◌, ℕ, ◌/◌, ◌==◌, Bool, true, false, refl, IsTrue, if◌then◌else◌}
 use Rattle.std.proofs.Common.{sym, ◌∙◌, arith}
 use Rattle.std.specs.Cmp.{unsigned_Decides}
@@ -27,12 +27,12 @@ equal_are a b equal = (unsigned_Decides a b).0 equal
 number_is : (number : ℕ) (field : Field) → IsTrue (is_delimited_field number field) → field.tag.value / 8 ≡ number
 number_is number field is = equal_are (field.tag.value / 8) number (both_hold (field.tag.value / 8 == number) _ is)
 
--- an item of a layer is an entry of one number at most
+-- an item of a layer is an entry of at most one number
 one_number : (number other : ℕ) (item : LayerItem) → IsTrue (is_entry number item) → IsTrue (is_entry other item) → number ≡ other
 one_number number other (in_layer.Feature feature) is also = absurd cc
 one_number number other (in_layer.Plain field) is also = sym (number_is number field is) ∙ number_is other field also
 
--- an item of a layer is of one kind at most
+-- an item of a layer is of at most one kind
 pub one_in_layer : (is other : Kind) (item : LayerItem) → IsTrue (in_layer_of_kind is item) → IsTrue (in_layer_of_kind other item) → is ≡ other
 one_in_layer kind.Name kind.Name item first second = refl
 one_in_layer kind.Message kind.Message item first second = refl
@@ -53,7 +53,7 @@ one_in_layer kind.Key kind.Value item first second = let same = one_number 3 4 i
 one_in_layer kind.Value kind.Name item first second = let same = one_number 4 1 item first second in absurd (omega (arith, same))
 one_in_layer kind.Value kind.Key item first second = let same = one_number 4 3 item first second in absurd (omega (arith, same))
 
--- an item of a tile is of one kind at most
+-- an item of a tile is of at most one kind
 pub one_in_tile : (is other : Kind) (item : TileItem) → IsTrue (in_tile_of_kind is item) → IsTrue (in_tile_of_kind other item) → is ≡ other
 one_in_tile kind.Message kind.Message item first second = refl
 one_in_tile kind.Message kind.Name item first second = absurd cc

@@ -1,4 +1,4 @@
--- Of which kind an item is, and the hash of its id.
+-- The kind of an item, and the hash of its id.
 use Rattle.std.specs.Prelude.{ℕ, ◌/◌, ◌==◌, Bool, true, false, map, if◌then◌else◌}
 use Rattle.mvt_document.specs.declared.body.Body.{Body}
 use Rattle.mvt_document.specs.declared.body.Body.TheVariants as in_body
@@ -51,7 +51,7 @@ in_tile_of_kind kind.Message item = is_layer item
 in_tile_of_kind kind.Key item = false
 in_tile_of_kind kind.Value item = false
 
--- the hash of the id of a feature (tiles 4.2); of another field of a layer it is 0
+-- the hash of the id of a feature (tiles 4.2); 0 for another field of a layer
 abbrev pub layer_item_hash : LayerItem → ℕ
 layer_item_hash (in_layer.Feature feature) = hash_of (last_value 1 (map field_of feature.fields.items))
 layer_item_hash (in_layer.Plain field) = 0

@@ -1,4 +1,4 @@
--- What a list ends as where a `&mut` to its vector is returned.
+-- What a list ends as when a `&mut` to its vector is returned.
 use Rattle.std.specs.Prelude.{◌-◌, vec_len, vec_capacity}
 use Rattle.std.specs.Borrow.{Lends, Fml, RattleType, MutBor}
 use Rattle.std.specs.declared.alloc.Global.{Global}

@@ -1,4 +1,4 @@
--- What a message ends as where a `&mut` to its vector is returned.
+-- What a message ends as when a `&mut` to its vector is returned.
 use Rattle.std.specs.Borrow.{Lends, Fml, RattleType, MutBor}
 use Rattle.mvt_document.specs.Held.{Held}
 use Rattle.mvt_document.specs.Lending.{held_in, vec_row}

@@ -10,7 +10,7 @@ use Rattle.mvt_document.specs.Groups.{IsNumber, IsFieldWith, IsGroup, StoresFiel
 -- ---- what holds of each value of the types
 
 -- a valid field: a tag that can be spelled and names the wire type of the body, and a valid body, which is a group of
--- the tag's number where it is one (guide, Message Structure)
+-- the tag's number if it is a group (guide, Message Structure)
 abbrev pub IsField : Field → Type 0
 IsField = IsFieldWith IsGroup
 
@@ -71,7 +71,7 @@ pub record IsSettled (document : Document) : Type 0 where
   pub valid : IsDocument document
   pub stored : AllByRecursion StoresTileItem document
 
--- the file has at most 67,108,864 bytes, and is the bytes of this document, which is settled
+-- the file has at most 67,108,864 bytes, which are the bytes of this document, and the document is settled
 pub record OpensAs (file : List ℕ) (document : Document) : Type 0 where
   pub within : length file ≤ MAX_FILE
   pub settled : IsSettled document

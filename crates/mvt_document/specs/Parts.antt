@@ -1,4 +1,4 @@
--- Each item of a message as the field that stands in its place.
+-- Each item of a message as the field in its place.
 use Rattle.std.specs.Prelude.{◌≡◌, ℕ, ◌/◌, ◌%◌}
 use Rattle.std.specs.List.{flat_map}
 use Rattle.mvt_document.specs.Plain.{Body, Delimited, Field, Feature, LayerItem, OfFeature, PlainInLayer, Layer, TileItem, OfLayer, PlainInTile}
@@ -26,7 +26,7 @@ tile_item_field (PlainInTile field) = field
 
 -- ---- valid, with each length spelled in its stored width
 
--- a valid body behind a tag of this value, whose length can be spelled in its stored width
+-- a valid body after a tag of this value, whose length can be spelled in its stored width
 abbrev pub IsWholeBody : ℕ → Body → Type 0
 IsWholeBody tag body = IsWholeBodyWith IsGroup (tag % 8) (tag / 8) body
 

@@ -30,22 +30,22 @@ fields_in_at item items = option_and_then fields_in (slice_get items item)
 abbrev pub fields_at : ℕ → ℕ → Document → Option (List Field)
 fields_at layer item document = option_and_then (fields_in_at item) (items_at layer document)
 
--- ---- the document with the list at a place changed, and nothing where there is none
+-- ---- the document with the list at a place changed, and unchanged where there is none
 
--- the layer with its items changed; a field of the tile as it is
+-- the layer with its items changed; a field of the tile stays as it is
 abbrev pub in_layer : (List LayerItem → List LayerItem) → TileItem → TileItem
 in_layer change (OfLayer layer) = OfLayer (record layer { items = change layer.items })
 in_layer change (PlainInTile field) = PlainInTile field
 
--- the feature with its fields changed; another field of the layer as it is
+-- the feature with its fields changed; another field of the layer stays as it is
 abbrev pub in_feature : (List Field → List Field) → LayerItem → LayerItem
 in_feature change (OfFeature feature) = OfFeature (record feature { fields = change feature.fields })
 in_feature change (PlainInLayer field) = PlainInLayer field
 
--- the document with the items of the layer at this position changed; as it is where there is no layer
+-- the document with the items of the layer at this position changed; unchanged where there is no layer
 abbrev pub change_items : (List LayerItem → List LayerItem) → ℕ → Document → Document
 change_items change layer document = change_at (in_layer change) layer document
 
--- the document with the fields of the feature at this position of that layer changed; as it is where there is none
+-- the document with the fields of the feature at this position of that layer changed; unchanged where there is none
 abbrev pub change_fields : (List Field → List Field) → ℕ → ℕ → Document → Document
 change_fields change layer item document = change_items (change_at (in_feature change) item) layer document

@@ -1,4 +1,4 @@
--- A tile as plain values: lists and numbers, with nothing of where they lie in memory.
+-- A tile as plain values: lists and numbers, with nothing about where they are in memory.
 use Rattle.std.specs.Prelude.{ℕ, List}
 
 -- a number, and how many bytes its spelling takes (guide, Base 128 Varints)
@@ -6,8 +6,8 @@ pub record Number : Type 0 where
   pub value : ℕ
   pub width : ℕ
 
--- what stands behind a tag, by its wire type: VARINT, I64, I32, LEN with the stored width of its length, or SGROUP with
--- all bytes behind the start tag, the end tag among them (guide, Message Structure)
+-- what follows a tag, by its wire type: VARINT, I64, I32, LEN with the stored width of its length, or SGROUP with all
+-- bytes after the start tag, including the end tag (guide, Message Structure)
 pub data Body : Type 0 where
   Spelled : (number : Number) → Body
   Eight : (bytes : List ℕ) → Body
@@ -15,7 +15,7 @@ pub data Body : Type 0 where
   Delimited : (width : ℕ) (bytes : List ℕ) → Body
   Group : (bytes : List ℕ) → Body
 
--- a tag, and the body behind it (guide, Message Structure)
+-- a tag, and the body after it (guide, Message Structure)
 pub record Field : Type 0 where
   pub tag : Number
   pub body : Body

@@ -9,18 +9,18 @@ use Rattle.mvt_document.specs.declared.run.Runs.{Runs}
 abbrev pub one_run : ℕ → ℕ → ℕ → List Bool
 one_run before count behind = replicate before false ++ (replicate count true ++ replicate behind false)
 
--- of the values before the end of what is known, just those of the run are true
+-- of the values before the end of what is known, exactly those of the run are true
 pub record IsRun (run : Run) (values : List Bool) : Type 0 where
   pub behind : ℕ
   pub rest : List Bool
   pub until : run.until ≡ run.first + (run.count + behind)
   pub is : values ≡ one_run run.first run.count behind ++ rest
 
--- of the items before the end of what is known, just those of the run are of the kind
+-- of the items before the end of what is known, exactly those of the run are of the kind
 abbrev pub IsRunOf : {T : Type 0} → (T → Bool) → Run → List T → Type 0
 IsRunOf of_kind run items = IsRun run (map of_kind items)
 
--- the same of each kind
+-- the same for each kind
 pub record AreRunsOf {T : Type 0} (of_kind : Kind → T → Bool) (runs : Runs) (items : List T) : Type 0 where
   pub names : IsRunOf (of_kind kind.Name) runs.names items
   pub messages : IsRunOf (of_kind kind.Message) runs.messages items

@@ -1,4 +1,4 @@
--- What the types of a document keep of themselves: facts about numbers alone.
+-- What the types of a document ensure by themselves: facts about numbers alone.
 use Rattle.std.specs.Prelude.{◌≡◌, ℕ, ◌%◌, ◌^◌, ◌<◌, ◌≤◌}
 use Rattle.mvt_document.specs.Wire.{minimal_width}
 

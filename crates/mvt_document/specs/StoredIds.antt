@@ -1,4 +1,4 @@
--- What the number stands for in which the id of a feature is kept.
+-- What the number in which the id of a feature is kept stands for.
 use Rattle.std.specs.Prelude.{ℕ, ◌+◌, ◌*◌, ◌==◌, if◌then◌else◌, Option, Some, None}
 use Rattle.mvt_document.specs.declared.feature.TheConstants.{FOUR_BYTES, NO_ID, UNKNOWN}
 use Rattle.mvt_document.specs.declared.feature.StoredId.{StoredId}

@@ -3,12 +3,12 @@ use Rattle.std.specs.Prelude.{ℕ, ◌/◌, ◌==◌, List, Option, Some, None, 
 use Rattle.std.specs.List.{filter_map, last_or}
 use Rattle.mvt_document.specs.Plain.{Body, Spelled, Field}
 
--- the value of a VARINT body; none of another body (guide, Message Structure)
+-- the value of a VARINT body; none for another body (guide, Message Structure)
 abbrev pub value_of : Body → Option ℕ
 value_of (Spelled number) = Some number.value
 value_of body = None
 
--- the value of a VARINT field of this number; none of another field (guide, Message Structure)
+-- the value of a VARINT field of this number; none for another field (guide, Message Structure)
 abbrev pub value_in : ℕ → Field → Option ℕ
 value_in number field = if field.tag.value / 8 == number then value_of field.body else None
 

@@ -1,4 +1,4 @@
-//! The body of a field: what stands behind a tag.
+//! The body of a field: what follows its tag.
 
 use crate::items::Items;
 use crate::varint::Varint;
@@ -14,11 +14,11 @@ pub enum Body {
     Four([u8; 4]),
     /// LEN: the bytes, and the least width in which their length is spelled.
     Bytes { width: u8, bytes: Items<u8> },
-    /// SGROUP: all bytes up to the end of the group, its end tag among them.
+    /// SGROUP: all bytes up to the end of the group, including its end tag.
     Group(Items<u8>),
 }
 
-/// The same, whose bytes lie where they were read, or in a field.
+/// The same, whose bytes are where they were read, or in a field.
 #[derive(Clone, Copy, Debug)]
 pub enum BodyRef<'a> {
     /// VARINT
@@ -29,6 +29,6 @@ pub enum BodyRef<'a> {
     Four([u8; 4]),
     /// LEN: the bytes, and the width in which their length is spelled.
     Bytes { width: u8, bytes: &'a [u8] },
-    /// SGROUP: all bytes up to the end of the group, its end tag among them.
+    /// SGROUP: all bytes up to the end of the group, including its end tag.
     Group(&'a [u8]),
 }

@@ -1,4 +1,5 @@
-//! The messages of a tile, with all that is needed to write each byte again: layers, the tile.
+//! The messages of a tile, with everything that is needed to write each byte again: layers, the
+//! tile.
 
 ghost use Rattle.std.specs.Prelude.{◌≡◌};
 ghost use Rattle.mvt_document.specs.Shape.{IsWidth};
@@ -37,7 +38,7 @@ pub struct Document {
     pub items: Message<TileItem>,
 }
 
-// A tile may have millions of items, so what one takes in memory is held fast here.
+// A tile may have millions of items, so the memory that one takes is asserted here.
 const _: () = prove!(size_of::<Field>() == 32);
 
 const _: () = prove!(size_of::<LayerItem>() == 40);

@@ -1,5 +1,5 @@
-//! Items that change places between two vectors, and an item that moves within one, with nothing
-//! copied.
+//! Items that change places between two vectors, and an item that moves within one, without
+//! copying.
 
 ghost use Rattle.std.specs.Prelude.{◌≡◌, ◌+◌, ◌-◌, ◌<◌, ◌≤◌, ◌++◌, length, take, drop, reverse, vec_len, vec_capacity, is_ok, if◌then◌else◌, OnOk, IsOk};
 ghost use Rattle.mvt_document.specs.Splicing.{moved, part, splice};
@@ -33,7 +33,7 @@ pub(crate) fn exchange<T>(
     Ok(())
 }
 
-/// The items of `put` behind the first `kept` go into the list, at `index`. It has room for them.
+/// The items of `put` after the first `kept` go into the list, at `index`. It has room for them.
 fn insert_tail<T>(list: &mut Vec<T>, index: usize, put: &mut Vec<T>, kept: usize)
     requires within { index ≤ vec_len list.old }
     requires there { kept ≤ vec_len put.old }
@@ -48,7 +48,7 @@ fn insert_tail<T>(list: &mut Vec<T>, index: usize, put: &mut Vec<T>, kept: usize
     turn_behind(list.as_mut_slice(), index, rest);
 }
 
-/// `count` items of the list from `index` go behind those of `to`, which has room for them.
+/// `count` items of the list from `index` go after those of `to`, which has room for them.
 fn remove_part<T>(list: &mut Vec<T>, index: usize, count: usize, to: &mut Vec<T>)
     requires within { index + count ≤ vec_len list.old }
     requires room { vec_len to.old + count ≤ vec_capacity to.old }
@@ -62,7 +62,7 @@ fn remove_part<T>(list: &mut Vec<T>, index: usize, count: usize, to: &mut Vec<T>
     move_tail(list, to, left);
 }
 
-/// The items behind the first `left` go to the end of another list, which has room for them.
+/// The items after the first `left` go to the end of another list, which has room for them.
 fn move_tail<T>(from: &mut Vec<T>, to: &mut Vec<T>, left: usize)
     requires there { left ≤ vec_len from.old }
     requires room { vec_len to.old + (vec_len from.old - left) ≤ vec_capacity to.old }
@@ -78,7 +78,7 @@ fn move_tail<T>(from: &mut Vec<T>, to: &mut Vec<T>, left: usize)
     reverse_behind(to.as_mut_slice(), start);
 }
 
-/// `count` items from `index` come behind all others.
+/// `count` items from `index` move after all others.
 fn turn_behind<T>(items: &mut [T], index: usize, count: usize)
     requires { index + count ≤ length items.old }
     ensures { items.new ≡ take index items.old ++ (drop (index + count) items.old ++ part index count items.old) }
@@ -103,7 +103,7 @@ fn swap_part<T>(items: &mut [T], index: usize, other: &mut [T], count: usize)
     items[index..index + count].swap_with_slice(&mut other[..count]);
 }
 
-/// The item at one position goes to another.
+/// The item at one position moves to another.
 pub(crate) fn move_item<T>(items: &mut [T], from: usize, to: usize)
     requires there { from < length items.old }
     requires within { to < length items.old }

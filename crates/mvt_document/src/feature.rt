@@ -22,7 +22,8 @@ const NO_ID: u64 = 0xff_ffff_fffe;
 /// The first number that four bytes do not hold.
 const FOUR_BYTES: u64 = 0x1_0000_0000;
 
-/// The tag of a feature, the least width in which its length is spelled, and its fields, which make a feature.
+/// The tag of a feature, the least width in which its length is spelled, and its fields, which together make a
+/// feature.
 #[derive(Debug, Drop)]
 pub struct FeatureParts {
     pub tag: MessageTag,
@@ -40,8 +41,8 @@ struct StoredId {
     low: u32,
 }
 
-/// A feature of a layer, in four words. Its id is kept, so that a feature is found by its id with no look at the
-/// fields of any. Contracts see the parts that it was made of.
+/// A feature of a layer, in four words. Its id is kept, so that a feature is found by its id without a look at
+/// the fields of any. Contracts see the parts that it was made of.
 #[derive(Debug, Drop)]
 pub struct Feature {
     tag: MessageTag,
@@ -153,7 +154,7 @@ impl Feature {
         }
     }
 
-    /// Changes the list of the fields, and the values beside. All else is kept.
+    /// Changes the list of the fields, and the values beside it. Everything else is kept.
     pub(crate) fn change<W, R, F: FnOnce(&mut Items<Field>, &mut [W]) -> R>(
         &mut self,
         beside: &mut [W],
@@ -171,7 +172,8 @@ impl Feature {
     }
 }
 
-/// The hash of an id, its last four bytes; 0 where there is none. An id of another hash is another id.
+/// The hash of an id: its last four bytes, or 0 if there is none. Ids with different hashes are
+/// different.
 pub fn hash_of(id: Option<u64>) -> u32
     ensures { result ≡ hash_of id }
 {

@@ -1,10 +1,10 @@
-//! Few bytes, in the value that holds them.
+//! A few bytes, in the value that holds them.
 
 ghost use Rattle.std.specs.Prelude.{◌≡◌, ◌<◌, length, MatchOption};
 
 use std::marker::Model;
 
-/// How many bytes are few: as many as leave a field at four words, with its form, its tag and its width beside them.
+/// How many bytes are few: as many as fit into a field of four words beside its form, its tag and its width.
 const MOST: usize = 23;
 
 /// At most 23 bytes, with no memory of their own. Contracts see the list of them.
@@ -25,7 +25,7 @@ impl Model for Few {
 }
 
 impl Few {
-    /// These bytes, where they are few.
+    /// These bytes, if they are few.
     #[inline(always)]
     pub(crate) fn new(bytes: &[u8]) -> Option<Few>
         ensures { MatchOption result (23 < length bytes.now) (λ few. few ≡ bytes.now) }
@@ -35,7 +35,7 @@ impl Few {
             return None;
         }
         let mut room = [0; MOST];
-        // A copy of nothing is a call nevertheless.
+        // Copying nothing is still a call.
         if count > 0 {
             room[..count].copy_from_slice(bytes);
         }

@@ -1,4 +1,5 @@
-//! A field as it is held: its tag and its body share four words, in which few bytes lie themselves.
+//! A field as it is held: its tag and its body share four words, which hold a body of few bytes
+//! themselves.
 
 ghost use Rattle.std.specs.Prelude.{◌≡◌, ◌/◌, IfOk};
 ghost use Rattle.mvt_document.specs.Bodies.{body_of, body_seen, number_of};
@@ -15,7 +16,7 @@ use crate::varint::Varint;
 use std::alloc::{AllocError, Global};
 use std::marker::Model;
 
-/// A tag and the body behind it, which make a field.
+/// A tag and the body after it, which together make a field.
 #[derive(Debug, Drop)]
 pub struct FieldParts {
     pub tag: Tag,
@@ -25,7 +26,7 @@ pub struct FieldParts {
     pub ghost is_group: { ∥ EndsGroup (tag.value / 8) (body_of body) ∥₁ },
 }
 
-/// The forms in which a field is held. The tag and its width stand in each of them, where the form leaves room
+/// The forms in which a field is held. Each of them has the tag and its width where the form leaves room
 /// before its body.
 #[derive(Debug, Drop)]
 enum Form {
@@ -68,8 +69,8 @@ enum Form {
     },
 }
 
-/// A tag and its body, in four words. Most values, names and points that are read have few bytes, which take no
-/// memory of their own then. Contracts see the parts that it was made of.
+/// A tag and its body, in four words. Most values, names and points that are read have few bytes, which then
+/// take no memory of their own. Contracts see the parts that it was made of.
 #[derive(Debug, Drop)]
 pub struct Field {
     form: Form,
@@ -183,7 +184,8 @@ impl Field {
         Ok(Field { form })
     }
 
-    /// The LEN field of these bytes. Few bytes lie in the field, and the memory of their vector goes back.
+    /// The LEN field of these bytes. Few bytes are held in the field, and the memory of their vector is
+    /// given back.
     pub fn delimited(tag: Tag, width: u8, bytes: Vec<u8>) -> Field
         requires tag { IsTag tag.value 2 }
         requires width { IsWidth width }
@@ -228,7 +230,7 @@ impl Field {
         u64::from(value / 8)
     }
 
-    /// The body, whose bytes lie here.
+    /// The body, whose bytes stay here.
     #[inline(always)]
     pub fn body(&self) -> BodyRef<'_>
         ensures { body_seen result ≡ body_of self.now.body }

@@ -1,4 +1,4 @@
-//! The list type of bytes and of the fields of a feature, over a `Vec`.
+//! The list type for bytes and for the fields of a feature, over a `Vec`.
 
 ghost use Rattle.std.specs.Prelude.{◌≡◌, length};
 
@@ -7,7 +7,7 @@ use crate::put::Put;
 use std::alloc::{AllocError, AllocFailed};
 use std::marker::Model;
 
-/// A list over a `Vec`. Contracts see its items, and beside them its room.
+/// A list over a `Vec`. Contracts see its items and its room.
 #[derive(Debug, Drop)]
 pub struct Items<T> {
     inner: Vec<T>,
@@ -75,7 +75,7 @@ impl<T> Items<T> {
         self.inner.reserve_exact(more)
     }
 
-    /// Adds an item at the end. An `Err` changes nothing; it comes only where the list has to grow.
+    /// Adds an item at the end. An `Err` changes nothing; it occurs only when the list has to grow.
     pub fn push(&mut self, item: T) -> Result<(), AllocFailed<T>>
         ensures items { self.new.items ≡ (if is_ok result then self.old.items ++ item ∷ [] else self.old.items) }
         ensures room { length self.old.items + self.old.room ≤ length self.new.items + self.new.room }
@@ -84,9 +84,9 @@ impl<T> Items<T> {
         self.inner.push(item)
     }
 
-    /// Exchanges `taken` items from `index` for the ones to put, and puts them there in turn. As
-    /// many items as are taken change places where they stand. Items that are more or fewer move
-    /// the ones behind them, and need room in the one list or the other. An `Err` changes nothing.
+    /// Exchanges `taken` items from `index` for the ones to put, whose place they take in turn. If
+    /// as many are put as are taken, they change places where they are. If more or fewer are put,
+    /// the items after them move, and one list or the other needs room. An `Err` changes nothing.
     pub fn exchange(
         &mut self,
         index: usize,
@@ -105,7 +105,7 @@ impl<T> Items<T> {
         put.exchange_in(&mut self.inner, index, taken)
     }
 
-    /// Takes the item at one position out and puts it back so that it stands at the other.
+    /// Takes the item at one position out and puts it back so that it is at the other.
     pub fn move_item(&mut self, from: usize, to: usize)
         requires there { from < length self.old.items }
         requires within { to < length self.old.items }

@@ -1,5 +1,5 @@
-//! What a message keeps beside its items: how many bytes they take, and in memory of their own their runs, and
-//! the hashes of the ids of those at the front.
+//! What a message keeps beside its items: how many bytes they take and, in memory of their own, their runs
+//! and the hashes of the ids of those at the front.
 
 ghost use Rattle.std.specs.Prelude.{◌≡◌, ◌+◌, ◌<◌, ◌≤◌, [], List, Some, None, IfSome, is_some, length, slice_set, take};
 ghost use Rattle.mvt_document.specs.Hashes.{AreHashes};
@@ -15,8 +15,8 @@ use std::marker::Model;
 /// What stands for a size that is not known.
 const UNKNOWN: u32 = u32::MAX;
 
-/// How many bytes the items of a list take, where that is known. Half a word is enough for each size that
-/// a file can have, and a greater one counts as not known.
+/// How many bytes the items of a list take, if that is known. Half a word is enough for every size
+/// that a file can have; a greater one counts as not known.
 #[derive(Clone, Copy, Debug)]
 struct StoredSize {
     bytes: u32,
@@ -29,15 +29,15 @@ struct Beside {
     hashes: Vec<u32>,
 }
 
-/// A list that has many items has runs and hashes too. One of few items has none, since it is gone through as
-/// soon, and no memory is asked for.
+/// A list of many items has runs and hashes too. One of few items has none, since going through it is just as
+/// fast, and no memory is asked for.
 #[derive(Debug, Drop)]
 enum Form {
     Size(StoredSize),
     WithRuns(StoredSize, Box<Beside>),
 }
 
-/// The size of a list, its runs and its hashes, in two words: the size stands beside the tag of the form.
+/// The size of a list, its runs and its hashes, in two words: the size is next to the tag of the form.
 #[derive(Debug, Drop)]
 pub(crate) struct Kept {
     form: Form,
@@ -122,7 +122,7 @@ impl Kept {
         matches!(&self.form, Form::WithRuns(..))
     }
 
-    /// Keeps this size in place of the one before.
+    /// Keeps this size in place of the previous one.
     pub(crate) fn set_size(&mut self, size: Option<usize>)
         ensures size { IfSome self.new.size (λ kept. size ≡ Some kept) }
         ensures runs { self.new.runs ≡ self.old.runs }
@@ -146,7 +146,7 @@ impl Kept {
         }
     }
 
-    /// Keeps these runs, and no hashes yet, where there is memory for them.
+    /// Keeps these runs, and no hashes yet, if there is memory for them.
     pub(crate) fn add_runs(&mut self, alloc: Global, runs: Runs)
         ensures size { self.new.size ≡ self.old.size }
         ensures runs { IfSome self.new.runs (λ kept. kept ≡ runs) }
@@ -173,7 +173,7 @@ impl Kept {
         }
     }
 
-    /// Keeps the hash of an item that comes in the place of another, where that one's was kept.
+    /// Keeps the hash of an item that takes the place of another, where that one's was kept.
     pub(crate) fn set_hash<T: Measured>(&mut self, index: usize, item: &T)
         ensures size { self.new.size ≡ self.old.size }
         ensures runs { self.new.runs ≡ self.old.runs }
@@ -242,7 +242,7 @@ impl Kept {
         }
     }
 
-    /// Keeps the hashes of the items before an index, where there is memory for them.
+    /// Keeps the hashes of the items before an index, if there is memory for them.
     pub(crate) fn add_hashes<T: Measured>(&mut self, items: &[T], until: usize)
         requires { AreHashes T.id_hash self.old.hashes items.now }
         ensures size { self.new.size ≡ self.old.size }
@@ -255,7 +255,7 @@ impl Kept {
     }
 }
 
-/// Adds the hashes of the items before an index to those of the items at the front, where there is memory for
+/// Adds the hashes of the items before an index to those of the items at the front, if there is memory for
 /// them.
 fn push_hashes<T: Measured>(hashes: &mut Vec<u32>, items: &[T], until: usize)
     requires { AreHashes T.id_hash hashes.old.items items.now }
@@ -275,7 +275,7 @@ fn push_hashes<T: Measured>(hashes: &mut Vec<u32>, items: &[T], until: usize)
     }
 }
 
-/// Exchanges the hashes of `taken` items from `index` for those of others. Where there is no memory
+/// Exchanges the hashes of `taken` items from `index` for those of others. If there is no memory
 /// for that, those before `index` stay.
 fn splice_hashes<T: Measured>(hashes: &mut Vec<u32>, index: usize, taken: usize, come: &[T])
     requires { index + taken ≤ length hashes.old.items }

@@ -7,22 +7,22 @@ ghost use Rattle.mvt_document.specs.Wire.{bytes_of};
 ghost use Rattle.mvt_document.specs.Opens.{IsDocument, IsSettled, OpensAs};
 ghost use Rattle.mvt_document.specs.Settle.{settle, HasShortLengths};
 
-/// Settled documents with the same bytes are equal, groups in them too, so a file opens as one
-/// document at most.
+/// Settled documents with the same bytes are equal, including the groups in them, so a file opens
+/// as at most one document.
 pub fn one_document()
     ensures { (d e : PlainDocument) → IsSettled d → IsSettled e → bytes_of d ≡ bytes_of e → d ≡ e }
 {}
 
-/// To raise the stored widths of a document to the written ones keeps its bytes (`bytes`), and
+/// Raising the stored widths of a document to the written ones keeps its bytes (`bytes`), and
 /// settles a valid document whose lengths are below 2^64 (`settled`).
 pub fn settles()
     ensures settled { (d : PlainDocument) → IsDocument d → HasShortLengths d → IsSettled (settle d) }
     ensures bytes { (d : PlainDocument) → bytes_of (settle d) ≡ bytes_of d }
 {}
 
-/// To raise the stored widths of a settled document to the written ones leaves it as it is
-/// (`kept`). The bytes of a valid document, where they are at most 67,108,864, open as the settled
-/// one (`opens`).
+/// Raising the stored widths of a settled document to the written ones leaves it as it is (`kept`).
+/// The bytes of a valid document, if there are at most 67,108,864, open as the settled one
+/// (`opens`).
 pub fn opens_again()
     ensures kept { (d : PlainDocument) → IsSettled d → settle d ≡ d }
     ensures opens { (d : PlainDocument) → IsDocument d → length (bytes_of d) ≤ MAX_FILE → OpensAs (bytes_of d) (settle d) }

@@ -1,4 +1,4 @@
-//! How many bytes a value takes, of which kind it is, and the hash of its id, by one trait that each type of a
+//! How many bytes a value takes, of what kind it is, and the hash of its id, in one trait that each type of a
 //! document has.
 
 ghost use Rattle.std.specs.Prelude.{◌≡◌, ℕ, ◌+◌, ◌≤◌, Bool, false, IfSome, IsTrue, List, [], ◌++◌, length, max};
@@ -15,14 +15,14 @@ use crate::run::Kind;
 use crate::tag::Tag;
 use crate::varint::{Varint, least_width};
 
-/// A value that is written as bytes, of which it is known how many they are, of which kind it is in the list of a
-/// message, and which hash its id has there.
+/// A value that is written as bytes, of which it is known how many bytes those are, what kind it is in the list
+/// of a message, and what hash its id has there.
 pub trait Measured {
     ghost bytes: { Self → List ℕ };
 
     ghost of_kind: { Kind → Self → Bool };
 
-    /// It is of one kind at most.
+    /// It is of at most one kind.
     ghost one_kind: { (is other : Kind) (x : Self) → IsTrue (of_kind is x) → IsTrue (of_kind other x) → is ≡ other };
 
     ghost id_hash: { Self → ℕ };
@@ -31,18 +31,18 @@ pub trait Measured {
     fn is_of(&self, kind: Kind) -> bool
         ensures { result ≡ of_kind kind self.now };
 
-    /// How many bytes it takes, where they are within the limit.
+    /// How many bytes it takes, if they are within the limit.
     fn size_within(&self, limit: usize) -> Option<usize>
         ensures { SomeIff result (length (bytes self.now) ≤ limit) (length (bytes self.now)) };
 
-    /// The same, where that is within the limit of a file.
+    /// The same, if that is within the limit of a file.
     fn size(&self) -> Option<usize>
         ensures { SomeIff result (length (bytes self.now) ≤ MAX_FILE) (length (bytes self.now)) }
     {
         self.size_within(MAX_FILE)
     }
 
-    /// The hash of its id, where its kind has one.
+    /// The hash of its id, if its kind has one.
     fn id_hash(&self) -> Option<u32>
         ensures { IfSome result (λ hash. hash ≡ id_hash self.now) }
     {
@@ -50,7 +50,7 @@ pub trait Measured {
     }
 }
 
-/// The sum, where it is within the limit.
+/// The sum, if it is within the limit.
 pub fn sum_within(size: usize, more: usize, limit: usize) -> Option<usize>
     ensures { SomeIff result (size + more ≤ limit) (size + more) }
 {
@@ -61,7 +61,7 @@ pub fn sum_within(size: usize, more: usize, limit: usize) -> Option<usize>
     Some(sum)
 }
 
-/// The size of the items one after the other, where it is within the limit.
+/// The size of the items one after the other, if it is within the limit.
 pub fn size_of_all<T: Measured>(items: &[T], limit: usize) -> Option<usize>
     ensures { SomeIff result (length (flat_map T.bytes items.now) ≤ limit) (length (flat_map T.bytes items.now)) }
 {
@@ -72,7 +72,7 @@ pub fn size_of_all<T: Measured>(items: &[T], limit: usize) -> Option<usize>
     Some(size)
 }
 
-/// The size of the items beside `count` of them from `index`, where it is within the limit.
+/// The size of the items other than the `count` from `index`, if it is within the limit.
 pub fn size_beside_part<T: Measured>(
     items: &[T],
     index: usize,
@@ -87,7 +87,7 @@ pub fn size_beside_part<T: Measured>(
     sum_within(front, behind, limit)
 }
 
-/// The size of `length` bytes behind their length, where it is within the limit.
+/// The size of `length` bytes after their length, if it is within the limit.
 pub(crate) fn delimited_size(width: u8, length: usize, limit: usize) -> Option<usize>
     ensures { SomeIff result (max width (minimal_width length) + length ≤ limit) (max width (minimal_width length) + length) }
 {
@@ -95,7 +95,7 @@ pub(crate) fn delimited_size(width: u8, length: usize, limit: usize) -> Option<u
     sum_within(usize::from(width), length, limit)
 }
 
-/// The size of a tag and `length` bytes behind it under one length, where it is within the limit.
+/// The size of a tag, and after it `length` bytes with their length, if it is within the limit.
 pub fn message_size(tag: Tag, width: u8, length: usize, limit: usize) -> Option<usize>
     ensures { let size = tag.width + (max width (minimal_width length) + length) in SomeIff result (size ≤ limit) size }
 {

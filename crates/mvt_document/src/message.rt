@@ -1,6 +1,6 @@
-//! The items of a tile or of a layer, with how many bytes they take, and the runs in which those of a
-//! kind stand: known from where they were read, and kept over changes. A feature is small, and is measured where
-//! it has to be.
+//! The items of a tile or of a layer, how many bytes they take, and the runs in which those of a kind stand:
+//! known from when they were read, and kept across changes. A feature is small, and is measured when it has to
+//! be.
 
 ghost use Rattle.std.specs.Prelude.{◌≡◌, ◌≤◌, ◌+◌, ◌++◌, ℕ, length, Some, None, IfSome};
 ghost use Rattle.std.specs.List.{flat_map};
@@ -20,11 +20,11 @@ use crate::run::{Kind, Run, Runs, runs_of};
 use std::alloc::{AllocError, AllocFailed};
 use std::marker::Model;
 
-/// How many items a list has at least that keeps its runs.
+/// The least number of items of a list that keeps its runs.
 const MANY_ITEMS: usize = 32;
 
-/// The items of a message, and where that is known how many bytes they take, and in which runs those of a
-/// kind stand, as far as that is known. Contracts see the items, and beside them the room for more.
+/// The items of a message, how many bytes they take where that is known, and in which runs those of a
+/// kind stand, as far as that is known. Contracts see the items and the room for more.
 #[derive(Debug, Drop)]
 pub struct Message<T: Measured> {
     inner: Vec<T>,
@@ -58,7 +58,7 @@ impl<T: Measured> Message<T> {
     ghost use Rattle.mvt_document.specs.Lending.{held_in};
     ghost use Rattle.mvt_document.specs.LendingKept.{LendsVecKept};
 
-    /// The message of a vector's items, in the vector's own memory, where it is known how many bytes
+    /// The message of a vector's items, in the vector's own memory, when it is known how many bytes
     /// they take.
     pub fn of_size(inner: Vec<T>, sum: usize) -> Self
         requires { sum ≡ length (flat_map T.bytes inner.items) }
@@ -111,7 +111,7 @@ impl<T: Measured> Message<T> {
         }
     }
 
-    /// How many bytes the items take, where they are within the limit.
+    /// How many bytes the items take, if they are within the limit.
     pub fn size_within(&self, limit: usize) -> Option<usize>
         ensures { SomeIff result (length (flat_map T.bytes self.now.items) ≤ limit) (length (flat_map T.bytes self.now.items)) }
     {
@@ -121,14 +121,14 @@ impl<T: Measured> Message<T> {
         }
     }
 
-    /// The same, where that is within the limit of a file.
+    /// The same, if that is within the limit of a file.
     pub fn size(&self) -> Option<usize>
         ensures { SomeIff result (length (flat_map T.bytes self.now.items) ≤ MAX_FILE) (length (flat_map T.bytes self.now.items)) }
     {
         self.size_within(MAX_FILE)
     }
 
-    /// How many bytes the items beside this one take, where that is known.
+    /// How many bytes the items other than this one take, if that is known.
     pub(crate) fn size_beside(&self, index: usize) -> Option<usize>
         ensures { IfSome result (λ n. n ≡ bytes_beside T.bytes index self.now.items) }
     {
@@ -137,8 +137,8 @@ impl<T: Measured> Message<T> {
         Some(sum - item.size()?)
     }
 
-    /// How many bytes the items beside `count` of them from `index` take, where they are within the
-    /// limit. Where the size is known, those `count` alone are measured.
+    /// How many bytes the items other than the `count` from `index` take, if they are within the
+    /// limit. Where the size is known, only those `count` are measured.
     pub fn size_beside_part(&self, index: usize, count: usize, limit: usize) -> Option<usize>
         requires { index + count ≤ length self.now.items }
         ensures { let size = length (flat_map T.bytes (splice index count [] self.now.items)) in SomeIff result (size ≤ limit) size }
@@ -150,8 +150,8 @@ impl<T: Measured> Message<T> {
         sum_within(sum - part, 0, limit)
     }
 
-    /// Changes the item at this index, which stays of its kind, and the values beside. The size, where it was
-    /// known, is that of the items then, and the runs are the same.
+    /// Changes the item at this index, which stays of its kind, and the values beside it. The size, where it
+    /// was known, is that of the items afterwards, and the runs are the same.
     pub(crate) fn change_item<W, R, F: FnOnce(&mut T, &mut [W]) -> R>(
         &mut self,
         index: usize,
@@ -169,7 +169,8 @@ impl<T: Measured> Message<T> {
         result
     }
 
-    /// Lets go of how many bytes the items take. Before many of them change that saves measuring each of them twice: see `measure`.
+    /// Forgets how many bytes the items take. Before many of them change, that saves measuring each of them
+    /// twice: see `measure`.
     pub fn forget_size(&mut self)
         ensures { self.new ≡ self.old }
     {
@@ -185,7 +186,7 @@ impl<T: Measured> Message<T> {
         self.kept.set_size(measured);
     }
 
-    /// How many bytes the items take, where that is known.
+    /// How many bytes the items take, if that is known.
     pub fn known_size(&self) -> Option<usize>
         ensures { IsKept T.bytes self.now.items result }
     {
@@ -203,7 +204,7 @@ impl<T: Measured> Message<T> {
         &mut self.inner
     }
 
-    /// Knows the size again, the runs and the hashes.
+    /// Makes the size known again, and the runs and the hashes.
     pub fn know_size(&mut self, known: Option<usize>)
         requires { IsKept T.bytes self.old.items known }
         ensures { self.new ≡ self.old }
@@ -223,7 +224,7 @@ impl<T: Measured> Message<T> {
         Ok(())
     }
 
-    /// How many bytes the items take once this item is behind the others, where that is known.
+    /// How many bytes the items take once this item is added after the others, if that is known.
     fn size_pushed(&self, item: &T) -> Option<usize>
         ensures { IsKept T.bytes (self.now.items ++ item.now ∷ []) result }
     {
@@ -231,7 +232,7 @@ impl<T: Measured> Message<T> {
         sum_within(sum, item.size()?, MAX_FILE)
     }
 
-    /// The run of the items of a kind once this item is behind the others.
+    /// The run of the items of a kind once this item is added after the others.
     fn run_pushed(&self, kind: Kind, item: &T) -> Run
         ensures { IsRunOf (T.of_kind kind) result (self.now.items ++ item.now ∷ []) }
     {
@@ -239,7 +240,7 @@ impl<T: Measured> Message<T> {
             .spliced(self.len(), 0, Run::of_one(item.is_of(kind)), 1)
     }
 
-    /// The same of each kind.
+    /// The same for each kind.
     fn runs_pushed(&self, item: &T) -> Runs
         ensures { AreRunsOf T.of_kind result (self.now.items ++ item.now ∷ []) }
     {
@@ -252,7 +253,7 @@ impl<T: Measured> Message<T> {
     }
 
     /// How many bytes the items take once `taken` of them from `index` are exchanged for the ones
-    /// to put, where that is known.
+    /// to put, if that is known.
     fn size_exchanged(&self, index: usize, taken: usize, put: &Put<T>) -> Option<usize>
         requires { index + taken ≤ length self.now.items }
         ensures { IsKept T.bytes (splice index taken put.now.items self.now.items) result }
@@ -280,7 +281,7 @@ impl<T: Measured> Message<T> {
         self.run(kind).spliced(index, taken, put_run, put.len())
     }
 
-    /// The same of each kind.
+    /// The same for each kind.
     fn runs_exchanged(&self, index: usize, taken: usize, put: &Put<T>) -> Runs
         requires { index + taken ≤ length self.now.items }
         ensures { AreRunsOf T.of_kind result (splice index taken put.now.items self.now.items) }
@@ -295,7 +296,7 @@ impl<T: Measured> Message<T> {
     }
 
     /// Exchanges `taken` items from `index` for the ones to put, as `Items::exchange` does. The size,
-    /// where it is known then, is the right one; that it stays known no clause says.
+    /// if it is known afterwards, is the right one; no clause says that it stays known.
     pub fn exchange(
         &mut self,
         index: usize,
@@ -321,7 +322,7 @@ impl<T: Measured> Message<T> {
         Ok(())
     }
 
-    /// The run of the items of a kind once the item at one position stands at the other.
+    /// The run of the items of a kind once the item at one position has moved to the other.
     fn run_moved(&self, kind: Kind, from: usize, to: usize) -> Run
         requires there { from < length self.now.items }
         requires within { to < length self.now.items }
@@ -332,7 +333,7 @@ impl<T: Measured> Message<T> {
         left.spliced(to, 0, Run::of_one(items[from].is_of(kind)), 1)
     }
 
-    /// The same of each kind.
+    /// The same for each kind.
     fn runs_moved(&self, from: usize, to: usize) -> Runs
         requires there { from < length self.now.items }
         requires within { to < length self.now.items }
@@ -346,7 +347,7 @@ impl<T: Measured> Message<T> {
         }
     }
 
-    /// Takes the item at one position out and puts it back so that it stands at the other.
+    /// Takes the item at one position out and puts it back so that it is at the other.
     pub fn move_item(&mut self, from: usize, to: usize)
         requires there { from < length self.old.items }
         requires within { to < length self.old.items }
@@ -360,7 +361,7 @@ impl<T: Measured> Message<T> {
     }
 }
 
-/// How many bytes the items take, where it is known how many those beside this one do.
+/// How many bytes the items take, if it is known how many those other than this one take.
 fn size_with<T: Measured>(items: &[T], index: usize, beside: Option<usize>) -> Option<usize>
     requires { IfSome beside (λ n. n ≡ bytes_beside T.bytes index items.now) }
     ensures { IsKept T.bytes items.now result }
@@ -370,7 +371,7 @@ fn size_with<T: Measured>(items: &[T], index: usize, beside: Option<usize>) -> O
     sum_within(beside, item.size()?, MAX_FILE)
 }
 
-/// Finds the runs of these items and the hashes, where none were kept and the items are many.
+/// Finds the runs and the hashes of these items, if none were kept and the items are many.
 fn find_runs<T: Measured>(kept: &mut Kept, items: &Vec<T>)
     requires runs { kept.old.runs ≡ None }
     requires hashes { AreHashes T.id_hash kept.old.hashes items.now.items }
@@ -387,8 +388,8 @@ fn find_runs<T: Measured>(kept: &mut Kept, items: &Vec<T>)
     }
 }
 
-/// Keeps this size, and these runs in place of those kept, or finds them where none were kept and the items
-/// are many now.
+/// Keeps this size, and these runs in place of those kept, or finds them if none were kept and the items
+/// are now many.
 fn keep<T: Measured>(kept: &mut Kept, items: &Vec<T>, size: Option<usize>, runs: Runs)
     requires size { IsKept T.bytes items.now.items size }
     requires runs { AreRunsOf T.of_kind runs items.now.items }
@@ -405,9 +406,9 @@ fn keep<T: Measured>(kept: &mut Kept, items: &Vec<T>, size: Option<usize>, runs:
     }
 }
 
-/// Keeps these runs in place of those kept, and the hashes that are lacking. Where the first feature has no id no hash
-/// is added, and where less than half of the items up to the last feature of the run are features, so that there are
-/// two at most for each feature.
+/// Keeps these runs in place of those kept, and adds the missing hashes. No hash is added if the first feature
+/// has no id, or if less than half of the items up to the last feature of the run are features, so that there
+/// are at most two for each feature.
 fn keep_runs<T: Measured>(kept: &mut Kept, items: &[T], runs: Runs)
     requires runs { AreRunsOf T.of_kind runs items.now }
     requires hashes { AreHashes T.id_hash kept.old.hashes items.now }
@@ -422,7 +423,8 @@ fn keep_runs<T: Measured>(kept: &mut Kept, items: &[T], runs: Runs)
     }
 }
 
-/// Whether the feature at this position has an id. Mostly all features of a layer have one, or none has.
+/// Whether the feature at this position has an id. Usually all features of a layer have one, or none
+/// does.
 fn begins_with_id<T: Measured>(items: &[T], first: usize) -> bool {
     match items.get(first) {
         Some(item) => item.id_hash() != Some(hash_of(None)),

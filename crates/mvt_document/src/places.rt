@@ -1,4 +1,4 @@
-//! A list inside a document, changed where it stands.
+//! A list inside a document, changed in place.
 
 ghost use Rattle.std.specs.Prelude.{◌≡◌};
 ghost use Rattle.std.specs.Option.{IsSomeAnd, option_and_then};
@@ -11,8 +11,8 @@ use crate::items::Items;
 use crate::message::Message;
 
 impl Document {
-    /// Changes the items of the layer at this position, and the values beside. What `change` makes of
-    /// the list stands there, and all else is kept.
+    /// Changes the items of the layer at this position, and the values beside them. The list becomes
+    /// what `change` makes of it, and everything else is kept.
     pub fn change_items<W, R, F: FnOnce(&mut Message<LayerItem>, &mut [W]) -> R>(
         &mut self,
         layer: usize,
@@ -32,8 +32,8 @@ impl Document {
         )
     }
 
-    /// Changes the fields of the feature at this position of that layer, and the values beside. What
-    /// `change` makes of the list stands there, and all else is kept.
+    /// Changes the fields of the feature at this position of that layer, and the values beside them.
+    /// The list becomes what `change` makes of it, and everything else is kept.
     pub fn change_fields<W, R, F: FnOnce(&mut Items<Field>, &mut [W]) -> R>(
         &mut self,
         layer: usize,
@@ -55,8 +55,8 @@ impl Document {
     }
 }
 
-/// Changes the fields of the feature at this position of a layer, and the values beside. What `change`
-/// makes of the list stands there, and all else is kept.
+/// Changes the fields of the feature at this position of a layer, and the values beside them. The list
+/// becomes what `change` makes of it, and everything else is kept.
 pub fn change_fields_in<W, R, F: FnOnce(&mut Items<Field>, &mut [W]) -> R>(
     items: &mut Message<LayerItem>,
     item: usize,

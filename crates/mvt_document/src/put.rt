@@ -1,4 +1,4 @@
-//! The items that change places with a part of a list. One of them takes no memory of its own.
+//! The items that change places with a part of a list. A single one takes no memory of its own.
 
 ghost use Rattle.std.specs.Prelude.{◌≡◌, ◌≤◌, ◌<◌, ◌∷◌, [], length, option_to_list, vec_len, vec_capacity};
 ghost use Rattle.mvt_document.specs.Splicing.{part, splice};
@@ -32,8 +32,8 @@ impl<T: Drop> Form<T> {
     }
 }
 
-/// The items to put in a list, or those that were taken out of it. Mostly that is one, which lies in the value
-/// itself. Contracts see the items, and beside them the room for more; what is printed are the items.
+/// The items to put in a list, or those that were taken out of it. Usually there is one, which is held in the
+/// value itself. Contracts see the items and the room for more; the items are what is printed.
 #[derive(Drop)]
 pub struct Put<T> {
     alloc: Global,
@@ -71,7 +71,7 @@ impl<T> Put<T> {
         }
     }
 
-    /// The items of a vector, in the vector's own memory, where it has any.
+    /// The items of a vector, in the vector's own memory, if it has any.
     pub fn from_vec(items: Vec<T>) -> Self
         ensures items { result.items ≡ items.items }
         ensures room { length result.items + result.room ≡ max 1 (vec_capacity items) }
@@ -117,7 +117,7 @@ impl<T: Drop> Put<T> {
         }
     }
 
-    /// The vector that the items are in, where there is room for more than one. None are left.
+    /// The vector that the items are in, if there is room for more than one. None are left.
     pub fn take_vec(&mut self) -> Vec<T>
         requires { 1 < length self.old.items + self.old.room }
         ensures items { result.items ≡ self.old.items }
@@ -148,8 +148,8 @@ impl<T: Drop> Put<T> {
         mem::replace(&mut self.form, form).into_one()
     }
 
-    /// The item, if there is one, in a vector with room for `more` items beside it. None is left.
-    /// An `Err` changes nothing.
+    /// The item, if there is one, in a vector with room for `more` items besides. None is left. An
+    /// `Err` changes nothing.
     fn take_roomy(&mut self, more: usize) -> Result<Vec<T>, AllocError>
         requires { length self.old.items ≤ 1 }
         ensures items { IfOk result (λ items. items.items ≡ self.old.items) }
@@ -206,7 +206,7 @@ impl<T: Drop> Put<T> {
         Ok(())
     }
 
-    /// The item, if there is one, comes into a vector at an index. An `Err` changes nothing.
+    /// The item, if there is one, goes into a vector at an index. An `Err` changes nothing.
     fn insert_in(&mut self, list: &mut Vec<T>, index: usize) -> Result<(), AllocError>
         requires few { length self.old.items ≤ 1 }
         requires there { index ≤ vec_len list.old }
@@ -224,7 +224,7 @@ impl<T: Drop> Put<T> {
     }
 }
 
-/// The last item of a vector that has at most one gives its place to another, or to none.
+/// The last item of a vector that has at most one is replaced by another, or by none.
 fn trade_last<T>(items: &mut Vec<T>, item: Option<T>) -> Option<T>
     requires few { vec_len items.old ≤ 1 }
     requires room { length (option_to_list item) ≤ vec_capacity items.old }

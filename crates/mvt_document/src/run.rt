@@ -1,5 +1,5 @@
 //! The runs of a list: its items of one kind, as far as nothing stands between them. The run of a list
-//! that is joined, parted or spliced is made of those of its parts.
+//! that is joined, split or spliced is made of those of its parts.
 
 ghost use Rattle.std.specs.Prelude.{◌≡◌, ◌+◌, Bool, true, List, [], ◌∷◌, ◌++◌, ◌≤◌, length, map, min, take, drop, replicate, IfSome, IsTrue};
 ghost use Rattle.mvt_document.specs.Runs.{IsRun, IsRunOf, AreRunsOf};
@@ -20,8 +20,8 @@ pub enum Kind {
     Value,
 }
 
-/// Of the items before `until`, those of one kind: `count` items from `first`. Of those behind
-/// nothing is known.
+/// Of the items before `until`, those of one kind: `count` items from `first`. Nothing is known of
+/// those after them.
 #[derive(Clone, Copy, Debug)]
 pub struct Run {
     pub first: usize,
@@ -64,7 +64,7 @@ impl Run {
         }
     }
 
-    /// That of `count` items that are all of the kind, or none of them.
+    /// That of `count` items, all of the kind or none of it.
     #[inline(always)]
     fn of_same(count: usize, are_of_kind: bool) -> Run
         ensures { IsRun result (replicate count are_of_kind) }
@@ -76,7 +76,7 @@ impl Run {
         }
     }
 
-    /// That of a list of which all is known, and of one behind it.
+    /// That of a list of which everything is known, and of another one after it.
     #[inline(always)]
     #[tactic(auto, using(crate::proofs::Running::after_none, crate::proofs::Running::runs_meet, crate::proofs::Running::with_none, crate::proofs::Running::with_others))]
     pub(crate) fn joined(self, behind: Run) -> Option<Run>
@@ -119,7 +119,7 @@ impl Run {
         }
     }
 
-    /// That of the items from `index` on, up to which all is known.
+    /// That of the items from `index` on, up to which everything is known.
     #[tactic(auto, using(crate::proofs::Running::back_of))]
     fn back(self, index: usize) -> Run
         ensures { (items : List Bool) → IsRun self items → index ≤ self.until → IsRun result (drop index items) }
@@ -149,7 +149,7 @@ impl Run {
         }
     }
 
-    /// The same, where all is known up to what is behind the exchange.
+    /// The same, where everything is known up to what is after the exchange.
     fn with_back(self, index: usize, taken: usize, middle: Run, given: usize) -> Option<Run>
         ensures { (items come : List Bool) → IsRun self items → IsRun middle come → index + given ≡ length come → IfSome result (λ run. IsRun run (come ++ drop (index + taken) items)) }
     {
@@ -192,7 +192,7 @@ fn run_of<T: Measured>(items: &[T], kind: Kind) -> Run
     }
 }
 
-/// The run of each kind in the items of a part. Most parts have items of one kind alone.
+/// The run of each kind in the items of a part. Most parts have items of only one kind.
 fn runs_of_part<T: Measured>(part: &[T]) -> Runs
     ensures { AreRunsOf T.of_kind result part.now }
 {
@@ -242,7 +242,7 @@ fn runs_of_whole<T: Measured>(part: &[T], kind: Kind) -> Runs
     }
 }
 
-/// The runs of each kind in `seen` items and in a part behind them, where `runs` are those of the
+/// The runs of each kind in `seen` items and in a part after them, where `runs` are those of the
 /// items alone.
 fn runs_with_part<T: Measured>(runs: Runs, seen: usize, part: &[T]) -> Runs
     ensures { (items : List T) → AreRunsOf T.of_kind runs items → seen ≡ length items → AreRunsOf T.of_kind result (items ++ part.now) }
@@ -257,7 +257,7 @@ fn runs_with_part<T: Measured>(runs: Runs, seen: usize, part: &[T]) -> Runs
     }
 }
 
-/// The run of each kind. A part of the items is looked at for each kind while it is near the processor.
+/// The run of each kind. A part of the items is looked at for each kind while it is in the cache.
 pub(crate) fn runs_of<T: Measured>(items: &[T]) -> Runs
     ensures { AreRunsOf T.of_kind result items.now }
 {
@@ -270,7 +270,7 @@ pub(crate) fn runs_of<T: Measured>(items: &[T]) -> Runs
     runs
 }
 
-/// How many items at the front are of the kind, or are not: in a loop of its own for each kind.
+/// How many items at the front are of the kind, or are not: with a loop of its own for each kind.
 fn leading<T: Measured>(items: &[T], kind: Kind, wanted: bool) -> usize
     ensures within { result ≤ length items.now }
     ensures items { map (T.of_kind kind) (take result items.now) ≡ replicate result wanted }

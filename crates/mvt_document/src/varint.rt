@@ -9,7 +9,7 @@ ghost use Rattle.mvt_document.specs.Fills.{Fills};
 
 use std::alloc::AllocError;
 
-// How many bytes a number takes at most.
+// The most bytes that a number takes.
 const WIDEST: usize = 10;
 
 // Nine bytes hold 63 of a number's 64 bits.
@@ -71,9 +71,9 @@ pub fn least_width(value: u64) -> u8
     width
 }
 
-/// The number at the front, whose spelling is as many bytes as its width. There is none where
-/// each of the first ten bytes has its top bit set, or where the number takes more than 64 bits.
-/// Most numbers are one byte or two.
+/// The number at the front, whose spelling is as many bytes as its width. There is none if each of
+/// the first ten bytes has its top bit set, or if the number takes more than 64 bits. Most numbers
+/// are one byte or two.
 #[inline(always)]
 pub fn read_varint(bytes: &[u8]) -> Option<Varint>
     ensures within { IfSome result (λ n. n.width ≤ length bytes.now) }
@@ -90,8 +90,8 @@ pub fn read_varint(bytes: &[u8]) -> Option<Varint>
     Some(Varint { value, width })
 }
 
-/// The value of the number at the front, and its width, byte by byte from the last. Few numbers come
-/// to this, so it stays out of the loops that read them.
+/// The value of the number at the front, and its width, byte by byte from the last. Few numbers get
+/// here, so this stays out of the loops that read them.
 #[inline(never)]
 fn number_of_any_width(bytes: &[u8]) -> Option<(u64, u8)>
     ensures within { IfSome result (λ found. found.1 ≤ length bytes.now) }

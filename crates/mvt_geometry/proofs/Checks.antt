@@ -1,4 +1,4 @@
--- Each truth says what the definition says whose truth it is.
+-- Each truth value says what its definition says.
 use Rattle.std.proofs.Common.{◌≡◌, ℕ, ◌^◌, ◌≤◌, Bool, leb, List, [], ◌∷◌, length, refl}
 use Rattle.std.specs.Prelude.{unsigned_abs, Decides}
 use Rattle.std.specs.List.{list_all, AllByRecursion}

@@ -44,11 +44,11 @@ length-parameters from (to ∷ points) = omega (arith, length-parameters to poin
 
 -- ---- parts
 
--- the part that these parameters lead through, and the parts behind it
+-- the part that these parameters lead through, and the parts after it
 abbrev part_and : (Point → List ℕ → List (List Point)) → Point → List ℕ → List ℕ → List (List Point)
 part_and parts from parameters rest = points_in from parameters ∷ parts (last_from from (points_in from parameters)) rest
 
--- what is guessed in the path of a part and the rest behind it
+-- what is guessed in the path of a part and the rest after it
 part-path : (closing : List ℕ) (most : ℕ) (from first : Point) (points : List Point) (rest : List ℕ)
     → parts_in (length closing) (suc most) from (path closing from (first ∷ points) ++ rest) ≡ (first ∷ points) ∷ parts_in (length closing) most (last_from first points) rest
 part-path closing most from first points rest =

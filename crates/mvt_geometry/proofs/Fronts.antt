@@ -118,7 +118,7 @@ begins_from least from x y n numbers behind rest first (p ∷ points) m g count 
     same_front : {x y c : ℕ} {s : List ℕ} {x' y' c' : ℕ} {s' : List ℕ} → x ≡ x' → y ≡ y' → c ≡ c' → s ≡ s' → 9 ∷ x ∷ y ∷ c ∷ s ≡ 9 ∷ x' ∷ y' ∷ c' ∷ s'
     same_front p q r t = cc
 
--- ---- what is no path
+-- ---- what is not a path
 
 pub four_at_least : (least : ℕ) (from : Point) (numbers : List ℕ) (points : List Point) (rest : List ℕ) → 1 ≤ least → BeginsWithPart least [] from numbers points rest → 4 ≤ length numbers
 four_at_least least from numbers [] rest some p = let e = p.valid.enough in absurd (omega arith)

@@ -1,4 +1,4 @@
--- Parameters that lead from point to point: one after the other, and to the same points alone.
+-- Parameters that lead from point to point: one after the other, and only to the same points.
 use Rattle.std.proofs.Common.{◌≡◌, ℕ, ◌<◌, ◌≤◌, ℤ, ◌-ℤ◌, List, [], ◌∷◌, ◌++◌, length, drop, get_or, refl, sym, ap, ◌∙◌, subst, arith, append_assoc}
 use Rattle.std.proofs.lemmas.Int.{ints}
 use Rattle.std.proofs.lemmas.List.{append-nil}
@@ -63,7 +63,7 @@ leads_odd : (from : Point) (x : ℕ) (points : List Point) → LeadsThrough from
 leads_odd from x [] l = let e = l.spelled in cc
 leads_odd from x (p ∷ points) l = let e = l.spelled in cc
 
--- ---- points that are read so far: what is left leads on just as the whole does
+-- ---- points that have been read so far: what is left leads on just as the whole does
 
 pub record ReadOn (first : Point) (all : List ℕ) (last : Point) (rest : List ℕ) (read : List Point) : Type 0 where
   pub placed : IsPlaced last

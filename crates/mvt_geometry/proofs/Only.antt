@@ -1,4 +1,4 @@
--- Numbers have one geometry of a kind at most.
+-- Numbers have at most one geometry of a kind.
 use Rattle.std.proofs.Common.{◌≡◌, ℕ, ◌+◌, ◌*◌, ◌≤◌, suc, List, [], ◌∷◌, ◌++◌, length, refl, sym, ap, ◌∙◌, subst, arith}
 use Rattle.mvt_geometry.specs.Shapes.{Point, Kind, Dots, Lines, Areas, kind_number, Geometry, IsGeometry}
 use Rattle.mvt_geometry.specs.Integers.{parameters, paths, last_from, closing_of, origin, integers, IsInRange, HasGeometry}

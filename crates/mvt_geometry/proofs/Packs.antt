@@ -11,7 +11,7 @@ use Rattle.mvt_geometry.proofs.Parts.{deltas_apart, deltas_together, with}
 
 -- ---- points
 
--- of the points in `all` those in `left` are yet to be put, behind `last`
+-- of the points in `all` those in `left` are yet to be put, after `last`
 pub record Putting (from : Point) (all : List Point) (old : List ℕ) (last : Point) (left : List Point) (now : List ℕ) : Type 0 where
   pub put : now ++ packed (parameters last left) ≡ old ++ packed (parameters from all)
   pub short : AllByRecursion IsDelta (deltas last left) → AllByRecursion IsDelta (deltas from all)

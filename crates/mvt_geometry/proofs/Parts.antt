@@ -18,7 +18,7 @@ goes_more least closing from numbers part rest more b g = record {
   spelled = b.spelled ∙ ap (λ (r : List ℕ). path closing from part ++ r) g.spelled;
 }
 
--- the first of the parts, and the numbers behind its path
+-- the first of the parts, and the numbers after its path
 pub record First (least : ℕ) (closing : List ℕ) (from : Point) (numbers : List ℕ) (parts : List (List Point)) : Type 0 where
   pub part : List Point
   pub more : List (List Point)
@@ -46,7 +46,7 @@ pub begins_some : (least : ℕ) (closing : List ℕ) (from : Point) (numbers : L
 begins_some least closing from numbers points rest some b =
     omega (arith, ap length b.spelled, length-append {A = ℕ}, path_some closing from points (omega (arith, b.valid.enough)))
 
--- ---- parts that are read so far: what is left goes on just as the whole does
+-- ---- parts that have been read so far: what is left goes on just as the whole does
 
 pub record PartsRead (least : ℕ) (closing : List ℕ) (start : Point) (all : List ℕ) (from : Point) (rest : List ℕ) (read : List (List Point)) : Type 0 where
   pub placed : IsPlaced from

@@ -9,7 +9,7 @@ use Rattle.mvt_geometry.specs.Integers.{deltas, parameters, last_from, path, pat
 use Rattle.mvt_geometry.specs.Laws.{IntegersReach, IsWithin}
 use Rattle.mvt_geometry.proofs.Fronts.{length-parameters}
 
--- ---- one way
+-- ---- one delta
 
 abs_step : (from to : ℤ) → unsigned_abs to ≤ unsigned_abs from + unsigned_abs (to -ℤ from)
 abs_step (pos m) (pos n) = omega (arith, ints)

@@ -43,7 +43,7 @@ abbrev pub paths : List ℕ → Point → List (List Point) → List ℕ
 paths closing from [] = []
 paths closing from (part ∷ parts) = path closing from part ++ paths closing (last_from from part) parts
 
--- what closes the path of a part: a ClosePath behind a ring, else nothing (tiles 4.3.4)
+-- what closes the path of a part: a ClosePath after a ring, else nothing (tiles 4.3.4)
 abbrev pub closing_of : Kind → List ℕ
 closing_of Areas = command 7 1 ∷ []
 closing_of kind = []
@@ -67,7 +67,7 @@ integers g = integers_of g.kind g.parts
 abbrev pub IsDelta : ℤ → Type 0
 IsDelta delta = unsigned_abs delta < 2 ^ 31
 
--- how often the longest command of a part is carried out: MoveTo for dots, LineTo for the points behind the first of a
+-- how often the longest command of a part is carried out: MoveTo for dots, LineTo for the points after the first of a
 -- line or ring (tiles 4.3.1)
 abbrev pub repeats : Kind → List Point → ℕ
 repeats Dots points = length points
@@ -82,8 +82,8 @@ pub record IsInRange (g : Geometry) : Type 0 where
   pub short : AllByRecursion IsDelta (deltas origin (all_points g.parts))
   pub repeated : AllByRecursion (IsRepeated g.kind) g.parts
 
--- the numbers are the integers of this geometry, which is valid, in range, and of the kind with this number; no other
--- kind than 1, 2 and 3 has a geometry (tiles 4.3)
+-- the numbers are the integers of this geometry, which is valid, in range, and of the kind with this number; no kind
+-- other than 1, 2 and 3 has a geometry (tiles 4.3)
 pub record HasGeometry (kind : ℕ) (numbers : List ℕ) (g : Geometry) : Type 0 where
   pub of_kind : kind ≡ kind_number g.kind
   pub valid : IsGeometry g

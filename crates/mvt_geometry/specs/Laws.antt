@@ -31,11 +31,11 @@ pub record PacksIntegers (g : Geometry) : Type 0 where
 abbrev pub EncodedArePacked : Type 0
 EncodedArePacked = (g : Geometry) → IsGeometry g → IsInRange g → PacksIntegers g
 
--- a geometry is found in the numbers of a kind exactly where they have it
+-- a geometry is found in the numbers of a kind exactly when they have it
 abbrev pub GeometryIn : Type 0
 GeometryIn = (kind : ℕ) (numbers : List ℕ) (g : Geometry) → (geometry_in kind numbers ≡ Some g) ↔ HasGeometry kind numbers g
 
--- both coordinates are at most so far from 0
+-- both coordinates are at most this far from 0
 pub record IsWithin (most : ℕ) (p : Point) : Type 0 where
   pub x : unsigned_abs p.x ≤ most
   pub y : unsigned_abs p.y ≤ most

@@ -1,4 +1,4 @@
--- The integers of a geometry as they are gone through, one after the other.
+-- The integers of a geometry, gone through one after the other.
 use Rattle.std.specs.Prelude.{◌≡◌, ℕ, ◌-◌, ◌^◌, ◌≤◌, ◌<◌, ℤ, ◌-ℤ◌, unsigned_abs, List, [], ◌∷◌, ◌++◌, length}
 use Rattle.std.specs.List.{AllByRecursion}
 use Rattle.mvt_document.specs.Signed.{zigzag}
@@ -34,7 +34,7 @@ pub record IsPath (least : ℕ) (from : Point) (points : List Point) : Type 0 wh
   pub short : AllByRecursion IsDelta (deltas from points)
   pub repeated : length points - 1 < 2 ^ 29
 
--- the numbers begin with the path of a part, and `rest` is behind it
+-- the numbers begin with the path of a part, and `rest` follows it
 pub record BeginsWithPart (least : ℕ) (closing : List ℕ) (from : Point) (numbers : List ℕ) (points : List Point) (rest : List ℕ) : Type 0 where
   pub valid : IsPath least from points
   pub spelled : numbers ≡ path closing from points ++ rest

@@ -86,8 +86,8 @@ fn put_path(bytes: &mut Vec<u8>, from: Point, points: &[Point]) -> Result<Point,
     put_points(bytes, first, &points[1..])
 }
 
-/// Adds the deltas to the points, from this one on, and returns the last point. There are two to each
-/// point, and each takes at least one byte.
+/// Adds the deltas to the points, from this one on, and returns the last point. Each point has two,
+/// and each delta takes at least one byte.
 fn put_points(bytes: &mut Vec<u8>, from: Point, points: &[Point]) -> Result<Point, EncodeError>
     ensures bytes { OnOk result (bytes.new.items ≡ bytes.old.items ++ packed (parameters from points.now)) }
     ensures short { OnOk result (AllByRecursion IsDelta (deltas from points.now)) }
@@ -137,7 +137,7 @@ pub fn is_delta(delta: i64) -> bool
     delta.unsigned_abs() <= MAX_DELTA
 }
 
-/// Adds a command that is carried out so often.
+/// Adds a command that is carried out this many times.
 fn put_command(bytes: &mut Vec<u8>, id: u32, count: usize) -> Result<(), EncodeError>
     requires { id < 8 }
     ensures bytes { OnOk result (bytes.new.items ≡ bytes.old.items ++ shortest (id + 8 * count)) }

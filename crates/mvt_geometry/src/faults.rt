@@ -1,4 +1,4 @@
-//! Why numbers are no geometry, and why a geometry has no numbers.
+//! Why numbers are not a geometry, and why a geometry has no numbers.
 
 ghost use Rattle.std.specs.Prelude.{◌≡◌};
 ghost use Rattle.mvt_geometry.specs.declared.faults.GeometryError.TheVariants as geometry_errors;

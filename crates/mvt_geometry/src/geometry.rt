@@ -1,11 +1,11 @@
-//! A geometry, whose type keeps that it is one.
+//! A geometry, whose type ensures that it is one.
 
 use crate::shapes::{Kind, Part};
 use crate::valid::is_geometry;
 use mvt_document::Items;
 use std::marker::Model;
 
-/// A geometry whose parts have as many points as their kind asks for. Contracts see its points.
+/// A geometry whose parts have as many points as their kind requires. Contracts see its points.
 #[derive(Debug, Drop)]
 pub struct Geometry {
     kind: Kind,

@@ -2,7 +2,7 @@
 
 ghost use Rattle.mvt_geometry.specs.Laws.{OneGeometry, IntegersHaveTheirs, EncodedArePacked, GeometryIn, IntegersReach};
 
-/// Numbers have one geometry of a kind at most.
+/// Numbers have at most one geometry of a kind.
 pub fn one_geometry()
     ensures { OneGeometry }
 {}
@@ -13,18 +13,18 @@ pub fn integers_have_theirs()
 {}
 
 /// The bytes of a valid geometry in range are the shortest spellings of its integers, each a number
-/// of 32 bits, so a reader of packed numbers finds just these.
+/// of 32 bits, so a reader of packed numbers finds exactly these.
 pub fn encoded_are_packed()
     ensures { EncodedArePacked }
 {}
 
-/// A geometry is found in the numbers of a kind exactly where they have it.
+/// A geometry is found in the numbers of a kind exactly when they have it.
 pub fn geometry_in()
     ensures { GeometryIn }
 {}
 
 /// No coordinate of a geometry in range is further from 0 than 2^31 times as many integers as the
-/// geometry has: of a tile that a file can hold, none reaches 2^62.
+/// geometry has: in a tile that a file can hold, none reaches 2^62.
 pub fn integers_reach()
     ensures { IntegersReach }
 {}

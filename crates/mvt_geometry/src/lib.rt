@@ -1,16 +1,16 @@
 //! Geometries as points, as the numbers of the geometry of a feature, and as bytes.
 //!
 //! - A geometry has one part of dots, or at least one line of at least two points, or at least one
-//!   ring of at least three, and coordinates from -2^62 to 2^62: its type keeps that. It is made of
-//!   parts exactly where this holds (`valid`), and is of these parts (`ok`); else the parts come
-//!   back as they were (`err`): `Geometry::new`.
-//! - Numbers are read as the geometry that has just these integers (`found`), and refused only
-//!   where there is none of the kind (`bad`); out of memory alone may come in place of either:
+//!   ring of at least three, and coordinates from -2^62 to 2^62: its type ensures that. It is made
+//!   of parts exactly when this holds (`valid`), and consists of these parts (`ok`); otherwise the
+//!   parts come back as they were (`err`): `Geometry::new`.
+//! - Numbers are read as the geometry that has exactly these integers (`found`), and refused only
+//!   if there is none of the kind (`bad`); only an out-of-memory error may come in place of either:
 //!   `geometry_of`.
-//! - A geometry is written as its integers, each in its shortest spelling (`bytes`), only where
-//!   each delta from point to point and each count fits an integer of 32 bits (`in_range`). It is
-//!   refused as out of range only where one does not (`out_of_range`); out of memory alone may come
-//!   in place of either: `encode_geometry`. Whether a delta fits: `is_delta`.
+//! - A geometry is written as its integers, each in its shortest spelling (`bytes`), only if each
+//!   delta from point to point and each count fits an integer of 32 bits (`in_range`). It is
+//!   refused as out of range only if one does not (`out_of_range`); only an out-of-memory error may
+//!   come in place of either: `encode_geometry`. Whether a delta fits: `is_delta`.
 #![tactic(auto)]
 
 mod encode;

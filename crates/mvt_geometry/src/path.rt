@@ -19,9 +19,9 @@ pub(crate) const LINE_TO: u32 = 2;
 #[derive(Drop)]
 pub(crate) struct Front<'a> {
     pub(crate) points: Vec<Point>,
-    /// The last point, from which the next part goes on.
+    /// The last point, from which the next part continues.
     pub(crate) last: Point,
-    /// The numbers behind the path.
+    /// The numbers after the path.
     pub(crate) rest: &'a [u32],
 }
 

@@ -104,7 +104,7 @@ fn part_at_front(
     }
 }
 
-/// The ring that the numbers begin with: a path, and a ClosePath behind it.
+/// The ring that the numbers begin with: a path, and a ClosePath after it.
 fn ring_at_front(alloc: Global, from: Point, numbers: &[u32]) -> Result<Front<'_>, GeometryError>
     requires { IsPlaced from }
     ensures found { IfOk result (λ front. BeginsWithPart 3 (15 ∷ []) from numbers.now front.points.items front.rest.now) }

@@ -12,7 +12,7 @@ pub struct Point {
     pub y: i64,
 }
 
-/// Where the first delta of a geometry begins.
+/// Where the first delta of a geometry starts.
 pub(crate) const ORIGIN: Point = Point { x: 0, y: 0 };
 
 /// Points that belong together: all dots, or the points of one line or of one ring.
@@ -51,7 +51,7 @@ impl Kind {
         }
     }
 
-    /// The kind with this number. UNKNOWN, which is 0, is no kind.
+    /// The kind with this number. UNKNOWN, which is 0, is not a kind.
     pub fn from_number(number: u64) -> Option<Kind>
         ensures found { IfSome result (λ kind. kind_number kind ≡ number) }
         ensures none { IfNone result ((kind : Self) → kind_number kind ≡ number → ⊥) }
@@ -64,7 +64,7 @@ impl Kind {
         }
     }
 
-    /// How many points a part of such a geometry has at least.
+    /// The least number of points in a part of such a geometry.
     pub(crate) fn least_points(self) -> usize
         ensures { result ≡ least_points self }
     {

@@ -39,7 +39,7 @@ one_kept : {A : Type 0} (is : Bool) (ordinal position : ℕ) (x : A) (rest : Lis
 one_kept true ordinal position x rest = refl
 one_kept false ordinal position x rest = refl
 
--- what is left from a feature on is that one, where it has the id, and what is left behind it
+-- what is left from a feature on is that one, where it has the id, and what is left after it
 pub with_id-more : (id ordinal position : ℕ) (items : List LayerItem) (x : LayerItem) → position < length items → x ≡ get_or items position x → is_feature x ≡ true
     → with_id_from id ordinal position (map layer_item_of items) ≡ cons_option (option_map (λ f. (ordinal, (position, f))) (feature_with_id id (layer_item_of x))) (with_id_from id (ordinal + 1) (position + 1) (map layer_item_of items))
 with_id-more id ordinal position items (in_layer.Feature feature) inside is one =
@@ -47,7 +47,7 @@ with_id-more id ordinal position items (in_layer.Feature feature) inside is one 
     ∙ one_kept (has_id id (feature_of feature)) ordinal position (feature_of feature) (with_id_from id (ordinal + 1) (position + 1) (map layer_item_of items))
 with_id-more id ordinal position items (in_layer.Plain field) inside is one = absurd (cc)
 
--- the same at an item of the run, whose feature with the id has been looked for
+-- the same for an item of the run, whose feature with the id has been looked up
 pub with_id-there : {found : Option Feature} (id ordinal position : ℕ) (run : Run) (items : List LayerItem) (x : LayerItem) → IsRunOf (in_layer_of_kind Message) run items → run.first ≤ position → position < run.first + run.count
     → x ≡ get_or items position x → found ≡ feature_with_id id (layer_item_of x)
     → with_id_from id ordinal position (map layer_item_of items) ≡ cons_option (option_map (λ f. (ordinal, (position, f))) found) (with_id_from id (ordinal + 1) (position + 1) (map layer_item_of items))

@@ -154,7 +154,7 @@ module _ {X A B : Type 0} (view : X → A) (pick : A → Option B) (f : X → Bo
       let other : f x ≡ false = cc in
       ap (λ o. length (cons_option o (filter_map pick (map view items)))) (picked_none (pick (view x)) (agrees x ∙ other)) ∙ count_in zero zero behind items (ap (drop 1) e)
 
-  -- what is found is what is found in the part that is known, and then what is found behind that
+  -- what is found is what is found in the part that is known, and then what is found after that
   split : (run : Run) (items : List X) → IsRunOf f run items
       → (front : List (ℕ × (ℕ × B))) × (found_in pick (map view items) ≡ front ++ found_from pick run.count run.until (map view items)) × (length front ≡ run.count)
   split run items h =
@@ -238,7 +238,7 @@ module _ {X A B : Type 0} (view : X → A) (pick : A → Option B) (f : X → Bo
       ∙ take_at B' h.rest h.behind (length-replicate h.behind false) in
       none_passed end h.behind items values ∙ ap (λ n. placed_from pick n (map view items)) until
 
-  -- where all is known, all is found up to the end of the run
+  -- where everything is known, everything is found up to the end of the run
   pub run_to_end : (run : Run) (items : List X) → IsRunOf f run items → run.until ≡ length items → found_in pick (map view (take (run.first + run.count) items)) ≡ found_in pick (map view items)
   run_to_end run items h all =
       let end = run.first + run.count in
@@ -261,7 +261,7 @@ module _ {X A B : Type 0} (view : X → A) (pick : A → Option B) (f : X → Bo
       ∙ ap (λ xs. first ++ xs) (none_picked h.behind at back values)
       ∙ append-nil first))
 
-  -- the item of an ordinal stands as far behind the first
+  -- the item with an ordinal is that far after the first
   pub run_there : (run : Run) (items : List X) (k : ℕ) → IsRunOf f run items → k < run.count → slice_get (found_in pick (map view items)) k ≡ there k (run.first + k) (slice_get items (run.first + k))
   run_there run items k h inside =
       let F = replicate run.first false in
@@ -273,7 +273,7 @@ module _ {X A B : Type 0} (view : X → A) (pick : A → Option B) (f : X → Bo
       ∙ ap (λ o. there o (0 + (run.first + k)) (slice_get items (run.first + k))) same
       ∙ ap (λ p. there k p (slice_get items (run.first + k))) at
 
-  -- those that are not in the run are found behind what is known
+  -- those that are not in the run are found after what is known
   pub run_past : (run : Run) (items : List X) (k : ℕ) → IsRunOf f run items → run.count ≤ k → slice_get (found_in pick (map view items)) k ≡ slice_get (found_from pick run.count run.until (map view items)) (k - run.count)
   run_past run items k h past =
       let parts = split run items h in
@@ -286,7 +286,7 @@ module _ {X A B : Type 0} (view : X → A) (pick : A → Option B) (f : X → Bo
       let parts = split run items h in
       ap length parts.1 ∙ length-append parts.0 (found_from pick run.count run.until (map view items)) ∙ ap (λ n. n + length (found_from pick run.count run.until (map view items))) parts.2
 
-  -- the last that is found is the last behind what is known
+  -- the last that is found is the last after what is known
   pub run_last_behind : (run : Run) (items : List X) (last : ℕ × (ℕ × B)) → IsRunOf f run items → last_or None (found_from pick run.count run.until (map view items)) ≡ Some last → last_or None (found_in pick (map view items)) ≡ Some last
   run_last_behind run items last h is =
       let parts = split run items h in
@@ -368,7 +368,7 @@ none_among (suc n) (in_layer.Feature feature ∷ items) e = none_among n items (
 fields_apart : (xs ys : List LayerItem) → plain_fields (map layer_item_of (xs ++ ys)) ≡ plain_fields (map layer_item_of xs) ++ plain_fields (map layer_item_of ys)
 fields_apart xs ys = ap plain_fields (map-append layer_item_of xs ys) ∙ filter_map-append _ (map layer_item_of xs) (map layer_item_of ys)
 
--- the items before the run, those of the run, which are features, and those behind it
+-- the items before the run, those of the run, which are features, and those after it
 pub run_parts : (run : Run) (items : List LayerItem) → IsRunOf (in_layer_of_kind Message) run items
     → (items ≡ take run.first items ++ (take run.count (drop run.first items) ++ drop (run.first + run.count) items)) × (map is_feature (take run.count (drop run.first items)) ≡ replicate run.count true)
 run_parts run items h =
@@ -392,7 +392,7 @@ fields_beside run items h =
     ∙ fields_apart (take run.first items) (part ++ back)
     ∙ ap (λ xs. plain_fields (map layer_item_of (take run.first items)) ++ xs) (fields_apart part back ∙ ap (λ xs. xs ++ plain_fields (map layer_item_of back)) (none_among run.count part parts.1))
 
--- the same of the slices
+-- the same for the slices
 pub fields_parted : (run : Run) (items : List LayerItem) → IsRunOf (in_layer_of_kind Message) run items
     → plain_fields (map layer_item_of items) ≡ plain_fields (map layer_item_of (take run.first items)) ++ plain_fields (map layer_item_of (take (length items - (run.first + run.count)) (drop (run.first + run.count) items)))
 fields_parted run items h =
@@ -440,7 +440,7 @@ passes_over number run items h =
 pub passes_none : (number : ℕ) (items : List LayerItem) → PassesOver number (record { first = 0; count = 0; until = 0 }) (map layer_item_of items)
 passes_none number items = record { within = omega arith; none = refl }
 
--- nothing is found behind all items
+-- nothing is found after all items
 pub placed_past : (number : ℕ) (items : List LayerItem) → placed_from (entry_in number) (length items) (map layer_item_of items) ≡ []
 placed_past number items = ap (λ xs. filter_map (with_position (entry_in number)) (enumerate_from (length items) xs)) (drop_all (length items) (map layer_item_of items) (omega (arith, length-map items layer_item_of)))
 

@@ -27,7 +27,7 @@ mapped_more : {A B : Type 0} (f : A → B) (item : A) (others : Option (List A))
 mapped_more f item None = refl
 mapped_more f item (Some rest) = refl
 
--- the plain pairs of one that is read, and of those behind it
+-- the plain pairs of one that is read, and of those after it
 pub plain_more : (found : PlacedPair) (more : List (Result PlacedPair (Unit {0}))) → plain_pairs (Ok found ∷ more) ≡ and_more found.0 (plain_pairs more)
 plain_more found more = mapped_more (λ (found : PlacedPair). found.0) found (all_good more)
 

@@ -9,7 +9,7 @@ use Rattle.std.proofs.lemmas.List.{drop_more, length-map, get_or-map}
 use Rattle.mvt_messages.specs.Found.{with_position, placed_from, found_in}
 use Rattle.mvt_layers.proofs.Yielded.{picked_fit}
 
--- what is found from a position on: what stands there, and what is found from the next one on
+-- what is found from a position on: what is there, and what is found from the next one on
 pub placed_from-more : {X A B : Type 0} (view : X → A) (pick : A → Option B) (position : ℕ) (items : List X) (item : X) → position < length items → item ≡ get_or items position item
     → placed_from pick position (map view items) ≡ cons_option (with_position pick (position, view item)) (placed_from pick (position + 1) (map view items))
 placed_from-more {A = A} view pick position items item within read =
@@ -39,7 +39,7 @@ pub copied_is : {A : Type 0} (found : Option (Bor A)) → is_some found ≡ is_s
 copied_is None = refl
 copied_is (Some x) = refl
 
--- ---- what is found, without where it stands
+-- ---- what is found, without where it is
 
 item_more : {B : Type 0} (found : Option B) (position : ℕ) (placed : List (ℕ × B)) (items : List B) → map (λ (p : ℕ × B). p.1) placed ≡ items → map (λ (p : ℕ × B). p.1) (cons_option (option_map (λ found. (position, found)) found) placed) ≡ cons_option found items
 item_more None position placed items e = e

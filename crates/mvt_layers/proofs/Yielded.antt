@@ -1,4 +1,4 @@
--- What comes of the items of an iterator.
+-- What results from the items of an iterator.
 use Rattle.std.proofs.Common.{◌≡◌, ◌≤◌, ◌<◌, ◌^◌, ℕ, suc, Option, Some, None, List, [], ◌∷◌, ◌++◌, length, map, option_map, refl, ap, ◌∙◌, arith}
 use Rattle.std.proofs.lemmas.List.{length-map}
 use Rattle.std.proofs.lemmas.Iterator.{YieldsList, items_from_drains}
@@ -34,7 +34,7 @@ twice_picked_within view h k xs = omega (arith, length-filter_map k (filter_map 
 pub always_from_yields_List : {S A B : Type 0} {steps : S → Option A → S → Type 0} {v : A → B} {s : S} {all : List B} → YieldsList steps v s all → AlwaysYields steps v s all
 always_from_yields_List e = e.runs
 
--- the last of two lists, one behind the other
+-- the last of two lists, one after the other
 pub last_joined : {A : Type 0} (last : Option A) (xs ys : List A) → last_or last (xs ++ ys) ≡ last_or (last_or last xs) ys
 last_joined last [] ys = refl
 last_joined last (x ∷ xs) ys = last_joined (Some x) xs ys

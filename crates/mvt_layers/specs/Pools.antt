@@ -8,7 +8,7 @@ use Rattle.mvt_document.specs.declared.run.Run.{Run}
 use Rattle.mvt_messages.specs.Found.{found_in, placed_from}
 use Rattle.mvt_messages.specs.Views.{content_in, key_field, plain_in, value_field}
 
--- the content of an item of a layer that is a LEN field of this number; none of another item (tiles 4.1)
+-- the content of an item of a layer that is a LEN field of this number; none for another item (tiles 4.1)
 abbrev pub entry_in : ℕ → LayerItem → Option (List ℕ)
 entry_in number item = option_and_then (content_in number) (plain_in item)
 

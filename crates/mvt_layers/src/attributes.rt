@@ -22,7 +22,7 @@ pub struct Pair {
 /// Why there are no pairs.
 #[derive(Clone, Copy, Debug, PartialEq, Eq, Error)]
 pub enum PairsError {
-    /// There is something that is no number, a key without a value, or a number that names no key or no value.
+    /// Something is not a number, a key has no value, or a number names no key or no value.
     #[error("the tags are not pairs of a key and a value")]
     BadTags,
     #[error("out of memory")]
@@ -53,8 +53,8 @@ impl<T: Drop> From<AllocFailed<T>> for PairsError {
     }
 }
 
-/// The pairs that the tags of a feature of this layer are. The layer's keys and values are counted once, in a pass
-/// over its items.
+/// The pairs that the tags of a feature of this layer make. The layer's keys and values are counted once, in a
+/// pass over its items.
 pub fn pairs(
     alloc: Global,
     layer: &LayerView,

@@ -1,5 +1,5 @@
-//! The keys and values of a layer with where they stand, as an iterator, the first that is given, and the
-//! last name.
+//! The keys and values of a layer with where they are, as an iterator, the first that equals given bytes,
+//! and the last name.
 
 ghost use Rattle.std.specs.Prelude.{◌≡◌, ◌+◌, ◌≤◌, ◌<◌, None, Some, IfErr, IfOk, length, map, option_map, slice_get};
 ghost use Rattle.std.specs.List.{last_or};
@@ -28,7 +28,7 @@ pub struct Entries<'a> {
     number: u64,
     // A run of features, none of which is an entry.
     passed: Run,
-    // From where the next is looked for, and its ordinal.
+    // Where the search for the next one starts, and its ordinal.
     position: usize,
     ordinal: usize,
 }
@@ -115,7 +115,7 @@ impl<'a> Iterator for Entries<'a> {
     }
 }
 
-/// The entry of this ordinal, where this is the run of the first of them.
+/// The entry with this ordinal, where this is the run of the first of them.
 pub(crate) fn entry(items: &[LayerItem], entries: Run, number: u64, ordinal: usize) -> Option<&[u8]>
     requires { IsRunOf (is_entry number) entries items.now }
     ensures { option_copied result ≡ slice_get (contents number (plain_fields (map layer_item_of items.now))) ordinal }
@@ -127,7 +127,7 @@ pub(crate) fn entry(items: &[LayerItem], entries: Run, number: u64, ordinal: usi
     Some(found.bytes)
 }
 
-/// The entry of this ordinal, which is one of the run, with where it stands.
+/// The entry with this ordinal, which is one of the run, with where it is.
 fn entry_in_run(
     items: &[LayerItem],
     entries: Run,
@@ -161,7 +161,7 @@ fn last_entry(items: &[LayerItem], entries: Run, number: u64) -> Option<FoundEnt
     entry_in_run(items, entries, number, entries.count - 1)
 }
 
-/// The last name of a layer, which is the one that counts, with where it stands.
+/// The last name of a layer, which is the one that counts, with where it is.
 pub fn last_name(items: &Message<LayerItem>) -> Option<FoundEntry<'_>>
     ensures { option_map found_entry_seen result ≡ last_or None (found_entries 1 (map layer_item_of items.now.items)) }
 {
@@ -210,7 +210,7 @@ pub(crate) fn first_equal<'a>(
 }
 
 /// The same from `start` on, where the first from there on has the ordinal `first`. The items of
-/// the run of features are passed over.
+/// the run of features are skipped.
 fn equal_beside<'a>(
     items: &'a [LayerItem],
     features: Run,
@@ -237,8 +237,7 @@ fn equal_beside<'a>(
     }
 }
 
-/// The same from `start` to `end`; where there is none, the ordinal that the first from `end` on
-/// has.
+/// The same from `start` to `end`; if there is none, the ordinal that the first from `end` on has.
 fn equal_before<'a>(
     items: &'a [LayerItem],
     number: u64,

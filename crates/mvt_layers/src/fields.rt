@@ -29,7 +29,7 @@ fn content_in(field: &Field, number: u64) -> Option<&[u8]>
     }
 }
 
-/// The items of a layer before the run of its features and those behind it.
+/// The items of a layer before the run of its features and those after it.
 pub(crate) fn beside_features(layer: &Layer) -> (&[LayerItem], &[LayerItem])
     ensures items { plain_fields (layer_of layer.now).items ≡ plain_fields (map layer_item_of result.0.now) ++ plain_fields (map layer_item_of result.1.now) }
     ensures fits { length result.0.now + length result.1.now < 2 ^ 64 }
@@ -37,7 +37,7 @@ pub(crate) fn beside_features(layer: &Layer) -> (&[LayerItem], &[LayerItem])
     beside_run(layer.items.as_slice(), layer.items.runs().messages)
 }
 
-/// The items before this run of features and those behind it.
+/// The items before this run of features and those after it.
 #[tactic(auto, using(crate::proofs::InRun::run_within))]
 fn beside_run(items: &[LayerItem], features: Run) -> (&[LayerItem], &[LayerItem])
     requires { IsRunOf (in_layer_of_kind Message) features items.now }
@@ -59,7 +59,7 @@ pub(crate) fn last_value_in_layer(layer: &Layer, number: u64) -> Option<u64>
     last_value_in_items(last, back, number)
 }
 
-/// The same among items of a layer; the one before where there is none.
+/// The same among items of a layer; the previous one if there is none.
 fn last_value_in_items(before: Option<u64>, items: &[LayerItem], number: u64) -> Option<u64>
     ensures { result ≡ last_or before (filter_map (value_in number) (plain_fields (map layer_item_of items.now))) }
 {
@@ -100,7 +100,7 @@ pub(crate) fn first_feature(items: &[LayerItem], start: usize) -> Option<(usize,
     None
 }
 
-/// The items up to the last feature, where it is known which that is; else all.
+/// The items up to the last feature, if it is known which that is; else all.
 #[tactic(auto, using(crate::proofs::InRun::run_within))]
 pub(crate) fn up_to_features(items: &[LayerItem], features: Run) -> &[LayerItem]
     requires { IsRunOf (in_layer_of_kind Message) features items.now }
@@ -151,7 +151,7 @@ pub(crate) fn has_id(feature: &Feature, id: u64) -> bool
     }
 }
 
-/// The feature of this ordinal, which is one of the run.
+/// The feature with this ordinal, which is one of the run.
 pub(crate) fn feature_in_run(
     items: &[LayerItem],
     features: Run,
@@ -183,7 +183,7 @@ pub(crate) fn entry_in(item: &LayerItem, number: u64) -> Option<&[u8]>
 }
 
 /// The content of the first LEN field of this number from `start` on, and its position. The items
-/// of the run are passed over.
+/// of the run are skipped.
 pub(crate) fn first_entry(
     items: &[LayerItem],
     number: u64,
@@ -224,7 +224,7 @@ fn entry_before(
     None
 }
 
-/// The content of the first LEN field of this number, and the items behind it.
+/// The content of the first LEN field of this number, and the items after it.
 pub(crate) fn first_content(items: &[LayerItem], number: u64) -> Option<(&[u8], &[LayerItem])>
     ensures { MatchOption result (contents number (plain_fields (map layer_item_of items.now)) ≡ []) (λ found. contents number (plain_fields (map layer_item_of items.now)) ≡ found.0.now ∷ contents number (plain_fields (map layer_item_of found.1.now))) }
 {

@@ -1,4 +1,4 @@
-//! A layer of a tile, and a feature, a key or a value of a layer, each with where it stands.
+//! A layer of a tile, and a feature, a key or a value of a layer, each with where it is.
 
 use crate::views::{FeatureView, LayerView};
 use mvt_document::{Feature, Layer};

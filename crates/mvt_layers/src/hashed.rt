@@ -16,14 +16,14 @@ use crate::found::FoundFeature;
 use mvt_document::{Feature, Layer, LayerItem, Run, hash_of};
 use std::marker::Model;
 
-/// The features of a layer, in order, to be looked for by their ids: those of the run by the hashes of the ids, with
-/// no look at the features themselves. Contracts see those that are left.
+/// The features of a layer, in order, to be looked up by their ids: those of the run by the hashes of the ids,
+/// without a look at the features themselves. Contracts see those that are left.
 #[derive(Clone, Debug, Drop)]
 pub(crate) struct HashedFeatures<'a> {
     items: &'a [LayerItem],
     features: Run,
     hashes: &'a [u32],
-    // From where the next is looked for, and its ordinal.
+    // Where the search for the next one starts, and its ordinal.
     position: usize,
     ordinal: usize,
 }
@@ -63,7 +63,7 @@ impl<'a> HashedFeatures<'a> {
         }
     }
 
-    /// The next that has this id. Those before it are passed over.
+    /// The next one that has this id. Those before it are skipped.
     pub(crate) fn next_with_id(&mut self, id: u64) -> Option<FoundFeature<'a>>
         ensures { MatchOption result (with_id id self.old ≡ []) (λ found. with_id id self.old ≡ found_feature_seen found ∷ with_id id self.new) }
     {
@@ -162,7 +162,7 @@ fn first_hashed<'a>(
     None
 }
 
-/// The feature that an item is, where it has this id. The hash of the item's id and that of this one are known.
+/// The feature that an item is, if it has this id. The hash of the item's id and that of this one are known.
 #[inline(always)]
 fn hashed_feature(item: &LayerItem, hash: u32, wanted: u32, id: u64) -> Option<&Feature>
     requires item { hash ≡ layer_item_hash item.now }

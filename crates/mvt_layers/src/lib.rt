@@ -5,27 +5,27 @@
 //!   `layer_count`, and the calls of `LayerView`.
 //! - The keys and the values of a layer with their ordinals and positions, and the first that is
 //!   these bytes: `LayerView::key_entries`, `value_entries`, `first_key`, `first_value`; or how many
-//!   there are, where none is: `find_key`, `find_value`. The last name of a layer with its position:
+//!   there are, if none is: `find_key`, `find_value`. The last name of a layer with its position:
 //!   `last_name`.
 //! - The name, version and extent of a layer, and the id and kind of a feature, are those of the
 //!   last field of the number and wire type, or the default: the calls of `LayerView` and
 //!   `FeatureView`.
-//! - A name selects the one layer that has it, and an id the one feature; else the error says
-//!   whether none has it or several: `layer_named`, `feature_by_id`. How an id is looked for no clause says: by
-//!   the hashes that its layer keeps, as far as it does.
-//! - The tags of a feature are the numbers of its fields of number 2, those of its geometry of
-//!   number 4: `FeatureView::tags`, `FeatureView::geometry_numbers`.
+//! - A name selects the one layer that has it, and an id the one feature; otherwise the error says whether none
+//!   has it or several do: `layer_named`, `feature_by_id`. No clause says how an id is looked up: by the hashes
+//!   that its layer keeps, as far as it keeps them.
+//! - The tags of a feature are the numbers of its fields of number 2, and those of its geometry are
+//!   the numbers of its fields of number 4: `FeatureView::tags`, `FeatureView::geometry_numbers`.
 //! - The tags of a feature come pair by pair, each with the ordinals of a key and of a value and
-//!   with the two numbers that these are, or as an error that stands where they are no such pair: a
+//!   with the two numbers that make it, or as an error in place of tags that are not such a pair: a
 //!   chunk is bad, a key has no value, or an ordinal names no key, no value, or has more than 32
 //!   bits. The keys and the values are counted once for a layer: `LayerView::pool_sizes`,
 //!   `FeatureView::tag_pairs`.
-//! - The same pairs in a list (`pairs`), refused only where one is an error (`bad_tags`). Out of
-//!   memory alone may come in place of either: `pairs`.
+//! - The same pairs in a list (`pairs`), refused only if one is an error (`bad_tags`). Only an
+//!   out-of-memory error may come in place of either: `pairs`.
 //!
-//! Only `pairs` is given an allocator. The crate passes on the names of `mvt_numbers`. What the
+//! Only `pairs` takes an allocator. The crate re-exports the names of `mvt_numbers`. What the
 //! messages say is defined in `mvt_messages`, and the geometry of a feature is read in `mvt_view`.
-//! A value it returns as its bytes: `mvt_value` says which value they are.
+//! A value is returned as its bytes: `mvt_value` says which value they are.
 #![tactic(auto)]
 
 mod attributes;

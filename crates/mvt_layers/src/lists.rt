@@ -10,7 +10,7 @@ use std::marker::Model;
 #[derive(Clone, Debug, Drop)]
 pub struct LayerViews<'a> {
     items: &'a [TileItem],
-    // From where the next is looked for, and its ordinal.
+    // Where the search for the next one starts, and its ordinal.
     position: usize,
     ordinal: usize,
 }
@@ -74,7 +74,7 @@ impl<'a> Iterator for LayerViews<'a> {
 #[derive(Clone, Debug, Drop)]
 pub struct FeatureViews<'a> {
     items: &'a [LayerItem],
-    // From where the next is looked for, and its ordinal.
+    // Where the search for the next one starts, and its ordinal.
     position: usize,
     ordinal: usize,
 }
@@ -156,7 +156,7 @@ impl<'a> Iterator for FeatureViews<'a> {
 #[derive(Clone, Debug, Drop)]
 pub struct Contents<'a> {
     rest: &'a [LayerItem],
-    // The items behind the features, until it has come to them.
+    // The items after the features, until it reaches them.
     back: &'a [LayerItem],
     number: u64,
 }

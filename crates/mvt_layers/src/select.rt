@@ -51,7 +51,7 @@ pub fn layer_count(document: &Document) -> usize
     layers(document).count()
 }
 
-/// The layer of this ordinal.
+/// The layer with this ordinal.
 pub fn layer(document: &Document, ordinal: usize) -> Option<FoundLayer<'_>>
     ensures { option_map found_layer_seen result ≡ slice_get (found_layers (document_of document.now)) ordinal }
 {
@@ -65,7 +65,7 @@ pub fn layer_named<'a>(document: &'a Document, name: &[u8]) -> Result<FoundLayer
     the_one_layer(layers(document).filter(|found| is_named(found.view(), name)))
 }
 
-/// The one layer that comes, or which error it is that there is none or that there are several.
+/// The only layer that comes, or the error that there is none or that there are several.
 fn the_one_layer<'a, I: Iterator<Item = FoundLayer<'a>>>(
     mut layers: I,
 ) -> Result<FoundLayer<'a>, LayerError>

@@ -17,7 +17,7 @@ pub struct PoolSizes {
     pub values: usize,
 }
 
-/// A pair of tags, and the two numbers that it is, each with its field and its place there.
+/// A pair of tags, and the two numbers that make it, each with its field and its place there.
 #[derive(Clone, Copy, Debug, PartialEq, Eq)]
 pub struct TagPair {
     pub pair: Pair,
@@ -25,7 +25,8 @@ pub struct TagPair {
     pub value: Number,
 }
 
-/// Two tags are no pair: one of them is no number, the value is missing, or a number names no key or no value.
+/// Two tags are not a pair: one of them is not a number, the value is missing, or a number names no key or no
+/// value.
 #[derive(Clone, Copy, Debug, PartialEq, Eq, Error)]
 #[error("two tags are not a pair of a key and a value")]
 pub struct BadPair;
@@ -77,7 +78,7 @@ impl<'a> Iterator for TagPairs<'a> {
     }
 }
 
-/// The pair that two tags are.
+/// The pair that two tags make.
 #[inline(always)]
 fn pair_of(
     key: Result<Number, BadChunk>,
@@ -96,7 +97,7 @@ fn pair_of(
     Ok(TagPair { pair, key, value })
 }
 
-/// The number as an ordinal, where it is below `count` and has at most 32 bits.
+/// The number as an ordinal, if it is below `count` and has at most 32 bits.
 fn ordinal(number: u64, count: usize) -> Option<u32>
     ensures { result ≡ ordinal_in count number }
 {

@@ -72,7 +72,7 @@ impl<'a> LayerView<'a> {
         FeatureViews::of(up_to_features(items, self.layer.items.runs().messages))
     }
 
-    /// The features, in order, to be looked for by their ids.
+    /// The features, in order, to be looked up by their ids.
     pub(crate) fn hashed_features(self) -> HashedFeatures<'a>
         ensures { result ≡ found_features (layer_seen self.entry).items }
     {
@@ -177,7 +177,7 @@ impl<'a> LayerView<'a> {
         }
     }
 
-    /// The feature of this ordinal.
+    /// The feature with this ordinal.
     pub fn feature(self, ordinal: usize) -> Option<FoundFeature<'a>>
         ensures { option_map found_feature_seen result ≡ slice_get (found_features (layer_seen self.entry).items) ordinal }
     {
@@ -189,7 +189,7 @@ impl<'a> LayerView<'a> {
         FeatureViews::behind(items, features).nth(ordinal - features.count)
     }
 
-    /// The key of this ordinal.
+    /// The key with this ordinal.
     pub fn key(self, ordinal: usize) -> Option<&'a [u8]>
         ensures { option_copied result ≡ slice_get (keys (layer_seen self.entry)) ordinal }
     {
@@ -197,7 +197,7 @@ impl<'a> LayerView<'a> {
         entry(self.layer.items.as_slice(), keys, KEYS, ordinal)
     }
 
-    /// The value of this ordinal.
+    /// The value with this ordinal.
     pub fn value(self, ordinal: usize) -> Option<&'a [u8]>
         ensures { option_copied result ≡ slice_get (values (layer_seen self.entry)) ordinal }
     {

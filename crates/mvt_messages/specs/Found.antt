@@ -12,7 +12,7 @@ with_position pick at = option_map (λ found. (at.0, found)) (pick at.1)
 abbrev pub placed_from : {A B : Type 0} → (A → Option B) → ℕ → List A → List (ℕ × B)
 placed_from pick position items = filter_map (with_position pick) (enumerate_from position (drop position items))
 
--- the same, each with its ordinal, where the first has this one, before its position
+-- the same, each with its ordinal before its position, where the first has this ordinal
 abbrev pub found_from : {A B : Type 0} → (A → Option B) → ℕ → ℕ → List A → List (ℕ × (ℕ × B))
 found_from pick ordinal position items = enumerate_from ordinal (placed_from pick position items)
 

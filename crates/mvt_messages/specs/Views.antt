@@ -8,12 +8,12 @@ use Rattle.mvt_document.specs.Plain.{Body, Delimited, Field, Feature, LayerItem,
 
 -- ---- the fields of a message
 
--- the content of a LEN body; none of another body (guide, Message Structure)
+-- the content of a LEN body; none for another body (guide, Message Structure)
 abbrev pub content_of : Body → Option (List ℕ)
 content_of (Delimited width bytes) = Some bytes
 content_of body = None
 
--- the content of a LEN field of this number; none of another field (guide, Message Structure)
+-- the content of a LEN field of this number; none for another field (guide, Message Structure)
 abbrev pub content_in : ℕ → Field → Option (List ℕ)
 content_in number field = if field.tag.value / 8 == number then content_of field.body else None
 
@@ -98,7 +98,7 @@ kind_of feature = unwrap_or (last_value 3 feature.fields) 0
 abbrev pub ordinals_of : {A : Type 0} → (A → Bool) → List A → List ℕ
 ordinals_of {A} passes items = map (λ p. p.0) (filter (λ (p : ℕ × A). passes p.1) (enumerate_from 0 items))
 
--- the item where there is exactly one; else the error for none, or the error for several
+-- the item if there is exactly one; else the error for none, or the error for several
 abbrev pub the_one : {A E : Type 0} → E → E → List A → Result A E
 the_one none several [] = Err none
 the_one none several (item ∷ []) = Ok item

@@ -66,7 +66,7 @@ is_spelled-spelling value width s =
     (and_from _ _ (le-leb 1 width (spelling_some value width s))
     (and_from _ _ (le-leb width 10 s.short) ((bytes_eq-Decides (spell value width) (spell value width)).1 refl)))
 
--- a spelling is of its number
+-- a spelling is that of its number
 pub number_in-spell : (value width : ℕ) → IsSpelling value width → number_in (spell value width) ≡ Some (record { value = value; width = width })
 number_in-spell value zero s = absurd (omega (arith, spelling_some value 0 s))
 number_in-spell value (suc width) s =
@@ -148,7 +148,7 @@ bad_more : {A : Type 0} (item : A) (others : Option (List A)) → and_more item 
 bad_more item None e = refl
 bad_more item (Some rest) e = absurd (cc)
 
--- what is found of pieces
+-- what is found in pieces
 abbrev IsFound : List (List ℕ) → List Placed → Type 0
 IsFound list found = (flat_map (λ (piece : List ℕ). piece) list ≡ spellings found) × AreNumbers found
 
@@ -175,7 +175,7 @@ found_spelled field place body found e =
     let r = found_in_pieces field place (pieces body) found e in
     (sym (pieces-joined body) ∙ r.0, r.1)
 
--- the pieces behind the first are those of what they join to
+-- the pieces after the first are those of what they join to
 tail_of_high : (byte : ℕ) (list : List (List ℕ)) (piece : List ℕ) (more : List (List ℕ)) → ((first : List ℕ) (others : List (List ℕ)) → list ≡ first ∷ others → pieces (flat_map (λ (p : List ℕ). p) others) ≡ others) → with_first byte list ≡ piece ∷ more → pieces (flat_map (λ (p : List ℕ). p) more) ≡ more
 tail_of_high byte [] piece more others e =
     let none : [] ≡ more = cc in subst (λ (list : List (List ℕ)). pieces (flat_map (λ (p : List ℕ). p) list) ≡ list) none refl

@@ -1,4 +1,4 @@
--- The numbers that are left, where some have been taken.
+-- The numbers that are left once some have been taken.
 use Rattle.std.specs.Prelude.{ℕ, List, ◌++◌, Result, drop}
 use Rattle.std.specs.List.{flat_map, enumerate_from}
 use Rattle.mvt_document.specs.Plain.{Field}
@@ -12,6 +12,6 @@ packed_from field place body = unpacked field place (pieces (drop place body))
 abbrev pub numbers_from : ℕ → ℕ → List Field → List (Result Placed ℕ)
 numbers_from number position fields = flat_map (numbers_in number) (enumerate_from position (drop position fields))
 
--- the numbers at hand, then those in the fields from this position, up to the first bad chunk
+-- these numbers, then those in the fields from this position, up to the first bad chunk
 abbrev pub left : List (Result Placed ℕ) → ℕ → ℕ → List Field → List (Result Placed ℕ)
 left at_hand number position fields = through_bad (at_hand ++ numbers_from number position fields)

@@ -1,4 +1,4 @@
--- The numbers of a field that may be repeated, in order: one of each VARINT field of that number, and those that each
+-- The numbers of a field that may be repeated, in order: one from each VARINT field of that number, and those that each
 -- of its LEN fields packs.
 use Rattle.std.specs.Prelude.{ℕ, ◌+◌, ◌*◌, ◌/◌, ◌%◌, ◌^◌, ◌&&◌, ◌==◌, Bool, List, [], ◌∷◌, Option, Some, None, Result, Ok, Err, length, nat_lt, nat_le, if◌then◌else◌}
 use Rattle.std.specs.List.{flat_map, enumerate_from}
@@ -20,7 +20,7 @@ abbrev pub with_first : ℕ → List (List ℕ) → List (List ℕ)
 with_first byte [] = (byte ∷ []) ∷ []
 with_first byte (piece ∷ more) = (byte ∷ piece) ∷ more
 
--- a packed body cut behind each byte without the top bit; the last piece may lack such a byte (guide, Base 128 Varints)
+-- a packed body cut after each byte without the top bit; the last piece may lack such a byte (guide, Base 128 Varints)
 abbrev pub pieces : List ℕ → List (List ℕ)
 pieces [] = []
 pieces (byte ∷ more) = if nat_lt byte 128 then (byte ∷ []) ∷ pieces more else with_first byte (pieces more)
@@ -53,8 +53,8 @@ unpacked field place (piece ∷ more) = chunk_at field place (number_in piece) �
 
 -- ---- a message: "Repeated Elements"
 
--- the numbers in the body of the field at this position: the one of a VARINT body, those that a LEN body packs, none of
--- another (guide, Repeated Elements)
+-- the numbers in the body of the field at this position: the one of a VARINT body, those that a LEN body packs, none
+-- for another (guide, Repeated Elements)
 abbrev pub numbers_of : ℕ → Body → List (Result Placed ℕ)
 numbers_of position (Spelled number) = Ok (record { number = number; field = position; place = 0 }) ∷ []
 numbers_of position (Delimited width bytes) = unpacked position 0 (pieces bytes)

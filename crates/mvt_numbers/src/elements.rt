@@ -1,4 +1,4 @@
-//! Which field is the next that has numbers, and whether they are packed.
+//! Which field is the next one that has numbers, and whether they are packed.
 
 ghost use Rattle.std.specs.Prelude.{◌≡◌, ℕ, ◌+◌, ◌<◌, ◌≤◌, ◌++◌, [], length, map, IfSome, MatchOption};
 ghost use Rattle.mvt_document.specs.Bodies.{body_of};
@@ -9,7 +9,7 @@ ghost use Rattle.mvt_numbers.specs.Seen.{elements_seen, HasNumbers};
 
 use mvt_document::{BodyRef, Field, Varint};
 
-/// What a field has of numbers.
+/// The numbers that a field has.
 #[derive(Clone, Copy, Debug)]
 pub(crate) enum Elements<'a> {
     One(Varint),
@@ -17,7 +17,7 @@ pub(crate) enum Elements<'a> {
     Packed(&'a [u8]),
 }
 
-/// The numbers in a field, where it has this number.
+/// The numbers in a field, if it has this number.
 fn elements_in(field: &Field, number: u64) -> Option<Elements<'_>>
     ensures numbers { (position : ℕ) → MatchOption result (numbers_in number (position, field_of field.now) ≡ []) (λ found. numbers_in number (position, field_of field.now) ≡ elements_seen position found) }
     ensures some { IfSome result HasNumbers }

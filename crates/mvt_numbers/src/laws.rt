@@ -12,8 +12,8 @@ pub fn read_is_spelled()
     ensures { ReadIsSpelled }
 {}
 
-/// Where a chunk of a packed body is bad, the spellings of the numbers before it are a prefix of
-/// the body, and behind them no number begins.
+/// If a chunk of a packed body is bad, the spellings of the numbers before it are a prefix of the
+/// body, and no number begins after them.
 pub fn bad_is_no_number()
     ensures { BadIsNoNumber }
 {}

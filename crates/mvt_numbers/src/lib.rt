@@ -1,9 +1,9 @@
-//! The numbers of a field that may be repeated, packed and not, read where they lie.
+//! The numbers of a field that may be repeated, packed or not, read where they are.
 //!
 //! - The numbers in the fields of one number come in order, each with the position of its field and
-//!   its place there: one of each VARINT field, and those that each LEN field packs. They end with
-//!   the first bad chunk, which is returned with the position of its field: `Numbers::of`, and the
-//!   contract of its iterator.
+//!   its place there: one from each VARINT field, and those that each LEN field packs. They end
+//!   with the first bad chunk, which is returned with the position of its field: `Numbers::of`, and
+//!   the contract of its iterator.
 #![tactic(auto)]
 
 mod elements;

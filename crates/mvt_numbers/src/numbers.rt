@@ -6,13 +6,13 @@ use crate::packed::Packed;
 use mvt_document::Field;
 use std::marker::Model;
 
-/// The numbers in the fields of one number, in order, packed or not. Behind a bad chunk there is none.
+/// The numbers in the fields of one number, in order, packed or not. There is none after a bad chunk.
 /// Contracts see those that are left.
 #[derive(Clone, Debug, Drop)]
 pub struct Numbers<'a> {
     fields: &'a [Field],
     number: u64,
-    // Where the next field stands.
+    // Where the next field is.
     position: usize,
     // What is left of the field before it.
     packed: Packed<'a>,

@@ -36,7 +36,7 @@ impl<'a> Packed<'a> {
         self.place == self.bytes.len()
     }
 
-    /// The first number, and what is left behind it.
+    /// The first number, and what is left after it.
     #[inline(always)]
     pub fn first(self) -> Result<(Number, Packed<'a>), BadChunk>
         requires { self.place < length self.bytes.now }

@@ -1,4 +1,4 @@
--- What stands at the front of bytes: a number, a body, a field.
+-- What bytes begin with: a number, a body, a field.
 use Rattle.std.proofs.Common.{◌≡◌, ℕ, ◌+◌, ◌-◌, ◌<◌, ◌≤◌, List, ◌++◌, length, take, drop, refl, sym, ap, ◌∙◌, subst, arith}
 use Rattle.std.proofs.lemmas.List.{length-append, length-take-le, take-append-drop, take_rest}
 use Rattle.std.proofs.Math.Seq.{take-add}
@@ -68,7 +68,7 @@ content_at (Eight eight) rest bytes p e = absurd (omega (arith, p.typed))
 content_at (Four four) rest bytes p e = absurd (omega (arith, p.typed))
 content_at (Group group) rest bytes p e = absurd (omega (arith, p.typed))
 
--- no body of bytes stands at the front where no number does
+-- no body of bytes is at the front where no number is
 pub length_missing : (bytes : List ℕ) → ¬ Begins IsNumber spelling bytes → ¬ Begins (IsFlatBody 2) body_bytes bytes
 length_missing bytes none = λ b.
     let at = content_at b.thing b.rest bytes b.holds b.spelled in

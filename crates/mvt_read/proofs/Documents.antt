@@ -1,4 +1,4 @@
--- What reading says of whole files: the document that one opens as, or the place where it breaks.
+-- What reading says about whole files: the document that a file opens as, or the place where it breaks.
 use Rattle.std.proofs.Common.{◌≡◌, ℕ, ◌≤◌, List, length, map, take, sym, ◌∙◌, subst, arith, refl}
 use Rattle.std.specs.List.{flat_map, AllByRecursion}
 use Rattle.std.proofs.lemmas.List.{length-take, take_all}
@@ -55,7 +55,7 @@ stop_is_broken f file place s document o =
     let all : take (length file) file ≡ file = take_all (length file) file (omega arith) in
     s.longest (length file) (map tile_item_field document) s.before (omega arith) fields.0 fields.1 (all ∙ fields.2)
 
--- a file that opens is refused as out of memory alone
+-- a file that opens is refused only for lack of memory
 pub only_memory : (stops : ℕ → Type 0) (r : ReadError) → ((place : ℕ) → stops place → ⊥) → IsReadError stops r → r ≡ NoMemory
 only_memory stops (BadWire place) broken s = absurd (broken place s)
 only_memory stops FileTooLarge broken s = absurd s

@@ -11,7 +11,7 @@ use Rattle.mvt_document.specs.Groups.{IsNumber, IsWholeBodyWith, IsWholeFieldWit
 use Rattle.mvt_read.specs.Open.{Closes, LeadsTo}
 use Rattle.mvt_document.proofs.Prefixes.{field_with, one_number, one_field_with, field-bytes, field_no_end, separates_within, whole_body}
 
--- ---- bodies that are no groups
+-- ---- bodies that are not groups
 
 pub flat_is_whole : (is_group : ℕ → List ℕ → Type 0) (kind number : ℕ) (b : Body) → IsFlatBody kind b → IsWholeBodyWith is_group kind number b
 flat_is_whole is_group kind number (Spelled value) p = record { typed = p.typed; valid = p.valid; stored = tt }
@@ -27,7 +27,7 @@ whole_is_flat is_group kind number (Four bytes) flat p = record { typed = p.type
 whole_is_flat is_group kind number (Delimited width bytes) flat p = record { typed = p.typed; valid = p.valid; stored = p.stored }
 whole_is_flat is_group kind number (Group bytes) flat p = absurd (flat (sym p.typed))
 
--- a body of the wire type of groups is one
+-- a body of the wire type of groups is a group
 group_body : (is_group : ℕ → List ℕ → Type 0) (number : ℕ) (b : Body) → IsWholeBodyWith is_group 3 number b → (bytes : List ℕ) × (b ≡ Group bytes) × is_group number bytes
 group_body is_group number (Group bytes) p = (bytes, refl, p.valid)
 group_body is_group number (Spelled value) p = absurd (omega (arith, p.typed))
@@ -144,7 +144,7 @@ group_there tag numbers f t p e =
     group_body (inside numbers) (tag.value / 8) f.body
     (subst (λ (n : ℕ). IsWholeBodyWith (inside numbers) 3 n f.body) number (subst (λ (k : ℕ). IsWholeBodyWith (inside numbers) k (f.tag.value / 8) f.body) kind whole))
 
--- what follows a start tag, where the innermost group goes on with it
+-- what follows a start tag, where the innermost group continues with it
 record GroupHere (tag : Number) (number : ℕ) (numbers after rest : List ℕ) : Type 0 where
   pub left : List ℕ
   pub group : inside numbers (tag.value / 8) left
@@ -204,7 +204,7 @@ end_leads last number numbers ends some =
 abbrev pub NothingLeft : List ℕ → List ℕ → Type 0
 NothingLeft numbers bytes = ¬ Begins (Closes numbers) (λ left. left) bytes
 
--- no tag stands at the front
+-- no tag is at the front
 abbrev pub NoTag : List ℕ → Type 0
 NoTag bytes = ¬ Begins (λ tag. IsNumber tag × (8 ≤ tag.value) × (tag.value < 2 ^ 32)) spelling bytes
 

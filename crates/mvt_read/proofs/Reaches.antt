@@ -54,7 +54,7 @@ further content place size field h at =
     let short : min size (length (from place content)) ≡ length (field_bytes field) = sym (length-take size (from place content)) ∙ ap length at.spelled in
     omega arith
 
--- the field that is to come is none that makes an item
+-- the next field is not one that makes an item
 abbrev pub NoneAt : (Field → Type 0) → List ℕ → Type 0
 NoneAt makes bytes = (field : Field) (rest : List ℕ) → IsWholeField field → makes field → bytes ≡ field_bytes field ++ rest → ⊥
 

@@ -1,4 +1,4 @@
--- Which plain field a borrowed field stands for, whose bytes lie where they were read.
+-- Which plain field a borrowed field, whose bytes are where they were read, stands for.
 use Rattle.mvt_document.specs.Plain as plain
 use Rattle.mvt_document.specs.Bodies.{number_of, body_seen}
 use Rattle.mvt_read.specs.declared.front.FieldRef.{FieldRef}

@@ -24,21 +24,21 @@ use std::alloc::{AllocError, Global};
 /// How many bytes the shortest field takes: one for its tag, and one for its body.
 const SHORTEST_FIELD: usize = 2;
 
-/// For how many fields of a feature there is room at first, where its bytes can hold as many:
-/// mostly it has an id, tags, a kind and a geometry.
+/// How many fields of a feature there is room for at first, if its bytes can hold that many:
+/// usually it has an id, tags, a kind and a geometry.
 const FIRST_FIELDS: usize = 4;
 
-/// The same of the items of a layer, or of a tile: mostly a layer has a name, a version and an extent too beside its
-/// features, keys and values.
+/// The same for the items of a layer, or of a tile: usually a layer has a name, a version and an extent in
+/// addition to its features, keys and values.
 pub(crate) const FIRST_ITEMS: usize = 8;
 
-/// How many items a long list has at least.
+/// The least number of items of a long list.
 const LONG_LIST: usize = 1024;
 
 /// Why an item of a message could not be made.
 #[derive(Debug, Drop)]
 pub(crate) enum Fault {
-    /// The bytes of the item are none of its kind.
+    /// The bytes of the item are not those of one of its kind.
     Broken,
     NoMemory,
 }
@@ -51,7 +51,7 @@ impl From<AllocError> for Fault {
     }
 }
 
-/// An item of a message, made of the field that stands in its place.
+/// An item of a message, made of the field in its place.
 pub(crate) trait Decode: Measured + Drop + Sized {
     /// The field that the item is.
     ghost as_field: { Self → PlainField };
@@ -72,8 +72,9 @@ pub(crate) trait Decode: Measured + Drop + Sized {
     ghost same_bytes: { (item : Self) → field_bytes (as_field item) ≡ Self.bytes item };
 }
 
-/// The items whose bytes are the content of a message, with room for `room` of them at first, where
-/// the content can hold as many. The place of a fault is where the first item that is none begins.
+/// The items whose bytes are the content of a message, with room for `room` of them at first, if
+/// the content can hold that many. The place of a fault is where the first thing that is not an
+/// item begins.
 pub(crate) fn decode_all<T: Decode>(
     alloc: Global,
     content: &[u8],
@@ -103,7 +104,7 @@ pub(crate) fn decode_all<T: Decode>(
     Ok(items)
 }
 
-/// Gives the room of a long list back that is left, so that splices of it stay in the memory that its items fill.
+/// Gives back the unused room of a long list, so that splices of it stay in the memory that its items fill.
 fn give_back<T>(items: &mut Vec<T>)
     ensures { items.new.items ≡ items.old.items }
 {

@@ -9,7 +9,7 @@ use thiserror::Error;
 /// Why a file did not open as a document.
 #[derive(Clone, Copy, Debug, PartialEq, Eq, Error)]
 pub enum ReadError {
-    /// The file is no document. The place is the length of the longest prefix of it that is one.
+    /// The file is not a document. The place is the length of the longest prefix of it that is one.
     #[error("no tile from byte {place} on")]
     BadWire { place: usize },
     /// The file is longer than `MAX_FILE`.

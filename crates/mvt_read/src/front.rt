@@ -1,4 +1,4 @@
-//! The field at the beginning of some bytes, with its body where it lies.
+//! The field at the beginning of some bytes, with its body where it is.
 
 ghost use Rattle.std.specs.Prelude.{◌≡◌, ℕ, ◌^◌, ◌<◌, ◌≤◌, length, take, IfSome, IfNone, OnOk, IfOk};
 ghost use Rattle.mvt_document.specs.Wire.{spell, spelling, body_bytes, field_bytes};
@@ -15,7 +15,7 @@ use mvt_document::tags::{I32, I64, LEN, SGROUP, VARINT};
 use mvt_document::{BodyRef, Field, Tag, Varint, read_varint};
 use std::alloc::{AllocError, Global};
 
-/// A field whose bytes lie in the message that it was read from.
+/// A field whose bytes are in the message that it was read from.
 #[derive(Clone, Copy, Debug)]
 pub struct FieldRef<'a> {
     pub tag: Varint,
@@ -53,7 +53,7 @@ pub(crate) fn read_tag(bytes: &[u8]) -> Option<Varint>
     Some(tag)
 }
 
-/// The body behind a tag of this value, and how many bytes it takes.
+/// The body after a tag of this value, and how many bytes it takes.
 #[inline(always)]
 fn body_at_front(tag: u64, bytes: &[u8]) -> Option<(BodyRef<'_>, usize)>
     requires { tag < 2 ^ 32 }
@@ -71,7 +71,7 @@ fn body_at_front(tag: u64, bytes: &[u8]) -> Option<(BodyRef<'_>, usize)>
     }
 }
 
-/// The body of this wire type at the front, where it is no group, and how many bytes it takes.
+/// The body of this wire type at the front, if it is not a group, and how many bytes it takes.
 #[inline(always)]
 pub(crate) fn flat_body_at_front(wire_type: u64, bytes: &[u8]) -> Option<(BodyRef<'_>, usize)>
     ensures within { IfSome result (λ found. found.1 ≤ length bytes.now) }

@@ -15,7 +15,7 @@ use std::marker::Model;
 #[derive(Drop)]
 pub(crate) struct OpenGroups {
     numbers: [u32; MAX_GROUPS],
-    /// How many more may be open. The numbers stand behind as many slots.
+    /// How many more may be open. The numbers are after that many slots.
     free: usize,
 }
 
@@ -49,7 +49,7 @@ impl OpenGroups {
         self.numbers[self.free..].is_empty()
     }
 
-    /// Opens a group inside the innermost one. `None` where as many are open as may be.
+    /// Opens a group inside the innermost one. `None` if as many are open as may be.
     fn open(&mut self, number: u32) -> Option<()>
         ensures opened { IfSome result (λ _. self.new ≡ number ∷ self.old) }
         ensures full { IfNone result (MAX_GROUPS ≤ length self.old) }
@@ -62,7 +62,7 @@ impl OpenGroups {
         Some(())
     }
 
-    /// Closes the innermost group, which is to have this number.
+    /// Closes the innermost group, which must have this number.
     fn close(&mut self, number: u32) -> Option<()>
         ensures closed { IfSome result (λ _. self.old ≡ number ∷ self.new) }
         ensures within { length self.old ≤ MAX_GROUPS }
@@ -76,7 +76,7 @@ impl OpenGroups {
     }
 }
 
-/// How many bytes the group of this number takes at the front, its end tag among them.
+/// How many bytes the group of this number takes at the front, including its end tag.
 pub(crate) fn group_at_front(number: u32, bytes: &[u8]) -> Option<usize>
     ensures within { IfSome result (λ length_taken. length_taken ≤ length bytes.now) }
     ensures group { IfSome result (λ length_taken. IsGroup number (take length_taken bytes.now)) }

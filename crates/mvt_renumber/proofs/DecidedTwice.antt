@@ -1,4 +1,4 @@
--- Numbers that are decided on twice, where none goes, are as if they were decided on once.
+-- Numbers that are decided on twice, where none goes, end up as if they were decided on once.
 use Rattle.std.proofs.Common.{◌≡◌, ℕ, suc, ◌^◌, ◌==◌, ◌<◌, List, [], ◌∷◌, ◌++◌, length, map, drop, Option, Some, refl, sym, ap, ◌∙◌, subst}
 use Rattle.std.proofs.lemmas.Bool.{cond_both, eqb-true}
 use Rattle.std.proofs.lemmas.List.{append-nil}
@@ -13,7 +13,7 @@ use Rattle.mvt_renumber.proofs.Decisions.{renumbered-none, with_number-same}
 use Rattle.mvt_renumber.proofs.Redone.{left_is_read}
 use Rattle.mvt_renumber.proofs.Reread.{both_found, both_some, field_read, fields_read, read_is, read_of_fields}
 
--- what is decided on each number first and then makes of it what is decided at once
+-- the first decision on each number and then the second make of it what the decision at once makes
 pub data InTurn : List (Option ℕ) → List (Option ℕ) → List (Option ℕ) → List Number → Type 0 where
   nothing : (first second once : List (Option ℕ)) → InTurn first second once []
   and_more : (a b c : ℕ) (n : Number) (first second once : List (Option ℕ)) (more : List Number) → with_number b (with_number a n) ≡ with_number c n → InTurn first second once more
@@ -93,7 +93,7 @@ turned number first second once field old short read own (and_more a b c n f s o
 short_behind : (n : ℕ) (decisions : List (Option ℕ)) → AreShort decisions → AreShort (drop n decisions)
 short_behind n decisions short = all_dropped (λ decision. IfSome decision (λ value. value < 2 ^ 64)) n decisions short
 
--- what is read of the first field of some
+-- what is read from the first field of some
 alone_read : (number : ℕ) (field : Field) (more : List Field) (found : List Number) (read : fields_read number (field ∷ more) ≡ Some found) → read_numbers number (field ∷ []) ≡ Some (both_some (field_read number field) (fields_read number more) found read).first
 alone_read number field more found read =
     let b = both_some (field_read number field) (fields_read number more) found read in

@@ -45,7 +45,7 @@ renumbered-no_more (decision ∷ decisions) (number ∷ more) =
     let h = cons_option-no_more (decided (decision, number)) (renumbered decisions more) (length more) (renumbered-no_more decisions more) in
     omega (arith, ap length e, h)
 
--- ---- the numbers of pieces, wherever they stand
+-- ---- the numbers of pieces, wherever they are
 
 abbrev pub plain_numbers : Option (List Placed) → Option (List Number)
 plain_numbers found = option_map (map (λ (p : Placed). p.number)) found
@@ -62,7 +62,7 @@ chunk-unplaced field place field' place' (Some number) more more' e =
     ∙ ap (option_map (λ (rest : List Number). number ∷ rest)) e
     ∙ sym (and_more-plain (record { number = number; field = field'; place = place' }) (all_good more'))
 
--- the numbers do not hang on the field and the place that are counted from
+-- the numbers do not depend on the field and the place that are counted from
 pub unplaced : (field place field' place' : ℕ) (list : List (List ℕ)) → plain_numbers (all_good (unpacked field place list)) ≡ plain_numbers (all_good (unpacked field' place' list))
 unplaced field place field' place' [] = refl
 unplaced field place field' place' (piece ∷ more) =
@@ -71,14 +71,14 @@ unplaced field place field' place' (piece ∷ more) =
 
 -- ---- the numbers of a packed body
 
--- a number, then those behind it
+-- a number, then those after it
 pub packed-more : (number : Number) (rest : List ℕ) → IsNumber number → packed_numbers (spelling number ++ rest) ≡ option_map (λ (more : List Number). number ∷ more) (packed_numbers rest)
 packed-more number rest s =
     ap (λ (chunks : List (Result Placed ℕ)). plain_numbers (all_good chunks)) (packed-spelling 0 0 number rest s)
     ∙ and_more-plain (record { number = number; field = 0; place = 0 }) (all_good (unpacked 0 (0 + number.width) (pieces rest)))
     ∙ ap (option_map (λ (more : List Number). number ∷ more)) (unplaced 0 (0 + number.width) 0 0 (pieces rest))
 
--- the same of a body that begins with the number's bytes
+-- the same for a body that begins with the number's bytes
 pub packed-first : (number : Number) (bytes : List ℕ) → IsNumber number → take number.width bytes ≡ spelling number
     → packed_numbers bytes ≡ option_map (λ (more : List Number). number ∷ more) (packed_numbers (drop number.width bytes))
 packed-first number bytes s e =

@@ -17,7 +17,7 @@ use Rattle.mvt_renumber.specs.declared.fate.Fate.{Fate}
 use Rattle.mvt_renumber.specs.declared.fate.Fate.TheVariants.{Stays, Goes, Becomes}
 use Rattle.mvt_renumber.proofs.Decisions.{packed-first}
 
--- ---- a part of bytes and the part behind it
+-- ---- a part of bytes and the part after it
 
 pub take_apart : {A : Type 0} (n m : ℕ) (xs : List A) → take (n + m) xs ≡ take n xs ++ take m (drop n xs)
 take_apart n m xs =

@@ -74,7 +74,7 @@ first_differs rest left behind number fate not_stays change decided changed begi
 
 -- ---- the whole body
 
--- these bytes are what is left of a packed body that changes, and these decisions are left behind it
+-- these bytes are what is left of a packed body that changes, and these decisions are left after it
 pub record IsChanged (bytes : List ℕ) (decisions : List (Option ℕ)) (made : List ℕ) (left : List (Option ℕ)) : Type 0 where
   pub numbers : List Number
   pub good : packed_numbers bytes ≡ Some numbers

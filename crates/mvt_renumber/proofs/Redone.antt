@@ -1,4 +1,4 @@
--- Fields whose numbers were decided on: what is read of them, how long they are, and that they stay valid.
+-- Fields whose numbers were decided on: what is read from them, how long they are, and that they stay valid.
 use Rattle.std.proofs.Common.{◌≡◌, ℕ, ◌+◌, ◌/◌, ◌^◌, ◌<◌, ◌≤◌, true, max, List, [], ◌∷◌, ◌++◌, length, map, drop, Option, Some, None, Result, eqb, refl, sym, ap, ◌∙◌, subst, arith}
 use Rattle.std.specs.Prelude.{IfSome}
 use Rattle.std.specs.Option.{unwrap_or}
@@ -76,7 +76,7 @@ packed-read bytes found e =
     subst (λ (list : List Number). (flat_map spelling list ≡ bytes) × AllByRecursion IsNumber list) p.2
     (plain_spelled p.0 ∙ sym s.0, plain_valid p.0 s.1)
 
--- some number was read of a body
+-- some number was read from a body
 pub data HasRead : Body → List Number → Type 0 where
   one : {number : Number} → HasRead (Spelled number) (number ∷ [])
   packed : {width : ℕ} {bytes : List ℕ} {found : List Number} → packed_numbers bytes ≡ Some found → HasRead (Delimited width bytes) found
@@ -107,14 +107,14 @@ from_default (Some found) first more e = ap Some e
 numbers_reads : (number : ℕ) (field : Field) (first : Number) (more : List Number) → field_numbers number field ≡ first ∷ more → Reads number field (first ∷ more)
 numbers_reads number field first more e = field_reads number field first more (from_default (field_read number field) first more e)
 
--- ---- what is read of a field that was decided on
+-- ---- what is read from a field that was decided on
 
 spelled_reread : (old : Number) (new : List Number) → length new ≤ 1 → (new ≡ [] → ⊥) → found_in (numbers_of 0 (with_numbers new (Spelled old))) ≡ Some new
 spelled_reread old [] short some = absurd (some refl)
 spelled_reread old (first ∷ []) short some = refl
 spelled_reread old (first ∷ next ∷ more) short some = absurd (omega arith)
 
--- of the new body the numbers are read that it was given
+-- the numbers read from the new body are those that it was given
 body_reread : (decisions : List (Option ℕ)) {body : Body} {old : List Number} → AreShort decisions → HasRead body old → (renumbered decisions old ≡ [] → ⊥) → found_in (numbers_of 0 (with_numbers (renumbered decisions old) body)) ≡ Some (renumbered decisions old)
 body_reread decisions short (one {number}) some = spelled_reread number (renumbered decisions (number ∷ [])) (renumbered-no_more decisions (number ∷ [])) some
 body_reread decisions short (packed {bytes = bytes} {found = found} e) some = packed-spellings (renumbered decisions found) (renumbered-valid decisions found short (packed-read bytes found e).1)
@@ -157,7 +157,7 @@ left_is_read number decisions fields found short e =
 
 -- ---- decisions that keep all values
 
--- a body has the numbers that were read of it
+-- a body has the numbers that were read from it
 body_own : {body : Body} {old : List Number} → HasRead body old → with_numbers old body ≡ body
 body_own one = refl
 body_own (packed {width = width} {bytes = bytes} {found = found} e) = ap (Delimited width) (packed-read bytes found e).0
@@ -187,9 +187,9 @@ kept_stays number (field ∷ more) =
     ∙ ap (λ (decisions : List (Option ℕ)). field ∷ renumber number decisions more) (drop_at (keeping old) (keeping others) (length old) (length-map old (λ (n : Number). Some n.value)))
     ∙ ap (λ (fields : List Field). field ∷ fields) (kept_stays number more)
 
--- ---- a field gets no longer
+-- ---- a field does not get longer
 
--- each of the numbers that is decided on is spelled in no more bytes then, or goes
+-- each of the numbers that is decided on is then spelled in no more bytes, or goes
 abbrev NoneIsWider : List (Option ℕ) → List Number → Type 0
 NoneIsWider decisions numbers = AllByRecursion (λ (p : Option ℕ × Number). IfSome p.0 (λ value. (with_number value p.1).width ≤ p.1.width)) (zip decisions numbers)
 
@@ -223,7 +223,7 @@ cons_shorter (Some value) number list narrow =
     let new = with_number value number in
     omega (arith, narrow, length-append (spelling new) (flat_map spelling list), length-spell new.value new.width, length-spell number.value number.width)
 
--- the spellings of numbers that get no wider or go are no longer
+-- the spellings of numbers that do not get wider or that go are no longer
 shorter : (decisions : List (Option ℕ)) (numbers : List Number) → NoneIsWider decisions numbers → length (flat_map spelling (renumbered decisions numbers)) ≤ length (flat_map spelling numbers)
 shorter [] numbers narrow = omega arith
 shorter (decision ∷ decisions) [] narrow = omega arith

@@ -1,4 +1,4 @@
--- The numbers of the fields of a message, and what is read of them after they were decided on.
+-- The numbers of the fields of a message, and what is read from them after they were decided on.
 use Rattle.std.proofs.Common.{◌≡◌, ℕ, ◌+◌, ◌/◌, List, [], ◌∷◌, ◌++◌, Option, Some, None, Result, Ok, Err, eqb, refl, sym, ap, ◌∙◌, append_assoc}
 use Rattle.std.specs.Prelude.{option_map}
 use Rattle.std.specs.Option.{unwrap_or}
@@ -10,7 +10,7 @@ use Rattle.mvt_renumber.specs.Renumbering.{field_numbers}
 use Rattle.mvt_renumber.specs.Laws.{read_numbers, ReadOfFields, AppendedIsRead}
 use Rattle.mvt_renumber.proofs.Decisions.{plain_numbers, and_more-plain, unplaced}
 
--- ---- what is read of chunks
+-- ---- what is read from chunks
 
 abbrev pub found_in : List (Result Placed ℕ) → Option (List Number)
 found_in chunks = plain_numbers (all_good chunks)
@@ -61,13 +61,13 @@ good_through [] = refl
 good_through (Ok item ∷ more) = ap (and_more item) (good_through more)
 good_through (Err bad ∷ more) = refl
 
--- ---- what is read of fields
+-- ---- what is read from fields
 
--- what is read of a field
+-- what is read from a field
 abbrev pub field_read : ℕ → Field → Option (List Number)
 field_read number field = found_in (numbers_in number (0, field))
 
--- what is read of fields, one after the other
+-- what is read from fields, one after the other
 abbrev pub fields_read : ℕ → List Field → Option (List Number)
 fields_read number [] = Some []
 fields_read number (field ∷ more) = both_found (field_read number field) (fields_read number more)
@@ -110,7 +110,7 @@ appended_is_read number fields others found more e f =
     ∙ ap (λ (o : Option (List Number)). both_found o (fields_read number others)) first
     ∙ ap (both_found (Some found)) second
 
--- the numbers of a field are those that are read of it
+-- the numbers of a field are those that are read from it
 field_numbers-read : (number : ℕ) (field : Field) (found : List Number) → field_read number field ≡ Some found → field_numbers number field ≡ found
 field_numbers-read number field found e = ap (λ (o : Option (List Number)). unwrap_or o []) e
 

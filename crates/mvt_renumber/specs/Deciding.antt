@@ -1,4 +1,4 @@
--- A packed body of whose numbers each is decided on, as far as it has been read.
+-- A packed body whose numbers are each decided on, as far as it has been read.
 use Rattle.std.specs.Prelude.{◌≡◌, ◌≢◌, ℕ, true, false, ◌+◌, ◌<◌, List, [], ◌∷◌, ◌++◌, Option, Some, None, length, take, drop, map, option_map, slice_range}
 use Rattle.std.specs.List.{flat_map, AllByRecursion}
 use Rattle.std.specs.Option.{unwrap_or}
@@ -24,7 +24,7 @@ abbrev pub with_bytes : Number → ℕ → List ℕ → List Field
 with_bytes tag width [] = []
 with_bytes tag width (byte ∷ more) = packed_field tag width (byte ∷ more) ∷ []
 
--- the numbers of the body before this place stay, and these decisions are left for those behind it
+-- the numbers of the body before this place stay, and these decisions are left for those after it
 pub record StaysBefore (bytes : List ℕ) (decisions : List (Option ℕ)) (place : ℕ) (left : List (Option ℕ)) : Type 0 where
   pub read : List Number
   pub good : (more : List Number) → packed_numbers (drop place bytes) ≡ Some more → packed_numbers bytes ≡ Some (read ++ more)
@@ -39,13 +39,13 @@ pub record StaysBefore (bytes : List ℕ) (decisions : List (Option ℕ)) (place
 abbrev pub FirstDiffers : List ℕ → List (Option ℕ) → Type 0
 FirstDiffers bytes decisions = (numbers : List Number) → packed_numbers bytes ≡ Some numbers → (renumbered decisions numbers ≢ numbers) × (some_changed decisions numbers ≡ true)
 
--- these decisions are left behind a packed body whose numbers all stay, or one that packs anything else
+-- these decisions are left after a packed body whose numbers all stay, or one that packs something else
 abbrev pub AllStayOf : List ℕ → List (Option ℕ) → List (Option ℕ) → Type 0
 AllStayOf bytes decisions left = (left ≡ drop (length (unwrap_or (packed_numbers bytes) [])) decisions)
     × (some_changed decisions (unwrap_or (packed_numbers bytes) []) ≡ false)
     × ((numbers : List Number) → packed_numbers bytes ≡ Some numbers → (renumbered decisions numbers ≡ numbers) × (flat_map spelling numbers ≡ bytes))
 
--- what was found of a packed body
+-- what was found in a packed body
 abbrev pub IsScanned : List ℕ → List (Option ℕ) → Scan → Type 0
 IsScanned bytes decisions (scan.AllStay left) = AllStayOf bytes decisions left.now
 IsScanned bytes decisions (scan.Changes place left) = (place < length bytes) × StaysBefore bytes decisions place left.now × FirstDiffers (drop place bytes) left.now
@@ -54,7 +54,7 @@ IsScanned bytes decisions (scan.Changes place left) = (place < length bytes) × 
 abbrev pub made_up_to : List ℕ → ℕ → Making → List ℕ
 made_up_to bytes place making = making.made.items ++ slice_range bytes making.copied place
 
--- `made` is what is left of the packed body with these bytes before it, and these decisions are left behind it
+-- `made` is what is left of the packed body with these bytes before it, and these decisions are left after it
 pub record IsLeft (front bytes : List ℕ) (decisions : List (Option ℕ)) (made : List ℕ) (left : List (Option ℕ)) : Type 0 where
   pub numbers : List Number
   pub good : packed_numbers bytes ≡ Some numbers

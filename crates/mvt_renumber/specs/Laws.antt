@@ -29,11 +29,11 @@ NoneIsNew decisions numbers = AllByRecursion (λ (p : Option ℕ × Number). IfS
 abbrev pub NoneIsGreater : List (Option ℕ) → List Number → Type 0
 NoneIsGreater decisions numbers = AllByRecursion (λ (p : Option ℕ × Number). IfSome p.0 (λ value. value ≤ p.1.value)) (zip decisions numbers)
 
--- the numbers that are read of a message are those of its fields (guide, Repeated Elements)
+-- the numbers that are read from a message are those of its fields (guide, Repeated Elements)
 abbrev pub ReadOfFields : Type 0
 ReadOfFields = (number : ℕ) (fields : List Field) (found : List Number) → read_numbers number fields ≡ Some found → flat_map (field_numbers number) fields ≡ found
 
--- what is read after numbers were decided on are those that are left, each with its spelling
+-- what is read after numbers were decided on is those that are left, each with its spelling
 abbrev pub LeftIsRead : Type 0
 LeftIsRead = (number : ℕ) (decisions : List (Option ℕ)) (fields : List Field) (found : List Number) → AreShort decisions → read_numbers number fields ≡ Some found → read_numbers number (renumber number decisions fields) ≡ Some (renumbered decisions found)
 
@@ -41,26 +41,26 @@ LeftIsRead = (number : ℕ) (decisions : List (Option ℕ)) (fields : List Field
 abbrev pub KeptStays : Type 0
 KeptStays = (number : ℕ) (fields : List Field) → renumber number (keeping (flat_map (field_numbers number) fields)) fields ≡ fields
 
--- where each number of a field keeps its value or goes, the field gets no longer
+-- where each number of a field keeps its value or goes, the field does not get longer
 abbrev pub FieldNoLonger : Type 0
 FieldNoLonger = (number : ℕ) (decisions : List (Option ℕ)) (field : Field) → NoneIsNew decisions (field_numbers number field) → length (flat_map field_bytes (renumbered_field number decisions field)) ≤ length (field_bytes field)
 
--- where each number of a message keeps its value or goes, its fields together get no longer
+-- where each number of a message keeps its value or goes, its fields together do not get longer
 abbrev pub NoLonger : Type 0
 NoLonger = (number : ℕ) (decisions : List (Option ℕ)) (fields : List Field) → NoneIsNew decisions (flat_map (field_numbers number) fields) → length (flat_map field_bytes (renumber number decisions fields)) ≤ length (flat_map field_bytes fields)
 
--- where each number of valid fields gets no greater value or goes, the fields together get no longer
+-- where each number of valid fields gets no greater value or goes, the fields together do not get longer
 abbrev pub LowerNoLonger : Type 0
 LowerNoLonger = (number : ℕ) (decisions : List (Option ℕ)) (fields : List Field) → AllByRecursion IsField fields → NoneIsGreater decisions (flat_map (field_numbers number) fields) → length (flat_map field_bytes (renumber number decisions fields)) ≤ length (flat_map field_bytes fields)
 
--- where one number of a packed body gets another value, the bytes before it and behind it stay
+-- where one number of a packed body gets another value, the bytes before and after it stay
 -- (guide, Packed Repeated Fields)
 abbrev pub OthersStay : Type 0
 OthersStay = (tag : Number) (width value : ℕ) (before behind : List Number) (old : Number) → AllByRecursion IsNumber (before ++ old ∷ behind)
     → renumber (tag.value / 8) (keeping before ++ Some value ∷ []) (packed_field tag width (flat_map spelling before ++ (spelling old ++ flat_map spelling behind)) ∷ [])
     ≡ packed_field tag width (flat_map spelling before ++ (spelling (with_number value old) ++ flat_map spelling behind)) ∷ []
 
--- the numbers of fields that come behind others are read behind theirs (guide, Repeated Elements)
+-- the numbers of fields that come after others are read after theirs (guide, Repeated Elements)
 abbrev pub AppendedIsRead : Type 0
 AppendedIsRead = (number : ℕ) (fields others : List Field) (found more : List Number) → read_numbers number fields ≡ Some found → read_numbers number others ≡ Some more → read_numbers number (fields ++ others) ≡ Some (found ++ more)
 

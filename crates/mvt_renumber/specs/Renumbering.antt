@@ -16,7 +16,7 @@ abbrev pub decided : Option ℕ × Number → Option Number
 decided p = option_map (λ value. with_number value p.1) p.0
 
 -- the numbers that are left of some, by a decision for each in order: the value that it gets, or none where it goes;
--- the numbers behind the last decision stay
+-- the numbers after the last decision stay
 abbrev pub renumbered : List (Option ℕ) → List Number → List Number
 renumbered decisions numbers = filter_map decided (zip decisions numbers) ++ drop (length decisions) numbers
 

@@ -5,6 +5,6 @@
 pub enum Fate<T> {
     Stays,
     Goes,
-    /// The other comes in its place.
+    /// The other takes its place.
     Becomes(T),
 }

@@ -2,13 +2,13 @@
 
 ghost use Rattle.mvt_renumber.specs.Laws.{AppendedIsRead, FieldNoLonger, KeptStays, LeftIsRead, LowerNoLonger, NoLonger, OthersStay, ReadOfFields, StaysValid};
 
-/// The numbers that are read of a message are those of its fields, one field after the other.
+/// The numbers that are read from a message are those of its fields, one field after the other.
 pub fn read_of_fields()
     ensures { ReadOfFields }
 {}
 
-/// What is read of a message whose numbers were decided on are the numbers that are left, each in
-/// its old spelling where it keeps its value, and else in the shortest.
+/// What is read from a message after its numbers were decided on is the numbers that are left, each
+/// in its old spelling if it keeps its value, and otherwise in the shortest.
 pub fn left_is_read()
     ensures { LeftIsRead }
 {}
@@ -18,30 +18,30 @@ pub fn kept_stays()
     ensures { KeptStays }
 {}
 
-/// Where each number keeps its value or goes no field gets longer (`field`), and the fields of a
+/// If each number keeps its value or goes, no field gets longer (`field`), and the fields of a
 /// message together take no more bytes (`all`).
 pub fn no_longer()
     ensures field { FieldNoLonger }
     ensures all { NoLonger }
 {}
 
-/// Where each number of valid fields gets no greater value or goes, the fields together take no more
+/// If each number of valid fields gets no greater value or goes, the fields together take no more
 /// bytes.
 pub fn lower_no_longer()
     ensures { LowerNoLonger }
 {}
 
-/// Where one number of a packed body gets another value, all bytes before it and behind it stay.
+/// If one number of a packed body gets another value, all bytes before and after it stay.
 pub fn others_stay()
     ensures { OthersStay }
 {}
 
-/// Fields that come at the end of a message add their numbers, behind those that it has.
+/// Fields that are added at the end of a message add their numbers, after those that it has.
 pub fn appended_is_read()
     ensures { AppendedIsRead }
 {}
 
-/// Valid fields stay valid where each value that is decided on is below 2^64.
+/// Valid fields stay valid if each value that is decided on is below 2^64.
 pub fn stays_valid()
     ensures { StaysValid }
 {}

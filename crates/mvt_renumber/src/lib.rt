@@ -1,9 +1,9 @@
-//! The numbers of a field that may be repeated, packed and not, given other values or taken out.
+//! The numbers of a field that may be repeated, packed or not, given other values or taken out.
 //!
 //! - What becomes of a field by a decision for each of its numbers: the value that it gets, or none
-//!   where it goes. It is exactly what the definition `renumbered_field` has (`fate`), another field
-//!   is unlike the one before (`change`), and the decisions that are left are those for the fields
-//!   behind it (`left`): `renumber_field`.
+//!   if it goes. It is exactly what the definition `renumbered_field` says (`fate`), a field that it
+//!   becomes differs from the old one (`change`), and the decisions that are left are those for the
+//!   fields after it (`left`): `renumber_field`.
 #![tactic(auto)]
 
 mod fate;

@@ -17,9 +17,9 @@ use mvt_document::{Body, BodyRef, Field, FieldParts, Tag, Varint, read_varint};
 use std::alloc::{AllocError, Global};
 
 /// What becomes of a field, by a decision for each number in the fields of its number, in order:
-/// the value that it gets, or none where it goes. Beside it the decisions that are left for the
-/// fields behind it. Memory is asked for only where a packed body changes, and once where no
-/// number of it gets longer.
+/// the value that it gets, or none if it goes. Also the decisions that are left for the fields
+/// after it. Memory is asked for only if a packed body changes, and once if no number of it gets
+/// longer.
 #[inline(always)]
 pub fn renumber_field<'a>(
     alloc: Global,
@@ -99,8 +99,8 @@ fn renumber_packed<'a>(
     }
 }
 
-/// A packed field goes where nothing is left of it, and else becomes one with what is left. Where that is few bytes, the memory in
-/// which they were made serves the next field.
+/// A packed field goes if nothing is left of it, and otherwise becomes one with what is left. If that is few
+/// bytes, the memory in which they were made is used for the next field.
 fn packed_fate(tag: Tag, width: u8, left: Vec<u8>) -> Fate<Field>
     requires tag { IsTag tag.value 2 }
     requires width { IsWidth width }
@@ -113,10 +113,10 @@ fn packed_fate(tag: Tag, width: u8, left: Vec<u8>) -> Fate<Field>
     Fate::Becomes(Field::delimited(tag, width, left))
 }
 
-/// What was found of a packed body by decisions on its numbers.
+/// What was found in a packed body by decisions on its numbers.
 #[derive(Clone, Copy, Debug)]
 enum Scan<'a> {
-    /// All its numbers stay, or it packs anything else. These decisions are left behind it.
+    /// All its numbers stay, or it packs something else. These decisions are left after it.
     AllStay(&'a [Option<u64>]),
     /// The number at this place is the first that does not stay, by the first of these decisions.
     Changes {
@@ -149,7 +149,7 @@ fn first_change<'a>(bytes: &[u8], decisions: &'a [Option<u64>]) -> Scan<'a>
 }
 
 /// What is left of a packed body whose numbers stay up to this place, and the decisions that are
-/// left behind it; none where it packs anything but numbers.
+/// left after it; none if it packs anything but numbers.
 fn changed_from<'a>(
     alloc: Global,
     bytes: &[u8],
@@ -181,7 +181,7 @@ fn changed_from<'a>(
     Ok(Some((made, left)))
 }
 
-/// What becomes of a number by the first of the decisions, and the others. It stays where there is
+/// What becomes of a number by the first of the decisions, and the others. It stays if there is
 /// none.
 fn first_fate<'a>(number: Varint, decisions: &'a [Option<u64>]) -> (Fate<Varint>, &'a [Option<u64>])
     ensures fate { (more : List plain.Number) → renumbered decisions.now (number_of number ∷ more) ≡ left_of_fate number_of (number_of number) result.0 ++ renumbered result.1.now more }
@@ -200,7 +200,7 @@ fn first_fate<'a>(number: Varint, decisions: &'a [Option<u64>]) -> (Fate<Varint>
     (fate, left)
 }
 
-/// A packed body that is made of another.
+/// A packed body that is made from another.
 #[derive(Debug, Drop)]
 struct Making {
     made: Vec<u8>,
@@ -209,8 +209,8 @@ struct Making {
 }
 
 impl Making {
-    /// Goes on behind a number of the other at this place. The bytes that stay are copied before
-    /// the first that do not.
+    /// Moves on past a number of the other at this place. The bytes that stay are copied before the
+    /// first that do not.
     fn pass(
         &mut self,
         bytes: &[u8],
@@ -252,7 +252,7 @@ impl Making {
         put_bytes(&mut self.made, &bytes[self.copied..place])
     }
 
-    /// Makes room for a body of this length, where it is not there yet.
+    /// Makes room for a body of this length, if it is not there yet.
     fn make_room(&mut self, whole: usize) -> Result<(), AllocError>
         ensures made { self.new.made.items ≡ self.old.made.items }
         ensures copied { self.new.copied ≡ self.old.copied }
@@ -262,7 +262,7 @@ impl Making {
     }
 }
 
-// At most `FEW` bytes are put one by one, which takes less than a call that copies any number of
+// At most `FEW` bytes are put one by one, which costs less than a call that copies any number of
 // them.
 const FEW: usize = 8;
 

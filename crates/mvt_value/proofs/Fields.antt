@@ -1,4 +1,4 @@
--- Bytes have one value at most, and it is in range.
+-- Bytes have at most one value, and it is in range.
 use Rattle.std.proofs.Common.{◌≡◌, ℕ, ◌<◌, ◌≤◌, ◌^◌, ℤ, pos, negsuc, List, [], ◌∷◌, ◌++◌, length, take, drop, sym, ap, ◌∙◌, subst, arith, SFits, w64}
 use Rattle.std.specs.Prelude.{Option, Some, None, IfSome, IfNone, IsSomeAnd}
 use Rattle.std.specs.Option.{unwrap_or}
@@ -30,7 +30,7 @@ zigzag_fits : (a : ℤ) → zigzag a < 2 ^ 64 → SFits w64 a
 zigzag_fits (pos a) h = record { sfits = omega arith }
 zigzag_fits (negsuc a) h = record { sfits = omega arith }
 
--- ---- a field has one value at most
+-- ---- a field has at most one value
 
 text_of : (number width : ℕ) (bytes : List ℕ) (v : Value) → BodyHas number (Delimited width bytes) v → v ≡ OfText bytes
 text_of number width bytes (OfText text) p = ap OfText (sym p.1)
@@ -64,7 +64,7 @@ one_of_body number (Four bytes) v w p q = float_of number bytes v p ∙ sym (flo
 one_of_body number (Delimited width bytes) v w p q = text_of number width bytes v p ∙ sym (text_of number width bytes w q)
 one_of_body number (Group bytes) v w p q = absurd p
 
--- ---- bytes have one value at most
+-- ---- bytes have at most one value
 
 whole : (f : Field) → IsField f → StoresField f → IsWholeFieldWith IsGroup f
 whole f p q = record { valid = p; stored = q }

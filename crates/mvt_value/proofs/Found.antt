@@ -94,7 +94,7 @@ found_value bytes value h = ap value_in (sym h.spelled) ∙ found_in_field h.fie
 
 -- ---- what is found the bytes have
 
--- what the rest behind a tag says
+-- what the rest after a tag says
 record Says (tag : ℕ) (bytes : List ℕ) (value : Value) : Type 0 where
   body : Body
   typed : IsTag tag (wire_type body)
@@ -112,7 +112,7 @@ length_of count bytes found e =
     let c = cond_some (eqb (length bytes) count) bytes found e in
     (eqb-true (length bytes) count c.0, c.1)
 
--- bytes begin with the length of the text behind it
+-- bytes begin with the length of the text after it
 record IsDelimited (bytes text : List ℕ) : Type 0 where
   width : ℕ
   stored : IsSpelling (length text) width
@@ -179,7 +179,7 @@ double_says bytes value e =
       has = (refl, l.1);
     })
 
--- what a number says behind a tag
+-- what a number says after a tag
 record NumberSays (tag : ℕ) (number : Number) (value : Value) : Type 0 where
   typed : IsTag tag 0
   has : BodyHas (tag / 8) (Spelled number) value
@@ -198,7 +198,7 @@ sint_says number = record { typed = record { numbered = omega arith; short = ome
 bool_says : (number : Number) → NumberSays 56 number (OfBool (not (eqb number.value 0)))
 bool_says number = record { typed = record { numbered = omega arith; short = omega arith; typed = refl }; has = (refl, refl) }
 
--- a value that is selected behind a tag, or else another
+-- a value that is selected after a tag, or else another
 chosen : (P : ℕ → Value → Type 0) (tag other : ℕ) (here there : Option Value) (value : Value) → (here ≡ Some value → P other value) → (there ≡ Some value → P tag value) → cond (eqb tag other) here there ≡ Some value → P tag value
 chosen P tag other here there value first rest e =
     cond_both (eqb tag other) here there (λ (o : Option Value). o ≡ Some value → P tag value)

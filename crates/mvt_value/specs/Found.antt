@@ -8,17 +8,17 @@ use Rattle.mvt_value.specs.Values.{Value, OfText, OfFloat, OfDouble, OfInt, OfUi
 use Rattle.mvt_document.specs.Signed.{unzigzag}
 use Rattle.mvt_value.specs.Signed.{signed}
 
--- a number at the beginning of bytes, and the bytes behind it (guide, Base 128 Varints)
+-- a number at the beginning of bytes, and the bytes after it (guide, Base 128 Varints)
 pub record Front : Type 0 where
   pub number : Number
   pub rest : List ℕ
 
--- the number that the first piece spells, and the bytes of the others behind it, where it spells one
+-- the number that the first piece spells, and the bytes of the others after it, where it spells one
 abbrev pub first_piece : List (List ℕ) → Option Front
 first_piece [] = None
 first_piece (piece ∷ more) = option_map (λ number. record { number = number; rest = flat_map (λ piece. piece) more }) (number_in piece)
 
--- the number at the beginning of the bytes, up to the first byte without the top bit, and the bytes behind it
+-- the number at the beginning of the bytes, up to the first byte without the top bit, and the bytes after it
 -- (guide, Base 128 Varints)
 abbrev pub front_in : List ℕ → Option Front
 front_in bytes = first_piece (pieces bytes)
@@ -27,11 +27,11 @@ front_in bytes = first_piece (pieces bytes)
 abbrev pub if_length : ℕ → List ℕ → Option (List ℕ)
 if_length count bytes = if length bytes == count then Some bytes else None
 
--- the bytes behind their length, where that is how many there are (guide, Length-Delimited Records)
+-- the bytes after their length, where that is how many there are (guide, Length-Delimited Records)
 abbrev pub delimited_in : List ℕ → Option (List ℕ)
 delimited_in bytes = option_and_then (λ (front : Front). if_length front.number.value front.rest) (front_in bytes)
 
--- the value that a number stands for behind this tag, which is 8 times the field's number, and wire type 0 (tiles 4.1)
+-- the value that a number stands for after this tag, which is 8 times the field's number, and wire type 0 (tiles 4.1)
 abbrev pub value_of_number : ℕ → ℕ → Option Value
 value_of_number tag n =
     if tag == 8 * 4 + 0 then Some (OfInt (signed n))
@@ -40,7 +40,7 @@ value_of_number tag n =
     else if tag == 8 * 7 + 0 then Some (OfBool (not (n == 0)))
     else None
 
--- the value that bytes stand for behind this tag: a text, a float, or a number (tiles 4.1)
+-- the value that bytes stand for after this tag: a text, a float, or a number (tiles 4.1)
 abbrev pub value_behind : ℕ → List ℕ → Option Value
 value_behind tag bytes =
     if tag == 8 * 1 + 2 then option_map OfText (delimited_in bytes)
@@ -48,6 +48,6 @@ value_behind tag bytes =
     else if tag == 8 * 3 + 1 then option_map OfDouble (if_length 8 bytes)
     else option_and_then (λ (n : Number). value_of_number tag n.value) (number_in bytes)
 
--- the value of the bytes: a tag, and what stands behind it up to the end, where these are a value (tiles 4.1)
+-- the value of the bytes: a tag, and what follows it up to the end, where these are a value (tiles 4.1)
 unfoldable pub value_in : List ℕ → Option Value
 value_in bytes = option_and_then (λ (front : Front). value_behind front.number.value front.rest) (front_in bytes)

@@ -25,6 +25,6 @@ ReadIsInRange = (bytes : List ℕ) (value : Value) → HasValue bytes value → 
 abbrev pub OneField : Type 0
 OneField = (fields : List Field) (value : Value) → AllByRecursion (IsWholeFieldWith IsGroup) fields → HasValue (flat_map field_bytes fields) value → (f : Field) × (fields ≡ f ∷ []) × FieldHas f value
 
--- a value is found in bytes exactly where they have it
+-- a value is found in bytes exactly when they have it
 abbrev pub ValueIn : Type 0
 ValueIn = (bytes : List ℕ) (value : Value) → (value_in bytes ≡ Some value) ↔ HasValue bytes value

@@ -1,4 +1,4 @@
--- The values of a layer as plain values: lists and numbers, with nothing of where they lie in memory.
+-- The values of a layer as plain values: lists and numbers, with nothing about where they are in memory.
 use Rattle.std.specs.Prelude.{ℕ, ℤ, Bool, List}
 
 -- a value of a layer: a text, a float of 4 or of 8 bytes, a signed number, an unsigned one, one stored in ZigZag, or a

@@ -39,7 +39,7 @@ fn numbered(alloc: Global, tag: u8, number: u64, bytes: &[u8]) -> Result<Items<u
     Ok(Items::from_vec(message))
 }
 
-/// The tag, and the bytes behind it.
+/// The tag, and the bytes after it.
 fn tagged(alloc: Global, tag: u8, bytes: &[u8]) -> Result<Items<u8>, AllocError>
     ensures { IfOk result (λ message. message.items ≡ tag ∷ bytes.now) }
 {

@@ -7,7 +7,7 @@ pub fn encoded_is_read()
     ensures { EncodedIsRead }
 {}
 
-/// Bytes have one value at most.
+/// Bytes have at most one value.
 pub fn one_value()
     ensures { OneValue }
 {}
@@ -23,7 +23,7 @@ pub fn one_field()
     ensures { OneField }
 {}
 
-/// A value is found in bytes exactly where they have it.
+/// A value is found in bytes exactly when they have it.
 pub fn value_in()
     ensures { ValueIn }
 {}

@@ -1,7 +1,7 @@
 //! The values of a layer: what the bytes of one are, and how a new one is written.
 //!
 //! - Bytes are shown as the value that they have, that of one field with a number and a wire type
-//!   of the table of values (`value`, `only`); all other bytes are shown as they are (`raw`):
+//!   from the table of values (`value`, `only`); all other bytes are shown as they are (`raw`):
 //!   `value_of`.
 //! - A new value is written with each number in its shortest spelling (`bytes`), and what is
 //!   written has that value (`value`): `encode_value`.

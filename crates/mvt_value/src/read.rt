@@ -28,7 +28,7 @@ pub fn value_of(bytes: &[u8]) -> Value<'_>
     }
 }
 
-/// The value of the field, where it has one.
+/// The value of the field, if it has one.
 fn field_value(field: FieldRef<'_>) -> Option<Value<'_>>
     ensures found { IfSome result (λ shown. IsSomeAnd (shown_by shown) (FieldHas (front_of field.entry))) }
     ensures none { IfNone result ((value : PlainValue) → FieldHas (front_of field.entry) value → ⊥) }
@@ -43,7 +43,7 @@ fn field_value(field: FieldRef<'_>) -> Option<Value<'_>>
     }
 }
 
-/// The value of a field of this number whose body is a number, where it has one.
+/// The value of a field of this number whose body is a number, if it has one.
 fn number_value(number: u64, spelled: Varint) -> Option<Value<'static>>
     ensures found { IfSome result (λ shown. IsSomeAnd (shown_by shown) (BodyHas number (Spelled (number_of spelled)))) }
     ensures none { IfNone result ((value : PlainValue) → BodyHas number (Spelled (number_of spelled)) value → ⊥) }

@@ -20,7 +20,7 @@ pub const UINT: u64 = 5;
 /// The number of a signed number in ZigZag.
 pub const SINT: u64 = 6;
 
-/// The number of a truth.
+/// The number of a truth value.
 pub const BOOL: u64 = 7;
 
 /// The tag of a text.
@@ -41,5 +41,5 @@ pub const UINT_TAG: u8 = (8 * UINT + VARINT) as u8;
 /// The tag of a signed number in ZigZag.
 pub const SINT_TAG: u8 = (8 * SINT + VARINT) as u8;
 
-/// The tag of a truth.
+/// The tag of a truth value.
 pub const BOOL_TAG: u8 = (8 * BOOL + VARINT) as u8;

@@ -1,4 +1,4 @@
-//! The types of values: what is shown of a value of a layer, and a new one.
+//! The types of values: what is shown for a value of a layer, and a new one.
 
 use mvt_document::Items;
 
@@ -12,7 +12,7 @@ pub enum Value<'a> {
     Uint(u64),
     Sint(i64),
     Bool(bool),
-    /// All the bytes, where they are not one field with a value.
+    /// All the bytes, if they are not one field with a value.
     Raw(&'a [u8]),
 }
 

@@ -30,7 +30,7 @@ if_short list = if list_all is_short list then Some list else None
 abbrev pub integers_in : List (Result Placed ℕ) → Option (List ℕ)
 integers_in chunks = option_and_then if_short (values_in chunks)
 
--- the value of a number, where it is no bad chunk and is below 2^32
+-- the value of a number, where it is not a bad chunk and is below 2^32
 abbrev pub integer_in : Result Placed ℕ → Option ℕ
 integer_in (Ok placed) = if is_short placed.number.value then Some placed.number.value else None
 integer_in (Err bad) = None

@@ -13,8 +13,8 @@ use mvt_layers::FeatureView;
 use mvt_numbers::{BadChunk, Number, Numbers};
 use std::alloc::Global;
 
-/// The geometry whose numbers the feature has, for its kind. Where one of them can't be read, or
-/// has more than 32 bits, no memory is asked for.
+/// The geometry whose numbers the feature has, for its kind. If one of them can't be read, or has
+/// more than 32 bits, no memory is asked for.
 pub fn geometry(alloc: Global, feature: &FeatureView) -> Result<Geometry, GeometryError>
     ensures found { IfOk result (HasFeatureGeometry (feature_seen feature.now)) }
     ensures bad { IsErrOf result GeometryError.BadGeometry → (geometry : PlainGeometry) → HasFeatureGeometry (feature_seen feature.now) geometry → ⊥ }
@@ -51,7 +51,7 @@ fn integers(alloc: Global, numbers: Numbers<'_>) -> Result<Vec<u32>, GeometryErr
     Ok(integers)
 }
 
-/// The integer that a number is, where it has 32 bits.
+/// The integer that a number is, if it has 32 bits.
 fn integer(number: Result<Number, BadChunk>) -> Option<u32>
     ensures { result ≡ integer_in (number_seen number) }
 {

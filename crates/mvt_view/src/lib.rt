@@ -1,12 +1,13 @@
-//! All that is seen of a tile: the views of its layers and features, and the geometry of a feature.
+//! Everything that is seen of a tile: the views of its layers and features, and the geometry of a
+//! feature.
 //!
 //! - The geometry of a feature is read from its numbers, for its kind (`found`), and refused only
-//!   where there is none (`bad`): a chunk is bad, or the numbers are those of no geometry of the
-//!   kind. Out of memory alone may come in place of either: `geometry`.
+//!   if there is none (`bad`): a chunk is bad, or the numbers are not those of a geometry of the
+//!   kind. Only an out-of-memory error may come in place of either: `geometry`.
 //!
-//! `geometry` is given an allocator. The crate passes on the names of `mvt_layers`, which has the
-//! views, of `mvt_numbers` and of `mvt_geometry`, so it has all that is seen of a tile, with the
-//! encoder of geometries. Definitions of these have the paths of this crate too:
+//! `geometry` takes an allocator. The crate re-exports the names of `mvt_layers`, which has the
+//! views, of `mvt_numbers` and of `mvt_geometry`, so it has everything that is seen of a tile, and
+//! the encoder of geometries. Definitions of these have paths in this crate too:
 //! `Rattle.mvt_view.specs.Views` is the Views of `mvt_messages`.
 #![tactic(auto)]
 

@@ -1,10 +1,10 @@
-//! The document, its reader and its writer as one crate: it passes on the public names and
+//! The document, its reader and its writer as one crate: it re-exports the public names and
 //! definitions of `mvt_document`, `mvt_read` and `mvt_write`, and has no code of its own.
 //!
-//! Definitions have the paths of this crate too: `Rattle.mvt_wire.specs.Plain` is the Plain of
+//! Definitions have paths in this crate too: `Rattle.mvt_wire.specs.Plain` is the Plain of
 //! `mvt_document`. The types are in `Rattle.mvt_wire.specs.declared`, by their public names, and
-//! `MAX_FILE` is in `Rattle.mvt_wire.specs.TheConstants`. What `mvt_document` has for the reader
-//! and the writer alone, as the definitions in its Parts, is not passed on.
+//! `MAX_FILE` is in `Rattle.mvt_wire.specs.TheConstants`. What `mvt_document` has only for the
+//! reader and the writer, such as the definitions in its Parts, is not re-exported.
 #![tactic(auto)]
 
 pub use mvt_document::{

@@ -1,5 +1,5 @@
 //! How the values of a document are written, by one trait that each of its types has: from the last
-//! byte to the first, so that the length of a message is known where it has to be written.
+//! byte to the first, so that the length of a message is known when it has to be written.
 
 ghost use Rattle.std.specs.Prelude.{◌≤◌, ◌++◌, length, max};
 ghost use Rattle.std.specs.List.{flat_map};

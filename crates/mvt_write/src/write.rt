@@ -27,8 +27,8 @@ pub fn write_document(alloc: Global, document: &Document) -> Result<Vec<u8>, Wri
     write_document_into(alloc, document, Vec::new(alloc))
 }
 
-/// The bytes of the document, in the memory of a vector whose own items go. Memory is asked for only
-/// where that is too little, and it is given back first.
+/// The bytes of the document, in the memory of a vector whose own items are dropped. Memory is asked
+/// for only if that is too little, and the old memory is given back first.
 pub fn write_document_into(
     alloc: Global,
     document: &Document,
@@ -47,7 +47,7 @@ pub fn write_document_into(
     Ok(file)
 }
 
-/// The vector, where it has memory for `size` bytes, or else an empty one in its place.
+/// The vector, if it has memory for `size` bytes, or else an empty one in its place.
 fn kept_for(alloc: Global, size: usize, room: Vec<u8>) -> Vec<u8>
     ensures { size ≤ vec_capacity room → result ≡ room }
 {
