@@ -35,7 +35,7 @@ pub record StaysBefore (bytes : List ℕ) (decisions : List (Option ℕ)) (place
   pub behind : (more : ℕ) → drop (length read + more) decisions ≡ drop more left
   pub same : (more : List Number) → some_changed decisions (read ++ more) ≡ some_changed left more
 
--- these decisions change numbers that begin with those of this body
+-- these decisions change some of the numbers of this body, where it packs numbers and nothing else
 abbrev pub FirstDiffers : List ℕ → List (Option ℕ) → Type 0
 FirstDiffers bytes decisions = (numbers : List Number) → packed_numbers bytes ≡ Some numbers → (renumbered decisions numbers ≢ numbers) × (some_changed decisions numbers ≡ true)
 
