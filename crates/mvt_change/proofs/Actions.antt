@@ -46,7 +46,8 @@ room_finds (MoveAt place from to) document has = has
 abbrev plain_list : {T P : Type 0} → (T → P) → Held T → List P
 plain_list g list = map g list.items
 
--- the plain part is the one that is found, and what is made of the whole is where what is made of the part is
+-- the plain part is that of the part that is found, and the plain change of the whole is that of the change, where this
+-- holds for the part
 record Stands {X Y B : Type 0} (h : X → Y) (found : Option X) (plain_found : Option Y) (made : (X → X) → B) (plain_made : (Y → Y) → B) : Type 0 where
   pub finds : plain_found ≡ option_map h found
   pub makes : (F : X → X) (G : Y → Y) → ((x : X) → h (F x) ≡ G (h x)) → made F ≡ plain_made G

@@ -1,4 +1,4 @@
--- The plain values of a list of the program of which a part or an item was changed, and of one that was reversed.
+-- The plain values of a list of the program in which a part or an item was changed, and of one that was reversed.
 use Rattle.std.proofs.Common.{◌≡◌, ℕ, List, [], ◌∷◌, map, reverse, refl, ◌∙◌}
 use Rattle.std.proofs.lemmas.List.{map-append, reverse-append, take-map, drop-map}
 use Rattle.mvt_document.specs.Splicing.{part, splice, moved}

@@ -40,7 +40,8 @@ there_alike P Q (Some x) (Some y) keep both there = keep x y both there
 there_alike P Q None p keep both there = absurd there
 there_alike P Q (Some x) None keep both there = absurd both
 
--- the parts of two wholes that are the same are, and what is made of these wholes is where what is made of the parts is
+-- the parts of two wholes that are the same are the same, and what is made of these wholes is the same where what is
+-- made of the parts is
 pub record AreMatched {A X : Type 0} (find : A → Option X) (change : (X → X) → A → A) (Whole : A → A → Type 0) (Part : X → X → Type 0) (a b : A) : Type 0 where
   pub finds : Whole a b → Alike Part (find a) (find b)
   pub changes : (f g : X → X) → Whole a b → Alike (λ x y. Part (f x) (g y)) (find a) (find b) → Whole (change f a) (change g b)
@@ -172,7 +173,7 @@ module _ (place : Place) where
   found_keeps Q each a b keeps there =
       there_alike Keeps Q (held_list_at place a) (held_list_at place b) each ((list_matched place a b).finds keeps) there
 
-  -- where a list that was changed twice is as it was, the document is
+  -- where a list that was changed twice is as it was, so is the document
   pub leads_there : (f g : Items → Items) (a : Document) → IfSome (held_list_at place a) (λ x. Keeps x (g (f x))) → KeepsDocument a (change_held_list place g (change_held_list place f a))
   leads_there f g a same =
       let h : Items → Items = λ x. g (f x) in

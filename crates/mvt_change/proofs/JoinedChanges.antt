@@ -1,4 +1,4 @@
--- Changes joined are carried out one after the other, and another one at the end brings its steps.
+-- Joined changes are carried out one after the other, and another one at the end brings its steps.
 use Rattle.std.proofs.Common.{◌≡◌, ℕ, ◌+◌, ◌<◌, List, [], ◌∷◌, ◌++◌, append_assoc, length, length-append, get_or, take, map, reverse, refl, sym, ap, ◌∙◌}
 use Rattle.std.proofs.lemmas.List.{append-nil, map-append, reverse-append, take_more}
 use Rattle.mvt_change.specs.declared.change.Change.{Change as HeldChange}

@@ -130,7 +130,7 @@ module _ (place : Place) where
       let rest = fit steps (go_held_step step document) (made_of step list) (next_found step document list on found) (subst (Fits (map step_of steps)) (sym (action_stands (action_of step) document)) fits.1) in
       (within, subst (FitRun (IsOn place) splice_of steps) (length-spliced (splice_of step) list.items within) rest)
 
-  -- the list is there, and the steps fit it as far as they are on it
+  -- the list is there, and the steps fit it for as long as they are on it
   pub run_fits_there : (steps : List Step) (document : Document) → 0 < length steps → AllByRecursion (IsOn place) (take 1 steps) → Fits (map step_of steps) (document_of document) → IsSomeAnd (held_list_at place document) (λ list. FitRun (IsOn place) splice_of steps (length list.items))
   run_fits_there [] document some first fits = absurd (omega arith)
   run_fits_there (step ∷ steps) document some first fits =
@@ -195,7 +195,7 @@ module _ (place : Place) where
         where_some (held_list_at place document) _ (λ o. held_list_at place document ≡ o → IfOk result (λ n. 0 < n) × (carried_out result ≤ length steps) × Advances (carried_out result) steps new document after)
         (λ list p found. let made = advances result list p.0 found p.1 p.2 in (makes_some result steps some first p.1.ends, made.0, made.1)) there refl
 
--- ---- the first step by itself
+-- ---- the first step alone
 
 pub first_finds : (steps : List Step) (d : Step) (document : Document) → 0 < length steps → Fits (map step_of steps) (document_of document) → FindsAction (action_of (slice_index_or steps 0 d)) document
 first_finds [] d document some fits = absurd (omega arith)

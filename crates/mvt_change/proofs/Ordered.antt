@@ -1,4 +1,4 @@
--- A change whose steps stand in either order: how many they are, and what they weigh.
+-- A change whose steps stand in either order: how many there are, and what they weigh.
 use Rattle.std.proofs.Common.{◌≡◌, Bool, true, false, List, length, map, reverse, refl, sym, ap, ◌∙◌}
 use Rattle.std.specs.Prelude.{if◌then◌else◌}
 use Rattle.std.specs.List.{sum_by}
@@ -28,11 +28,11 @@ length_of_change change = length_either change.backwards change.steps.items
 pub weight_of_change : (change : HeldChange) → weight (change_of change) ≡ sum_by step_weight (map step_of change.steps.items)
 weight_of_change change = weight_either change.backwards change.steps.items
 
--- steps that stand in order
+-- steps that are in order
 pub in_order_of : (change : HeldChange) → change.backwards ≡ false → change_of change ≡ map step_of change.steps.items
 in_order_of change order = ap (λ backwards. either backwards change.steps.items) order
 
--- steps that were turned where they stand are the change in order
+-- steps that were turned in place are the change in order
 pub reversed_in_order : (change : HeldChange) (items : List HeldStep) → change.backwards ≡ true → items ≡ reverse change.steps.items → map step_of items ≡ change_of change
 reversed_in_order change items order is =
     ap (map step_of) is ∙ map-reverse step_of change.steps.items ∙ sym (ap (λ backwards. either backwards change.steps.items) order)

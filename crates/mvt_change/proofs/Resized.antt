@@ -1,4 +1,5 @@
--- How many bytes a list takes of which a part is exchanged, an item is changed, or an item moves; and a message around it.
+-- How many bytes a list takes if a part of it is exchanged, an item is changed, or an item moves; and a message around
+-- it.
 use Rattle.std.proofs.Common.{◌≡◌, ℕ, zero, suc, ◌+◌, ◌≤◌, max, not, ltb, Option, Some, None, is_some, List, [], ◌∷◌, ◌++◌, length, length-append, slice_get, take, map, refl, sym, ap, ◌∙◌, subst, arith}
 use Rattle.std.specs.List.{flat_map}
 use Rattle.std.specs.Option.{IfSome, IsSome, IsSomeAnd, SomeIff, option_and_then}
@@ -23,7 +24,7 @@ fits_so limit (Some m) n some = grind (arith, nat_tests)
 
 -- ---- a part of a list
 
--- what stays and what comes are the whole
+-- what stays and what comes make up the whole
 pub exchanged_size : {A B : Type 0} (bytes : B → List ℕ) (g : A → B) (index taken : ℕ) (put items : List A) → length (flat_map (λ a. bytes (g a)) (splice index taken [] items)) + length (flat_map (λ a. bytes (g a)) put) ≡ length (flat_map bytes (splice index taken (map g put) (map g items)))
 exchanged_size bytes g index taken put items =
     let full = spliced_size (λ a. bytes (g a)) index taken put items in
@@ -33,7 +34,7 @@ exchanged_size bytes g index taken put items =
 
 -- ---- one item
 
--- what is beside an item and what it takes once it is changed are the whole
+-- the bytes beside an item and those that it takes once changed make up the whole
 pub changed_size : {A B : Type 0} (bytes : B → List ℕ) (g : A → B) (change : B → B) (at : ℕ) (items : List A) (y : B) → slice_get (map g items) at ≡ Some y → bytes_beside (λ a. bytes (g a)) at items + length (bytes (change y)) ≡ length (flat_map bytes (change_at change at (map g items)))
 changed_size bytes g change at [] y there = absurd cc
 changed_size bytes g change zero (x ∷ items) y there =
@@ -84,7 +85,7 @@ moved_same (OfTheFeature layer item) from to document =
     let items = in_layer_same change (λ xs. same_at layer_item_bytes (in_feature (moved from to)) fields item xs) in
     sym (same_at tile_item_bytes (in_layer change) items layer document)
 
--- ---- what is so of the list that is there
+-- ---- what holds for the list that is there
 
 module _ (at : ℕ) (document : Document) (layer : Layer) (Q : List LayerItem → Type 0) (there : slice_get document at ≡ Some (OfLayer layer)) where
   pub items_there : Q layer.items → IfSome (items_at at document) Q
@@ -109,13 +110,13 @@ some_around deeper (Some x) some = refl
 
 -- ---- a layer and a feature with other items
 
--- the tile, of which the items of a layer are changed: what is beside the layer, and the layer as it is then
+-- the tile with the items of a layer changed: what is beside the layer, and the layer as it is then
 pub tile_resized : {A : Type 0} (g : A → TileItem) (change : List LayerItem → List LayerItem) (at : ℕ) (items : List A) (layer : Layer) (n : ℕ) → slice_get (map g items) at ≡ Some (OfLayer layer) → n ≡ length (flat_map layer_item_bytes (change layer.items)) → bytes_beside (λ item. tile_item_bytes (g item)) at items + (layer.tag.width + (max layer.width (minimal_width n) + n)) ≡ length (bytes_of (change_items change at (map g items)))
 tile_resized g change at items layer n there takes =
     let whole = message_so layer.tag.value layer.tag.width layer.width n (flat_map layer_item_bytes (change layer.items)) takes in
     omega (arith, whole, changed_size tile_item_bytes g (in_layer change) at items (OfLayer layer) there)
 
--- the items of a layer, of which the fields of a feature are changed, likewise
+-- the items of a layer with the fields of a feature changed, likewise
 pub items_resized : {A : Type 0} (g : A → LayerItem) (change : List Field → List Field) (at : ℕ) (items : List A) (feature : Feature) (n : ℕ) → slice_get (map g items) at ≡ Some (OfFeature feature) → n ≡ length (flat_map field_bytes (change feature.fields)) → bytes_beside (λ item. layer_item_bytes (g item)) at items + (feature.tag.width + (max feature.width (minimal_width n) + n)) ≡ length (flat_map layer_item_bytes (change_at (in_feature change) at (map g items)))
 items_resized g change at items feature n there takes =
     let whole = message_so feature.tag.value feature.tag.width feature.width n (flat_map field_bytes (change feature.fields)) takes in

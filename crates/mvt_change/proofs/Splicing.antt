@@ -47,7 +47,7 @@ moved-back from to items can =
     ∙ ap (λ rest. splice from 0 (part from 1 items) rest) (without-moved from to items can)
     ∙ splice-back from 1 [] items (omega arith)
 
--- ---- what holds of each item
+-- ---- what holds for each item
 
 pub all_part : {A : Type 0} (P : A → Type 0) (index count : ℕ) (items : List A) → AllByRecursion P items → AllByRecursion P (part index count items)
 all_part P index count items all = all_taken P count (drop index items) (all_dropped P index items all)

@@ -112,12 +112,12 @@ all_lead_back steps document turned after fits are keeps =
       back = document_order.joined document (go_held (reverse turned) (go_held steps document)) (go_held (reverse turned) after) lead.back (steps_keep (reverse turned) (go_held steps document) after keeps);
     }
 
--- what holds where a result is a success
+-- what holds if a result is a success
 pub ok_then : {A E : Type 0} (r : Result A E) (P : Type 0) → OnOk r P → is_ok r ≡ true → P
 ok_then (Ok a) P so done = so
 ok_then (Err e) P so done = absurd cc
 
--- and where it is a refusal
+-- and if it is a refusal
 pub err_then : {A E : Type 0} (r : Result A E) (P : Type 0) → OnErr r P → is_ok r ≡ false → P
 err_then (Ok a) P so refused = absurd cc
 err_then (Err e) P so refused = so

@@ -1,4 +1,4 @@
--- What leads back from a change fits, leads back, and turned again is the change.
+-- What leads back from a change fits, leads back, and turned again is the change itself.
 use Rattle.std.proofs.Common.{◌≡◌, [], ◌∷◌, ◌++◌, length, option_map, append_assoc, refl, sym, ap, ◌∙◌, subst, arith}
 use Rattle.std.specs.List.{AllByRecursion}
 use Rattle.std.specs.Option.{IfSome, IsSomeAnd}

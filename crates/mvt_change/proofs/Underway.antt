@@ -37,7 +37,7 @@ ends change start made rest document none under =
     let all : under.first ≡ change = sym (append-nil under.first) ∙ ap (λ left. under.first ++ map step_of left) (sym none) ∙ under.all in
     (under.stands ∙ ap (λ c. go c start) all, under.turns ∙ ap (λ c. turn c start) all)
 
--- several steps more are made, and turned
+-- several more steps are made, and turned
 goes_on : (change : Change) (start : plain.Document) (made run rest turned : List Step) (document after : Document)
     → IsUnderway change start made (run ++ rest) document
     → KeepsDocument (go_held run document) after
@@ -91,7 +91,7 @@ front_fits n steps document fits =
 pub none_advance : (steps new : List Step) (document after : Document) → KeepsDocument document after → map step_of new ≡ map step_of steps → Advances 0 steps new document after
 none_advance steps new document after keeps same change start made under = stays change start made steps new document after same keeps under
 
--- ---- behind steps that were made
+-- ---- after steps that were made
 
 module _ (change : Change) (start : plain.Document) (from n : ℕ) (steps part : List Step) (document after : Document) (within : from ≤ length steps) (under : IsUnderway change start (reverse (take from steps)) (drop from steps) document) where
   abbrev count : ℕ

@@ -1,4 +1,4 @@
--- The items of a layer of a document, and steps on its features, carried out in one visit of the layer.
+-- The items of a layer of a document, and steps on its features, carried out in one visit to the layer.
 use Rattle.std.proofs.Common.{◌≡◌, ℕ, zero, suc, ◌+◌, ◌<◌, ◌≤◌, List, [], ◌∷◌, ◌++◌, length, map, reverse, take, drop, get_or, set, slice_index_or, true, Option, Some, None, option_map, refl, sym, ap, ◌∙◌, subst, arith}
 use Rattle.std.specs.Prelude.{Result, Ok, Err, is_ok, if◌then◌else◌, slice_get, IfOk, OnErr, OnOk}
 use Rattle.std.specs.List.{AllByRecursion}
@@ -52,14 +52,14 @@ finds_fields (InFeature other item index taken put) layer (Some items) document 
     subst (λ o. IsSomeAnd (option_and_then (held_fields_in_at item) o) (HasHeldPart index taken)) there finds
 finds_fields step layer found document on is finds = absurd on
 
--- what is so once a step is made in each document that has these items is so of the one that is visited
+-- what holds once a step is made in each document that has these items holds for the one that is visited
 pub then_visited : (layer : ℕ) (document : Document) (items : Held LayerItem) (is : held_items_at layer document ≡ Some items) (now next : Held LayerItem) (step : Step) (holds : Document → Document → Type 0) → IsInFeatureOf layer step → InEach (layer_in step) now next holds
     → holds (change_held_items (λ x. now) layer document) (change_held_items (λ x. next) layer document)
 then_visited layer document items is now next step holds on each =
     let here = subst (λ n. InEach n now next holds) (in_its_layer step layer on) each in
     subst (holds (change_held_items (λ x. now) layer document)) (visited_twice layer document items is now next) (here (change_held_items (λ x. now) layer document) (visited layer document items is now))
 
--- in a document that is visited one more step on a feature of the layer is made, and turned
+-- in a document that is visited, one more step on a feature of the layer is made, and turned
 pub one_more_visited : {A E : Type 0} (layer : ℕ) (document : Document) (items now next : Held LayerItem) (is : held_items_at layer document ≡ Some items)
     → (change : Change) (start : plain.Document) (steps : List Step) (at : ℕ) (step turned : Step) (result : Result A E)
     → at < length steps → step ≡ get_or steps at step → IsInFeatureOf layer step → is_ok result ≡ true
@@ -72,20 +72,20 @@ one_more_visited layer document items now next is change start steps at step tur
     one_more change start made steps at step turned (change_held_items (λ x. now) layer document) (change_held_items (λ x. next) layer document) within there under (rw done at keeps)
     (ok_then result _ (then_visited layer document items is now next step (λ before after. OnOk result (IsTurned step before turned)) on turns) done)
 
--- where something is found at a position, that is within the list
+-- if something is found at a position, that is within the list
 pub found_within : {A : Type 0} (P : A → Type 0) (xs : List A) (at : ℕ) → IsSomeAnd (slice_get xs at) P → at < length xs
 found_within P [] at found = absurd found
 found_within P (x ∷ xs) zero found = omega arith
 found_within P (x ∷ xs) (suc at) found = omega (arith, found_within P xs at found)
 
--- the fields to put are as they were where none were exchanged
+-- the fields to put are as they were if none were exchanged
 pub same_puts : {A E : Type 0} (r : Result A E) (index taken : ℕ) (found : Option (Held Field)) (puts left : List (Held Field)) (put : Held Field) (holds : Held Field → Type 0) → puts ≡ put ∷ []
     → IsSomeAnd found (λ list. (made : Held Field) × ExchangesFirst KeepsField index taken (is_ok r) list made puts left × holds made) → OnErr r ((slice_index_or left 0 put).items ≡ put.items)
 same_puts (Ok x) index taken found puts left put holds is there = tt
 same_puts (Err e) index taken None puts left put holds is there = absurd there
 same_puts (Err e) index taken (Some list) puts left put holds is there = (there.1.given put).items ∙ ap (λ ps. (slice_index_or ps 0 put).items) is
 
--- there is a layer where a step on a feature of it fits
+-- there is a layer if a step on a feature of it fits
 fit_found : (layer : ℕ) (steps : List Step) (document : Document) (found : Option (Held LayerItem)) → IsSomeAnd (slice_get steps 0) (IsInFeatureOf layer) → Fits (map step_of steps) (document_of document) → held_items_at layer document ≡ found → IsSomeAnd found (FitInLayer layer steps)
 fit_found layer [] document found first fits is = absurd first
 fit_found layer (step ∷ steps) document None first fits is = finds_fields step layer None document first is (fits_finds (action_of step) document fits.0)

@@ -83,8 +83,8 @@ go (step ∷ change) document = go change (go_step step document)
 
 -- ---- when they fit
 
--- the list is there, and so are the items that are taken out or move, and the position that one moves to; the items
--- that are put are valid
+-- the list exists, and so do the items that are taken out or move, and the position that one moves to; the items that
+-- are put are valid
 abbrev pub FitsStep : Step → Document → Type 0
 FitsStep (SpliceStep place index taken put) document = IsSomeAnd (list_at place document) (CanSplice (IsItemAt place) index taken put)
 FitsStep (MoveStep place from to) document = IsSomeAnd (list_at place document) (CanMove from to)
@@ -96,7 +96,7 @@ Fits (step ∷ change) document = FitsStep step document × Fits change (go_step
 
 -- ---- what leads back
 
--- `taken` items from `index` of the list, where it is there; else none
+-- `taken` items from `index` of the list, where there is one; else none
 abbrev pub taken_out : {A : Type 0} → ℕ → ℕ → Option (List A) → List A
 taken_out index taken list = option_map_or (part index taken) list []
 
@@ -110,7 +110,7 @@ abbrev pub turn : Change → Document → Change
 turn [] document = []
 turn (step ∷ change) document = turn change (go_step step document) ++ turn_step step document ∷ []
 
--- ---- how much they bring
+-- ---- how much they put
 
 -- the bytes of all items that a step puts
 abbrev pub step_weight : Step → ℕ

@@ -22,7 +22,7 @@ exchanged index taken put list =
 abbrev pub held_moved : {T : Type 0} → ℕ → ℕ → Held T → Held T
 held_moved from to list = record list { items = moved from to list.items }
 
--- the items are there, and each of the two lists has room for what comes to it
+-- the items are there, and each of the two lists has room for what it gets
 pub record HasRoom {T : Type 0} (index taken : ℕ) (put list : Held T) : Type 0 where
   pub within : index + taken ≤ length list.items
   pub comes : length put.items ≤ list.room + taken
@@ -32,7 +32,7 @@ pub record HasRoom {T : Type 0} (index taken : ℕ) (put list : Held T) : Type 0
 abbrev pub CanMoveHeld : {T : Type 0} → ℕ → ℕ → Held T → Type 0
 CanMoveHeld from to list = CanMove from to list.items
 
--- `taken` items from `index` of the list, where it is there; else none
+-- `taken` items from `index` of the list, where there is one; else none
 abbrev pub held_taken_out : {T : Type 0} → ℕ → ℕ → Option (Held T) → List T
 held_taken_out index taken list = option_map_or (λ found. part index taken found.items) list []
 
@@ -68,7 +68,7 @@ abbrev pub go_held : List Step → Document → Document
 go_held [] document = document
 go_held (step ∷ steps) document = go_held steps (go_held_step step document)
 
--- the list is there, and so are the items that are taken out or move, and the position that one moves to
+-- the list exists, and so do the items that are taken out or move, and the position that one moves to
 abbrev pub FindsAction : Action → Document → Type 0
 FindsAction (SpliceAt place index taken put) document = IsSomeAnd (held_list_at place document) (HasHeldPart index taken)
 FindsAction (MoveAt place from to) document = IsSomeAnd (held_list_at place document) (CanMoveHeld from to)

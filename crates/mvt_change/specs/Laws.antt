@@ -5,7 +5,7 @@ use Rattle.mvt_document.specs.Opens.{IsDocument}
 use Rattle.mvt_change.specs.Changes.{Change, go, Fits, turn}
 use Rattle.mvt_change.specs.Joining.{joined, go_along, FitAlong}
 
--- what a change that fits makes of a valid document is a valid document
+-- a change that fits leads from a valid document to a valid document
 abbrev pub ChangeMakesDocument : Type 0
 ChangeMakesDocument = (change : Change) (document : Document) → IsDocument document → Fits change document → IsDocument (go change document)
 
@@ -21,11 +21,11 @@ TurnedLeadsBack = (change : Change) (document : Document) → Fits change docume
 abbrev pub TurnedTwice : Type 0
 TurnedTwice = (change : Change) (document : Document) → Fits change document → turn (turn change document) (go change document) ≡ change
 
--- two changes joined are carried out one after the other
+-- two joined changes are carried out one after the other
 abbrev pub JoinedGo : Type 0
 JoinedGo = (first second : Change) (document : Document) → go (first ++ second) document ≡ go second (go first document)
 
--- two changes joined fit exactly where the first fits, and the second fits what it made
+-- two joined changes fit exactly if the first fits, and the second fits what it made
 abbrev pub JoinedFit : Type 0
 JoinedFit = (first second : Change) (document : Document) → Fits (first ++ second) document ↔ (Fits first document × Fits second (go first document))
 
@@ -33,6 +33,6 @@ JoinedFit = (first second : Change) (document : Document) → Fits (first ++ sec
 abbrev pub JoinedListGoes : Type 0
 JoinedListGoes = (changes : List Change) (document : Document) → go (joined changes) document ≡ go_along changes document
 
--- a joined list of changes fits exactly where each fits what those before it made
+-- a joined list of changes fits exactly if each fits what those before it made
 abbrev pub JoinedListFits : Type 0
 JoinedListFits = (changes : List Change) (document : Document) → Fits (joined changes) document ↔ FitAlong changes document

@@ -1,4 +1,4 @@
--- Laws of steps as splices, with their proofs: those that the pass over steps of one list asks for.
+-- Laws of steps as splices, with their proofs: those that the pass over the steps of one list requires.
 use Rattle.std.specs.Prelude.{◌≡◌, ℕ, ◌+◌, ◌-◌, ◌≤◌, List, length, drop, refl}
 use Rattle.std.proofs.Common.{sym, subst, length-drop, arith}
 use Rattle.std.proofs.lemmas.List.{length-take-le}
@@ -49,7 +49,7 @@ pub turned_tile_splice : (s : Step) (items : List TileItem) → tile_splice (tur
 turned_tile_splice (InTile index taken put) items = refl
 turned_tile_splice other items = refl
 
--- turned twice on the list of a tile a step is what it was
+-- a step turned twice on the list of a tile is what it was
 pub turned_tile_twice : (s : Step) (items : List TileItem) → (tile_splice s).index + (tile_splice s).taken ≤ length items → FindsRoom (tile_splice s) → turned_in_tile (turned_in_tile s items) (spliced (tile_splice s) items) ≡ s
 turned_tile_twice (InTile index taken put) items within room =
     let back = part_twice index taken put items within room in
@@ -68,7 +68,7 @@ pub turned_layer_splice : (s : Step) (items : List LayerItem) → layer_splice (
 turned_layer_splice (InLayer layer index taken put) items = refl
 turned_layer_splice other items = refl
 
--- turned twice on the list of a layer a step is what it was
+-- a step turned twice on the list of a layer is what it was
 pub turned_layer_twice : (s : Step) (items : List LayerItem) → (layer_splice s).index + (layer_splice s).taken ≤ length items → FindsRoom (layer_splice s) → turned_in_layer (turned_in_layer s items) (spliced (layer_splice s) items) ≡ s
 turned_layer_twice (InLayer layer index taken put) items within room =
     let back = part_twice index taken put items within room in
@@ -87,7 +87,7 @@ pub turned_feature_splice : (s : Step) (items : List Field) → feature_splice (
 turned_feature_splice (InFeature layer item index taken put) items = refl
 turned_feature_splice other items = refl
 
--- turned twice on the list of a feature a step is what it was
+-- a step turned twice on the list of a feature is what it was
 pub turned_feature_twice : (s : Step) (items : List Field) → (feature_splice s).index + (feature_splice s).taken ≤ length items → FindsRoom (feature_splice s) → turned_in_feature (turned_in_feature s items) (spliced (feature_splice s) items) ≡ s
 turned_feature_twice (InFeature layer item index taken put) items within room =
     let back = part_twice index taken put items within room in

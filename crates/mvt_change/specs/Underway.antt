@@ -22,17 +22,17 @@ pub record IsUnderway (change : Change) (start : plain.Document) (made rest : Li
   pub turns : map step_of made ≡ turn first start
   pub room : HaveRoom made document
 
--- of a change that is under way the first `n` of the steps that are left are made, and turned; the others are left
+-- of a change that is under way, the first `n` of the steps that are left are made and turned; the others are left
 abbrev pub Advances : ℕ → List Step → List Step → Document → Document → Type 0
 Advances n steps new document after =
     (change : Change) (start : plain.Document) (made : List Step) → IsUnderway change start made steps document → IsUnderway change start (reverse (take n new) ++ made) (drop n new) after
 
--- how many steps were made, of all or until memory ran out
+-- how many steps were made, in all or until memory ran out
 abbrev pub steps_made : Result ℕ ℕ → ℕ
 steps_made (Ok n) = n
 steps_made (Err n) = n
 
--- how many steps were carried out in one pass, which are none where memory ran out
+-- how many steps were carried out in one pass: none where memory ran out
 abbrev pub carried_out : {E : Type 0} → Result ℕ E → ℕ
 carried_out (Ok n) = n
 carried_out (Err error) = 0
@@ -54,18 +54,20 @@ abbrev pub FindsFields : Held LayerItem → Step → Type 0
 FindsFields items (InFeature layer item index taken put) = IsSomeAnd (held_fields_in_at item items) (HasHeldPart index taken)
 FindsFields items step = ⊥
 
--- the steps fit a document of which the layer at this position has these items, and the first is on a feature of that layer
+-- the steps fit a document in which the layer at this position has these items, and the first is on a feature of that
+-- layer
 pub record FitInLayer (layer : ℕ) (steps : List Step) (items : Held LayerItem) : Type 0 where
   pub document : Document
   pub there : held_items_at layer document ≡ Some items
   pub first : IsSomeAnd (slice_get steps 0) (IsInFeatureOf layer)
   pub fits : Fits (map step_of steps) (document_of document)
 
--- this holds of each document that has these items in the layer, and of the one that has others there
+-- this holds of each document that has these items in the layer, and of the same document with the other items there
 abbrev pub InEach : ℕ → Held LayerItem → Held LayerItem → (Document → Document → Type 0) → Type 0
 InEach layer items made holds = (document : Document) → held_items_at layer document ≡ Some items → holds document (change_held_items (λ _. made) layer document)
 
--- in each document whose layer at this position has these items the first of the steps are made: one or more, or as many as there were until memory ran out
+-- in each document whose layer at this position has these items, the first of the steps are made: one or more, or as
+-- many as there were until memory ran out
 pub record AdvancesIn (layer : ℕ) (items made : Held LayerItem) (result : Result ℕ ℕ) (steps new : List Step) : Type 0 where
   pub some : IfOk result (λ n. 0 < n)
   pub within : steps_made result ≤ length steps

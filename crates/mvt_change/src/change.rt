@@ -15,8 +15,8 @@ pub enum Place {
     Feature { layer: usize, item: usize },
 }
 
-/// One step of a change. `take` items of a list from `index` are taken out, and the ones to put
-/// come there; or the item at one position moves to another.
+/// One step of a change. `take` items of a list from `index` are taken out, and the ones to put go
+/// there; or the item at one position moves to another.
 #[derive(Debug, Drop)]
 pub enum Step {
     InTile {
@@ -44,12 +44,12 @@ pub enum Step {
     },
 }
 
-// A change may have half a million steps, which go through memory a dozen times, so what one takes
-// is held fast here. The items that `InTile` puts are the largest of all, so its index is half a
-// word; a file has at most `MAX_FILE` bytes, so no position on a tile's own list is more.
+// A change may have half a million steps, which go through memory a dozen times, so the size of one
+// is fixed here. The items that `InTile` puts are the largest of all, so its index is half a word;
+// a file has at most `MAX_FILE` bytes, so no position in a tile's own list exceeds that.
 const _: () = prove!(size_of::<Step>() == 80);
 
-/// Steps, each on what the steps before it made. Where they stand backwards the last one comes first.
+/// Steps, each on what the steps before it made. If they stand backwards, the last one comes first.
 #[derive(Debug, Drop)]
 pub struct Change {
     pub steps: Items<Step>,
@@ -68,7 +68,7 @@ impl Change {
         }
     }
 
-    /// Lets the steps stand in their order.
+    /// Puts the steps in their order.
     pub fn in_order(&mut self)
         ensures change { change_of self.new ≡ change_of self.old }
         ensures order { self.new.backwards ≡ false }

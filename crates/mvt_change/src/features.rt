@@ -1,4 +1,4 @@
-//! Steps on features of one layer, carried out in one visit of that layer.
+//! Steps on features of one layer, carried out in one visit to that layer.
 
 ghost use Rattle.std.specs.Prelude.{◌≡◌, ℕ, ◌<◌, ◌≤◌, length, map, take, is_ok, if◌then◌else◌, is_some, slice_get, IfOk, IsTrue, OnErr, OnOk};
 ghost use Rattle.std.specs.List.{AllByRecursion};
@@ -16,8 +16,8 @@ use mvt_document::{Document, Field, LayerItem, Message, Put, change_fields_in};
 use std::alloc::AllocError;
 use std::slice;
 
-/// Carries the first steps out that are on features of this layer, each on another than the step before, and makes
-/// each the step that leads back. How many they are; they are an `Err` where memory ran out at the next.
+/// Carries out the first steps that are on features of this layer, each on another than the step before, and turns
+/// each into the step that leads back. Returns their number, as an `Err` if memory ran out at the next.
 pub(crate) fn visit_layer(
     document: &mut Document,
     layer: usize,
@@ -40,8 +40,8 @@ pub(crate) fn visit_layer(
     )
 }
 
-/// The same in the items of the layer. Where many of them change they are measured once, at the end, and not before
-/// and after each step.
+/// The same in the items of the layer. If many of them change, they are measured once, at the end, rather than
+/// before and after each step.
 fn flip_features(
     items: &mut Message<LayerItem>,
     layer: usize,
@@ -56,7 +56,7 @@ fn flip_features(
     flipped
 }
 
-/// The same, one step after the other. Behind `few` steps the size of the items is no longer known.
+/// The same, one step after the other. After `few` steps the size of the items is no longer known.
 fn flip_each(
     items: &mut Message<LayerItem>,
     layer: usize,
@@ -82,7 +82,8 @@ fn flip_each(
     }
 }
 
-/// Which item of this layer the step at a position is on, where there is one that is on a feature of it.
+/// Which item of this layer the step at a position is on, if there is a step there and it is on a
+/// feature of this layer.
 fn item_of_step(steps: &[Step], layer: usize, at: usize) -> Option<usize>
     ensures { IsTrue (is_some result) → IsSomeAnd (slice_get steps.now at) (IsInFeatureOf layer) }
 {
@@ -96,7 +97,7 @@ fn item_of_step(steps: &[Step], layer: usize, at: usize) -> Option<usize>
     }
 }
 
-/// How many steps on features of the layer are few. Where the steps do not reach half of the items none are many.
+/// How many steps on features of the layer are few. If the steps do not reach half of the items, none are many.
 fn few_of(steps: &[Step], layer: usize, items: usize) -> usize {
     match item_of_step(steps, layer, items / 2) {
         Some(_) => items / 16,
@@ -104,7 +105,7 @@ fn few_of(steps: &[Step], layer: usize, items: usize) -> usize {
     }
 }
 
-/// Gives up the size of the items where `few` steps are made, and no more.
+/// Gives up the size of the items once `few` steps are made, and at no other count.
 fn forget_size_behind(items: &mut Message<LayerItem>, few: usize, made: usize)
     ensures { items.new ≡ items.old }
 {
@@ -113,7 +114,8 @@ fn forget_size_behind(items: &mut Message<LayerItem>, few: usize, made: usize)
     }
 }
 
-/// Carries a step on a feature of the layer with these items out, and makes it the step that leads back.
+/// Carries out a step on a feature of the layer with these items, and turns it into the step that leads
+/// back.
 fn flip_fields(items: &mut Message<LayerItem>, step: &mut Step) -> Result<(), AllocError>
     requires { FindsFields items.old step.old }
     ensures kept { InEach (layer_in step.old) items.old items.new (λ before after. KeepsDocument (if is_ok result then go_held_step step.old before else before) after) }

@@ -11,9 +11,10 @@ use crate::taking_back::take_back;
 use mvt_document::Document;
 use std::alloc::{AllocError, Global};
 
-/// Carries the change out, and makes it the change that leads back. Steps on one list that follow
-/// each other are carried out in one pass over it, and steps on features of one layer in one visit of
-/// that. Where memory runs out, the steps that were made are taken back, and nothing has changed.
+/// Carries the change out, and turns it into the change that leads back. Consecutive steps on one
+/// list are carried out in one pass over it, and consecutive steps on features of one layer in one
+/// visit to that layer. If memory runs out, the steps that were made are taken back, and nothing has
+/// changed.
 pub fn flip(alloc: Global, document: &mut Document, change: &mut Change) -> Result<(), AllocError>
     requires { Fits (change_of change.old) (document_of document.old) }
     ensures document { document_of document.new ≡ (if is_ok result
@@ -29,7 +30,7 @@ pub fn flip(alloc: Global, document: &mut Document, change: &mut Change) -> Resu
     Ok(())
 }
 
-/// Carries the steps out, one after the other, and turns each where it stands.
+/// Carries the steps out, one after the other, and turns each in place.
 fn flip_steps(alloc: Global, document: &mut Document, steps: &mut [Step]) -> Result<(), AllocError>
     requires { Fits (map step_of steps.old) (document_of document.old) }
     ensures document { document_of document.new ≡ (if is_ok result

@@ -1,5 +1,5 @@
-//! `join`: a list of changes made one, from the last to the first; their steps move, and one growth
-//! makes the room.
+//! `join`: a list of changes made into one, from the last to the first; their steps move, and the
+//! room is made by growing once.
 
 ghost use Rattle.std.specs.Prelude.{◌≡◌, ◌≤◌, [], ◌++◌, false, length, map, reverse, vec_len, IsOk, IfOk, OnOk, OnErr};
 ghost use Rattle.mvt_change.specs.ChangeStands.{change_of};
@@ -9,7 +9,7 @@ use crate::change::Change;
 use std::alloc::{AllocError, Global};
 
 /// One change with the steps of the last change, then of the one before it, and so on; the list is
-/// left empty. The steps move, and memory is asked for once, before the first of them does: the
+/// left empty. The steps move, and memory is asked for once, before the first of them moves: the
 /// last change grows by the steps of all others. An `Err` changes nothing but room.
 pub fn join(alloc: Global, changes: &mut Vec<Change>) -> Result<Change, AllocError>
     ensures ok { IfOk result (λ change. change_of change ≡ joined (reverse (map change_of changes.old.items))) }

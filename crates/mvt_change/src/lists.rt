@@ -1,5 +1,5 @@
-//! The list at a place of a document: an item of it moves, some change places with those of a step,
-//! or steps are carried out in one pass.
+//! The list at a place of a document: an item of it moves, some items change places with those of a
+//! step, or steps are carried out in one pass.
 
 ghost use Rattle.std.specs.Prelude.{◌<◌, ◌≤◌, length, map, take, is_ok, if◌then◌else◌, IfOk};
 ghost use Rattle.std.specs.List.{AllByRecursion};
@@ -116,8 +116,9 @@ pub(crate) fn exchange_in_feature(
     )
 }
 
-/// Carries the first steps out that are on the list of the layer at this position, in one pass over
-/// it, and makes each the step that leads back. How many they are. An `Err` changes nothing but room.
+/// Carries out the first steps that are on the list of the layer at this position, in one pass over
+/// it, and turns each into the step that leads back. Returns their number. An `Err` changes nothing
+/// but room.
 pub(crate) fn run_in_layer(
     alloc: Global,
     document: &mut Document,
@@ -141,9 +142,9 @@ pub(crate) fn run_in_layer(
     )
 }
 
-/// Carries the first steps out that are on the fields of the feature at this position of a layer, in
-/// one pass over them, and makes each the step that leads back. How many they are. An `Err` changes
-/// nothing but room.
+/// Carries out the first steps that are on the fields of the feature at this position of a layer, in
+/// one pass over them, and turns each into the step that leads back. Returns their number. An `Err`
+/// changes nothing but room.
 pub(crate) fn run_in_feature(
     alloc: Global,
     document: &mut Document,

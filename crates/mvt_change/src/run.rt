@@ -1,4 +1,4 @@
-//! Steps that follow each other on one list: as splices of their list, and carried out in one pass.
+//! Consecutive steps on one list: as splices of their list, and carried out in one pass.
 
 ghost use Rattle.std.specs.Prelude.{◌<◌, ◌≤◌, ◌↔◌, length, map, take, IfOk, IfSome, IsTrue};
 ghost use Rattle.std.specs.List.{AllByRecursion};
@@ -229,7 +229,7 @@ fn list_of(step: &Step) -> Option<Place>
     }
 }
 
-/// The place of the list that the first step exchanges items of and the next one too; none where the
+/// The place of the list that both the first step and the next one exchange items of; none where the
 /// first is alone on its list.
 fn list_of_run(steps: &[Step]) -> Option<Place>
     ensures { IfSome result (λ place. AllByRecursion (IsOn (place_of place)) (take 1 steps.now)) }
@@ -242,9 +242,9 @@ fn list_of_run(steps: &[Step]) -> Option<Place>
     }
 }
 
-/// Carries the first steps out, and makes each the step that leads back: those on one list in one pass
-/// over it, and those on one feature after the other in one visit of their layer. How many they are; they
-/// are an `Err` where memory ran out at the next.
+/// Carries out the first steps, and turns each into the step that leads back: those on one list in one
+/// pass over it, and those on features of one layer in one visit to their layer. Returns their number,
+/// as an `Err` if memory ran out at the next.
 pub(crate) fn flip_first(
     alloc: Global,
     document: &mut Document,
@@ -265,8 +265,8 @@ pub(crate) fn flip_first(
     }
 }
 
-/// Carries the first steps out that are on the list at this place, in one pass over it, and makes each the step that
-/// leads back. How many they are. An `Err` changes nothing but room.
+/// Carries out the first steps that are on the list at this place, in one pass over it, and turns each into the step
+/// that leads back. Returns their number. An `Err` changes nothing but room.
 fn flip_run(
     alloc: Global,
     document: &mut Document,
@@ -301,7 +301,7 @@ fn flip_alone(document: &mut Document, steps: &mut [Step]) -> Result<usize, usiz
     }
 }
 
-/// Carries the first step out, and no other.
+/// Carries out the first step, and no other.
 fn flip_one(document: &mut Document, steps: &mut [Step]) -> Result<usize, usize>
     requires some { 0 < length steps.old }
     requires fits { Fits (map step_of steps.old) (document_of document.old) }
@@ -315,8 +315,8 @@ fn flip_one(document: &mut Document, steps: &mut [Step]) -> Result<usize, usize>
     }
 }
 
-/// Carries the first steps out that are on the tile's own list, in one pass over it, and makes each the step that
-/// leads back. How many they are. An `Err` changes nothing but room.
+/// Carries out the first steps that are on the tile's own list, in one pass over it, and turns each into the step
+/// that leads back. Returns their number. An `Err` changes nothing but room.
 pub(crate) fn run_in_tile(
     alloc: Global,
     document: &mut Document,

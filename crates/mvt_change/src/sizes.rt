@@ -1,7 +1,7 @@
-//! `fits_after`, and what a file can hold where a list has items of a size: the sizes of a tile, of
-//! a layer and of a feature with a part of their items exchanged, or with others of a known size.
-//! Nothing is carried out: of a list whose size is kept, only the part that a step exchanges is
-//! measured.
+//! `fits_after`, and what a file can hold if a list has items of a given size: the sizes of a tile,
+//! of a layer and of a feature with a part of their items exchanged, or with others of a known
+//! size. Nothing is carried out: of a list whose size is kept, only the part that a step exchanges
+//! is measured.
 
 ghost use Rattle.std.specs.Prelude.{◌≡◌, ℕ, ◌+◌, ◌<◌, List, ◌++◌, Some, IfSome, IsSome, length, map, nat_lt, not, slice_get};
 ghost use Rattle.std.specs.List.{flat_map};
@@ -33,7 +33,7 @@ pub fn fits_after(document: &Document, step: &Step) -> bool
 }
 
 /// A file can hold the tile once the layer at this position has items of this size, whichever they
-/// are. No size is one that no file can hold.
+/// are. `None` stands for a size that no file can hold.
 pub fn fits_with_items(document: &Document, layer: usize, items: Option<usize>) -> bool
     requires { IsSome (items_at layer (document_of document.now)) }
     ensures { (change : List plain.LayerItem → List plain.LayerItem) → IfSome (items_at layer (document_of document.now)) (λ old. IsFileSize items (length (flat_map layer_item_bytes (change old)))) →
@@ -43,7 +43,7 @@ pub fn fits_with_items(document: &Document, layer: usize, items: Option<usize>) 
 }
 
 /// How many bytes the items of the layer take once the feature at this position has fields of this
-/// size and items of that size come at the layer's end, where that is within the limit of a file.
+/// size and items of that size come at the layer's end, if that is within the limit of a file.
 pub fn size_with_fields(
     layer: &Layer,
     item: usize,
@@ -58,8 +58,8 @@ pub fn size_with_fields(
     sum_within(items_size(layer, item, fields)?, behind?, MAX_FILE)
 }
 
-/// How many bytes the tile takes once the step is carried out on it, where that is within the limit
-/// of a file.
+/// How many bytes the tile takes once the step is carried out on it, if that is within the limit of
+/// a file.
 fn size_after(document: &Document, step: &Step) -> Option<usize>
     requires { FitsStep (step_of step.now) (document_of document.now) }
     ensures { IsFileSize result (length (bytes_of (go_step (step_of step.now) (document_of document.now)))) }
@@ -89,7 +89,7 @@ fn size_after(document: &Document, step: &Step) -> Option<usize>
 }
 
 /// How many bytes the tile takes once `taken` items of a layer from `index` are exchanged for the
-/// ones to put, where that is within the limit of a file.
+/// ones to put, if that is within the limit of a file.
 fn tile_with_items(
     document: &Document,
     layer: usize,
@@ -106,7 +106,7 @@ fn tile_with_items(
 }
 
 /// How many bytes the tile takes once `taken` fields of a feature from `index` are exchanged for
-/// the ones to put, where that is within the limit of a file.
+/// the ones to put, if that is within the limit of a file.
 fn tile_with_fields(
     document: &Document,
     layer: usize,
@@ -125,15 +125,15 @@ fn tile_with_fields(
     tile_size(document, layer, items)
 }
 
-/// The sum of `beside` and of the size of the items to put, where it is within the limit of a file.
+/// The sum of `beside` and the size of the items to put, if it is within the limit of a file.
 fn size_and<T: Measured>(beside: Option<usize>, put: &[T]) -> Option<usize>
     ensures { (size : ℕ) → IsFileSize beside size → IsFileSize result (size + length (flat_map T.bytes put.now)) }
 {
     sum_within(beside?, size_of_all(put, MAX_FILE)?, MAX_FILE)
 }
 
-/// How many bytes the tile takes once the layer at this position has items of this size, where that
-/// is within the limit of a file.
+/// How many bytes the tile takes once the layer at this position has items of this size, if that is
+/// within the limit of a file.
 fn tile_size(document: &Document, layer: usize, items: Option<usize>) -> Option<usize>
     requires { IsSome (items_at layer (document_of document.now)) }
     ensures { (change : List plain.LayerItem → List plain.LayerItem) → IfSome (items_at layer (document_of document.now)) (λ old. IsFileSize items (length (flat_map layer_item_bytes (change old)))) →
@@ -145,7 +145,7 @@ fn tile_size(document: &Document, layer: usize, items: Option<usize>) -> Option<
 }
 
 /// How many bytes the items of the layer take once the feature at this position has fields of this
-/// size, where that is within the limit of a file.
+/// size, if that is within the limit of a file.
 fn items_size(layer: &Layer, item: usize, fields: Option<usize>) -> Option<usize>
     requires { IsSome (fields_in_at item (layer_of layer.now).items) }
     ensures { (change : List plain.Field → List plain.Field) → IfSome (fields_in_at item (layer_of layer.now).items) (λ old. IsFileSize fields (length (flat_map field_bytes (change old)))) →
@@ -156,7 +156,7 @@ fn items_size(layer: &Layer, item: usize, fields: Option<usize>) -> Option<usize
     size_with(&layer.items, item, size)
 }
 
-/// How many bytes the items take once the one at this index takes `size`, where that is within the
+/// How many bytes the items take once the one at this index takes `size`, if that is within the
 /// limit of a file.
 fn size_with<T: Measured>(items: &Message<T>, index: usize, size: usize) -> Option<usize>
     requires { index < length items.now.items }

@@ -11,8 +11,8 @@ use mvt_document::Document;
 use std::alloc::AllocError;
 use std::mem;
 
-/// Carries the step out, and makes it the step that leads back: the items that it put stand in the
-/// document, and it has the ones that they took the places of. Where lists do not grow nothing has
+/// Carries the step out, and turns it into the step that leads back: the items that it put are in
+/// the document, and it holds the ones whose places they took. If a list cannot grow, nothing has
 /// changed.
 pub(crate) fn flip_step(document: &mut Document, step: &mut Step) -> Result<(), AllocError>
     requires { FindsAction (action_of step.old) document.old }

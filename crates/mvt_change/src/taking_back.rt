@@ -1,4 +1,4 @@
-//! The steps that were made, taken back with no growth where memory runs out.
+//! The steps that were made, taken back without growth if memory runs out.
 
 ghost use Rattle.std.specs.Prelude.{◌≡◌, map, reverse};
 ghost use Rattle.mvt_document.specs.Stands.{document_of};
@@ -10,7 +10,7 @@ use crate::change::Step;
 use crate::steps::flip_step;
 use mvt_document::Document;
 
-/// Takes the steps back, from the last to the first. Each is turned where it stands.
+/// Takes the steps back, from the last to the first. Each is turned in place.
 pub(crate) fn take_back(document: &mut Document, steps: &mut [Step])
     requires { HaveRoom (reverse steps.old) document.old }
     ensures document { document_of document.new ≡ go (map step_of (reverse steps.old)) (document_of document.old) }

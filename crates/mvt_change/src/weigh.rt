@@ -8,7 +8,7 @@ ghost use Rattle.mvt_change.specs.Changes.{step_weight, weight};
 use crate::change::{Change, Step};
 use mvt_document::{Measured, size_of_all};
 
-/// How many bytes the items take that the change puts, over all its steps.
+/// How many bytes the items that the change puts take, over all its steps.
 pub fn weight(change: &Change) -> u64
     requires { weight (change_of change.now) < 2 ^ 64 }
     ensures { result ≡ weight (change_of change.now) }
@@ -20,7 +20,7 @@ pub fn weight(change: &Change) -> u64
     weight
 }
 
-/// How many bytes the items take that the step puts.
+/// How many bytes the items that the step puts take.
 fn step_weight(step: &Step) -> u64
     requires { step_weight (step_of step.now) < 2 ^ 64 }
     ensures { result ≡ step_weight (step_of step.now) }

@@ -1,4 +1,4 @@
--- Answers that are no refusal of this kind.
+-- Answers that are not refusals of this kind.
 use Rattle.std.proofs.Common.{◌≢◌, Bool, true, false, Result, Ok, Err}
 use Rattle.std.specs.Prelude.{if◌then◌else◌}
 

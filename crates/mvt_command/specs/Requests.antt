@@ -2,8 +2,8 @@
 use Rattle.std.specs.Prelude.{ℕ, List}
 use Rattle.mvt_command.specs.Command.{Command}
 
--- a request on a history: a command, an undo or redo, a mark to set, to take away or to go back to, a step to open, to
--- end or to cancel
+-- a request on a history: a command, an undo or redo, a mark to set, to remove or to go back to, a step to open, to end
+-- or to cancel
 pub data HistoryRequest : Type 0 where
   Edit : (command : Command) → HistoryRequest
   Undo : HistoryRequest

@@ -32,7 +32,7 @@ pub enum FeatureChoice {
     Id(u64),
 }
 
-/// A change of the tile. An index is the ordinal at which the layer or feature comes to stand.
+/// A change to the tile. An index is the ordinal at which the layer or feature is placed.
 #[derive(Debug, Drop)]
 pub enum Command {
     RenameLayer {
@@ -46,7 +46,7 @@ pub enum Command {
     DropLayer {
         layer: LayerChoice,
     },
-    /// The layers that have one of the names stay.
+    /// Keeps the layers that have one of the names.
     KeepLayers {
         names: Items<Items<u8>>,
     },
@@ -89,16 +89,16 @@ pub enum Command {
         old: Items<u8>,
         new: Items<u8>,
     },
-    /// The attributes of one key go.
+    /// Removes the attributes of one key.
     Exclude {
         layers: LayersChoice,
         key: Items<u8>,
     },
-    /// All attributes go.
+    /// Removes all attributes.
     ExcludeAll {
         layers: LayersChoice,
     },
-    /// The geometry moves by these deltas.
+    /// Moves the geometry by these deltas.
     Shift {
         layer: LayerChoice,
         feature: FeatureChoice,
@@ -110,22 +110,22 @@ pub enum Command {
         feature: FeatureChoice,
         geometry: Geometry,
     },
-    /// The keys that no feature uses go.
+    /// Removes the keys that no feature uses.
     CompactKeys {
         layers: LayersChoice,
     },
-    /// The values that no feature uses go.
+    /// Removes the values that no feature uses.
     CompactValues {
         layers: LayersChoice,
     },
-    /// The keys and the values that no feature uses go.
+    /// Removes the keys and the values that no feature uses.
     Compact {
         layers: LayersChoice,
     },
 }
 
 impl Command {
-    /// Does nothing: a command of the program is a valid one, since its numbers have 64 bits.
+    /// Does nothing: a command of the program is always valid, since its numbers have 64 bits.
     pub fn known(&self)
         ensures { IsCommand (command_of self.now) }
     {

@@ -26,7 +26,7 @@ use mvt_edit_tags::unset::unset;
 use mvt_meaning::{Command, Refusal};
 use std::alloc::Global;
 
-/// The change that carries the command out on this document.
+/// The change that carries out the command on this document.
 pub fn prepare(alloc: Global, document: &Document, command: &Command) -> Result<Change, Refusal>
     ensures { Prepares (command_of command.now) (document_of document.now) result }
 {

@@ -1,4 +1,4 @@
--- What the steps come to that give a feature an attribute.
+-- What the steps that give a feature an attribute result in.
 use Rattle.std.proofs.Common.{◌≡◌, ℕ, ◌+◌, ◌*◌, ◌<◌, ◌≤◌, ◌^◌, zero, suc, true, false, not, Option, Some, None, Result, Ok, Err, is_some, List, [], ◌∷◌, ◌++◌, length, length-append, map, take, drop, nat_lt, option_map, slice_get, append-nil, refl, sym, ap, ◌∙◌, subst, inl, inr, arith}
 use Rattle.std.proofs.lemmas.Bool.{cases_Bool}
 use Rattle.std.proofs.lemmas.List.{drop_all, length-map, take_all}
@@ -75,9 +75,9 @@ entries_heavy key value items =
     let both = ap length (flat_map-append layer_item_bytes first second) ∙ length-append (flat_map layer_item_bytes first) (flat_map layer_item_bytes second) in
     omega (arith, both, length-append first second, one_heavy 26 key (contents key_field (plain_fields items)) (omega arith), one_heavy 34 value (contents value_field (plain_fields items)) (omega arith))
 
--- ---- items behind all others of a list
+-- ---- items after all others of a list
 
--- their splice, where there are any
+-- their splice, if there are any
 abbrev behind : List LayerItem → ℕ → List (Splice LayerItem)
 behind [] n = []
 behind (item ∷ more) n = record { index = n; taken = 0; put = item ∷ more } ∷ []
@@ -114,7 +114,7 @@ changed_long change (suc at) (x ∷ items) = ap suc (changed_long change at item
 
 -- ---- the run of the fields
 
--- what the splice comes to
+-- what the splice results in
 record Spliced (fields after : List Field) (run : Option (Splice Field)) (takes puts : ℕ) : Type 0 where
   there : AreThere (cons_option run []) fields
   valid : AllByRecursion IsField (put_all (cons_option run []))
@@ -217,7 +217,7 @@ module _ (choice : LayerChoice) (key : List ℕ) (value : Value) (document : Doc
           ∙ ap (λ items. weight_of items (fields_of ordinal selects document)) items_here
           ∙ ap (weight_of layer.items) fields_here
 
-      -- the steps, where one can
+      -- the steps, if one can
       pub attribute_set : nat_lt MAX_FILE (length (bytes_of (change_items whole position document))) ≡ false → (run : Option (Splice Field)) → GivesAttribute key (encoded_value value) layer.items found.fields run → (change : Change) → change ≡ map (in_feature_at position item) (cons_option run []) ++ behind_all position layer.items entries → IsPrepared (SetAttribute choice feature key value) document change
       attribute_set fits run gives change steps =
           let v = encoded_value value in

@@ -80,7 +80,7 @@ module _ (bytes : List ℕ) where
   pub entry_found : (n : ℕ) (items : List LayerItem) → is_some (first_equal bytes (found_entries n items)) ≡ list_any (bytes_eq bytes) (contents n (plain_fields items))
   entry_found n items = first_there 0 (filter_map (with_position (entry_in n)) (enumerate_from 0 items)) ∙ ap (list_any (bytes_eq bytes)) (placed_contents n 0 items)
 
--- ---- the same of an entry of the program
+-- ---- the same for an entry of the program
 
 seen_ordinal : (found : Option FoundEntry) (count : ℕ) → option_map_or (λ (entry : FoundEntry). entry.ordinal) found count ≡ option_map_or (λ (entry : ℕ × (ℕ × List ℕ)). entry.0) (option_map found_entry_seen found) count
 seen_ordinal None count = refl

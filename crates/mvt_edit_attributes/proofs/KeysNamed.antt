@@ -1,4 +1,4 @@
--- For each entry whether it is some bytes, where none is, or the last alone.
+-- For each entry whether it is some bytes, where none is, or only the last.
 use Rattle.std.proofs.Common.{◌≡◌, ℕ, zero, suc, ◌+◌, ◌≤◌, Bool, true, false, List, [], ◌∷◌, ◌++◌, length, map, filter, refl, sym, ap, ◌∙◌, inl, inr, arith}
 use Rattle.std.specs.Prelude.{replicate, slice_index_or, if◌then◌else◌}
 use Rattle.std.proofs.lemmas.Bool.{cases_Bool}
@@ -11,7 +11,7 @@ module _ (bytes : List ℕ) where
   abbrev first_of : ℕ → List (List ℕ) → ℕ → ℕ
   first_of k entries end = slice_index_or (map (λ (p : ℕ × List ℕ). p.0) (filter (λ (p : ℕ × List ℕ). bytes_eq bytes p.1) (enumerate_from k entries))) 0 end
 
-  -- `n` that are not, and one that is, where there is one
+  -- `n` that are not, and one that is, if there is one
   abbrev pub and_one : ℕ → Bool → List Bool
   and_one n there = replicate n false ++ (if there then true ∷ [] else [])
 

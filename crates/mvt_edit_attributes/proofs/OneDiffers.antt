@@ -1,5 +1,5 @@
--- Where at most one pair has a key, at most one tags field changes as these pairs get another value; and the splices of
--- fates of which at most one changes.
+-- If at most one pair has a key, at most one tags field changes as these pairs get another value; and the splices of
+-- fates at most one of which changes.
 use Rattle.std.proofs.Common.{◌≡◌, ℕ, ◌+◌, ◌≤◌, ◌==◌, Bool, true, false, not, cond, Option, Some, None, is_some, List, [], ◌∷◌, ◌++◌, length, length-append, drop, map, filter, option_map, refl, sym, ap, ◌∙◌, inl, inr, arith}
 use Rattle.std.proofs.lemmas.Bool.{cases_Bool, eq-eqb}
 use Rattle.std.proofs.lemmas.List.Elements.{filter-append}
@@ -25,7 +25,7 @@ pub some_mapped : {A B : Type 0} (f : A → B) (found : Option A) → is_some (o
 some_mapped f None = refl
 some_mapped f (Some x) = refl
 
--- ---- fates of which at most one changes
+-- ---- fates at most one of which changes
 
 none_change : (at : ℕ) (fates : List (Fate Field)) → length (filter changes fates) ≤ 0 → splices_from at fates ≡ []
 none_change at [] few = refl
@@ -83,7 +83,7 @@ few_fields decisions (field ∷ more) =
       | inr stays ↦ rw stays (omega (arith, split, rest))
     ]
 
--- one that does not count, and one that counts at most where another does
+-- one that does not count, and one that counts at most if another does
 two_more : {A : Type 0} (test : A → Bool) (x y : A) (others : List A) (counts : Bool) (most : ℕ) → test x ≡ false → (counts ≡ false → test y ≡ false) → length (filter test others) ≤ most → length (filter test (x ∷ y ∷ others)) ≤ cond counts 1 0 + most
 two_more test x y others true most skip second few = omega (arith, ap length (passed_over test x (y ∷ others) skip), one_more test y others, few)
 two_more test x y others false most skip second few = omega (arith, ap length (passed_over test x (y ∷ others) skip), ap length (passed_over test y others (second refl)), few)
@@ -110,7 +110,7 @@ few_numbers selects value (n ∷ m ∷ list) (pair ∷ pairs) same =
     let kept = λ (other : selects pair.0 ≡ false). ap (λ v. not (v == m.value)) (ap (λ b. cond b value pair.1) other) ∙ same_value pair.1 m old in
     omega (arith, two_more is_changed (n, Some pair.0) given others (selects pair.0) (length (filter (λ pair. selects pair.0) pairs)) (same_value pair.0 n key) kept more, counted_first (λ (pair : ℕ × ℕ). selects pair.0) pair pairs)
 
--- ---- the numbers that pairs are read of
+-- ---- the numbers from which pairs are read
 
 more_values : (key value : ℕ) (more : List ℕ) (found : Option (List (ℕ × ℕ))) (pairs : List (ℕ × ℕ)) → and_more (key, value) found ≡ Some pairs → ((rest : List (ℕ × ℕ)) → found ≡ Some rest → more ≡ flat_map flat rest) → key ∷ value ∷ more ≡ flat_map flat pairs
 more_values key value more None pairs is then = absurd cc
@@ -135,7 +135,7 @@ read_values (Some placed) key_count value_count pairs is = (
   map-map (λ (n : Number). n.value) (λ (p : Placed). p.number) placed ∙ values_paired (map (λ (p : Placed). p.number.value) placed) pairs (found_pairs key_count value_count (in_pairs (map (λ (p : Placed). p.number.value) placed)) pairs is),
 )
 
--- where at most one pair is selected, at most one field changes
+-- if at most one pair is selected, at most one field changes
 pub one_differs : (selects : ℕ → Bool) (value key_count value_count : ℕ) (fields : List Field) (pairs : List (ℕ × ℕ)) → pairs_in key_count value_count (numbers 2 fields) ≡ Some pairs → length (filter (λ pair. selects pair.0) pairs) ≤ 1 → length (filter changes (field_fates 2 (revalued selects value pairs) fields)) ≤ 1
 one_differs selects value key_count value_count fields pairs is few =
     let read = read_values (all_good (numbers 2 fields)) key_count value_count pairs is in

@@ -1,4 +1,4 @@
--- The tags field that a further pair is put into: the last, where it is packed, or a new one.
+-- The tags field that a further pair is put into: the last, if it is packed, or a new one.
 use Rattle.std.proofs.Common.{◌≡◌, ℕ, ◌+◌, ◌/◌, ◌==◌, Bool, true, false, cond, Bor, Option, Some, None, is_some, List, [], ◌∷◌, ◌++◌, length, map, filter, slice_get, refl, sym, ap, ◌∙◌, subst, inl, inr, arith}
 use Rattle.std.proofs.lemmas.Bool.{cases_Bool}
 use Rattle.std.proofs.lemmas.List.{length-map}
@@ -25,7 +25,7 @@ is_packed field = is_some (content_in 2 field)
 
 -- ---- the last tags field
 
--- where it stands, and whether it is packed
+-- where it is, and whether it is packed
 record LastTags (fields : List plain.Field) (position : ℕ) : Type 0 where
   item : plain.Field
   there : slice_get fields position ≡ Some item
@@ -50,7 +50,7 @@ pub packed_seen : (xs : List Field) (position : ℕ) (o : Option (Bor Field)) �
 packed_seen xs position o e lookup =
     let last = last_tags (map field_of xs) position e in last.packed ∙ item_there xs position o last.item (item_seen xs position o lookup) last.there
 
--- ---- the tags field with a pair more
+-- ---- the tags field with one more pair
 
 kept_tags : (more : List ℕ) (tag : plain.Number) (body : plain.Body) → is_tags (record { tag = tag; body = body }) ≡ true → is_tags (with_more_content more (record { tag = tag; body = body })) ≡ true
 kept_tags more tag (plain.Spelled number) is = is

@@ -45,8 +45,8 @@ run_for index Stays = None
 run_for index Goes = Some (record { index = index; taken = 1; put = [] })
 run_for index (Becomes field) = Some (record { index = index; taken = 1; put = field ∷ [] })
 
--- the run puts these bytes behind those of the last tags field, where that is a LEN field, and else in a new one at the
--- end; it takes out and puts that field alone (tiles 4.2)
+-- the run puts these bytes after those of the last tags field, where that is a LEN field, and else in a new one at the
+-- end; it takes out and puts only that field (tiles 4.2)
 pub record PutsPair (more : List ℕ) (fields : List Field) (run : Splice Field) : Type 0 where
   pub can : CanSplice IsField run.index run.taken run.put fields
   pub makes : fields_with fields (Some run) ≡ with_more_tags more fields
@@ -54,16 +54,16 @@ pub record PutsPair (more : List ℕ) (fields : List Field) (run : Splice Field)
   pub puts : bytes_put (Some run) ≡ weigh_last field_bytes is_tags (with_more_tags more fields)
 
 -- the run, where there is one, gives the value to the key in a feature of these fields, in a layer of these items, and
--- takes out and puts no other field than the command (tiles 4.2, 4.4)
+-- takes out and puts no other field than the command does (tiles 4.2, 4.4)
 pub record GivesAttribute (key value : List ℕ) (items : List LayerItem) (fields : List Field) (run : Option (Splice Field)) : Type 0 where
   pub can : IfSome run (λ s. CanSplice IsField s.index s.taken s.put fields)
   pub makes : fields_with fields run ≡ with_attribute key value items fields
   pub takes : bytes_taken fields run ≡ set_takes key value items fields
   pub puts : weigh layer_item_bytes (missing_entries key value items) + bytes_put run ≡ set_puts key value items fields
 
--- ---- what is refused of a feature
+-- ---- when a feature is refused
 
--- nothing, where the tags of a feature of these fields make pairs of which at most one has the key, in a layer of these
+-- nothing, where the tags of a feature of these fields make pairs at most one of which has the key, in a layer of these
 -- items; else the refusal, with the ordinals of both (tiles 4.4)
 abbrev pub attribute_checked : List ℕ → ℕ → ℕ → List LayerItem → List Field → Result (Unit {0}) Refusal
 attribute_checked key ordinal feature items fields =
@@ -78,12 +78,12 @@ pub record IsSought (bytes : List ℕ) (entries : List (List ℕ)) (sought : Sou
   pub there : sought.is_there ≡ list_any (bytes_eq bytes) entries
   pub count : sought.count ≡ length entries
 
--- the key and the value were looked for in the layer (tiles 4.1, 4.4)
+-- the key and the value were looked up in the layer (tiles 4.1, 4.4)
 pub record AreFound (key value : List ℕ) (layer : Layer) (ordinals : Ordinals) : Type 0 where
   pub key_so : IsSought key (keys layer) ordinals.key
   pub value_so : IsSought value (values layer) ordinals.value
 
--- a new entry of these bytes, behind this tag, unless there is one (tiles 4.1)
+-- a new entry of these bytes, with this tag, unless there is one (tiles 4.1)
 abbrev pub entry_unless : Bool → ℕ → List ℕ → List LayerItem
 entry_unless there tag bytes = if there then [] else PlainInLayer (new_content tag bytes) ∷ []
 
@@ -91,7 +91,7 @@ entry_unless there tag bytes = if there then [] else PlainInLayer (new_content t
 abbrev pub entries_for : List ℕ → List ℕ → Ordinals → List LayerItem
 entries_for key value ordinals = entry_unless ordinals.key.is_there 26 key ++ entry_unless ordinals.value.is_there 34 value
 
--- the step that puts these items, where there are any, behind all items of the layer at this position of the tile
+-- the step that puts these items, where there are any, after all items of the layer at this position of the tile
 abbrev pub behind_all : ℕ → List LayerItem → List LayerItem → Change
 behind_all layer items [] = []
 behind_all layer items (item ∷ more) = LayerStep layer (length items) 0 (item ∷ more) ∷ []

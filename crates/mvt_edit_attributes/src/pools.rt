@@ -1,5 +1,5 @@
-//! Where a key and a value stand among the keys and the values of a layer, and the entries that it
-//! lacks of them.
+//! Where a key and a value are among the keys and the values of a layer, and the entries for them
+//! that it lacks.
 
 ghost use Rattle.std.specs.Prelude.{◌≡◌, [], ◌∷◌, ◌++◌, IfOk, map};
 ghost use Rattle.std.specs.Str.{bytes_eq};
@@ -21,7 +21,7 @@ const KEY_TAG: u64 = 8 * KEYS + LEN;
 
 const VALUE_TAG: u64 = 8 * VALUES + LEN;
 
-/// The ordinal of the first entry that is some bytes, or that of a further one where there is none; whether
+/// The ordinal of the first entry that is some bytes, or that of a further one if there is none; whether
 /// there is one; and how many entries there are.
 #[derive(Clone, Copy, Debug)]
 pub(crate) struct Sought {
@@ -30,7 +30,7 @@ pub(crate) struct Sought {
     pub(crate) count: usize,
 }
 
-/// A key and a value that were looked for in a layer.
+/// A key and a value that were looked up in a layer.
 #[derive(Clone, Copy, Debug)]
 pub(crate) struct Ordinals {
     pub(crate) key: Sought,
@@ -51,7 +51,7 @@ impl Sought {
         }
     }
 
-    /// That of a further entry behind `count` entries.
+    /// That of a further entry after `count` entries.
     fn further(count: usize) -> Sought
         ensures { result ≡ record { ordinal = count; is_there = false; count = count } }
     {
@@ -63,7 +63,7 @@ impl Sought {
     }
 }
 
-/// Looks for the first entries that are this key and this value.
+/// Looks up the first entries that are this key and this value.
 pub(crate) fn look_for(layer: LayerView<'_>, key: &[u8], value: &[u8]) -> Ordinals
     ensures { AreFound key.now value.now (layer_seen layer.entry) result }
 {
@@ -91,8 +91,8 @@ fn look_for_value(layer: LayerView<'_>, value: &[u8]) -> Sought
     }
 }
 
-/// For each key of the layer, in order, whether it is these bytes. Where none is, or the last alone, the keys
-/// are not gone through again.
+/// For each key of the layer, in order, whether it is these bytes. If none is, or only the last, the keys are
+/// not gone through again.
 pub(crate) fn keys_that_are(
     alloc: Global,
     layer: LayerView<'_>,
@@ -114,7 +114,7 @@ pub(crate) fn keys_that_are(
     Ok(named)
 }
 
-/// The entries of the key and of the value, those of them that the layer lacks.
+/// The entries for the key and for the value that the layer lacks.
 pub(crate) fn missing_entries(
     alloc: Global,
     ordinals: Ordinals,
@@ -133,7 +133,7 @@ pub(crate) fn missing_entries(
     Ok(entries)
 }
 
-/// Puts the entry of the key behind the others.
+/// Puts the entry for the key after the others.
 fn push_key(alloc: Global, key: &[u8], entries: &mut Vec<LayerItem>) -> Result<(), AllocError>
     ensures { IfOk result (λ done. map layer_item_of entries.new.items ≡ map layer_item_of entries.old.items ++ PlainInLayer (new_content 26 key.now) ∷ []) }
 {
@@ -142,7 +142,7 @@ fn push_key(alloc: Global, key: &[u8], entries: &mut Vec<LayerItem>) -> Result<(
     Ok(())
 }
 
-/// The entry of these bytes behind this tag.
+/// The entry of these bytes with this tag.
 fn entry(tag: u64, bytes: Items<u8>) -> LayerItem
     requires { IsTag tag 2 }
     ensures { layer_item_of result ≡ PlainInLayer (new_content tag bytes.items) }

@@ -39,8 +39,8 @@ use mvt_select::{
 use mvt_value::{NewValue, encode_value};
 use std::alloc::{AllocError, Global};
 
-/// The feature's one pair of the key gets the value, or a further pair comes where there is none.
-/// What the layer lacks of both comes at its end.
+/// The feature's one pair of the key gets the value, or a further pair is added if there is none.
+/// What the layer lacks of both is added at its end.
 pub fn set_attribute(
     alloc: Global,
     document: &Document,
@@ -63,8 +63,8 @@ pub fn set_attribute(
     Ok(steps_of(alloc, holder, found.position, run, entries)?)
 }
 
-/// A file can hold the tile once the run, where there is one, is carried out on the fields of the
-/// feature, and the layer has the entries behind its items.
+/// A file can hold the tile once the run, if there is one, is carried out on the fields of the
+/// feature, and the layer has the entries after its items.
 fn fits_with(
     document: &Document,
     holder: FoundLayer<'_>,
@@ -84,7 +84,7 @@ fn fits_with(
     fits_with_items(document, holder.position, items)
 }
 
-/// What becomes of the fields of the feature. It is refused where its tags make no pairs, and where
+/// What becomes of the fields of the feature. It is refused if its tags make no pairs, and if
 /// several of them have the key.
 fn run_of_tags(
     alloc: Global,
@@ -115,7 +115,7 @@ fn run_of_tags(
 }
 
 /// Decides on the numbers of the tags of the feature: in a pair of the key the second becomes that of
-/// the value. How many pairs have the key.
+/// the value. Returns how many pairs have the key.
 fn decide_by_key(
     alloc: Global,
     holder: FoundLayer<'_>,
@@ -145,7 +145,7 @@ fn decide_by_key(
 }
 
 /// The change of the run on the fields of the feature at this position of the layer, and of the
-/// entries at the layer's end, where there are any.
+/// entries at the layer's end, if there are any.
 fn steps_of(
     alloc: Global,
     holder: FoundLayer<'_>,
@@ -168,7 +168,7 @@ fn steps_of(
     Ok(Change::new(steps))
 }
 
-/// The step that puts the entries behind all items of the layer.
+/// The step that puts the entries after all items of the layer.
 fn behind_all(holder: FoundLayer<'_>, entries: Vec<LayerItem>) -> Step
     ensures { step_of result ≡ LayerStep holder.entry.position (length (layer_of holder.entry.layer.now).items) 0 (map layer_item_of entries.items) }
 {

@@ -1,4 +1,4 @@
-//! What a feature gets for an attribute: its last tags with one pair more, or with another number
+//! What a feature gets for an attribute: its last tags with one more pair, or with another number
 //! in place of one of theirs; and how many bytes the fields take then.
 
 ghost use Rattle.std.specs.Prelude.{◌≡◌, ◌+◌, ◌≤◌, None, true, [], ◌++◌, IfOk, IfSome, filter, length, map, option_map, is_some, if◌then◌else◌};
@@ -30,8 +30,8 @@ use std::alloc::{AllocError, Global};
 
 const TAGS_TAG: u64 = 8 * TAGS + LEN;
 
-/// The run that puts these two numbers behind those of the last tags field, where that is packed,
-/// and else a new one with them at the end.
+/// The run that puts these two numbers after those of the last tags field, if that is packed, and
+/// otherwise a new one with them at the end.
 pub(crate) fn and_pair(
     alloc: Global,
     fields: &[Field],
@@ -50,7 +50,7 @@ pub(crate) fn and_pair(
     })
 }
 
-/// The position of the last tags field, where that is packed.
+/// The position of the last tags field, if that is packed.
 fn last_packed(fields: &[Field]) -> Option<usize>
     ensures { result ≡ (if is_packed_last (map field_of fields.now) then last_or None (positions_of is_tags (map field_of fields.now)) else None) }
 {
@@ -82,7 +82,7 @@ fn last_tags(fields: &[Field]) -> Option<usize>
     last
 }
 
-/// A tags field with these two numbers: behind those of the old one, with its tag and its stored
+/// A tags field with these two numbers: after those of the old one, with its tag and its stored
 /// width, or alone.
 fn longer_tags(
     alloc: Global,
@@ -110,7 +110,7 @@ fn longer_tags(
     }))
 }
 
-/// The bytes with both numbers behind them, each in its shortest spelling.
+/// The bytes with both numbers after them, each in its shortest spelling.
 fn and_numbers(
     alloc: Global,
     bytes: &[u8],
@@ -150,7 +150,7 @@ pub(crate) fn first_renumbered(
     Ok(None)
 }
 
-/// The run for a field of this fate at this index, where it changes.
+/// The run for a field of this fate at this index, if it changes.
 fn run_for(alloc: Global, index: usize, fate: Fate<Field>) -> Result<Option<Run<Field>>, AllocError>
     ensures { IfOk result (λ run. option_map (λ run. seen field_of (splice_of run)) run ≡ run_for index (fate_seen field_of fate)) }
 {
@@ -167,8 +167,8 @@ fn run_for(alloc: Global, index: usize, fate: Fate<Field>) -> Result<Option<Run<
     }))
 }
 
-/// How many bytes the fields take once the run, where there is one, is carried out, where that is
-/// within the limit of a file.
+/// How many bytes the fields take once the run, if there is one, is carried out, if that is within
+/// the limit of a file.
 pub(crate) fn size_with(fields: &[Field], run: &Option<Run<Field>>) -> Option<usize>
     requires { IfSome run.now (λ run. run.index + run.take ≤ length fields.now) }
     ensures { IsFileSize result (length (flat_map field_bytes (fields_with (map field_of fields.now) (option_map (λ run. seen field_of (splice_of run)) run.now)))) }

@@ -20,7 +20,7 @@ use Rattle.mvt_meaning.specs.Geometries.{is_geometry_field, with_geometry, with_
 use Rattle.mvt_meaning.specs.Ordinals.{put_once}
 use Rattle.mvt_change.proofs.Changed.{map-splice}
 
--- the new item and those that do not pass are the whole
+-- the new item and those that do not pass make up the whole
 once_weighs : {A : Type 0} (bytes : A → List ℕ) (passes : A → Bool) (new : A) (xs : List A) → length (flat_map bytes (put_once passes new xs)) ≡ length (bytes new) + length (flat_map bytes (filter (λ x. not (passes x)) xs))
 once_weighs bytes passes new [] = omega (arith, length-append (bytes new) [])
 once_weighs bytes passes new (x ∷ xs) =
@@ -29,7 +29,7 @@ once_weighs bytes passes new (x ∷ xs) =
       | inr skip ↦ rw skip (omega (arith, length-append (bytes x) (flat_map bytes (put_once passes new xs)), length-append (bytes x) (flat_map bytes (filter (λ y. not (passes y)) xs)), once_weighs bytes passes new xs))
     ]
 
--- how many bytes the fields take that are no geometry fields
+-- how many bytes the fields take that are not geometry fields
 abbrev pub others_weigh : List Field → ℕ
 others_weigh fields = length (flat_map field_bytes (filter (λ field. not (is_geometry_field field)) (map field_of fields)))
 

@@ -1,4 +1,4 @@
--- A feature that has a geometry has three integers at least.
+-- A feature that has a geometry has at least three integers.
 use Rattle.std.proofs.Common.{◌≡◌, ℕ, true, is_some, Option, Some, None, List, [], ◌∷◌, refl, ap, ◌∙◌, arith}
 use Rattle.std.specs.Option.{option_and_then}
 use Rattle.mvt_document.specs.Plain.{Field, Feature}

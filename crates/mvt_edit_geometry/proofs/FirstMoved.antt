@@ -17,7 +17,7 @@ one_read p (Some list) value more is =
     let rest : map (λ (q : Placed). q.number.value) list ≡ more = cc in
     (ap Some first, ap Some rest)
 
--- of numbers of which no chunk is bad the first is one, and behind it they are the others
+-- of numbers none of whose chunks is bad, the first chunk gives the first, and the chunks after it give the others
 pub next_read : (chunks : List (Result Placed ℕ)) (value : ℕ) (more : List ℕ) → values_in chunks ≡ Some (value ∷ more) → (option_map (λ (p : Placed). p.number.value) (option_and_then result_ok (slice_get chunks 0)) ≡ Some value) × (values_in (drop 1 chunks) ≡ Some more)
 next_read [] value more is = absurd cc
 next_read (Err bad ∷ chunks) value more is = absurd cc

@@ -1,4 +1,4 @@
--- A parameter that leads further: the delta that it holds then.
+-- A parameter that leads further: the delta that it then holds.
 use Rattle.std.proofs.Common.{◌≡◌, ◌^◌, ℕ, true, false, ℤ, ◌+ℤ◌, unsigned_abs, SFits, of_z, to_z, w64, subst, sym, ap, ◌∙◌, inl, inr, arith}
 use Rattle.std.proofs.lemmas.Bool.{cases_Bool, ltb-true}
 use Rattle.std.proofs.lemmas.Int.{fits_signed_from_abs, to_z-of_z}
@@ -7,7 +7,7 @@ use Rattle.mvt_document.proofs.Signed.{unzigzag-zigzag}
 use Rattle.mvt_geometry.specs.Checks.{is_delta}
 use Rattle.mvt_meaning.specs.Geometries.{further}
 
--- what no `i64` holds is no delta
+-- what no `i64` holds is not a delta
 none_so_far : (delta : ℤ) → (SFits w64 delta → ⊥) → false ≡ is_delta delta
 none_so_far delta none =
     elim (cases_Bool (is_delta delta)) [
@@ -15,7 +15,7 @@ none_so_far delta none =
       | inr not ↦ sym not
     ]
 
--- the delta that a parameter holds, and so much more
+-- the delta that a parameter holds, plus so much more
 module _ (parameter : ℕ) (read more : ℤ) (read_fits : SFits w64 read) (more_fits : SFits w64 more) (is : zigzag read ≡ parameter) where
   abbrev sum : ℤ
   sum = to_z w64 (of_z w64 read) +ℤ to_z w64 (of_z w64 more)

@@ -1,4 +1,4 @@
--- What the steps come to that give a feature another geometry.
+-- What the steps that give a feature another geometry result in.
 use Rattle.std.proofs.Common.{◌≡◌, ℕ, ◌+◌, ◌-◌, ◌*◌, ◌≤◌, true, false, Some, Ok, Err, List, [], ◌∷◌, ◌++◌, length, map, filter, nat_lt, option_map, slice_get, append-nil, refl, sym, ap, ◌∙◌, subst, ◌⊎◌, inl, inr, arith}
 use Rattle.std.proofs.lemmas.Bool.{false_from_ne_true}
 use Rattle.std.proofs.lemmas.List.{length-map}
@@ -52,7 +52,7 @@ module _ (choice : LayerChoice) (geometry : Geometry) (document : Document) (ord
     selected_here : selected_in feature ordinal document ≡ Ok selects
     selected_here = selected_in_found document ordinal position layer placed there feature ∙ selected_there
 
-    -- where the geometry has no bytes: as out of memory, or since it is out of range
+    -- where the geometry has no bytes: because memory ran out, or because it is out of range
     far_refused : ¬ IsInRange geometry → applied (SetGeometry choice feature geometry) document ≡ Err OutOfRange
     far_refused far =
         let outside : is_in_range geometry ≡ false = false_from_ne_true (is_in_range geometry) (λ short. far ((in_range-Decides geometry).0 short)) in
@@ -90,7 +90,7 @@ module _ (choice : LayerChoice) (geometry : Geometry) (document : Document) (ord
           ∙ ap (λ result. of_selected result (λ m. drawing_weight (fields_of ordinal m seen))) selected_here
           ∙ ap drawing_weight same
 
-      -- the steps, where one can
+      -- the steps, if one can
       module _ (fits : nat_lt MAX_FILE (length (bytes_of (change_fields drawn position item document))) ≡ false) where
         means : applied (SetGeometry choice feature geometry) document ≡ Ok (change_fields drawn position item document)
         means = limited ∙ rw fits refl

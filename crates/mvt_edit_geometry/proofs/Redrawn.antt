@@ -24,7 +24,7 @@ use Rattle.mvt_fates.proofs.Heavy.{heavy, number_has_bytes, tag_and_content}
 use Rattle.mvt_edit_steps.proofs.NumberFields.{numbered_kept}
 use Rattle.mvt_fates.proofs.Once.{one_skipped}
 
--- ---- what a test says of a list of which the last item that passes another is changed, or a new one comes
+-- ---- what a test says of a list in which the last item that passes another test is changed, or which gets a new one
 
 module _ {A : Type 0} (passes test : A → Bool) (change : A → A) (new : A) (apart : (x : A) → passes x ≡ true → test x ≡ false) (changed : (x : A) → passes x ≡ true → test (change x) ≡ false) (fresh : test new ≡ false) where
   last_tested : (xs : List A) → map test (change_last passes change xs) ≡ map test xs
@@ -63,7 +63,7 @@ module _ {A : Type 0} (passes test : A → Bool) (change : A → A) (new : A) (a
         | inr none ↦ rw none (filter-append test xs (new ∷ []) ∙ ap (λ ys. filter test xs ++ ys) gone ∙ append-nil (filter test xs))
       ]
 
--- ---- what a test says of a list that has a new item in place of all that pass another
+-- ---- what a test says of a list that has a new item in place of all that pass another test
 
 module _ {A : Type 0} (passes : A → Bool) (new : A) where
   none_passing : (xs : List A) → filter passes (filter (λ y. not (passes y)) xs) ≡ []
@@ -95,7 +95,7 @@ module _ {A : Type 0} (passes : A → Bool) (new : A) where
           | inr skip ↦ rw skip (elim (cases_Bool (test x)) [ inl is ↦ rw is (ap (λ ys. x ∷ ys) (once_kept xs)) | inr other ↦ rw other (once_kept xs) ])
         ]
 
--- ---- a kind field is no geometry field
+-- ---- a kind field is not a geometry field
 
 pub kind_apart : (field : plain.Field) → is_kind field ≡ true → is_geometry_field field ≡ false
 kind_apart field kind =

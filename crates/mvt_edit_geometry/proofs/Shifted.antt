@@ -1,4 +1,4 @@
--- What the steps come to by which the geometry of a feature moves, and what is refused of it.
+-- What the steps by which the geometry of a feature moves result in, and when it is refused.
 use Rattle.std.proofs.Common.{◌≡◌, ℕ, true, false, ℤ, is_some, Some, Ok, Err, length, map, nat_lt, slice_get, refl, sym, ap, ◌∙◌, arith}
 use Rattle.mvt_document.specs.declared.TheConstants.{MAX_FILE}
 use Rattle.mvt_document.specs.Places.{change_fields}
@@ -62,7 +62,7 @@ module _ (choice : LayerChoice) (dx dy : ℤ) (document : Document) (ordinal pos
         pub shift_too_large : nat_lt MAX_FILE (length (bytes_of (change_fields (shifted dx dy) position item document))) ≡ true → applied (Shift choice feature dx dy) document ≡ Err TooLarge
         shift_too_large large = made_here ∙ rw large refl
 
-        -- the steps, where one can
+        -- the steps, if one can
         pub shift_made : nat_lt MAX_FILE (length (bytes_of (change_fields (shifted dx dy) position item document))) ≡ false → FieldsLeft 4 (moves dx dy found.fields) found.fields → (change : Change) → change ≡ map (in_feature_at position item) (splices_of (field_fates 4 (moves dx dy found.fields) found.fields)) → IsPrepared (Shift choice feature dx dy) document change
         shift_made fits left change steps =
             let all = renumbers document ordinal position layer placed there selects item found feature_placed feature_there 4 (moves dx dy found.fields) (shifted dx dy) refl left in

@@ -13,8 +13,8 @@ use mvt_change::{fits_with_items, size_with_fields};
 use mvt_document::Document;
 use mvt_select::{FoundFeature, FoundLayer};
 
-/// A file can hold the tile once this feature has fields of this size, whichever they are. No size
-/// is one that no file can hold.
+/// A file can hold the tile once this feature has fields of this size, whichever they are. `None`
+/// stands for a size that no file can hold.
 pub(crate) fn fits_with_fields(
     document: &Document,
     holder: FoundLayer<'_>,

@@ -34,7 +34,7 @@ use mvt_select::{FeatureChoice, FoundFeature, LayerChoice, Refusal, find_feature
 use std::alloc::{AllocError, Global};
 
 /// The last kind of the feature becomes that of the geometry, and the first of its geometry fields
-/// becomes the geometry; its other geometry fields go. What it has none of comes at the end.
+/// becomes the geometry; its other geometry fields go. A field that it lacks is added at the end.
 pub fn set_geometry(
     alloc: Global,
     document: &Document,
@@ -63,7 +63,7 @@ struct Drawing {
     field: Field,
 }
 
-/// What these fields get with this geometry. It is refused where it is out of range.
+/// What these fields get with this geometry, which is refused if it is out of range.
 fn redraw(alloc: Global, fields: &[Field], geometry: &Geometry) -> Result<Drawing, EncodeError>
     ensures kind { IfOk result (λ drawing. ReplacesLast IsField field_bytes is_kind (map field_of fields.now) (with_kind (kind_number geometry.now.kind) (map field_of fields.now)) drawing.kind.index drawing.kind.take (map field_of drawing.kind.put.items)) }
     ensures one { IfOk result (λ drawing. length drawing.kind.put.items ≡ 1) }
@@ -90,7 +90,7 @@ fn geometry_field(bytes: Items<u8>) -> Field
 }
 
 /// How many bytes the fields take once the run of the kind is carried out and they have this
-/// geometry alone, where that is within the limit of a file.
+/// geometry alone, if that is within the limit of a file.
 fn size_drawn(fields: &[Field], kind: &Run<Field>, drawing: &Field) -> Option<usize>
     requires { kind.now.index + kind.now.take ≤ length fields.now }
     ensures { IsFileSize result (length (flat_map field_bytes (put_once is_geometry_field (field_of drawing.now) (splice kind.now.index kind.now.take (map field_of kind.now.put.items) (map field_of fields.now))))) }
@@ -101,7 +101,7 @@ fn size_drawn(fields: &[Field], kind: &Run<Field>, drawing: &Field) -> Option<us
     and_others(size, &fields[kind.index + kind.take..])
 }
 
-/// The sum of `bytes` and of how many bytes the fields that are no geometry fields take, where that
+/// The sum of `bytes` and of how many bytes the fields that are not geometry fields take, if that
 /// is within the limit of a file.
 fn and_others(bytes: usize, fields: &[Field]) -> Option<usize>
     requires { bytes ≤ MAX_FILE }
@@ -122,8 +122,8 @@ fn is_geometry(field: &Field) -> bool
     field.number() == GEOMETRY && matches!(field.body(), BodyRef::Number(_) | BodyRef::Bytes { .. })
 }
 
-/// The change of the run of the kind and, behind it, of this geometry in place of the others, on
-/// the fields of the feature, in the layer at this position.
+/// The change of the run of the kind and, after it, of this geometry in place of the others, on the
+/// fields of the feature, in the layer at this position.
 fn steps_of(
     alloc: Global,
     layer: usize,

@@ -33,8 +33,8 @@ use mvt_select::{FeatureChoice, FoundFeature, LayerChoice, Refusal, find_feature
 use mvt_view::{GeometryError, geometry};
 use std::alloc::{AllocError, Global};
 
-/// The geometry of the feature moves by so much along each axis. Of its integers the first two
-/// parameters become others, and all else stays as it is spelled.
+/// Moves the geometry of the feature by these deltas. Of its integers the first two parameters
+/// change, and all else stays as it is spelled.
 pub fn shift(
     alloc: Global,
     document: &Document,
@@ -55,8 +55,8 @@ pub fn shift(
     Ok(Change::new(steps))
 }
 
-/// What is decided on the first integers of the feature's geometry. It is refused, in the layer of
-/// this ordinal, where it has none, and where that cannot move so far.
+/// What is decided on the first integers of the feature's geometry. It is refused if the feature,
+/// which is in the layer of this ordinal, has none, and if the geometry cannot move so far.
 fn decided(
     alloc: Global,
     layer: usize,
@@ -75,7 +75,7 @@ fn decided(
     decide(found.view(), dx, dy).ok_or(Refusal::OutOfRange)
 }
 
-/// The feature has a geometry. It is refused where it has none, with its ordinal and that of its
+/// The feature has a geometry. If it has none it is refused, with its ordinal and that of its
 /// layer.
 fn check(alloc: Global, layer: usize, found: FoundFeature<'_>) -> Result<(), Refusal>
     ensures drawn { IfOk result (λ ok. is_some (geometry_among (feature_of found.entry.feature.now).fields) ≡ true) }
@@ -93,7 +93,7 @@ fn check(alloc: Global, layer: usize, found: FoundFeature<'_>) -> Result<(), Ref
 }
 
 /// What is decided on the first integers of the feature's geometry: the command stays, and the two
-/// parameters lead further. None where one of them cannot.
+/// parameters lead further. None if one of them cannot.
 fn decide(feature: FeatureView<'_>, dx: i64, dy: i64) -> Option<[Option<u64>; 3]>
     requires { is_some (geometry_among (feature_seen feature).fields) ≡ true }
     ensures decided { IfSome result (λ decisions. decisions ≡ moves dx dy (feature_seen feature.entry).fields) }
@@ -106,7 +106,7 @@ fn decide(feature: FeatureView<'_>, dx: i64, dy: i64) -> Option<[Option<u64>; 3]
     moved(command, x, y, dx, dy)
 }
 
-/// What is decided on a command and its parameters: it stays, and they lead further, where they can.
+/// What is decided on a command and its parameters: it stays, and they lead further, if they can.
 fn moved(command: u64, x: u64, y: u64, dx: i64, dy: i64) -> Option<[Option<u64>; 3]>
     ensures decided { IfSome result (λ decisions. decisions ≡ moved_integers dx dy (command ∷ x ∷ y ∷ [])) }
     ensures able { is_some result ≡ can_move_integers dx dy (command ∷ x ∷ y ∷ []) }
@@ -114,7 +114,7 @@ fn moved(command: u64, x: u64, y: u64, dx: i64, dy: i64) -> Option<[Option<u64>;
     Some([Some(command), Some(further(x, dx)?), Some(further(y, dy)?)])
 }
 
-/// The value of the next number, where there is one.
+/// The value of the next number, if there is one.
 fn next_value(numbers: &mut Numbers<'_>) -> Option<u64>
     ensures value { result ≡ option_map (λ p. p.number.value) (option_and_then result_ok (slice_get numbers.old 0)) }
     ensures behind { numbers.new ≡ drop 1 numbers.old }
@@ -125,7 +125,7 @@ fn next_value(numbers: &mut Numbers<'_>) -> Option<u64>
     }
 }
 
-/// The parameter that holds the delta of this one and so much more, where one can hold it.
+/// The parameter that holds the delta of this one plus `more`, if one can hold it.
 fn further(parameter: u64, more: i64) -> Option<u64>
     ensures held { is_some result ≡ is_delta (further more parameter) }
     ensures holds { IfSome result (λ made. made ≡ zigzag (further more parameter)) }
@@ -139,8 +139,7 @@ fn further(parameter: u64, more: i64) -> Option<u64>
 }
 
 /// The steps by which the integers of the feature, in the layer at this position, become what is
-/// decided on them, and how many bytes the fields take then, where that is within the limit of a
-/// file.
+/// decided on them, and how many bytes the fields take then, if that is within the limit of a file.
 fn moving(
     alloc: Global,
     layer: usize,

@@ -46,10 +46,10 @@ get_within (suc position) (y ∷ items) x is = let within = get_within position 
 one_out : {Y : Type 0} {step_with : Splice Y → Step} {valid : Y → Type 0} {find : Document → Option (List Y)} {change : (List Y → List Y) → Document → Document} {bytes : Y → List ℕ} (sits : Sits step_with valid find change bytes) (document : Document) (items : List Y) → find document ≡ Some items → (position : ℕ) → position + 1 ≤ length items → Carried change bytes (step_with (one position) ∷ []) document (one position ∷ []) items
 one_out sits document items there position within = carried sits document items there (one position ∷ []) (within, tt) tt
 
--- ---- the item or the fields that a command takes out
+-- ---- the item or the fields that a command removes
 
 module _ (choice : LayerChoice) (document : Document) (ordinal position : ℕ) (layer : Layer) (chosen : selected choice document ≡ Ok ordinal) (placed : slice_get (layer_positions document) ordinal ≡ Some position) (there : slice_get document position ≡ Some (OfLayer layer)) where
-  -- where one step takes the layer out
+  -- where one step takes out the layer
   pub layer_goes : (change : Change) → change ≡ item_out OfTheTile position ∷ [] → IsPrepared (DropLayer choice) document change
   layer_goes change step =
       let out = one_out in_the_tile document document refl position (get_within position document (OfLayer layer) there) in
@@ -68,7 +68,7 @@ module _ (choice : LayerChoice) (document : Document) (ordinal position : ℕ) (
     selected_here : selected_in feature ordinal document ≡ Ok selects
     selected_here = selected_in_found document ordinal position layer placed there feature ∙ selected_there
 
-    -- where one step takes the feature out
+    -- where one step takes out the feature
     pub feature_goes : (change : Change) → change ≡ item_out (OfTheLayer position) item ∷ [] → IsPrepared (DropFeature choice feature) document change
     feature_goes change step =
         let sits = in_the_layer position in
@@ -88,7 +88,7 @@ module _ (choice : LayerChoice) (document : Document) (ordinal position : ℕ) (
           steps = omega arith;
         })
 
-    -- where the steps take the id fields out
+    -- where the steps take out the id fields
     pub ids_go : (change : Change) → 2 * length (filter is_id found.fields) ≤ length (flat_map field_bytes (filter is_id found.fields)) → change ≡ map (in_feature_at position item) (out is_id found.fields) → IsPrepared (ClearId choice feature) document change
     ids_go change heavy steps =
         let sits = in_the_feature position item in

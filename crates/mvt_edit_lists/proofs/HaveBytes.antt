@@ -1,4 +1,4 @@
--- A layer and an id field have two bytes or more.
+-- A layer and an id field have at least two bytes.
 use Rattle.std.proofs.Common.{◌≡◌, ℕ, ◌/◌, ◌≤◌, ◌==◌, Bool, true, false, cond, Option, None, is_some, List, length, length-append, map, arith}
 use Rattle.std.specs.List.{flat_map}
 use Rattle.mvt_document.specs.Wire.{spell, body_bytes, field_bytes, layer_item_bytes, tile_item_bytes}

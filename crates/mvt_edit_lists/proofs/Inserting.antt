@@ -10,7 +10,8 @@ use Rattle.mvt_edit_lists.proofs.Nth.{Apart, count_append, count_pass, count_ski
 use Rattle.mvt_edit_lists.specs.Placing.{IsPlaceFor}
 use Rattle.mvt_edit_lists.proofs.Moving.{splice_in}
 
--- the place where a new item comes to have this ordinal, of items that stand from n on; behind all that pass it is `last`, as far as none of these passes
+-- the place where a new item gets this ordinal, among items from position n on; after all that pass it is `last`, as
+-- long as none of these passes
 abbrev pub place_from : {A : Type 0} → (A → Bool) → (n ordinal last : ℕ) → List A → Option ℕ
 place_from passes n ordinal last [] = if ordinal == 0 then Some last else None
 place_from passes n ordinal last (x ∷ xs) = if passes x then (if ordinal == 0 then Some n else place_from passes (n + 1) (ordinal - 1) (n + 1) xs) else place_from passes (n + 1) ordinal last xs
@@ -58,7 +59,7 @@ place_last passes n ordinal last (x ∷ xs) none start =
       | inr skips ↦ place_skip passes n ordinal last x xs skips ∙ place_last passes (n + 1) ordinal last xs (sym (count_skip passes x xs skips) ∙ none) start
     ]
 
--- right behind the last that passes
+-- right after the last that passes
 place_behind : {A : Type 0} (passes : A → Bool) (n ordinal last : ℕ) (front : List A) (item : A) (back : List A) → suc (count passes front) ≡ ordinal → passes item ≡ true → count passes back ≡ 0 → place_from passes n ordinal last (front ++ item ∷ back) ≡ Some (n + suc (length front))
 place_behind passes n ordinal last [] item back counted pass none =
     let next : n + 1 ≡ n + suc 0 = omega arith in
@@ -131,7 +132,7 @@ none_counted passes (x ∷ xs) none =
       | inr skips ↦ or_from (passes x) (list_any passes xs) skips (none_counted passes xs (sym (count_skip passes x xs skips) ∙ none))
     ]
 
--- ---- where the new item comes to stand
+-- ---- where the new item goes
 
 abbrev Found : {A : Type 0} → (A → Bool) → (ordinal last : ℕ) → List A → Type 0
 Found passes ordinal last items = (place : ℕ) × (place_from passes 0 ordinal last items ≡ Some place) × IsPlaceFor passes ordinal items place
@@ -154,7 +155,7 @@ found_inside passes ordinal last front item back counted pass =
       },
     )
 
--- behind the last that passes
+-- after the last that passes
 found_behind : {A : Type 0} (passes : A → Bool) (ordinal last : ℕ) (front : List A) (item : A) (back : List A) → suc (count passes front) ≡ ordinal → passes item ≡ true → count passes back ≡ 0 → Found passes ordinal last (front ++ item ∷ back)
 found_behind passes ordinal last front item back counted pass none =
     let all = count_append passes front (item ∷ back) in

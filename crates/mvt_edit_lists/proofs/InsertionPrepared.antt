@@ -47,7 +47,7 @@ module _ (choice : LayerChoice) (index ordinal position : ℕ) (geometry : Geome
         let outside : is_in_range geometry ≡ false = false_from_ne_true (is_in_range geometry) (λ short. far ((in_range-Decides geometry).0 short)) in
         rw (chosen, inside, outside) refl
 
-    -- as out of memory, or since it is out of range
+    -- because memory ran out, or because it is out of range
     pub insertion_refused : (error : EncodeError) → (error ≡ encode_errors.OutOfRange → ¬ IsInRange geometry) → (geometry_refusal error ≡ NoMemory) ⊎ (applied (InsertFeature choice index geometry) document ≡ Err (geometry_refusal error))
     insertion_refused encode_errors.OutOfRange far = inr (insertion_out_of_range (far refl))
     insertion_refused encode_errors.NoMemory far = inl refl

@@ -22,7 +22,7 @@ use Rattle.mvt_fates.proofs.Going.{out, takes_out}
 abbrev pub goes : List (List ℕ) → TileItem → Bool
 goes names item = not (is_kept names item)
 
--- the order of the names is all one
+-- the order of the names does not matter
 pub kept_alike : (names others : List (List ℕ)) → IsPermutation names others → (item : TileItem) → is_kept others item ≡ is_kept names item
 kept_alike names others same (OfLayer layer) = sym (list_any-IsPermutation (λ name. is_named name layer) names others same)
 kept_alike names others same (PlainInTile field) = refl
@@ -37,7 +37,7 @@ no_more_go names (OfLayer layer ∷ document) =
     let more = no_more_go names document in
     elim (cases_Bool (is_kept names (OfLayer layer))) [ inl stays ↦ rw stays (omega arith) | inr out ↦ rw out (omega arith) ]
 
--- all layers go where none stays, and fewer where one does
+-- all layers go if none stays, and fewer if one does
 all_go : (names : List (List ℕ)) (document : Document) → some_stay names document ≡ false → length (filter (goes names) document) ≡ length (layers document)
 all_go names [] none = refl
 all_go names (PlainInTile field ∷ document) none = all_go names document none

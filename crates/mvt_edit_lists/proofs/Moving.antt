@@ -7,7 +7,7 @@ use Rattle.mvt_document.specs.Splicing.{splice, moved}
 use Rattle.mvt_meaning.specs.Ordinals.{before, behind, count, move_nth, positions_of, without}
 use Rattle.mvt_edit_lists.proofs.Nth.{apart_from, count_append, count_pass, from_nth_at, nth_is, two_apart}
 
--- ---- items put in and moved
+-- ---- items inserted and moved
 
 pub splice_in : {A : Type 0} (q : ℕ) (front : List A) (x : A) (back : List A) → length front ≡ q → splice q 0 (x ∷ []) (front ++ back) ≡ front ++ x ∷ back
 splice_in q front x back e =

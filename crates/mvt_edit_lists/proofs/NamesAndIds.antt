@@ -1,4 +1,4 @@
--- What a rename and a new id come to, from the layer and the feature that are found.
+-- What a rename and a new id result in, from the layer and the feature that are found.
 use Rattle.std.proofs.Common.{◌≡◌, ℕ, ◌<◌, ◌≤◌, false, Ok, Err, Some, List, [], ◌∷◌, length, slice_get, refl, sym, ap, ◌∙◌, subst, arith}
 use Rattle.std.specs.Result.{result_unwrap_or}
 use Rattle.mvt_document.specs.declared.TheConstants.{MAX_FILE}

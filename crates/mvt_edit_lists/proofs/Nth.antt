@@ -20,7 +20,7 @@ count_append passes xs ys = ap length (filter-append passes xs ys) ∙ length-ap
 
 -- ---- the item of an ordinal
 
--- the items before it, the item, and those behind it
+-- the items before it, the item, and those after it
 pub record Apart {A : Type 0} (passes : A → Bool) (ordinal : ℕ) (items : List A) : Type 0 where
   pub front : List A
   pub item : A
@@ -45,7 +45,7 @@ apart_skip passes n ordinal p x xs skip rest =
     let place = rest.1 in
     (record { front = x ∷ a.front; item = a.item; back = a.back; joined = ap (λ ys. x ∷ ys) a.joined; counts = a.counts; ordinal_is = count_skip passes x a.front skip ∙ a.ordinal_is }, omega arith)
 
--- an ordinal has a position where its item stands
+-- an ordinal has a position where its item is
 pub apart_from : {A : Type 0} (passes : A → Bool) (n : ℕ) (items : List A) (ordinal p : ℕ) → slice_get (positions_from passes n items) ordinal ≡ Some p → (a : Apart passes ordinal items) × (p ≡ n + length a.front)
 apart_from passes n [] ordinal p e = absurd cc
 apart_from passes n (x ∷ xs) ordinal p e =
@@ -97,7 +97,8 @@ nth_is passes ordinal front item back counted pass =
 
 -- ---- two items
 
--- the items before the one of the lower ordinal, that one, those between, the one of the higher ordinal, and those behind it
+-- the items before the one of the lower ordinal, that one, those between, the one of the higher ordinal, and those
+-- after it
 pub record TwoApart {A : Type 0} (passes : A → Bool) (low high p q : ℕ) (items : List A) : Type 0 where
   pub front : List A
   pub first : A
@@ -138,7 +139,7 @@ positions_behind passes n m k i (x ∷ front) rest e f =
 next_behind : {A : Type 0} (passes : A → Bool) (p steps q : ℕ) (x : A) (xs : List A) → passes x ≡ true → slice_get (positions_from passes p (x ∷ xs)) (suc steps) ≡ Some q → slice_get (positions_from passes (p + 1) xs) steps ≡ Some q
 next_behind passes p steps q x xs pass e = sym (ap (λ ps. slice_get ps (suc steps)) (positions_pass passes p x xs pass)) ∙ e
 
--- an item, and another among those behind it
+-- an item, and another among those after it
 two_of : {A : Type 0} (passes : A → Bool) (low steps high p q : ℕ) (items : List A) (a : Apart passes low items) (b : Apart passes steps a.back) → p ≡ 0 + length a.front → q ≡ p + 1 + length b.front → high ≡ suc (low + steps) → TwoApart passes low high p q items
 two_of passes low steps high p q items a b place place_behind apart = record {
   front = a.front;
@@ -155,7 +156,7 @@ two_of passes low steps high p q items a b place place_behind apart = record {
   q_is = omega arith;
 }
 
--- the positions of the items behind one of an ordinal
+-- the positions of the items after one of an ordinal
 behind_one : {A : Type 0} (passes : A → Bool) (low steps high p q : ℕ) (items : List A) (a : Apart passes low items) → p ≡ 0 + length a.front → high ≡ suc (low + steps) → slice_get (positions_of passes items) high ≡ Some q → slice_get (positions_from passes (p + 1) a.back) steps ≡ Some q
 behind_one passes low steps high p q items a place apart e =
     next_behind passes p steps q a.item a.back a.counts (

@@ -1,4 +1,4 @@
--- Names among which others are searched for.
+-- Names among which others are looked up.
 use Rattle.std.specs.Prelude.{ℕ, List}
 use Rattle.std.specs.Borrow.{Bor}
 use Rattle.std.specs.Cmp.Lexicographic.{slice_cmp}

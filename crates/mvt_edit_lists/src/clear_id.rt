@@ -14,7 +14,7 @@ use mvt_fates::{carry_out, goes_if};
 use mvt_select::{FeatureChoice, LayerChoice, Refusal, find_feature, find_layer};
 use std::alloc::Global;
 
-/// The feature loses each of its id fields.
+/// Removes each id field of the feature.
 pub fn clear_id(
     alloc: Global,
     document: &Document,

@@ -1,4 +1,4 @@
-//! A feature goes.
+//! A feature is removed.
 
 ghost use Rattle.mvt_document.specs.Stands.{document_of};
 ghost use Rattle.mvt_command.specs.Command.{DropFeature};
@@ -11,7 +11,7 @@ use mvt_edit_steps::item_out;
 use mvt_select::{FeatureChoice, LayerChoice, Refusal, find_feature, find_layer};
 use std::alloc::Global;
 
-/// The feature goes.
+/// Removes the feature.
 pub fn drop_feature(
     alloc: Global,
     document: &Document,

@@ -1,4 +1,4 @@
-//! A layer goes.
+//! A layer is removed.
 
 ghost use Rattle.mvt_document.specs.Stands.{document_of};
 ghost use Rattle.mvt_command.specs.Command.{DropLayer};
@@ -11,7 +11,7 @@ use mvt_edit_steps::item_out;
 use mvt_select::{LayerChoice, Refusal, find_layer};
 use std::alloc::Global;
 
-/// The layer goes.
+/// Removes the layer.
 pub fn drop_layer(
     alloc: Global,
     document: &Document,

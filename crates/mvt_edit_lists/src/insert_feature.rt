@@ -1,4 +1,4 @@
-//! A feature comes to stand at an ordinal.
+//! A feature is inserted at an ordinal.
 
 ghost use Rattle.std.specs.Prelude.{◌≡◌, ◌<◌, [], ◌∷◌, map, IfNone, IfOk, IfSome, IsErrOf, OnOk, length};
 ghost use Rattle.mvt_document.specs.Stands.{document_of, field_of, layer_item_of};
@@ -23,7 +23,7 @@ use mvt_geometry::{EncodeError, Geometry, Kind, encode_geometry};
 use mvt_select::{LayerChoice, Refusal, find_layer};
 use std::alloc::{AllocError, Global};
 
-/// A feature with this geometry comes into the layer.
+/// Inserts a feature with this geometry into the layer.
 pub fn insert_feature(
     alloc: Global,
     document: &Document,
@@ -45,8 +45,8 @@ pub fn insert_feature(
     one_step_within_limit(alloc, document, step)
 }
 
-/// Where a new feature comes to have this ordinal: right before the feature that has it; where none
-/// has it so far, right behind the last feature, or at the end.
+/// Where to put a new feature for it to have this ordinal: right before the feature that has it; if
+/// none has it so far, right after the last feature, or at the end.
 fn place_of_new(items: &[LayerItem], ordinal: u64) -> Option<usize>
     ensures place { IfSome result (IsPlaceFor is_feature ordinal (map layer_item_of items.now)) }
     ensures none { IfNone result (length (features_in (map layer_item_of items.now)) < ordinal) }

@@ -1,4 +1,4 @@
-//! Layers of other names go.
+//! Layers with other names are removed.
 
 ghost use Rattle.std.specs.Prelude.{◌≡◌, false, IfOk, map};
 ghost use Rattle.std.specs.List.{list_any};
@@ -18,8 +18,8 @@ use mvt_layers::{LayerView, layer_count};
 use mvt_select::Refusal;
 use std::alloc::{AllocError, Global};
 
-/// The layers stay that have one of the names. The names are put in order once, and each layer's
-/// name is found among them by halving.
+/// Keeps the layers that have one of the names. The names are put in order once, and each layer's
+/// name is looked up among them by binary search.
 pub fn keep_layers(
     alloc: Global,
     document: &Document,
@@ -38,7 +38,7 @@ pub fn keep_layers(
         |run| run.in_tile(),
         &mut steps,
     )?;
-    // Layers alone go, so none stays where as many go as there are.
+    // Only layers go, so none stays if as many go as there are.
     if gone == layer_count(document) {
         return Err(Refusal::NoLayer);
     }

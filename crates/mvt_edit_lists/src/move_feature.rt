@@ -11,7 +11,7 @@ use mvt_edit_steps::one_step;
 use mvt_select::{FeatureChoice, LayerChoice, Refusal, find_feature, find_layer, place_of_feature};
 use std::alloc::Global;
 
-/// The feature comes to stand at this ordinal.
+/// Moves the feature to this ordinal.
 pub fn move_feature(
     alloc: Global,
     document: &Document,

@@ -11,7 +11,7 @@ use mvt_edit_steps::one_step;
 use mvt_select::{LayerChoice, Refusal, find_layer, place_of_layer};
 use std::alloc::Global;
 
-/// The layer comes to stand at this ordinal.
+/// Moves the layer to this ordinal.
 pub fn move_layer(
     alloc: Global,
     document: &Document,

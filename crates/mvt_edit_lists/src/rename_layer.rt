@@ -1,4 +1,4 @@
-//! A layer gets a name: its last one becomes that, or one comes at the end.
+//! A layer gets a name: its last one becomes that, or one is added at the end.
 
 ghost use Rattle.std.specs.Prelude.{◌≡◌, Err, false, true, IfErr, IfOk, IfSome};
 ghost use Rattle.std.specs.Option.{option_map_or};
@@ -22,7 +22,7 @@ use mvt_edit_steps::{Spot, one_step_within_limit};
 use mvt_select::{FoundLayer, LayerChoice, Refusal, find_and_taken, last_name};
 use std::alloc::{AllocError, Global};
 
-/// The layer gets the name.
+/// Gives the layer the name.
 pub fn rename_layer(
     alloc: Global,
     document: &Document,
@@ -36,7 +36,7 @@ pub fn rename_layer(
     one_step_within_limit(alloc, document, step)
 }
 
-/// The selected layer, where no other layer has the name.
+/// The selected layer, if no other layer has the name.
 fn layer_to_rename<'a>(
     document: &'a Document,
     choice: &LayerChoice,

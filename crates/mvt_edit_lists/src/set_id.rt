@@ -1,4 +1,4 @@
-//! A feature gets an id: its last one becomes that, or one comes at the end.
+//! A feature gets an id: its last one becomes that, or one is added at the end.
 
 ghost use Rattle.std.specs.Prelude.{◌≡◌, IfOk};
 ghost use Rattle.mvt_document.specs.Opens.{IsField};
@@ -19,7 +19,7 @@ use mvt_edit_steps::{number_put, one_step_within_limit};
 use mvt_select::{FeatureChoice, LayerChoice, Refusal, find_feature, find_layer};
 use std::alloc::{AllocError, Global};
 
-/// The feature gets the id.
+/// Gives the feature the id.
 pub fn set_id(
     alloc: Global,
     document: &Document,

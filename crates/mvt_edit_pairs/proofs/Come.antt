@@ -1,5 +1,5 @@
--- What steps come to: the document that they make, the fields that they put, and those that they take out. Steps behind
--- others; and the steps of each feature of a layer.
+-- What steps result in: the document that they make, the fields that they put, and those that they take out. Steps
+-- after others; and the steps of each feature of a layer.
 use Rattle.std.proofs.Common.{◌≡◌, ℕ, ◌+◌, ◌*◌, ◌≤◌, zero, suc, List, [], ◌∷◌, ◌++◌, length, length-append, append_assoc, map, slice_get, Some, option_map, refl, sym, ap, ◌∙◌, subst, arith}
 use Rattle.std.proofs.lemmas.List.{length-map}
 use Rattle.std.proofs.lemmas.List.Concat.{flat_map-append}
@@ -22,7 +22,7 @@ use Rattle.mvt_edit_pairs.proofs.Leading.{both_lead}
 use Rattle.mvt_fates.proofs.ListPlaces.{of_the_layer}
 use Rattle.mvt_edit_pairs.specs.EachFeature.{layer_steps}
 
--- the steps fit the document and make `made` of it; they put as many bytes as the fields of `puts` have, and take out
+-- the steps fit the document and turn it into `made`; they put as many bytes as the fields of `puts` have, and take out
 -- as many as those of `takes`, and they are at most half as many as these bytes together
 pub record Come (steps : Change) (document made : Document) (puts takes : List Field) : Type 0 where
   pub fits : Fits steps document
@@ -69,7 +69,7 @@ numbered g k (x ∷ list) = ap (λ rest. g x ++ rest) (numbered g (k + 1) list)
 
 -- ---- the fields of each feature of a layer
 
--- the splices of these fates can be carried out on the fields, make of them what the change does, and are at most half as
+-- the splices of these fates can be carried out on the fields, do to them what the change does, and are at most half as
 -- many as the bytes that they take out and put
 pub record Carries (fates : List Field → List (Fate Field)) (change : List Field → List Field) (fields : List Field) : Type 0 where
   pub there : AreThere (splices_of (fates fields)) fields
@@ -78,12 +78,12 @@ pub record Carries (fates : List Field → List (Fate Field)) (change : List Fie
   pub few : 2 * length (splices_of (fates fields)) ≤ length (flat_map field_bytes (taken_all (splices_of (fates fields)) fields)) + length (flat_map field_bytes (put_all (splices_of (fates fields))))
 
 module _ (fates : List Field → List (Fate Field)) (change : List Field → List Field) where
-  -- the same of a feature, where the item is one
+  -- the same for a feature, where the item is one
   abbrev pub CarriesIn : LayerItem → Type 0
   CarriesIn (OfFeature feature) = Carries fates change feature.fields
   CarriesIn (PlainInLayer field) = Unit {0}
 
-  -- what comes of the fields of a feature that was found with its position
+  -- what becomes of the fields of a feature that was found with its position
   abbrev steps_at : ℕ → ℕ × Feature → Change
   steps_at layer at = map (in_feature_at layer at.0) (splices_of (fates at.1.fields))
 
@@ -138,18 +138,18 @@ module _ (fates : List Field → List (Fate Field)) (change : List Field → Lis
       subst (λ d. Come (map (in_feature_at layer n) splices ++ flat_map (steps_at layer) (placed (n + 1) rest)) document d (put_all splices ++ flat_map puts_at (placed (n + 1) rest)) (taken_all splices feature.fields ++ flat_map takes_at (placed (n + 1) rest))) end
       (both_come (map (in_feature_at layer n) splices) (flat_map (steps_at layer) (placed (n + 1) rest)) document half _ (put_all splices) (flat_map puts_at (placed (n + 1) rest)) (taken_all splices feature.fields) (flat_map takes_at (placed (n + 1) rest)) first more)
 
--- ---- the features of a layer that stands in a tile
+-- ---- the features of a layer that is in a tile
 
 module _ (fates : List LayerItem → List Field → List (Fate Field)) (change : List LayerItem → List Field → List Field) where
   -- the items of a layer, each feature changed
   abbrev pub each_changed : List LayerItem → List LayerItem
   each_changed items = map (in_feature (change items)) items
 
-  -- the features of the layer can be changed so
+  -- the features of the layer can be changed in this way
   abbrev pub CarriesEach : Layer → Type 0
   CarriesEach layer = AllByRecursion (CarriesIn (fates layer.items) (change layer.items)) layer.items
 
-  -- what is put and taken out of a layer that was found
+  -- what is put into a layer that was found, and taken out of it
   abbrev pub puts_in : ℕ × (ℕ × Layer) → List Field
   puts_in found = flat_map (λ at. put_all (splices_of (fates found.1.1.items at.1.1.fields))) (found_features found.1.1.items)
 

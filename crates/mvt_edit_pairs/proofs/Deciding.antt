@@ -13,10 +13,10 @@ use Rattle.mvt_fates.specs.Decided.{counted_by, decided_by}
 pub counted_first : {A : Type 0} (test : A → Bool) (x : A) (xs : List A) → length (filter test (x ∷ xs)) ≡ cond (test x) 1 0 + length (filter test xs)
 counted_first test x xs = elim (cases_Bool (test x)) [ inl pass ↦ rw pass (omega arith) | inr skip ↦ rw skip (omega arith) ]
 
--- ---- one pair more
+-- ---- one more pair
 
 module _ (said : ℕ × ℕ → Option ℕ × Option ℕ × Bool) where
-  -- these pairs behind what is decided so far, of which `n` pairs count
+  -- these pairs after what is decided so far, of which `n` pairs count
   abbrev pub decided_behind : List (Option ℕ) → List (ℕ × ℕ) → List (Option ℕ)
   decided_behind front pairs = front ++ decided_by said pairs
 
@@ -57,12 +57,12 @@ pub none_is : {A : Type 0} (found : Option A) → is_some found ≡ false → fo
 none_is None is = refl
 none_is (Some x) is = absurd cc
 
--- where tags are decided on they make pairs
+-- if tags are decided on, they make pairs
 pub then_pairs : {A B : Type 0} (f : A → B) (found : Option A) (made : B) → option_map f found ≡ Some made → is_some found ≡ true
 then_pairs f None made is = absurd cc
 then_pairs f (Some x) made is = refl
 
--- where tags by the sizes of a layer are bad they make no pairs
+-- if tags are bad by the sizes of a layer, they make no pairs
 pub no_pairs : (layer : Layer) (feature : Feature) (key_count value_count : ℕ) → key_count ≡ length (keys layer) → value_count ≡ length (values layer) → plain_pairs (tag_pairs key_count value_count (numbers 2 feature.fields)) ≡ None → is_some (pairs_among layer.items feature.fields) ≡ false
 no_pairs layer feature key_count value_count is_keys is_values bad =
     let by_layer : plain_pairs (tag_pairs (length (keys layer)) (length (values layer)) (numbers 2 feature.fields)) ≡ None = rw (is_keys, is_values) at bad in

@@ -16,12 +16,12 @@ use Rattle.mvt_meaning.proofs.Found.{change_layer_found}
 use Rattle.mvt_select.proofs.Chosen.{the_one_selected}
 use Rattle.mvt_edit_pairs.proofs.Come.{Come, both_come, change_between, none_come, numbered, one_longer}
 
--- what holds of a layer, where the item is one
+-- what holds for a layer, where the item is one
 abbrev pub InTile : (Layer → Type 0) → TileItem → Type 0
 InTile Holds (OfLayer layer) = Holds layer
 InTile Holds (PlainInTile field) = Unit {0}
 
--- of each layer that was found
+-- for each layer that was found
 abbrev pub each_found : {A : Type 0} → (ℕ × Layer → List A) → List (ℕ × (ℕ × Layer)) → List A
 each_found f found = flat_map (λ (at : ℕ × (ℕ × Layer)). f at.1) found
 
@@ -36,10 +36,10 @@ holds_at P [] n x is all = absurd cc
 holds_at P (y ∷ items) zero x is all = let same : y ≡ x = cc in subst P same all.0
 holds_at P (y ∷ items) (suc n) x is all = holds_at P items n x is all.1
 
--- the steps of a layer that is found with its position, what it becomes, and the fields that are put and taken out, where
--- this holds of the layer
+-- the steps of a layer that is found with its position, what it becomes, and the fields that are put and taken out,
+-- where this holds for the layer
 module _ (steps_of : ℕ × Layer → Change) (change : List LayerItem → List LayerItem) (puts_of takes_of : ℕ × Layer → List Field) (Holds : Layer → Type 0) where
-  -- the steps of a layer come to that, in any tile
+  -- the steps of a layer result in that, in any tile
   abbrev pub Comes : Type 0
   Comes = (position : ℕ) (layer : Layer) (document : Document) → slice_get document position ≡ Some (OfLayer layer) → Holds layer → Come (steps_of (position, layer)) document (change_items change position document) (puts_of (position, layer)) (takes_of (position, layer))
 
@@ -71,7 +71,7 @@ module _ (steps_of : ℕ × Layer → Change) (change : List LayerItem → List 
         subst (λ d. Come (steps_of (n, layer) ++ flat_map steps_of list) document d (puts_of (n, layer) ++ flat_map puts_of list) (takes_of (n, layer) ++ flat_map takes_of list)) (append_assoc front (item ∷ []) (map (in_layer change) rest))
         (both_come (steps_of (n, layer)) (flat_map steps_of list) document half ((front ++ item ∷ []) ++ map (in_layer change) rest) (puts_of (n, layer)) (flat_map puts_of list) (takes_of (n, layer)) (flat_map takes_of list) first_so more)
 
-    -- of each layer of a tile
+    -- for each layer of a tile
     all_come : (document : Document) → AllByRecursion (InTile Holds) document
         → Come (each_found steps_of (found_layers document)) document (map (in_layer change) document) (each_found puts_of (found_layers document)) (each_found takes_of (found_layers document))
     all_come document all =
@@ -110,7 +110,7 @@ module _ (steps_of : ℕ × Layer → Change) (change : List LayerItem → List 
     layers_made EachLayer document found is all =
         subst (Made EachLayer document) (same_list (found_layers document) found (selected_layers EachLayer document) refl is) (record { made = map (in_layer change) document; means = refl; come = all_come document all })
 
--- where no layer is selected a change is refused
+-- if no layer is selected, a change is refused
 module _ (change : List LayerItem → List LayerItem) where
   none_chosen : (choice : LayerChoice) (document : Document) (refusal : Refusal) (r : Result ℕ Refusal) → selected choice document ≡ r → selected_layers (TheLayer choice) document ≡ Err refusal → change_layers change (TheLayer choice) document ≡ Err refusal
   none_chosen choice document refusal (Ok ordinal) selects is = absurd (let chosen = rw selects at is in cc)

@@ -16,8 +16,8 @@ use Rattle.mvt_fates.specs.Fates.{splices_of}
 use Rattle.mvt_fates.proofs.Carrying.{carried, in_feature_at, in_the_feature, makes_alike}
 use Rattle.mvt_edit_pairs.proofs.FieldsLeft.{FieldsLeft}
 
--- the change makes this document; it takes the fields out that differ and puts what comes of them, and has half as many
--- steps as these have bytes
+-- the change makes this document; it takes out the fields that differ and puts what becomes of them, and has at most
+-- half as many steps as these have bytes
 pub record Renumbers (number : ℕ) (decisions : List (Option ℕ)) (fields : List Field) (document after : Document) (change : Change) : Type 0 where
   pub fits : Fits change document
   pub makes : go change document ≡ after

@@ -1,4 +1,5 @@
--- The fields of a message whose numbers are decided on, those in the fields of one number: what their splices come to.
+-- The fields of a message whose numbers are decided on, those in the fields of one number: what their splices result
+-- in.
 use Rattle.std.proofs.Common.{◌≡◌, ℕ, ◌*◌, ◌<◌, ◌≤◌, ◌^◌, ◌/◌, ◌==◌, true, false, ◌||◌, not, cond, List, [], ◌∷◌, ◌++◌, Option, Some, None, length, length-append, take, drop, map, filter, append-nil, refl, sym, ap, ◌∙◌, subst, inl, inr, arith}
 use Rattle.std.proofs.lemmas.Bool.{cases_Bool, eqb-true, not-false, or_parts}
 use Rattle.std.specs.Prelude.{IfSome}
@@ -30,7 +31,7 @@ use Rattle.mvt_fates.specs.Fates.{splices_of}
 use Rattle.mvt_fates.proofs.CarriedOut.{AreThere, CarriesOut, carries_beside, new_in, put_all, spliced_all, taken_all}
 use Rattle.mvt_fates.proofs.Heavy.{number_has_bytes, tag_and_content}
 
--- ---- decisions on the numbers of a field alone
+-- ---- decisions on the numbers of one field
 
 zip_taken : {A B : Type 0} (xs : List A) (ys : List B) → zip xs (take (length xs) ys) ≡ zip xs ys
 zip_taken [] ys = refl
@@ -95,7 +96,7 @@ zip_swapped [] (n ∷ list) = refl
 zip_swapped (decision ∷ decisions) [] = refl
 zip_swapped (decision ∷ decisions) (n ∷ list) = ap (λ more. option_map_or (λ value. not (value == n.value)) decision true || more) (zip_swapped decisions list)
 
--- ---- fields of the program of which numbers are read
+-- ---- fields of the program from which numbers are read
 
 abbrev Packs : plain.Body → Type 0
 Packs (plain.Spelled number) = Unit {0}
@@ -251,7 +252,7 @@ module _ (number : ℕ) where
         | inr stays ↦ rw stays more
       ]
 
-  -- ---- what the splices of the fields come to
+  -- ---- what the splices of the fields result in
 
   module _ (decisions : List (Option ℕ)) (fields : List plain.Field) where
     abbrev left : List plain.Field
@@ -271,7 +272,7 @@ module _ (number : ℕ) where
     differ_taken : taken ≡ as_before (renumbered_fields number decisions fields)
     differ_taken = ap (map field_at) (taken_same (decided_fields number decisions fields))
 
-    -- the fields that differ are taken out, and what comes of them is put
+    -- the fields that differ are taken out, and what becomes of them is put
     pub fields_taken : taken_all (splices_of (field_fates number decisions fields)) fields ≡ as_before (renumbered_fields number decisions fields)
     fields_taken = carried.takes ∙ differ_taken
 

@@ -1,4 +1,4 @@
--- What steps come to: the document that they make, and the bytes that they put and that they take out. Steps behind
+-- What steps result in: the document that they make, and the bytes that they put and that they take out. Steps after
 -- others.
 use Rattle.std.proofs.Common.{◌≡◌, ℕ, ◌+◌, ◌++◌, sym, ap, ◌∙◌, subst, arith}
 use Rattle.std.proofs.lemmas.List.Sums.{sum_by-append}
@@ -6,14 +6,14 @@ use Rattle.mvt_document.specs.Plain.{Document}
 use Rattle.mvt_change.specs.Changes.{Change, Fits, go, step_weight, turn, weight}
 use Rattle.mvt_change.proofs.Turning.{fits_joined, go_joined, turn_joined}
 
--- the steps fit the document and make `made` of it; what they put has `puts` bytes, and what they take out `takes`
+-- the steps fit the document and turn it into `made`; what they put has `puts` bytes, and what they take out `takes`
 pub record Leads (steps : Change) (document made : Document) (puts takes : ℕ) : Type 0 where
   pub fits : Fits steps document
   pub makes : go steps document ≡ made
   pub puts_so : weight steps ≡ puts
   pub takes_so : weight (turn steps document) ≡ takes
 
--- of two changes one after the other
+-- for two changes one after the other
 pub both_lead : (first second : Change) (document half made : Document) (p q t u : ℕ) → Leads first document half p t → Leads second half made q u → Leads (first ++ second) document made (p + q) (t + u)
 both_lead first second document half made p q t u a b =
     let back = ap weight (turn_joined first second document) ∙ ap (λ d. weight (turn second d ++ turn first document)) a.makes in

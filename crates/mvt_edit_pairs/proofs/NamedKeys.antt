@@ -5,7 +5,7 @@ use Rattle.std.specs.Option.{option_map_or, unwrap_or}
 use Rattle.std.specs.Str.{bytes_eq}
 use Rattle.mvt_fates.specs.Decided.{decided_by, pair_decided, pairs_decided, said_of}
 
--- ---- one pair more
+-- ---- one more pair
 
 first_decided : (selects : ℕ → Bool) (to : Option ℕ) (pair : ℕ × ℕ) (more : List (ℕ × ℕ)) → pairs_decided selects to (pair ∷ more) ≡ (pair_decided (selects pair.0) to pair).0 ∷ (pair_decided (selects pair.0) to pair).1 ∷ pairs_decided selects to more
 first_decided selects None pair more = elim (cases_Bool (selects pair.0)) [ inl gone ↦ rw gone refl | inr stays ↦ rw stays refl ]

@@ -1,4 +1,4 @@
--- The steps of features and of layers that come one after the other; a feature of whose numbers none changes has none.
+-- The steps of features and of layers that come one after the other; a feature none of whose numbers changes has none.
 use Rattle.std.proofs.Common.{◌≡◌, ℕ, ◌+◌, ◌==◌, true, false, Option, Some, None, List, [], ◌∷◌, ◌++◌, append_assoc, length, drop, map, refl, sym, ap, ◌∙◌}
 use Rattle.std.proofs.lemmas.List.{append-nil}
 use Rattle.std.proofs.lemmas.Bool.{eq-eqb}
@@ -11,7 +11,7 @@ use Rattle.mvt_fates.specs.Fates.{splices_from}
 
 -- ---- one after the other
 
--- behind the steps so far come those of an item, and then those of the rest
+-- after the steps so far come those of an item, and then those of the rest
 pub steps_more : {A B : Type 0} (steps : A → List B) (front mid all : List B) (x : A) (rest : List A) → mid ≡ front ++ steps x → front ++ flat_map steps (x ∷ rest) ≡ all → mid ++ flat_map steps rest ≡ all
 steps_more steps front mid all x rest is so_far = ap (λ m. m ++ flat_map steps rest) is ∙ append_assoc front (steps x) (flat_map steps rest) ∙ so_far
 
@@ -20,7 +20,7 @@ none_more steps front x none = sym (append-nil front) ∙ ap (λ more. front ++ 
 
 -- ---- a feature that keeps its numbers
 
--- of the decisions none goes, and what is decided on some numbers changes none of them; the same holds behind these
+-- no number goes by the decisions, and what is decided on some numbers changes none of them; the same holds after these
 record Kept (decisions : List (Option ℕ)) (own rest : List Number) : Type 0 where
   same : some_changed decisions own ≡ false
   none : is_any_gone (drop (length own) decisions) ≡ false

@@ -31,7 +31,7 @@ module _ {B : Type 0} (passes : B → Bool) where
 abbrev is_bad : Layer → Feature → Bool
 is_bad layer feature = not (is_some (pairs_of layer feature))
 
--- of these features of a layer of this ordinal those whose tags make no pairs, each by both ordinals
+-- among these features of a layer of this ordinal, those whose tags make no pairs, each by both ordinals
 abbrev pub bad_among : Layer → ℕ → List (ℕ × (ℕ × Feature)) → List (ℕ × ℕ)
 bad_among layer ordinal found = map (λ (f : ℕ × (ℕ × Feature)). (ordinal, f.0)) (filter (λ (f : ℕ × (ℕ × Feature)). is_bad layer f.1.1) found)
 

@@ -1,4 +1,4 @@
-//! What is decided on each number of the tags of a feature by the keys of its layer that are named;
+//! What is decided on each number of the tags of a feature by which keys of its layer are named;
 //! and which fields are tags.
 
 ghost use Rattle.std.specs.Prelude.{◌≡◌, ℕ, ◌⊎◌, false, None, Some, IfErr, IfOk, map, option_map, slice_get};
@@ -42,8 +42,8 @@ pub fn name_keys(layer: LayerView<'_>, key: &[u8], named: &mut Vec<bool>) -> Res
 }
 
 /// Decides on each number of the tags of a feature, in place of what was decided before: the pairs
-/// of the keys that are named go, or get this value, and all others stay. How many pairs are named.
-/// A feature whose tags make no pairs is refused, by its ordinal and that of its layer.
+/// of the keys that are named go, or get this value, and all others stay. Returns how many pairs
+/// are named. A feature whose tags make no pairs is refused, by its ordinal and that of its layer.
 pub fn decide_or_refuse(
     layer: usize,
     found: FoundFeature<'_>,
@@ -72,7 +72,7 @@ fn is_named(named: &[bool], key: u32) -> bool
     named.get(key as usize).copied().unwrap_or(false)
 }
 
-/// What is decided on the two numbers of a pair: they stay, and where the pair is named both go, or
+/// What is decided on the two numbers of a pair: they stay, and if the pair is named both go, or
 /// the second becomes this one; and whether it is named.
 fn decided(pair: Pair, named: &[bool], to: Option<u64>) -> (Option<u64>, Option<u64>, bool)
     ensures { result ≡ said_of (λ key. unwrap_or (slice_get named.now key) false) to (pair_seen pair) }

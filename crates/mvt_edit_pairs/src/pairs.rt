@@ -23,7 +23,7 @@ use mvt_meaning::Refusal;
 use std::alloc::{AllocError, Global};
 
 /// Decides on each number of the tags of a feature, in place of what was decided before: on the two
-/// of each pair, and whether the pair counts. How many pairs count.
+/// of each pair, and whether the pair counts. Returns how many pairs count.
 fn decide_all<D: Fn(Pair) -> (Option<u64>, Option<u64>, bool)>(
     feature: FeatureView<'_>,
     sizes: PoolSizes,
@@ -48,8 +48,8 @@ fn decide_all<D: Fn(Pair) -> (Option<u64>, Option<u64>, bool)>(
     Ok(count)
 }
 
-/// The same of a feature that was found in the layer of this ordinal, which is refused where its
-/// tags make no pairs.
+/// The same for a feature that was found in the layer of this ordinal, which is refused if its tags
+/// make no pairs.
 pub fn decide_pairs<D: Fn(Pair) -> (Option<u64>, Option<u64>, bool)>(
     layer: usize,
     found: FoundFeature<'_>,
@@ -72,10 +72,9 @@ pub fn decide_pairs<D: Fn(Pair) -> (Option<u64>, Option<u64>, bool)>(
     }
 }
 
-/// Puts the steps by which the numbers in the fields of this number of the feature, in the layer at
-/// this position, become what is decided on them behind the others. Returns the sum of `beside` and
-/// of how many bytes the fields take then, where that is within the limit of a file; none where
-/// `beside` is none.
+/// Appends the steps by which the numbers in the fields of this number of the feature, in the layer
+/// at this position, become what is decided on them. Returns the sum of `beside` and of how many
+/// bytes the fields take then, if that is within the limit of a file; none where `beside` is none.
 pub fn renumber_feature(
     alloc: Global,
     layer: usize,

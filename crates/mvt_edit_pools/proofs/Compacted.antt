@@ -1,4 +1,4 @@
--- Keys and values go from the selected layers, where no feature uses them.
+-- Keys and values are removed from the selected layers if no feature uses them.
 use Rattle.std.proofs.Common.{◌≡◌, ℕ, ◌+◌, ◌≤◌, ◌/◌, ◌==◌, Bool, true, false, cond, not, is_some, None, Ok, Err, Result, List, [], ◌∷◌, ◌++◌, length, length-append, append-nil, map, refl, sym, ap, ◌∙◌, arith}
 use Rattle.std.proofs.lemmas.List.Concat.{flat_map-append}
 use Rattle.std.proofs.lemmas.List.Sums.{sum_by-cons}
@@ -76,7 +76,7 @@ module _ (keys values : List plain.LayerItem → ℕ → Bool) where
   layers_hold (in_tile.Layer layer ∷ items) = (record { carries = items_carry (map layer_item_of layer.items.items) layer.items.items; heavy = items_heavy layer.items.items }, layers_hold items)
   layers_hold (in_tile.Plain field ∷ items) = (tt, layers_hold items)
 
-  -- ---- what is put and taken out of all
+  -- ---- what is put and taken out in all
 
   all_weigh : (f : ℕ × plain.Layer → List plain.Field) (weight : plain.Layer → ℕ) → ((at : ℕ × plain.Layer) → weigh_fields (f at) ≡ weight at.1) → (found : List (ℕ × (ℕ × plain.Layer))) → weigh_fields (each_found f found) ≡ sum_by (λ (at : ℕ × (ℕ × plain.Layer)). weight at.1.1) found
   all_weigh f weight same [] = refl
@@ -140,6 +140,6 @@ layer_refused pools choice document found at rest refusal selects left is =
     let all : refuse_first (unreadable found) ≡ Err refusal = ap refuse_first (sym left) ∙ front_refused (bad_of at) (unreadable rest) refusal front in
     selected_by pools choice document (Err refusal) (rw (selects, all) refl)
 
--- behind a layer of which none is refused
+-- after a layer of which no feature is refused
 pub readable_behind : (at : ℕ × (ℕ × plain.Layer)) (rest : List (ℕ × (ℕ × plain.Layer))) → unreadable (at ∷ []) ≡ [] → unreadable (at ∷ rest) ≡ unreadable rest
 readable_behind at rest none = ap (λ bad. bad ++ unreadable rest) (sym (append-nil (bad_of at)) ∙ none)

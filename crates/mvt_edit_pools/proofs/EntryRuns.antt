@@ -70,7 +70,7 @@ none_before number run items index h before =
     (ap (λ values. slice_get values index) (parts run (map (is_entry_of number) items) h)
     ∙ same_at run.first index false (replicate run.count true ++ (replicate h.behind false ++ h.rest)) before)
 
--- from its first on each is one up to its last, and none behind
+-- from its first on each is one up to its last, and none after that
 pub ones_from : (number : ℕ) (run : Run) (items : List LayerItem) (index : ℕ) → IsRunOf (is_entry_of number) run items → run.first ≤ index → index < run.until → IsEntryAt number items index (nat_lt (index - run.first) run.count)
 ones_from number run items index h from known =
     entry_at number items index (nat_lt (index - run.first) run.count)
@@ -78,7 +78,7 @@ ones_from number run items index h from known =
     ∙ past_same run.first index false (replicate run.count true ++ (replicate h.behind false ++ h.rest)) from
     ∙ true_before run.count h.behind (index - run.first) h.rest (omega (arith, h.until)))
 
--- the item that stands at an index: whether it is an entry, and what the marks make of the items from it on
+-- the item at an index: whether it is an entry, and what the marks make of the items from it on
 pub record ItemAt (items : List LayerItem) (index : ℕ) : Type 0 where
   pub item : LayerItem
   pub seen : (number : ℕ) (is : Bool) → IsEntryAt number items index is → is_entry number (layer_item_of item) ≡ is

@@ -14,7 +14,7 @@ use Rattle.mvt_fates.proofs.CarriedOut.{AreThere, carries_beside, new_in, put_al
 use Rattle.mvt_edit_pools.specs.Marks.{entry_splices, first_goes, gone_by, stays_from}
 use Rattle.mvt_edit_pools.specs.Pools.{gone_from}
 
--- ---- a key is no value
+-- ---- a key is not a value
 
 key_apart : (field : Field) (bytes : List ℕ) → content_in key_field field ≡ Some bytes → content_in value_field field ≡ None
 key_apart field bytes is =
@@ -48,7 +48,7 @@ kind_of : (item : LayerItem) → Kind item
 kind_of (OfFeature feature) = inr (inr (refl, refl))
 kind_of (PlainInLayer field) = kind_by field (content_in key_field field) (content_in value_field field) refl refl
 
--- ---- one item more, by marks
+-- ---- one more item, by marks
 
 pub goes_key : (keys values : List Bool) (item : LayerItem) (items : List LayerItem) (first : Bool) (behind : List Bool) → is_entry key_field item ≡ true → first ≡ first_goes keys → behind ≡ drop 1 keys → gone_by keys values (item ∷ items) ≡ first ∷ gone_by behind values items
 goes_key keys values item items first behind is goes left =
@@ -210,7 +210,7 @@ module _ (keys values : ℕ → Bool) where
         ]
       ]
 
-  -- ---- entries have two bytes or more
+  -- ---- entries have at least two bytes
 
   entry_heavy : (number : ℕ) (item : LayerItem) → IsHeavy item → is_entry number item ≡ true → 2 ≤ length (layer_item_bytes item)
   entry_heavy number (OfFeature feature) heavy is = absurd cc
@@ -243,7 +243,8 @@ module _ (keys values : ℕ → Bool) where
 
   -- ---- the splices
 
-  -- the splices can be carried out on the items and leave those that stay; they put nothing, and take the entries that go
+  -- the splices can be carried out on the items and leave those that stay; they put nothing, and take out the entries
+  -- that go
   pub record TakesEntries (items : List LayerItem) : Type 0 where
     pub there : AreThere (entry_splices (gone_from keys values 0 0 items)) items
     pub leaves : spliced_all (entry_splices (gone_from keys values 0 0 items)) items ≡ staying (is_entry value_field) values 0 (staying (is_entry key_field) keys 0 items)

@@ -1,4 +1,4 @@
--- The pairs of the features of a layer that are left, and how many each has: those of the first, and those behind it.
+-- The pairs of the features of a layer that are left, and how many each has: those of the first, and those after it.
 use Rattle.std.proofs.Common.{◌≡◌, ℕ, ◌≤◌, List, ◌∷◌, ◌++◌, length, length-append, map, take, drop, sym, ap, ◌∙◌, arith}
 use Rattle.std.proofs.lemmas.List.{drop-map, length-map, take-map}
 use Rattle.std.proofs.Math.Seq.{take-append_seam, drop-append_seam}
@@ -8,7 +8,7 @@ use Rattle.mvt_layers.specs.declared.attributes.Pair.{Pair}
 use Rattle.mvt_edit_pools.specs.Marks.{pair_counts, pairs_at}
 use Rattle.mvt_edit_pools.proofs.Marking.{pairs_left}
 
--- the first feature's own pairs, and what is kept of the features behind it
+-- the first feature's own pairs, and what is kept of the features after it
 pub record FirstAndRest (items : List LayerItem) (at : ℕ × (ℕ × Feature)) (rest : List (ℕ × (ℕ × Feature))) (front back : List Pair) (behind : List ℕ) : Type 0 where
   pub own : map pair_seen front ≡ pairs_at items at
   pub pairs : map pair_seen back ≡ pairs_left items rest

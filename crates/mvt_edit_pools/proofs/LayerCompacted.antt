@@ -1,4 +1,4 @@
--- A layer of which some keys and some values stay: its steps, what they make, and what they put and take out.
+-- A layer in which some keys and some values stay: its steps, what they make, and what they put and take out.
 use Rattle.std.proofs.Common.{◌≡◌, ℕ, ◌+◌, Bool, Some, List, [], ◌++◌, length, length-append, map, slice_get, option_map, refl, sym, ap, ◌∙◌, subst, arith}
 use Rattle.std.proofs.lemmas.List.{length-map}
 use Rattle.std.proofs.lemmas.List.Concat.{flat_map-append}
@@ -39,7 +39,7 @@ module _ (keys values : List LayerItem → ℕ → Bool) where
   abbrev pub change : List LayerItem → List Field → List Field
   change items fields = with_new_ordinals (keys items) (values items) items fields
 
-  -- the layer can be changed so: each of its features can, and its entries have bytes
+  -- the layer can be changed in this way: each of its features can, and its entries have bytes
   pub record Holds (layer : Layer) : Type 0 where
     pub carries : CarriesEach fates change layer
     pub heavy : AllByRecursion IsHeavy layer.items
@@ -48,7 +48,7 @@ module _ (keys values : List LayerItem → ℕ → Bool) where
   abbrev entries_of : Layer → List Field
   entries_of layer = field_list (leaving key_field (keys layer.items) layer.items) ++ field_list (leaving value_field (values layer.items) layer.items)
 
-  -- what is put and taken out of a layer that was found
+  -- what is put into a layer that was found, and taken out of it
   abbrev pub puts_of : ℕ × Layer → List Field
   puts_of at = puts_in fates change (0, at) ++ []
 
@@ -103,7 +103,7 @@ module _ (keys values : List LayerItem → ℕ → Bool) where
           few_so = omega (arith, cut.few, cut.takes, same_keys, same_values, both, keys_gone, values_gone, length-map splices (in_layer_at position));
         }
 
-    -- the steps of the layer come to what is made of it
+    -- the steps of the layer result in what is made of it
     pub comes : Come (compacting keys values (0, (position, layer))) document made (puts_of (position, layer)) (takes_of (position, layer))
     comes =
         let first = layer_comes fates change 0 position layer document is holds.carries in

@@ -70,7 +70,7 @@ pub marked_none : (m : ℕ) (marks : List Bool) → marked (λ n. false) m marks
 marked_none m [] = refl
 marked_none m (mark ∷ marks) = ap (λ rest. mark ∷ rest) (marked_none (m + 1) marks)
 
--- of two lists of pairs
+-- for two lists of pairs
 pub keys_joined : (first second : List (ℕ × ℕ)) (marks : List Bool) → marked (names_key second) 0 (marked (names_key first) 0 marks) ≡ marked (names_key (first ++ second)) 0 marks
 keys_joined first second marks =
     marked_twice (names_key first) (names_key second) 0 marks
@@ -81,7 +81,7 @@ values_joined first second marks =
     marked_twice (names_value first) (names_value second) 0 marks
     ∙ marked_alike (λ n. names_value first n || names_value second n) (names_value (first ++ second)) (λ n. sym (list_any-append (λ (pair : ℕ × ℕ). pair.1 == n) first second)) 0 marks
 
--- ---- one pair more
+-- ---- one more pair
 
 pub keys_pair : (pair : ℕ × ℕ) (marks after : List Bool) (rest : Option (List (ℕ × ℕ))) → after ≡ marked (is_one pair.0) 0 marks → option_map (λ pairs. marked (names_key pairs) 0 after) rest ≡ option_map (λ pairs. marked (names_key pairs) 0 marks) (and_more pair rest)
 keys_pair pair marks after None is = refl
@@ -137,7 +137,7 @@ by_layer f layer feature key_count value_count is_keys is_values =
     ∙ ap (λ n. f (plain_pairs (tag_pairs (length (keys layer)) n (numbers 2 feature.fields)))) is_values
     ∙ ap f (tags_are_pairs layer feature)
 
--- one feature more
+-- one more feature
 pub keys_more : (layer : Layer) (at : ℕ × (ℕ × Feature)) (rest : List (ℕ × (ℕ × Feature))) (key_count value_count : ℕ) (before after : List Bool) → key_count ≡ length (keys layer) → value_count ≡ length (values layer)
     → option_map (λ pairs. marked (names_key pairs) 0 before) (plain_pairs (tag_pairs key_count value_count (numbers 2 at.1.1.fields))) ≡ Some after
     → marked (names_key (pairs_left layer.items rest)) 0 after ≡ marked (names_key (pairs_left layer.items (at ∷ rest))) 0 before

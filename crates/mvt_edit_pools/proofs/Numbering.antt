@@ -35,7 +35,7 @@ first_named (stays ∷ marks) (suc most) =
     let one : min (suc (length marks)) (suc most) ≡ suc (min (length marks) most) = omega arith in
     ap (λ n. take n (stays ∷ marks)) one ∙ ap (λ rest. stays ∷ rest) (first_named marks most)
 
--- one entry more
+-- one more entry
 pub numbered_more : (front : List ℕ) (next : ℕ) (marks : List Bool) (index : ℕ) (d : Bool) → index < length marks → (front ++ next ∷ []) ++ numbered_from (next + cond (get_or marks index d) 1 0) (drop (index + 1) marks) ≡ front ++ numbered_from next (drop index marks)
 numbered_more front next marks index d within =
     append_assoc front (next ∷ []) (numbered_from (next + cond (get_or marks index d) 1 0) (drop (index + 1) marks))

@@ -1,4 +1,4 @@
--- What is decided on the tags of a feature by new ordinals: it is what the meaning decides; where no pair changes there is
+-- What is decided on the tags of a feature by new ordinals: it is what the meaning decides; if no pair changes there is
 -- no step.
 use Rattle.std.proofs.Common.{◌≡◌, ℕ, zero, suc, ◌<◌, ◌^◌, Bool, true, false, ◌&&◌, Option, Some, None, List, [], ◌∷◌, ◌++◌, length, append-nil, map, option_map, slice_get, refl, sym, ap, ◌∙◌, inl, inr, arith}
 use Rattle.std.specs.Prelude.{nat_lt}
@@ -75,7 +75,7 @@ features_as_selected keys_stay values_stay at key_ordinals value_ordinals are_ke
     ∙ ap (λ ordinals. layer_steps (pairs_repointed (ordinals_by (stays_from (keys_stay layer.items) 0 (length (keys layer)))) ordinals) at) are_values
     ∙ steps_each (keys_stay layer.items) (values_stay layer.items) layer.items at.1.0 (found_features layer.items)
 
--- ---- a feature of which no pair changes
+-- ---- a feature none of whose pairs changes
 
 keeps : (ordinal : ℕ) (new : Option ℕ) → keeps_ordinal ordinal new ≡ true → new ≡ Some ordinal
 keeps ordinal None is = absurd cc
@@ -140,7 +140,7 @@ module _ (key_ordinals value_ordinals : List ℕ) where
       ap (λ ordinals. map (in_feature_at layer at.1.0) (splices_from 0 (field_fates 2 ordinals fields))) same
       ∙ ap (map (in_feature_at layer at.1.0)) (no_splices 2 all fields (none_gone (flat pairs)) (none_new (flat pairs) (flat_map (field_numbers 2) fields) values_are) 0)
 
-  -- where no pair changes the feature has no step
+  -- if no pair changes, the feature has no step
   pub no_steps : (items : List LayerItem) (layer : ℕ) (at : ℕ × (ℕ × Feature)) (own : List (ℕ × ℕ)) → own ≡ pairs_at items at → counted_by said own ≡ 0 → feature_steps (pairs_repointed key_ordinals value_ordinals items) layer at ≡ []
   no_steps items layer at own is none = none_found items layer at (pairs_among items at.1.1.fields) refl (ap (counted_by said) (sym is) ∙ none)
 

@@ -13,12 +13,12 @@ use Rattle.mvt_renumber.specs.declared.fate.Fate.{Fate}
 
 -- ---- marks
 
--- for each of a number of entries, of which the first has this ordinal, whether it stays
+-- for each of a number of entries, the first of which has this ordinal, whether it stays
 abbrev pub stays_from : (ℕ → Bool) → ℕ → ℕ → List Bool
 stays_from stays ordinal zero = []
 stays_from stays ordinal (suc count) = stays ordinal ∷ stays_from stays (ordinal + 1) count
 
--- the marks of entries, of which the first has this ordinal, where the selected ordinals are marked besides
+-- the marks of entries, the first of which has this ordinal, where the selected ordinals are marked as well
 abbrev pub marked : (ℕ → Bool) → ℕ → List Bool → List Bool
 marked selects ordinal [] = []
 marked selects ordinal (mark ∷ marks) = (selects ordinal || mark) ∷ marked selects (ordinal + 1) marks
@@ -71,7 +71,7 @@ pair_repointed keys values pair =
 abbrev pub ordinals_in : List ℕ → List ℕ → List LayerItem → List Field → List (Option ℕ)
 ordinals_in keys values items fields = option_map_or (decided_by (pair_repointed keys values)) (pairs_among items fields) []
 
--- what becomes of the fields of a feature then (tiles 4.4)
+-- what then becomes of the fields of a feature (tiles 4.4)
 abbrev pub pairs_repointed : List ℕ → List ℕ → List LayerItem → List Field → List (Fate Field)
 pairs_repointed keys values items fields = field_fates 2 (ordinals_in keys values items fields) fields
 
@@ -82,8 +82,8 @@ abbrev pub first_goes : List Bool → Bool
 first_goes [] = false
 first_goes (stays ∷ marks) = not stays
 
--- for each item of a layer whether it is a key or a value that does not stay, by a mark for each of both that does
--- (tiles 4.1)
+-- for each item of a layer whether it is a key or a value that does not stay, by a mark for each key and each value
+-- that does (tiles 4.1)
 abbrev pub gone_by : List Bool → List Bool → List LayerItem → List Bool
 gone_by keys values [] = []
 gone_by keys values (item ∷ items) =
@@ -91,10 +91,10 @@ gone_by keys values (item ∷ items) =
     else if is_entry value_field item then first_goes values ∷ gone_by keys (drop 1 values) items
     else false ∷ gone_by keys values items
 
--- the splices by which the items of a layer go that are picked, by a mark for each
+-- the splices by which the items of a layer that are picked go, by a mark for each
 abbrev pub entry_splices : List Bool → List (Splice LayerItem)
 entry_splices picked = splices_of (map (λ is. goes_if is) picked)
 
--- the steps of these, where the layer stands at this position of the tile
+-- the steps of these splices, where the layer is at this position of the tile
 abbrev pub entry_steps : ℕ → List Bool → Change
 entry_steps layer picked = map (λ s. LayerStep layer s.index s.taken s.put) (entry_splices picked)

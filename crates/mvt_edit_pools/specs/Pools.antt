@@ -42,7 +42,7 @@ values_stay Keys items ordinal = is_any items ordinal
 values_stay Values items ordinal = is_value_used items ordinal
 values_stay Both items ordinal = is_value_used items ordinal
 
--- ---- a layer of which some keys and some values stay
+-- ---- a layer in which some keys and some values stay
 
 -- what becomes of the fields of a feature, in a layer of these items (tiles 4.4)
 abbrev pub ordinal_fates : (List LayerItem → ℕ → Bool) → (List LayerItem → ℕ → Bool) → List LayerItem → List Field → List (Fate Field)

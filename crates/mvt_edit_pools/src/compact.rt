@@ -1,4 +1,4 @@
-//! Keys and values go that no feature uses.
+//! Keys and values that no feature uses are removed.
 
 ghost use Rattle.std.specs.Prelude.{◌≡◌, ◌⊎◌, ◌++◌, [], ◌∷◌, Err, IfErr, IfOk, length, map};
 ghost use Rattle.mvt_document.specs.Stands.{document_of, layer_of};
@@ -24,12 +24,12 @@ use mvt_document::Document;
 use mvt_select::{FoundLayer, LayersChoice, Refusal, find_layers};
 use std::alloc::{AllocError, Global};
 
-/// Which entries of a layer go where no feature uses them.
+/// Which entries of a layer go if no feature uses them.
 #[derive(Clone, Copy, Debug, PartialEq, Eq)]
 pub enum Pools {
-    /// Keys alone.
+    /// Only keys.
     Keys,
-    /// Values alone.
+    /// Only values.
     Values,
     /// Keys and values.
     Both,
@@ -70,9 +70,9 @@ pub fn compact(
     Ok(Change::new(steps))
 }
 
-/// Puts the steps by which the layer loses what it does not use behind the others: first those of
-/// its features, which move no item of the layer, and then those that take the entries out. The
-/// first feature whose tags make no pairs is refused.
+/// Appends the steps by which the layer loses what it does not use: first those of its features,
+/// which move no item of the layer, and then those that take the entries out. The first feature
+/// whose tags make no pairs is refused.
 fn compact_layer(
     alloc: Global,
     found: FoundLayer<'_>,
@@ -88,7 +88,7 @@ fn compact_layer(
     Ok(keep_marked(alloc, found, &marks, decisions, steps)?)
 }
 
-/// Puts the steps by which the layer keeps the entries that are marked and no others behind the others.
+/// Appends the steps by which the layer keeps only the entries that are marked.
 fn keep_marked(
     alloc: Global,
     found: FoundLayer<'_>,

@@ -15,8 +15,8 @@ use mvt_fates::take_out;
 use mvt_select::FoundLayer;
 use std::alloc::{AllocError, Global};
 
-/// Puts the steps by which the layer loses its keys and values that do not stay, by a mark for each
-/// that does, behind the others.
+/// Appends the steps by which the layer loses its keys and values that do not stay, by a mark for
+/// each that does.
 pub(crate) fn take_entries(
     alloc: Global,
     found: FoundLayer<'_>,
@@ -37,8 +37,8 @@ pub(crate) fn take_entries(
     Ok(())
 }
 
-/// For each item of the layer, in order, whether it is a key or a value that does not stay, by a mark for each of
-/// both that does.
+/// For each item of the layer, in order, whether it is a key or a value that does not stay, by a mark for each
+/// key and each value that does.
 fn gone(
     alloc: Global,
     layer: &Layer,
@@ -68,7 +68,7 @@ fn gone(
 }
 
 /// Whether the item at this index is a key or a value that does not stay, by the marks of those from it on,
-/// and the marks of the keys and of the values behind it.
+/// and the marks of the keys and of the values after it.
 fn item_goes<'a>(
     items: &[LayerItem],
     index: usize,
@@ -90,7 +90,7 @@ fn item_goes<'a>(
 }
 
 /// The item at this index is one of the entries that are LEN fields of this number, where this is the run of the
-/// first of them. The item is read only where the run does not show it.
+/// first of them. The item is read only if the run does not show it.
 fn is_entry_at(items: &[LayerItem], index: usize, entries: Run, number: u64) -> bool
     requires run { IsRunOf (is_entry_of number) entries items.now }
     requires there { index < length items.now }
@@ -127,7 +127,7 @@ fn first_goes(marks: &[bool]) -> bool
     }
 }
 
-/// The marks behind the first.
+/// The marks after the first.
 fn behind_first(marks: &[bool]) -> &[bool]
     ensures { result.now ≡ drop 1 marks.now }
 {

@@ -18,10 +18,10 @@ use mvt_layers::Pair;
 use mvt_select::{FoundFeature, FoundLayer};
 use std::alloc::{AllocError, Global};
 
-/// Puts the steps by which the tags of each feature of the layer name what they named by its new
-/// ordinal behind the others, where the keys and the values have these. The pairs are those that were
-/// kept as the layer was read. A feature of whose numbers none changes has no step, and its tags are
-/// not read again.
+/// Appends the steps by which the tags of each feature of the layer name what they named by its new
+/// ordinal, given the new ordinals of the keys and of the values. The pairs are those that were
+/// kept as the layer was read. A feature none of whose numbers changes has no step, and its tags
+/// are not read again.
 pub(crate) fn repoint(
     alloc: Global,
     found: FoundLayer<'_>,
@@ -50,8 +50,8 @@ pub(crate) fn repoint(
     Ok(())
 }
 
-/// Puts the steps by which the numbers of the feature's tags become those that are decided on behind
-/// the others, where some of its pairs change.
+/// Appends the steps by which the numbers of the feature's tags become what is decided on them, if
+/// some of its pairs change.
 fn renumber_changed(
     alloc: Global,
     found: FoundLayer<'_>,
@@ -70,7 +70,7 @@ fn renumber_changed(
 }
 
 /// Decides on the two numbers of each pair, in place of what was decided before, where the keys and
-/// the values have these new ordinals. How many pairs change.
+/// the values have these new ordinals. Returns how many pairs change.
 fn decide(
     pairs: &[Pair],
     key_ordinals: &[u32],
@@ -89,7 +89,8 @@ fn decide(
     Ok(changed)
 }
 
-/// Decides on the two numbers of the pair, behind what was decided before. Whether one of them changes.
+/// Decides on the two numbers of the pair, after what was decided before. Returns whether one of them
+/// changes.
 fn decide_pair(
     pair: Pair,
     key_ordinals: &[u32],

@@ -22,7 +22,7 @@ use std::alloc::{AllocError, Global};
 const MOST_NAMED: usize = 1 << 32;
 
 /// What was read of the tags of a layer: for each of its keys and values, in order, whether it stays;
-/// the pairs of its features, one feature behind the other; and how many each feature has.
+/// the pairs of its features, one feature after the other; and how many each feature has.
 #[derive(Debug, Drop)]
 pub(crate) struct Marks {
     pub(crate) keys: Vec<bool>,
@@ -53,7 +53,7 @@ pub(crate) fn mark_used(
     Ok(())
 }
 
-/// Marks the key and the value of each pair of the feature, keeps the pairs and how many they are, or
+/// Marks the key and the value of each pair of the feature, keeps the pairs and their number, or
 /// refuses the feature, which is in the layer of this ordinal.
 fn mark_or_refuse(
     layer: usize,
@@ -77,8 +77,8 @@ fn mark_or_refuse(
     }
 }
 
-/// Marks the key and the value of each pair of the feature, where its tags make pairs, and keeps the
-/// pairs and how many they are.
+/// Marks the key and the value of each pair of the feature, if its tags make pairs, and keeps the
+/// pairs and their number.
 fn mark_and_count(
     feature: FeatureView<'_>,
     sizes: PoolSizes,
@@ -96,7 +96,7 @@ fn mark_and_count(
     Ok(())
 }
 
-/// The same, and leaves the counts as they are.
+/// The same, leaving the counts as they are.
 #[inline(never)]
 fn mark_pairs(
     feature: FeatureView<'_>,
@@ -139,7 +139,7 @@ fn mark(marks: &mut Vec<bool>, ordinal: u32)
     }
 }
 
-/// `count` marks, each of them this one.
+/// `count` marks, all of them this one.
 pub(crate) fn same_marks(alloc: Global, count: usize, mark: bool) -> Result<Vec<bool>, AllocError>
     ensures { IfOk result (λ marks. marks.items ≡ replicate count mark) }
 {
@@ -154,8 +154,8 @@ pub(crate) fn nameable(marks: &[bool]) -> &[bool]
     &marks[..marks.len().min(MOST_NAMED)]
 }
 
-/// For each entry, by the marks of those that stay, how many before it stay: its new ordinal, where
-/// it stays.
+/// For each entry, by the marks of those that stay, how many before it stay: its new ordinal, if it
+/// stays.
 pub(crate) fn number(alloc: Global, marks: &[bool]) -> Result<Vec<u32>, AllocError>
     requires few { length marks.now ≤ 2 ^ 32 }
     ensures { IfOk result (λ ordinals. ordinals.items ≡ numbered_from 0 marks.now) }

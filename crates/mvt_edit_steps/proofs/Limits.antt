@@ -1,4 +1,4 @@
--- What a command makes where a file can hold it, and where none can.
+-- What a command makes if a file can hold it, and if none can.
 use Rattle.std.proofs.Common.{◌≡◌, ◌<◌, ◌≤◌, Bool, true, false, not, Ok, Err, length, nat_lt, refl}
 use Rattle.std.proofs.lemmas.Bool.{le-ltb, lt-ltb}
 use Rattle.mvt_document.specs.declared.TheConstants.{MAX_FILE}

@@ -22,7 +22,7 @@ use Rattle.mvt_meaning.specs.declared.refusal.Refusal.TheVariants.{NoMemory, Too
 use Rattle.mvt_meaning.proofs.Found.{change_fields_same, change_items_same}
 use Rattle.mvt_edit_steps.specs.Prepared.{IsPrepared, Prepares}
 
--- the step makes `after` of the document; it puts `put` bytes and takes `taken` out
+-- the step turns the document into `after`; it puts `put` bytes and takes out `taken`
 pub record Carries (step : Step) (document after : Document) (put taken : ℕ) : Type 0 where
   pub fits : FitsStep step document
   pub makes : go_step step document ≡ after
@@ -41,7 +41,7 @@ prepared_by_one command document after step put taken carries means puts takes =
   steps = omega arith;
 }
 
--- the change of the step where a file can hold what it makes, and otherwise the refusal
+-- the change of the step if a file can hold what it makes, and otherwise the refusal
 pub prepared_within_limit : (command : Command) (document : Document) (step : Step) (result : Result Change Refusal) → IfOk result (λ change. change_of change ≡ step ∷ []) → IfOk result (λ change. length (bytes_of (go_step step document)) ≤ MAX_FILE) → IfErr result (λ refusal. (refusal ≡ NoMemory) ⊎ ((refusal ≡ TooLarge) × (MAX_FILE < length (bytes_of (go_step step document))))) → (length (bytes_of (go_step step document)) ≤ MAX_FILE → IsPrepared command document (step ∷ [])) → (MAX_FILE < length (bytes_of (go_step step document)) → applied command document ≡ Err TooLarge) → Prepares command document result
 prepared_within_limit command document step (Ok change) made within refused fits large = subst (IsPrepared command document) (sym made) (fits within)
 prepared_within_limit command document step (Err refusal) made within refused fits large =

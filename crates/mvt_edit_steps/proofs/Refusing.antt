@@ -1,4 +1,4 @@
--- What is asked for and not there is refused.
+-- What is asked for and is not there is refused.
 use Rattle.std.proofs.Common.{◌≡◌, Option, Some, None, Result, Ok, Err, refl}
 use Rattle.std.specs.Option.{ok_or}
 use Rattle.mvt_meaning.specs.declared.refusal.Refusal.{Refusal}

@@ -11,9 +11,9 @@ use Rattle.mvt_meaning.specs.Weights.{put_by, taken_by}
 use Rattle.mvt_meaning.specs.declared.refusal.Refusal.{Refusal}
 use Rattle.mvt_meaning.specs.declared.refusal.Refusal.TheVariants.{NoMemory}
 
--- the change fits the document and makes of it what the command makes; it puts no more bytes than the command puts in,
--- what leads back puts no more than the command takes out, and it has at most one step plus half as many as these bytes
--- together
+-- the change fits the document and turns it into what the command makes of it; it puts no more bytes than the command
+-- puts in, what leads back puts no more than the command takes out, and it has at most one step plus half as many as
+-- these bytes together
 pub record IsPrepared (command : Command) (document : Document) (change : plain.Change) : Type 0 where
   pub fits : Fits change document
   pub means : applied command document ≡ Ok (go change document)

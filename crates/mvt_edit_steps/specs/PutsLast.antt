@@ -6,16 +6,16 @@ use Rattle.mvt_document.specs.Lists.{CanSplice}
 use Rattle.mvt_change.specs.Changes.{Step}
 use Rattle.mvt_meaning.specs.Weights.{weigh_last}
 
--- `taken` items from `index` of `items` can be taken out, and those of `put` put there, and that makes `after` of them;
--- the bytes that are put are those of the last item that passes in `after`, and those that are taken out are those of
--- the last that passes in `items`
+-- `taken` items from `index` of `items` can be taken out, and those of `put` put there, and that turns them into
+-- `after`; the bytes that are put are those of the last item that passes in `after`, and those that are taken out are
+-- those of the last that passes in `items`
 pub record ReplacesLast {A : Type 0} (valid : A → Type 0) (bytes : A → List ℕ) (passes : A → Bool) (items after : List A) (index taken : ℕ) (put : List A) : Type 0 where
   pub can : CanSplice valid index taken put items
   pub makes : splice index taken put items ≡ after
   pub puts : length (flat_map bytes put) ≡ weigh_last bytes passes after
   pub takes : length (flat_map bytes (part index taken items)) ≡ weigh_last bytes passes items
 
--- the step exchanges a part of `items` so, and makes `after` of them
+-- the step exchanges a part of `items` in this way, and turns them into `after`
 pub record PutsLast {A : Type 0} (valid : A → Type 0) (bytes : A → List ℕ) (passes : A → Bool) (step_with : ℕ → ℕ → List A → Step) (items after : List A) (step : Step) : Type 0 where
   pub index : ℕ
   pub taken : ℕ

@@ -1,4 +1,4 @@
-//! The last VARINT field of a number gets a value, or one comes at the end.
+//! The last VARINT field of a number gets a value, or one is added at the end.
 
 ghost use Rattle.std.specs.Prelude.{◌≡◌, true, None, [], ◌∷◌, IfOk, IfSome, map};
 ghost use Rattle.std.specs.List.{last_or};

@@ -1,4 +1,4 @@
-//! Where the last item that passes stands, or the end of the list where none does.
+//! Where the last item that passes is, or the end of the list if none does.
 
 ghost use Rattle.std.specs.Prelude.{◌≡◌};
 ghost use Rattle.std.specs.Option.{option_map_or, unwrap_or};

@@ -1,5 +1,5 @@
-//! The change of one step, the same where a file can hold what it makes, and the change that takes
-//! one item out.
+//! The change of one step, the same if a file can hold what it makes, and the change that takes one
+//! item out.
 
 ghost use Rattle.std.specs.Prelude.{◌≡◌, ◌⊎◌, ◌<◌, ◌≤◌, [], ◌∷◌, IfErr, IfOk, length};
 ghost use Rattle.mvt_document.specs.declared.TheConstants.{MAX_FILE};
@@ -23,7 +23,7 @@ pub fn one_step(alloc: Global, step: Step) -> Result<Change, AllocError>
     Ok(Change::new(vec![in alloc; step]?))
 }
 
-/// The same, where a file can hold what the step makes of the document.
+/// The same, if a file can hold what the step makes of the document.
 pub fn one_step_within_limit(
     alloc: Global,
     document: &Document,
@@ -41,7 +41,7 @@ pub fn one_step_within_limit(
     Ok(one_step(alloc, step)?)
 }
 
-/// The change that takes the item at this position of a list out.
+/// The change that takes out the item at this position of a list.
 pub fn item_out(alloc: Global, place: Place, index: usize) -> Result<Change, AllocError>
     ensures { IfOk result (λ change. change_of change ≡ item_out (place_of place) index ∷ []) }
 {
@@ -53,7 +53,7 @@ pub fn item_out(alloc: Global, place: Place, index: usize) -> Result<Change, All
     one_step(alloc, step)
 }
 
-/// The run that takes the item at this index out.
+/// The run that takes out the item at this index.
 fn one_out<T>(alloc: Global, index: usize) -> Run<T>
     ensures { splice_of result ≡ record { index = index; taken = 1; put = [] } }
 {

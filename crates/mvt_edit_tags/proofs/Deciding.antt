@@ -47,19 +47,19 @@ on_pairs key layer feature key_count value_count named decisions is_named is_key
     let decided : option_map (without_pairs goes) (pairs_among layer.items feature.fields) ≡ Some decisions = ap (option_map (without_pairs goes)) (sym (tags_are_pairs layer feature)) ∙ by_layer in
     record { decided = removals_decided key layer.items feature.fields decisions decided; readable = then_pairs (without_pairs goes) (pairs_among layer.items feature.fields) decisions decided }
 
--- the tags of a feature make pairs by the sizes of its layer where they make pairs in it
+-- the tags of a feature make pairs by the sizes of its layer if they make pairs in it
 pub pairs_by_sizes : (layer : Layer) (feature : Feature) (key_count value_count : ℕ) → key_count ≡ length (keys layer) → value_count ≡ length (values layer) → is_some (plain_pairs (tag_pairs key_count value_count (numbers 2 feature.fields))) ≡ is_some (pairs_among layer.items feature.fields)
 pairs_by_sizes layer feature key_count value_count is_keys is_values =
     ap (λ n. is_some (plain_pairs (tag_pairs n value_count (numbers 2 feature.fields)))) is_keys
     ∙ ap (λ n. is_some (plain_pairs (tag_pairs (length (keys layer)) n (numbers 2 feature.fields)))) is_values
     ∙ ap (λ found. is_some found) (tags_are_pairs layer feature)
 
--- where something is made of them by these sizes, they make pairs
+-- if something is made of them by these sizes, they make pairs
 pub decided_readable : {A : Type 0} (f : List (ℕ × ℕ) → A) (layer : Layer) (feature : Feature) (key_count value_count : ℕ) (made : A) → key_count ≡ length (keys layer) → value_count ≡ length (values layer) → option_map f (plain_pairs (tag_pairs key_count value_count (numbers 2 feature.fields))) ≡ Some made → is_some (pairs_among layer.items feature.fields) ≡ true
 decided_readable f layer feature key_count value_count made is_keys is_values is =
     sym (pairs_by_sizes layer feature key_count value_count is_keys is_values) ∙ then_pairs f (plain_pairs (tag_pairs key_count value_count (numbers 2 feature.fields))) made is
 
--- a key is among the items where it is among the keys
+-- a key is among the items if it is among the keys
 any_key : (key : List ℕ) (content : Option (List ℕ)) (rest : List (List ℕ)) → list_any (λ same. same) (map (bytes_eq key) (cons_option content rest)) ≡ (option_map_or (bytes_eq key) content false || list_any (λ same. same) (map (bytes_eq key) rest))
 any_key key None rest = refl
 any_key key (Some bytes) rest = refl

@@ -1,4 +1,4 @@
--- The selected layers, each feature of them changed.
+-- The selected layers, with each of their features changed.
 use Rattle.std.proofs.Common.{◌≡◌, ℕ, Ok, Err, List}
 use Rattle.std.specs.List.{AllByRecursion}
 use Rattle.mvt_document.specs.Plain.{Field, Layer, LayerItem, TileItem, Document}
@@ -13,7 +13,7 @@ use Rattle.mvt_edit_pairs.proofs.EachLayer as each_layer
 use Rattle.mvt_edit_pairs.proofs.EachLayer.{InTile, Made}
 
 module _ (fates : List LayerItem → List Field → List (Fate Field)) (change : List LayerItem → List Field → List Field) where
-  -- the features of the item can be changed so, where it is a layer
+  -- the features of the item can be changed in this way, if it is a layer
   abbrev pub CarriesInTile : TileItem → Type 0
   CarriesInTile item = InTile (CarriesEach fates change) item
 
@@ -23,6 +23,6 @@ module _ (fates : List LayerItem → List Field → List (Fate Field)) (change :
       each_layer.layers_made (λ at. layer_steps fates (0, at)) (each_changed fates change) (λ at. puts_in fates change (0, at)) (λ at. takes_in fates change (0, at)) (CarriesEach fates change)
       (λ position layer tile there carry. layer_comes fates change 0 position layer tile there carry) choice document found is all
 
-  -- where no layer is selected the change is refused
+  -- if no layer is selected, the change is refused
   pub none_made : (choice : LayersChoice) (document : Document) (refusal : Refusal) → selected_layers choice document ≡ Err refusal → change_layers (each_changed fates change) choice document ≡ Err refusal
   none_made choice document refusal is = each_layer.none_made (each_changed fates change) choice document refusal is

@@ -1,4 +1,4 @@
--- The pairs of a key go from each feature.
+-- The pairs of a key are removed from each feature.
 use Rattle.std.proofs.Common.{◌≡◌, ℕ, Ok, List, [], ◌∷◌, length, map, sym, ap, ◌∙◌, arith}
 use Rattle.std.specs.List.{AllByRecursion, flat_map}
 use Rattle.mvt_document.specs.Plain as plain
@@ -51,7 +51,7 @@ module _ (key : List ℕ) where
   layers_carry (in_tile.Layer layer ∷ items) = (items_carry (map layer_item_of layer.items.items) layer.items.items, layers_carry items)
   layers_carry (in_tile.Plain field ∷ items) = (tt, layers_carry items)
 
-  -- ---- what goes of all features, and what comes
+  -- ---- what goes from all features, and what comes
 
   abbrev put : ℕ × (ℕ × plain.Layer) → List plain.Field
   put found = puts_in (pairs_go key) (without_attribute key) found

@@ -1,4 +1,4 @@
--- A key of a layer as the program holds it: it has two bytes or more, and is valid with other bytes too.
+-- A key of a layer as the program holds it: it has at least two bytes, and is valid with other bytes too.
 use Rattle.std.proofs.Common.{◌≡◌, ℕ, ◌/◌, ◌≤◌, ◌==◌, true, List, [], ◌∷◌, length, map, inl, inr, arith}
 use Rattle.std.proofs.lemmas.Bool.{cases_Bool, eqb-true}
 use Rattle.std.specs.List.{AllByRecursion, flat_map}

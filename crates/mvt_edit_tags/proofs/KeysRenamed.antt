@@ -1,4 +1,4 @@
--- What the steps come to that rename the keys of a layer.
+-- What the steps that rename the keys of a layer result in.
 use Rattle.std.proofs.Common.{◌≡◌, ℕ, ◌*◌, ◌/◌, ◌≤◌, ◌==◌, Bool, true, false, not, Ok, Err, Some, List, [], ◌∷◌, length, map, filter, nat_lt, slice_get, refl, sym, ap, ◌∙◌, subst, inl, inr, arith}
 use Rattle.std.specs.Prelude.{◌&&◌}
 use Rattle.std.proofs.lemmas.Bool.{cases_Bool, or_parts}
@@ -137,7 +137,7 @@ module _ (choice : LayerChoice) (old new : List ℕ) (document : Document) (ordi
             ∙ ap (λ result. weigh layer_item_bytes (filter (is_key new) (items_of ordinal (result_unwrap_or result document)))) made
             ∙ ap (λ items. weigh layer_item_bytes (filter (is_key new) items)) (items_changed document ordinal position layer placed there (renamed_keys old new))
 
-        -- no step, where both are the same
+        -- no step, if both are the same
         pub keys_stay : old ≡ new → IsPrepared (RenameKey choice old new) document []
         keys_stay same =
             let sits = in_the_layer position in
@@ -152,7 +152,7 @@ module _ (choice : LayerChoice) (old new : List ℕ) (document : Document) (ordi
               steps = omega arith;
             }
 
-        -- else the steps that rename them
+        -- otherwise the steps that rename them
         pub keys_renamed : bytes_eq old new ≡ false → AllByRecursion IsLayerItem (flat_map (λ x. new_in (key_fate old new x)) layer.items) → 2 * length (filter (is_key old) layer.items) ≤ length (flat_map layer_item_bytes (filter (is_key old) layer.items)) → (change : Change) → change ≡ map (in_layer_at position) (splices_of (map (key_fate old new) layer.items)) → IsPrepared (RenameKey choice old new) document change
         keys_renamed apart valid heavy change steps =
             let sits = in_the_layer position in

@@ -31,7 +31,7 @@ none_goes goes (pair ∷ pairs) none =
       | inr stays ↦ (let rest = rw stays at none in rw stays (none_goes goes pairs rest))
     ]
 
--- where no pair is counted no number goes
+-- if no pair is counted, no number goes
 pub none_counted : (goes : ℕ → Bool) (found : Option (List (ℕ × ℕ))) (decisions : List (Option ℕ)) (n : ℕ) → option_map (without_pairs goes) found ≡ Some decisions → option_map (count (λ pair. goes pair.0)) found ≡ Some n → n ≡ 0 → is_any_gone decisions ≡ false
 none_counted goes None decisions n decided counted none = absurd cc
 none_counted goes (Some pairs) decisions n decided counted none =
@@ -39,7 +39,7 @@ none_counted goes (Some pairs) decisions n decided counted none =
     let few : count (λ pair. goes pair.0) pairs ≡ n = cc in
     ap is_any_gone (sym same) ∙ none_goes goes pairs (few ∙ none)
 
--- ---- a layer of whose keys none is these bytes
+-- ---- a layer none of whose keys is these bytes
 
 none_at : (key : List ℕ) (keys : List (List ℕ)) → list_any (λ is. is) (map (bytes_eq key) keys) ≡ false → (ordinal : ℕ) → option_map_or (bytes_eq key) (slice_get keys ordinal) false ≡ false
 none_at key [] none zero = refl
@@ -73,7 +73,7 @@ none_in key layer position none (first ∷ found) =
 pub none_named : (key : List ℕ) (at : ℕ × (ℕ × Layer)) → list_any (λ is. is) (map (bytes_eq key) (keys at.1.1)) ≡ false → layer_steps (pairs_go key) at ≡ []
 none_named key at none = none_in key at.1.1 at.1.0 none (found_features at.1.1.items)
 
--- what holds holds of each value
+-- what holds, holds for each value
 pub of_any : {T E P : Type 0} → P → (r : Result T E) → IfOk r (λ value. P)
 of_any holds (Ok value) = holds
 of_any holds (Err error) = tt

@@ -52,7 +52,7 @@ module _ (choice : LayerChoice) (key : List ℕ) (document : Document) (ordinal 
           let no = pairs_here ∙ none in
           rw (chosen, selected_here, yes, no) refl
 
-      -- where the steps make of the tags what is decided on them
+      -- where the steps turn the tags into what is decided on them
       pub tags_lose : is_some (pairs_among layer.items found.fields) ≡ true → FieldsLeft 2 (removals key layer.items found.fields) found.fields → (change : Change) → change ≡ map (in_feature_at position item) (splices_of (field_fates 2 (removals key layer.items found.fields) found.fields)) → IsPrepared (UnsetAttribute choice feature key) document change
       tags_lose readable left change steps =
           let yes = has_here ∙ has in

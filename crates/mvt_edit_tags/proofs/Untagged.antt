@@ -1,4 +1,4 @@
--- The tags fields of each feature go.
+-- The tags fields of each feature are removed.
 use Rattle.std.proofs.Common.{◌≡◌, ℕ, ◌≤◌, ◌/◌, ◌==◌, Bool, true, false, ◌||◌, cond, max, is_some, None, Ok, Err, List, [], ◌∷◌, ◌++◌, length, length-append, map, filter, refl, sym, ap, ◌∙◌, subst, arith}
 use Rattle.std.proofs.lemmas.List.Folds.{flat_map-map}
 use Rattle.std.specs.List.{AllByRecursion, flat_map}
@@ -35,7 +35,7 @@ use Rattle.mvt_edit_tags.specs.EachFeature.{tags_go}
 use Rattle.mvt_edit_pairs.proofs.Come.{Carries, CarriesIn, puts_in, takes_in}
 use Rattle.mvt_edit_tags.proofs.EachFeature.{CarriesInTile, layers_made, none_made}
 
--- ---- tags fields have two bytes or more
+-- ---- tags fields have at least two bytes
 
 content_has_bytes : (width : ℕ) (content : List ℕ) → 1 ≤ length (delimited width content)
 content_has_bytes width content =
@@ -78,7 +78,7 @@ layers_carry [] = tt
 layers_carry (in_tile.Layer layer ∷ items) = (items_carry layer.items.items, layers_carry items)
 layers_carry (in_tile.Plain field ∷ items) = (tt, layers_carry items)
 
--- ---- what goes of all features
+-- ---- what goes from all features
 
 abbrev put : ℕ × (ℕ × plain.Layer) → List plain.Field
 put found = puts_in (λ items. tags_go) (λ items. without_tags) found

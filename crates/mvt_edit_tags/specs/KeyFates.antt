@@ -14,8 +14,8 @@ use Rattle.mvt_edit_tags.specs.declared.rename_key.Keys.{Keys}
 abbrev pub key_fate : List ℕ → List ℕ → LayerItem → Fate LayerItem
 key_fate old new item = if is_key old item then Becomes (with_text new item) else Stays
 
--- whether the old key and the new one are among the items, and which size the items have with the one in place of the
--- other (tiles 4.1)
+-- whether the old key and the new one are among the items, and what size the items have with the new one in place of
+-- the old one (tiles 4.1)
 pub record FindsKeys (old new : List ℕ) (items : List LayerItem) (keys : Keys) : Type 0 where
   pub old_there : keys.there ≡ list_any (is_key old) items
   pub new_there : keys.taken ≡ list_any (is_key new) items

@@ -1,4 +1,4 @@
-//! The attributes of one key go.
+//! The attributes of one key are removed.
 
 ghost use Rattle.std.specs.Prelude.{◌≡◌, ℕ, ◌⊎◌, ◌++◌, true, false, List, [], ◌∷◌, is_some, length, Err, IfErr, IfOk, map};
 ghost use Rattle.std.specs.Str.{bytes_eq};
@@ -46,8 +46,8 @@ pub fn exclude(
     Ok(Change::new(steps))
 }
 
-/// Puts the steps by which each feature of the layer loses the pairs of the key behind the others.
-/// The first feature whose tags make no pairs is refused.
+/// Appends the steps by which each feature of the layer loses the pairs of the key. The first
+/// feature whose tags make no pairs is refused.
 fn exclude_from(
     alloc: Global,
     found: FoundLayer<'_>,
@@ -83,8 +83,8 @@ fn exclude_from(
     Ok(())
 }
 
-/// Puts the steps by which the feature of this layer loses the pairs of the keys that are named
-/// behind the others. It is refused where its tags make no pairs.
+/// Appends the steps by which the feature of this layer loses the pairs of the keys that are named.
+/// It is refused if its tags make no pairs.
 fn exclude_pairs(
     alloc: Global,
     found: FoundLayer<'_>,

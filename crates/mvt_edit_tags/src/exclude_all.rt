@@ -1,4 +1,4 @@
-//! All attributes go.
+//! All attributes are removed.
 
 ghost use Rattle.std.specs.Prelude.{◌≡◌, ◌++◌, IfOk, map};
 ghost use Rattle.mvt_document.specs.Stands.{document_of};
@@ -33,7 +33,7 @@ pub fn exclude_all(
     Ok(Change::new(steps))
 }
 
-/// Puts the steps by which each feature of the layer loses its tags fields behind the others.
+/// Appends the steps by which each feature of the layer loses its tags fields.
 fn untag_layer(
     alloc: Global,
     found: FoundLayer<'_>,
@@ -47,8 +47,7 @@ fn untag_layer(
     Ok(())
 }
 
-/// Puts the steps by which the feature, in the layer at this position, loses its tags fields behind
-/// the others.
+/// Appends the steps by which the feature, in the layer at this position, loses its tags fields.
 fn untag(
     alloc: Global,
     layer: usize,

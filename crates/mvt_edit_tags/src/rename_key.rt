@@ -1,4 +1,4 @@
-//! The keys of a layer that have some bytes get others.
+//! The keys of a layer that have some bytes get other bytes.
 
 ghost use Rattle.std.specs.Prelude.{◌≡◌, ℕ, ◌+◌, List, [], ◌∷◌, ◌++◌, IfOk, IfSome, is_some, length, map};
 ghost use Rattle.std.specs.List.{flat_map};
@@ -27,8 +27,8 @@ use mvt_fates::{Fate, carry_out};
 use mvt_select::{LayerChoice, Refusal, find_layer};
 use std::alloc::{AllocError, Global};
 
-/// Each key of the layer that is the old one becomes the new one. Where both are the same the
-/// change has no step.
+/// Each key of the layer that is the old one becomes the new one. If both are the same the change
+/// has no step.
 pub fn rename_key(
     alloc: Global,
     document: &Document,
@@ -57,7 +57,7 @@ pub fn rename_key(
 }
 
 /// What a walk over the items of a layer finds of an old key and of a new one: whether they are
-/// there, and how many bytes the items take with the new one in place of the old one, where that is
+/// there, and how many bytes the items take with the new one in place of the old one, if that is
 /// within the limit of a file.
 #[derive(Clone, Copy, Debug)]
 struct Keys {
@@ -91,15 +91,15 @@ fn and_item(keys: Keys, item: &LayerItem, old: &[u8], new: &[u8]) -> Keys
     }
 }
 
-/// The sum of both sizes, where that is within the limit of a file.
+/// The sum of both sizes, if that is within the limit of a file.
 fn and_size(size: Option<usize>, more: Option<usize>) -> Option<usize>
     ensures { (first second : ℕ) → IsFileSize size first → IsFileSize more second → IsFileSize result (first + second) }
 {
     sum_within(size?, more?, MAX_FILE)
 }
 
-/// How many bytes the item takes, a key that is the old one with the new one, where that is within
-/// the limit of a file.
+/// How many bytes the item takes, with the new key in place of the old one, if that is within the
+/// limit of a file.
 fn size_renamed(item: &LayerItem, old: &[u8], new: &[u8]) -> Option<usize>
     ensures { IsFileSize result (length (flat_map layer_item_bytes (renamed_keys old.now new.now (layer_item_of item.now ∷ [])))) }
 {
@@ -109,7 +109,7 @@ fn size_renamed(item: &LayerItem, old: &[u8], new: &[u8]) -> Option<usize>
     }
 }
 
-/// The tag and the stored width of the item, where it is a key of these bytes.
+/// The tag and the stored width of the item, if it is a key of these bytes.
 fn key_field(item: &LayerItem, key: &[u8]) -> Option<(Tag, u8)>
     ensures there { is_some result ≡ is_key key.now (layer_item_of item.now) }
     ensures parts { IfSome result (λ parts. layer_item_of item.now ≡ plain.PlainInLayer (record { tag = number_of parts.0; body = plain.Delimited parts.1 key.now })) }

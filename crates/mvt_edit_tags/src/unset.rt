@@ -39,7 +39,7 @@ pub fn unset(
 }
 
 /// What is decided on the numbers of the feature's tags, where the pairs of the key go. It is refused
-/// where the layer lacks the key, and where the tags make no pairs.
+/// if the layer lacks the key, and if the tags make no pairs.
 fn decide(
     alloc: Global,
     holder: FoundLayer<'_>,

@@ -32,7 +32,7 @@ abbrev pub AreThere : {A : Type 0} → List (Splice A) → List A → Type 0
 AreThere [] items = Unit {0}
 AreThere (s ∷ splices) items = HasPart s.index s.taken items × AreThere splices (splice s.index s.taken s.put items)
 
--- ---- a splice behind a prefix of a list
+-- ---- a splice after a prefix of a list
 
 drop_behind : {A : Type 0} (front ys : List A) (n t : ℕ) → length front ≡ n → drop (n + t) (front ++ ys) ≡ drop t ys
 drop_behind front ys n t e = sym (drop-drop t n (front ++ ys)) ∙ ap (drop t) (drop_at front ys n e)
@@ -122,15 +122,15 @@ and_few s [] = omega arith
 and_few s (next ∷ splices) =
     elim (cases_Bool (next.index == s.index + length s.put)) [ inl joins ↦ rw joins (omega arith) | inr apart ↦ rw apart (omega arith) ]
 
--- ---- the items of a list, with what is to become of each
+-- ---- the items of a list, with what becomes of each
 
--- what comes in the place of an item
+-- what comes in place of an item
 abbrev pub new_in : {A : Type 0} → Fate A → List A
 new_in Stays = []
 new_in Goes = []
 new_in (Becomes item) = item ∷ []
 
--- what the splices of these fates come to on the items of a list
+-- what the splices of these fates do to the items of a list
 pub record CarriesOut {A : Type 0} (fates : List (Fate A)) (items left taken put : List A) : Type 0 where
   pub leaves : spliced_all (splices_of fates) items ≡ left
   pub takes : taken_all (splices_of fates) items ≡ taken
@@ -140,7 +140,7 @@ pub record CarriesOut {A : Type 0} (fates : List (Fate A)) (items left taken put
 
 -- each item is that of a value, by which its fate is planned
 module _ {P A : Type 0} (item : P → A) (plan : P → Fate A) where
-  -- what is left of the items, what is taken out, and what comes in its place
+  -- what is left of the items, what is taken out, and what comes in their place
   abbrev pub left_in : List P → List A
   left_in ps = flat_map (λ p. left_of_fate (λ y. y) (item p) (plan p)) ps
 
@@ -206,7 +206,7 @@ module _ {P A : Type 0} (item : P → A) (plan : P → Fate A) where
   carries_from n front [] e = record { leaves = refl; takes = refl; puts = refl; there = tt; few = omega arith }
   carries_from n front (p ∷ ps) e = carries_first n front p ps e (λ m before long. carries_from m before ps long) (plan p) refl
 
-  -- of the whole list, whose items are those of these values
+  -- for the whole list, whose items are those of these values
   pub carries_beside : (ps : List P) → CarriesOut (map plan ps) (map item ps) (left_in ps) (taken_in ps) (put_in ps)
   carries_beside ps =
       let all = carries_from 0 [] ps refl in

@@ -17,7 +17,7 @@ use Rattle.mvt_fates.specs.Fates.{Splice}
 use Rattle.mvt_fates.proofs.CarriedOut.{spliced_all, taken_all, put_all, AreThere}
 use Rattle.mvt_fates.proofs.ListPlaces.{Changing, of_the_tile, of_the_layer, of_the_feature}
 
--- the list of a place: how it is found and changed, and what the step of a splice of it does
+-- the list at a place: how it is found and changed, and what the step of a splice of it does
 pub record Sits {Y : Type 0} (step_with : Splice Y → Step) (valid : Y → Type 0) (find : Document → Option (List Y)) (change : (List Y → List Y) → Document → Document) (bytes : Y → List ℕ) : Type 0 where
   pub found : (f : List Y → List Y) (document : Document) → find (change f document) ≡ option_map f (find document)
   pub changing : Changing find change
@@ -65,7 +65,7 @@ in_the_feature layer item = record {
   takes = λ s document. refl;
 }
 
--- what carrying splices of a list out comes to
+-- what carrying out splices of a list results in
 pub record Carried {Y : Type 0} (change : (List Y → List Y) → Document → Document) (bytes : Y → List ℕ) (steps : Change) (document : Document) (splices : List (Splice Y)) (items : List Y) : Type 0 where
   pub fits : Fits steps document
   pub makes : go steps document ≡ change (spliced_all splices) document

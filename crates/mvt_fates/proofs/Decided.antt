@@ -1,4 +1,4 @@
--- The fates of fields whose numbers are decided on, and what is left of them, as far as a walk is.
+-- The fates of fields whose numbers are decided on, and what is left of them, as far as a walk has come.
 use Rattle.std.proofs.Common.{◌≡◌, ℕ, ◌+◌, ◌<◌, List, [], ◌∷◌, ◌++◌, Option, length, length-append, drop, map, take, get_or, append_assoc, sym, ap, ◌∙◌, subst, arith}
 use Rattle.std.proofs.lemmas.List.{append-nil, map-append, take_more}
 use Rattle.std.proofs.lemmas.List.Concat.{flat_map-append}
@@ -37,8 +37,8 @@ pub all_decided : (number : ℕ) (decisions left : List (Option ℕ)) (fields : 
 all_decided number decisions left fields fates decided =
     sym (append-nil (map (fate_seen field_of) fates)) ∙ decided [] ∙ ap (field_fates number decisions) (append-nil (map field_of fields))
 
--- what is left of the first fields takes `bytes` bytes, which `size` has beside those before; with what is left of any
--- others by the decisions that are left, they are what is left of all
+-- what is left of the first fields takes `bytes` bytes, which `size` has on top of those before; with what is left of
+-- any others by the decisions that are left, they are what is left of all
 pub record Sized (number : ℕ) (decisions left : List (Option ℕ)) (fields : List Field) (beside size : Option ℕ) : Type 0 where
   pub bytes : ℕ
   pub answered : IsSizeBeside beside bytes size

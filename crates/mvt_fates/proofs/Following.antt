@@ -15,7 +15,7 @@ use Rattle.mvt_fates.specs.declared.fates.Walk.{Walk}
 use Rattle.mvt_renumber.specs.declared.fate.Fate.{Fate}
 use Rattle.mvt_renumber.specs.declared.fate.Fate.TheVariants.{Stays, Goes, Becomes}
 
--- ---- a run that is whole
+-- ---- a run that is complete
 
 first_is : {A : Type 0} (s : Splice A) (splices : List (Splice A)) → IfSome (slice_get (and_splices s splices) 0) (λ first. s.index ≤ first.index)
 first_is s [] = omega arith
@@ -40,14 +40,14 @@ some_past : {A : Type 0} (n : ℕ) (found : Option (Splice A)) → IfSome found 
 some_past n None above = tt
 some_past n (Some s) above = omega arith
 
--- the open run is whole where an item stays
+-- the open run is complete where an item stays
 pub run_whole : {T : Type 0} (last : Option (Run T)) (at : ℕ) (rest : List (Fate T)) → IfSome last (λ run. (run.index + length run.put.items ≡ at) × (run.take + 1 < 2 ^ 64)) → and_last (option_map splice_of last) (splices_from (at + 1) rest) ≡ map splice_of (cons_option last []) ++ splices_from (at + 1) rest
 run_whole None at rest ends = refl
 run_whole (Some run) at rest ends =
     let past = some_past at (slice_get (splices_from (at + 1) rest) 0) (begins (at + 1) rest) in
     apart_from (splice_of run) (splices_from (at + 1) rest) (subst (λ n. IfSome (slice_get (splices_from (at + 1) rest) 0) (λ next. n < next.index)) (sym ends.0) past)
 
--- ---- one fate more
+-- ---- one more fate
 
 all_zip_more : {A B : Type 0} (R : A → B → Type 0) (xs : List A) (ys : List B) (x : A) (y : B) → AllZip R xs ys → R x y → AllZip R (xs ++ x ∷ []) (ys ++ y ∷ [])
 all_zip_more R [] [] x y all new = (new, tt)
@@ -55,12 +55,12 @@ all_zip_more R [] (z ∷ ys) x y all new = absurd all
 all_zip_more R (z ∷ xs) [] x y all new = absurd all
 all_zip_more R (z ∷ xs) (v ∷ ys) x y all new = (all.0, all_zip_more R xs ys x y all.1 new)
 
--- what each of the items so far was answered
+-- what was answered for each of the items so far
 pub one_more_answered : {T B : Type 0} (answers : T → B → Type 0) (items : List T) (index : ℕ) (x : T) (fates : List B) (fate : B) → index < length items → x ≡ get_or items index x → AllZip answers (take index items) fates → answers x fate → AllZip answers (take (index + 1) items) (fates ++ fate ∷ [])
 one_more_answered answers items index x fates fate within is answered says =
     subst (λ all. AllZip answers all (fates ++ fate ∷ [])) (sym (take_more items index x within ∙ ap (λ y. take index items ++ y ∷ []) (sym is))) (all_zip_more answers (take index items) fates x fate answered says)
 
--- the fates so far, of which this was said, and the steps behind those that were given, whichever fates follow
+-- the fates so far, for which this was said, and the steps after those that were given, whichever fates follow
 pub record SoFar {T : Type 0} (answered : List (Fate T) → Type 0) (means : (Splice T → plain.Step) → Type 0) (given steps : List Step) (walk : Walk T) (index : ℕ) : Type 0 where
   pub fates : List (Fate T)
   pub said : answered fates
@@ -98,7 +98,7 @@ goes_on {given = given} kept fate steps_next next said passes ends taken further
       few = elim (cases_Bool (changes fate)) [ inl so ↦ (let more = rw so at counted in omega arith) | inr not_so ↦ (let more = rw not_so at counted in omega arith) ];
     }
 
--- a run that is whole is a step behind the others
+-- a run that is complete is a step after the others
 pub passed : {T : Type 0} (step_with : Splice T → plain.Step) (steps steps_next : plain.Change) (whole : Option (Run T)) (walk next : Walk T) (fate : Fate T) (rest : List (Fate T))
     → and_last (option_map splice_of walk.last) (splices_from walk.at (fate ∷ rest)) ≡ map splice_of (cons_option whole []) ++ and_last (option_map splice_of next.last) (splices_from next.at rest)
     → steps_next ≡ steps ++ map step_with (map splice_of (cons_option whole []))

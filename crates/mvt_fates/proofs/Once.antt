@@ -1,4 +1,5 @@
--- A new item in place of the first that passes: the fates as far as a walk is, and what the splices make of the list.
+-- A new item in place of the first that passes: the fates as far as a walk has come, and what the splices make of the
+-- list.
 use Rattle.std.proofs.Common.{◌≡◌, ℕ, ◌+◌, ◌<◌, ◌≤◌, Bool, true, false, not, cond, Option, Some, None, List, [], ◌∷◌, ◌++◌, length, map, take, filter, option_map, get_or, refl, sym, ap, ◌∙◌, subst, inl, inr, arith}
 use Rattle.std.proofs.lemmas.Bool.{cases_Bool}
 use Rattle.std.proofs.lemmas.List.{append-nil, map-append}
@@ -13,7 +14,7 @@ use Rattle.mvt_fates.proofs.Following.{one_more_answered}
 use Rattle.mvt_fates.proofs.Planned.{splices_seen}
 use Rattle.mvt_fates.proofs.PutLast.{end_spliced, none_filtered}
 
--- ---- as far as a walk is
+-- ---- as far as a walk has come
 
 -- each of these items was picked or not, these are the fates, and this is left of the new one
 pub record Once {T : Type 0} (answers : T → Bool → Type 0) (items : List T) (new left : Option T) (fates : List (Fate T)) : Type 0 where
@@ -80,7 +81,7 @@ picked_seen view passes answers each [] (is ∷ picked) all = absurd all
 picked_seen view passes answers each (x ∷ xs) [] all = absurd all
 picked_seen view passes answers each (x ∷ xs) (is ∷ picked) all = ap (λ first. first ∷ picked) (each x is all.0) ∙ ap (λ more. passes (view x) ∷ more) (picked_seen view passes answers each xs picked all.1)
 
--- ---- an item more at the end that is not picked
+-- ---- one more item at the end that is not picked
 
 skipped_from : {A : Type 0} (n : ℕ) (picked : List Bool) (new : Option A) → splices_from n (once_fates (picked ++ false ∷ []) new) ≡ splices_from n (once_fates picked new)
 skipped_from n [] new = refl
@@ -171,8 +172,8 @@ module _ {A : Type 0} (passes : A → Bool) where
     new_last [] none = refl
     new_last (x ∷ xs) none = elim (cases_Bool (passes x)) [ inl pass ↦ absurd (let some = rw pass at none in cc) | inr skip ↦ rw skip (ap (λ ys. x ∷ ys) (new_last xs (rw skip at none))) ]
 
--- the splices can be carried out on the list and make it one with the new item alone; they take the items that pass, and
--- put the new one
+-- the splices can be carried out on the list and turn it into one with the new item in place of all that pass; they
+-- take the items that pass, and put the new one
 pub record PutsOnce {A : Type 0} (passes : A → Bool) (new : A) (items : List A) (splices : List (Splice A)) : Type 0 where
   pub there : AreThere splices items
   pub leaves : spliced_all splices items ≡ put_once passes new items

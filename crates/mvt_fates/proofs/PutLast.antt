@@ -1,4 +1,4 @@
--- A list of which the last item that passes is replaced, or to which a new one comes at the end.
+-- A list in which the last item that passes is replaced, or which gets a new one at the end.
 use Rattle.std.proofs.Common.{◌≡◌, ℕ, ◌+◌, ◌≤◌, Bool, true, false, Option, Some, None, List, [], ◌∷◌, ◌++◌, length, length-append, take, drop, filter, slice_get, refl, sym, ap, ◌∙◌, subst, inl, inr, append-nil, append_assoc, arith}
 use Rattle.std.proofs.lemmas.Bool.{cases_Bool}
 use Rattle.std.proofs.lemmas.List.{drop_all, drop_at, take_all, take_at}
@@ -13,7 +13,7 @@ use Rattle.mvt_meaning.proofs.Positions.{change_here, change_later, last_here, l
 
 -- ---- the list around its last item that passes
 
--- the item that stands at k, where the list begins at n, and what is before and behind it
+-- the item at k, where the list begins at n, and what is before and after it
 pub record Around {A : Type 0} (passes : A → Bool) (n : ℕ) (xs : List A) (k : ℕ) : Type 0 where
   pub front : List A
   pub item : A
@@ -98,13 +98,13 @@ end_spliced xs put =
     let all : take (length xs) xs ≡ xs = take_all (length xs) xs (omega arith) in
     rw (none, all) (append-nil (xs ++ put ∷ []))
 
--- ---- where the item comes, and what is made
+-- ---- where the item goes, and what results
 
 -- the position of the last item that passes
 abbrev pub last_of : {A : Type 0} → (A → Bool) → List A → Option ℕ
 last_of passes xs = last_or None (positions_from passes 0 xs)
 
--- it comes there, or at the end
+-- it goes there, or at the end
 abbrev pub index_of : {A : Type 0} → Option ℕ → List A → ℕ
 index_of last xs = unwrap_or last (length xs)
 

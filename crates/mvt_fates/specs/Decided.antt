@@ -1,4 +1,4 @@
--- What becomes of the fields of a message of which numbers are decided on, and how many bytes they take then; what is
+-- What becomes of the fields of a message whose numbers are decided on, and how many bytes they take then; what is
 -- decided on the numbers of pairs.
 use Rattle.std.specs.Prelude.{◌≡◌, ℕ, ◌+◌, Bool, not, List, [], ◌∷◌, Option, Some, None, is_some, length, drop, option_map, if◌then◌else◌}
 use Rattle.std.specs.List.{flat_map, list_any}
@@ -16,7 +16,7 @@ abbrev pub field_fates : ℕ → List (Option ℕ) → List Field → List (Fate
 field_fates number decisions [] = []
 field_fates number decisions (field ∷ more) = field_fate number decisions field ∷ field_fates number (drop (length (field_numbers number field)) decisions) more
 
--- where `beside` is the size of some bytes, the other is the size of these and of `more` bytes behind them
+-- where `beside` is the size of some bytes, the other is the size of these and of `more` bytes after them
 abbrev pub IsSizeBeside : Option ℕ → ℕ → Option ℕ → Type 0
 IsSizeBeside beside more answer = (before : ℕ) → IsFileSize beside before → IsFileSize answer (before + more)
 
@@ -24,8 +24,8 @@ IsSizeBeside beside more answer = (before : ℕ) → IsFileSize beside before �
 abbrev pub is_any_gone : List (Option ℕ) → Bool
 is_any_gone decisions = list_any (λ decision. not (is_some decision)) decisions
 
--- what is decided on each number of these pairs, where this is said of each: what becomes of its two numbers, and whether
--- it counts
+-- what is decided on each number of these pairs, where `said` gives for each pair what becomes of its two numbers, and
+-- whether it counts
 abbrev pub decided_by : (ℕ × ℕ → Option ℕ × Option ℕ × Bool) → List (ℕ × ℕ) → List (Option ℕ)
 decided_by said pairs = flat_map (λ pair. (said pair).0 ∷ (said pair).1 ∷ []) pairs
 
@@ -33,7 +33,7 @@ decided_by said pairs = flat_map (λ pair. (said pair).0 ∷ (said pair).1 ∷ [
 abbrev pub counted_by : (ℕ × ℕ → Option ℕ × Option ℕ × Bool) → List (ℕ × ℕ) → ℕ
 counted_by said pairs = count (λ pair. (said pair).2) pairs
 
--- there are pairs, of which this is said: so is decided on their numbers, and `n` of them count
+-- there are pairs, their numbers are decided on as `said` gives, and `n` of them count
 pub record IsDecided (said : ℕ × ℕ → Option ℕ × Option ℕ × Bool) (pairs : Option (List (ℕ × ℕ))) (decisions : List (Option ℕ)) (n : ℕ) : Type 0 where
   pub decided : option_map (decided_by said) pairs ≡ Some decisions
   pub counted : option_map (counted_by said) pairs ≡ Some n

@@ -8,7 +8,7 @@ use Rattle.mvt_renumber.specs.Fates.{changes}
 use Rattle.mvt_renumber.specs.declared.fate.Fate.{Fate}
 use Rattle.mvt_renumber.specs.declared.fate.Fate.TheVariants.{Stays, Goes, Becomes}
 
--- `taken` items from `index` of a list are taken out, and those of `put` come there
+-- `taken` items from `index` of a list are taken out, and those of `put` go there
 pub record Splice (A : Type 0) : Type 0 where
   pub index : ℕ
   pub taken : ℕ
@@ -22,7 +22,7 @@ splice_of run = record { index = run.index; taken = run.take; put = run.put.item
 abbrev pub seen : {T A : Type 0} → (T → A) → Splice T → Splice A
 seen view s = record { index = s.index; taken = s.taken; put = map view s.put }
 
--- the step that takes the item at this position of the list of a place out
+-- the step that takes out the item at this position of the list at a place
 abbrev pub item_out : Place → ℕ → Step
 item_out OfTheTile position = TileStep position 1 []
 item_out (OfTheLayer layer) position = LayerStep layer position 1 []
@@ -30,17 +30,17 @@ item_out (OfTheFeature layer item) position = FeatureStep layer item position 1 
 
 -- ---- the splices of items of these fates
 
--- the splices behind one; where the first of them begins right where the items end that the one puts, the two are one
+-- the splices after one; where the first of them begins right where the items that the one puts end, the two are one
 abbrev pub and_splices : {A : Type 0} → Splice A → List (Splice A) → List (Splice A)
 and_splices s [] = s ∷ []
 and_splices s (next ∷ splices) = if next.index == s.index + length s.put then record { index = s.index; taken = s.taken + next.taken; put = s.put ++ next.put } ∷ splices else s ∷ next ∷ splices
 
--- the splices behind one that is open, where one is
+-- the splices after one that is open, where one is
 abbrev pub and_last : {A : Type 0} → Option (Splice A) → List (Splice A) → List (Splice A)
 and_last None splices = splices
 and_last (Some s) splices = and_splices s splices
 
--- the splices of a list whose first item stands at this index once those before it are carried out
+-- the splices of a list whose first item is at this index once those before it are carried out
 abbrev pub splices_from : {A : Type 0} → ℕ → List (Fate A) → List (Splice A)
 splices_from at [] = []
 splices_from at (Stays ∷ fates) = splices_from (at + 1) fates
@@ -59,11 +59,11 @@ goes_if picked = if picked then Goes else Stays
 abbrev pub steps_then : {T : Type 0} → (Splice T → plain.Step) → plain.Change → Walk T → List (Fate T) → plain.Change
 steps_then step_with steps walk rest = steps ++ map step_with (and_last (option_map splice_of walk.last) (splices_from walk.at rest))
 
--- behind the steps that were given come those of the splices, and `changed` items change
+-- after the steps that were given come those of the splices, and `changed` items change
 pub record IsCarriedOut {A : Type 0} (step_with : Splice A → plain.Step) (fates : List (Fate A)) (given steps : plain.Change) (changed : ℕ) : Type 0 where
   pub behind : steps ≡ given ++ map step_with (splices_of fates)
   pub counted : changed ≡ length (filter changes fates)
 
--- each answer of the code is what is said of it
+-- each answer of the code means what `said` gives for the item
 abbrev pub Means : {A B C : Type 0} → (A → B → Type 0) → (B → C) → (A → C) → Type 0
 Means {A} {B} answers meant said = (item : A) (answer : B) → answers item answer → meant answer ≡ said item

@@ -15,7 +15,7 @@ abbrev pub once_fates : {A : Type 0} → List Bool → Option A → List (Fate A
 once_fates [] new = []
 once_fates (picked ∷ more) new = once_fate picked new ∷ once_fates more (if picked then None else new)
 
--- what is left of the new one behind all items
+-- what is left of the new one after all items
 abbrev pub left_once : {A : Type 0} → List Bool → Option A → Option A
 left_once [] new = new
 left_once (picked ∷ more) new = left_once more (if picked then None else new)
@@ -26,6 +26,6 @@ at_end None end = []
 at_end (Some item) end = record { index = end; taken = 0; put = item ∷ [] } ∷ []
 
 -- the splices by which the first item that is picked becomes the new one and the others that are picked go; where none
--- is, the new one comes to stand at the end
+-- is, the new one goes to the end
 abbrev pub once_splices : {A : Type 0} → List Bool → A → ℕ → List (Splice A)
 once_splices picked new end = splices_of (once_fates picked (Some new)) ++ at_end (left_once picked (Some new)) end

@@ -21,14 +21,14 @@ use mvt_document::{Field, LayerItem, MAX_FILE, Measured, Put, TileItem, sum_with
 use mvt_renumber::{Fate, renumber_field};
 use std::alloc::{AllocError, Global};
 
-/// An item goes where it is picked, and else stays.
+/// An item goes if it is picked, and stays otherwise.
 pub fn goes_if<T>(picked: bool) -> Fate<T>
     ensures { result ≡ goes_if picked }
 {
     if picked { Fate::Goes } else { Fate::Stays }
 }
 
-/// `take` items from `index` of a list are taken out, and those of `put` come there.
+/// `take` items from `index` of a list are taken out, and those of `put` go there.
 #[derive(Debug, Drop)]
 pub struct Run<T> {
     pub index: usize,
@@ -67,8 +67,8 @@ impl Run<LayerItem> {
 }
 
 impl Run<TileItem> {
-    /// The step that carries the run out on the items of the tile. There is no memory for one whose
-    /// index is more than half a word, which no tile of `MAX_FILE` bytes has.
+    /// The step that carries the run out on the items of the tile. An index of more than half a
+    /// word is answered as out of memory; no tile of `MAX_FILE` bytes has one.
     pub fn in_tile(self) -> Result<Step, AllocError>
         ensures { IfOk result (λ step. step_of step ≡ plain.TileStep self.index self.take (map tile_item_of self.put.items)) }
     {
@@ -81,8 +81,8 @@ impl Run<TileItem> {
     }
 }
 
-/// Carries out what becomes of each item, in steps behind those that are given. How many items
-/// change.
+/// Carries out what becomes of each item, in steps added after the given ones. Returns how many
+/// items change.
 pub fn carry_out<
     T: Drop,
     F: Fn(&T) -> Result<Fate<T>, AllocError>,
@@ -107,8 +107,8 @@ pub fn carry_out<
     walk.end(&step, steps)
 }
 
-/// Takes the items out that are picked, by a mark for each item of a list, in steps behind those
-/// that are given. How many go.
+/// Takes out the items that are picked, by a mark for each item of a list, in steps added after the
+/// given ones. Returns how many go.
 pub fn take_out<T: Drop, S: Fn(Run<T>) -> Result<Step, AllocError>>(
     alloc: Global,
     picked: &[bool],
@@ -127,8 +127,8 @@ pub fn take_out<T: Drop, S: Fn(Run<T>) -> Result<Step, AllocError>>(
 }
 
 /// Carries out what becomes of the fields of a message, by a decision for each number in the fields
-/// of this number, in order, in steps behind those that are given. Returns the sum of `beside` and
-/// of how many bytes the fields take then, where that is within the limit of a file; none where
+/// of this number, in order, in steps added after the given ones. Returns the sum of `beside` and
+/// of how many bytes the fields take then, if that is within the limit of a file; none where
 /// `beside` is none.
 pub fn renumber_fields<S: Fn(Run<Field>) -> Result<Step, AllocError>>(
     alloc: Global,
@@ -158,8 +158,8 @@ pub fn renumber_fields<S: Fn(Run<Field>) -> Result<Step, AllocError>>(
     Ok(size)
 }
 
-/// The sum of `size` and of how many bytes what is left of a field of this fate takes, where that
-/// is within the limit of a file; none where `size` is none.
+/// The sum of `size` and of how many bytes what is left of a field of this fate takes, if that is
+/// within the limit of a file; none where `size` is none.
 fn and_left(size: Option<usize>, field: &Field, fate: &Fate<Field>) -> Option<usize>
     ensures { IsSizeBeside size (length (flat_map field_bytes (left_of_fate field_of (field_of field.now) fate.now))) result }
 {
@@ -172,9 +172,8 @@ fn and_left(size: Option<usize>, field: &Field, fate: &Fate<Field>) -> Option<us
     sum_within(before, left, MAX_FILE)
 }
 
-/// Carries out that a new item takes the place of the first that passes, and that the others that
-/// pass go, in steps behind those that are given. Where none passes the new one comes to stand at
-/// `end`, in a step of its own.
+/// Makes a new item take the place of the first that passes, and the others that pass go, in steps
+/// added after the given ones. If none passes, the new one is put at `end`, in a step of its own.
 pub fn put_once<T: Drop, P: Fn(&T) -> bool, S: Fn(Run<T>) -> Result<Step, AllocError>>(
     alloc: Global,
     items: &[T],
@@ -201,8 +200,8 @@ pub fn put_once<T: Drop, P: Fn(&T) -> bool, S: Fn(Run<T>) -> Result<Step, AllocE
     Ok(())
 }
 
-/// What becomes of an item that is picked or not, where this is left of a new one that takes the
-/// place of the first that is; and what is left of it then.
+/// What becomes of an item that is picked or not, where a new one takes the place of the first that
+/// is, and this is left of it; and what is left of it then.
 fn once<T>(picked: bool, new: Option<T>) -> (Fate<T>, Option<T>)
     ensures fate { result.0 ≡ once_fate picked new }
     ensures left { result.1 ≡ if picked then None else new }
@@ -216,7 +215,7 @@ fn once<T>(picked: bool, new: Option<T>) -> (Fate<T>, Option<T>)
     }
 }
 
-/// The run that puts what is left, where anything is, at the end.
+/// The run that puts what is left, if anything is, at the end.
 fn end_run<T: Drop>(
     alloc: Global,
     left: Option<T>,
@@ -236,8 +235,8 @@ fn end_run<T: Drop>(
     }))
 }
 
-/// How far a walk over the items of a list is: the run that is open, the index of the next item in
-/// the list that is made, and how many items change.
+/// How far a walk over the items of a list has come: the run that is open, the index of the next
+/// item in the list that is made, and how many items change.
 #[derive(Debug, Drop)]
 struct Walk<T> {
     last: Option<Run<T>>,
@@ -257,7 +256,8 @@ impl<T: Drop> Walk<T> {
         }
     }
 
-    /// Behind one more item, of this fate. A run that is whole now is a step behind the others.
+    /// After one more item, of this fate. A run that is now complete becomes a step after the
+    /// others.
     fn pass<S: Fn(Run<T>) -> Result<Step, AllocError>>(
         self,
         alloc: Global,
@@ -287,8 +287,8 @@ impl<T: Drop> Walk<T> {
         })
     }
 
-    /// Behind the last item: the run that is open is a step behind the others. How many items
-    /// change.
+    /// After the last item: the run that is open becomes a step after the others. Returns how many
+    /// items change.
     fn end<S: Fn(Run<T>) -> Result<Step, AllocError>>(
         self,
         step: &S,
@@ -304,7 +304,7 @@ impl<T: Drop> Walk<T> {
     }
 }
 
-/// 1 where an item of this fate changes, else 0.
+/// 1 if an item of this fate changes, else 0.
 fn changes<T>(fate: &Fate<T>) -> usize
     ensures { result ≡ if changes fate.now then 1 else 0 }
 {
@@ -314,8 +314,8 @@ fn changes<T>(fate: &Fate<T>) -> usize
     }
 }
 
-/// With one more item of this fate behind the run that is open, which comes to stand at this index:
-/// the run that is whole now, the one that is open then, and the index behind the item.
+/// With one more item of this fate, which gets this index, after the run that is open: the run that
+/// is now complete, the one that is then open, and the index after the item.
 fn joined<T: Drop>(
     alloc: Global,
     last: Option<Run<T>>,
@@ -362,7 +362,7 @@ fn one_more<T>(alloc: Global, last: Option<Run<T>>, at: usize) -> Run<T>
     }
 }
 
-/// Puts the item behind the others of a run. Most runs put one item, so the first takes no more room
+/// Puts the item after the others of a run. Most runs put one item, so the first takes no more room
 /// than it needs.
 fn put_behind<T: Drop>(put: &mut Vec<T>, item: T) -> Result<(), AllocError>
     ensures { OnOk result (put.new.items ≡ put.old.items ++ item ∷ []) }
@@ -374,7 +374,7 @@ fn put_behind<T: Drop>(put: &mut Vec<T>, item: T) -> Result<(), AllocError>
     Ok(())
 }
 
-/// Puts the step of the run, where there is one, behind the others.
+/// Puts the step of the run, if there is one, after the others.
 fn put_step<T: Drop, S: Fn(Run<T>) -> Result<Step, AllocError>>(
     run: Option<Run<T>>,
     step: &S,

@@ -1,4 +1,4 @@
--- A session that keeps no changes of an open step stands for a history in which none is open.
+-- A session that keeps no changes of an open step stands for a history in which no step is open.
 use Rattle.std.proofs.Common.{◌≡◌, Option, Some, None, List, refl, ap, ◌∙◌}
 use Rattle.mvt_document.specs.Plain.{Document}
 use Rattle.mvt_command.specs.Command.{Command}

@@ -51,7 +51,7 @@ within_tested low high mark e =
       | inr not_above ↦ absurd (let no = rw not_above at e in cc)
     ]
 
--- how many changes go where one more is kept
+-- how many changes go if one more is kept
 abbrev pub gone_from : Standing → ℕ
 gone_from session = length session.undo + 1 - session.depth
 
@@ -103,7 +103,7 @@ kept_held undo_room redo_room before after change kept held valid fits leads =
       reached = all_from_counted (IsReached (length after.undo + length after.redo)) (IsWithin gone high) gone (λ mark reached. omega (arith, counts, within, reached)) after.marks counted;
     }
 
--- ---- what stands with it
+-- ---- what holds with it
 
 kept_document : (step : List Command) (history : History) → history.present ≤ length history.steps → standing_document (with_step step history) ≡ after_all step (present_document history)
 kept_document step history within =

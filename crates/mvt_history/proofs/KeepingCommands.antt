@@ -1,4 +1,5 @@
--- What a session stands for, and that it is held, after a command, the end of a step, and its being cancelled.
+-- What a session stands for, and that it is held, after a command, after the end of a step, and after a step is
+-- cancelled.
 use Rattle.std.proofs.Common.{◌≡◌, ℕ, ◌+◌, ◌-◌, ◌<◌, ◌≤◌, true, false, is_some, ◌==◌, OnErr, inl, Option, Some, None, option_map, Vec, Global, Result, Ok, Err, List, [], ◌∷◌, ◌++◌, length, map, reverse, take, drop, refl, sym, ap, subst, ◌∙◌, arith}
 use Rattle.std.proofs.lemmas.List.{take_all}
 use Rattle.std.proofs.lemmas.Bool.Decides.{nat_tests}

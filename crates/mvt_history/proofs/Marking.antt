@@ -87,7 +87,7 @@ marked_refused name session history closed room stands =
 
 -- ---- a name that is no longer marked
 
--- a name that marks nothing is taken from nowhere
+-- a name that marks nothing is removed from nowhere
 pub nothing_unbound : (name : List ℕ) (marks : List Mark) → is_some (point_of name marks) ≡ false → unbound name marks ≡ marks
 nothing_unbound name [] none = refl
 nothing_unbound name (mark ∷ marks) none =
@@ -184,12 +184,12 @@ part_of_way : (direction : Direction) (taken count from to : ℕ) → taken < co
 part_of_way Undo taken count from to less way = (from - taken, omega (arith, way, less), inl (omega (arith, way, less), omega (arith, way, less)))
 part_of_way Redo taken count from to less way = (from + taken, refl, inr (refl, omega (arith, way, less)))
 
--- as many changes lie ahead as the way to a mark has steps
+-- as many changes are ahead as the way to a mark has steps
 way_within : (direction : Direction) (count to : ℕ) (session : Standing) → LeadsAlong direction count (length session.undo) to → to ≤ length session.undo + length session.redo → count ≤ length (walk_in direction session).ahead
 way_within Undo count to session way within = omega (arith, way)
 way_within Redo count to session way within = omega (arith, way, within)
 
--- `count` steps in a direction lead to the point of a mark, and as many changes lie ahead
+-- `count` steps in a direction lead to the point of a mark, and as many changes are ahead
 pub record IsWayToMark (name : List ℕ) (point : ℕ) (direction : Direction) (count : ℕ) (session : Standing) : Type 0 where
   pub found : point_of name session.marks ≡ Some point
   pub way : LeadsAlong direction count (length session.undo) point

@@ -30,7 +30,7 @@ use Rattle.mvt_history_steps.proofs.Stepping.{walk_of}
 use Rattle.mvt_history.proofs.Closed.{is_closed, stands_present}
 use Rattle.mvt_history_steps.proofs.Turned.{turned_leads}
 
--- ---- how many changes lie ahead and behind
+-- ---- how many changes are ahead and behind
 
 stepped_count : (document : Document) (ahead behind : List Change) → 1 ≤ length ahead → let walk = stepped (record { document = document; ahead = ahead; behind = behind }) in (length walk.ahead + 1 ≡ length ahead) × (length walk.behind ≡ length behind + 1)
 stepped_count document [] behind some = absurd (omega (arith, some))
@@ -259,7 +259,7 @@ none_there : (count : ℕ) (error why : HistoryError) → ◌≡◌ {A = Result 
 none_there zero error why is = (refl, cc)
 none_there (suc count) error why is = absurd (let apart : (suc count == 0) ≡ false = grind (arith, nat_tests) in let no = rw apart at is in cc)
 
--- a step lies ahead where `ensure_ahead` says so
+-- a step is ahead if `ensure_ahead` says so
 pub lies_ahead : (direction : Direction) (session : Standing) (done : Unit {0}) → ◌≡◌ {A = Result (Unit {0}) HistoryError} (Ok done) (ensured_ahead direction session) → 1 ≤ length (walk_in direction session).ahead
 lies_ahead Undo session done is = some_there (length session.undo) NothingToUndo done is
 lies_ahead Redo session done is = some_there (length session.redo) NothingToRedo done is
@@ -280,7 +280,7 @@ refused_ahead Redo session history why closed is stands =
     let there : (history.present == length history.steps) ≡ true = grind (arith, nat_tests) in
     rw (none, there) (ap (λ error. Err error) (sym found.1))
 
--- what is answered where it refuses
+-- what is answered if it refuses
 pub refusal_answers : (direction : Direction) (session : Standing) (history : History) (answer : Result (Unit {0}) HistoryError) (why : HistoryError) → answer ≡ Err why → session.pending ≡ None → ◌≡◌ {A = Result (Unit {0}) HistoryError} (Err why) (ensured_ahead direction session) → StandsFor session history → AnswersWithMemory (gone direction history) history answer session
 refusal_answers direction session history answer why is closed refuses stands =
     subst (λ answer. AnswersWithMemory (gone direction history) history answer session) (sym is) (inr (refused_ahead direction session history why closed refuses stands), stands)

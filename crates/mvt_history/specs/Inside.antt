@@ -8,6 +8,6 @@ use Rattle.mvt_history.specs.declared.session.Session.TheInside.{Inside}
 abbrev pub seen_in : Inside → Standing
 seen_in session = standing_of session.document session.undo.items session.redo.items session.depth session.marks.items (option_map (λ pending. pending.items) session.pending)
 
--- what the fields of a session keep (`IsHeld`), of all of them taken together
+-- what the fields of a session keep (`IsHeld`), taken together
 abbrev pub IsHeldIn : Inside → Type 0
 IsHeldIn session = IsHeld session.undo.capacity session.redo.capacity (seen_in session)

@@ -1,4 +1,4 @@
--- What a session looks at before it refuses.
+-- What a session checks before it refuses.
 use Rattle.std.specs.Prelude.{ℕ, Bool, ◌||◌, ◌==◌, nat_lt, is_some, if◌then◌else◌, List, length, Result, Ok, Err}
 use Rattle.mvt_history_error.specs.declared.HistoryError.{HistoryError}
 use Rattle.mvt_history_error.specs.declared.HistoryError.TheVariants.{NothingToUndo, NothingToRedo}
@@ -8,7 +8,7 @@ use Rattle.mvt_history_steps.specs.declared.TheConstants.{MAX_MARKS}
 use Rattle.mvt_history_steps.specs.declared.steps.Direction.{Direction}
 use Rattle.mvt_history_steps.specs.declared.steps.Direction.TheVariants.{Undo, Redo}
 
--- a step lies ahead in the direction; or the refusal that there is none
+-- there is a step ahead in the direction; or the refusal that there is none
 abbrev pub ensured_ahead : Direction → Standing → Result (Unit {0}) HistoryError
 ensured_ahead Undo session = if length session.undo == 0 then Err NothingToUndo else Ok tt
 ensured_ahead Redo session = if length session.redo == 0 then Err NothingToRedo else Ok tt

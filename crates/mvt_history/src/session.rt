@@ -30,8 +30,8 @@ use std::alloc::{AllocError, Global};
 use std::marker::Model;
 
 /// A document that commands edit. A step is one command, or several that are closed together; undo
-/// and redo go by steps. For each step that undo or redo reaches the session keeps the change that
-/// leads there, and never a second document.
+/// and redo move by steps. For each step that undo or redo reaches, the session keeps the change
+/// that leads there, and never a second document.
 #[derive(Drop)]
 pub struct Session {
     alloc: Global,
@@ -60,8 +60,8 @@ impl Model for Session {
 }
 
 impl Session {
-    /// A session of a document that no command has edited, in which undo goes back `depth` steps at
-    /// most. An error hands the document back: it is too large for a file, or there is no memory.
+    /// A session of a document that no command has edited, in which undo goes back at most `depth`
+    /// steps. An error hands the document back: it is too large for a file, or there is no memory.
     pub fn start(alloc: Global, document: Document, depth: u32) -> Result<Session, StartError>
         requires valid { IsDocument (document_of document) }
         requires depth { (1 ≤ depth) × (depth ≤ MAX_DEPTH) }
@@ -125,8 +125,8 @@ impl Session {
         self.marks.len()
     }
 
-    /// The mark with the name of this place in the order of their bytes, and its point less the
-    /// present one: below 0 where undo leads there.
+    /// The mark whose name is at this place in the order of their bytes, and its point minus the
+    /// present one: below 0 if undo leads there.
     pub fn mark_at(&self, index: usize) -> Option<(&[u8], i64)>
         ensures { SeesMark (length self.now.undo) result (slice_get self.now.marks index) }
     {
@@ -145,7 +145,7 @@ impl Session {
         Some(pending.len())
     }
 
-    /// Refuses where a step is open.
+    /// Refuses if a step is open.
     fn ensure_closed(&self) -> Result<(), HistoryError>
         ensures { result ≡ (if is_some self.now.pending then Err GroupOpen else Ok tt) }
     {
@@ -155,8 +155,8 @@ impl Session {
         Ok(())
     }
 
-    /// Carries a command out. Where a step is open it joins that; otherwise it is a step, and what
-    /// was undone is forgotten. It is refused as `prepare` refuses it.
+    /// Carries a command out. If a step is open, the command joins it; otherwise it is a step, and
+    /// what was undone is forgotten. It is refused as `prepare` refuses it.
     pub fn command(&mut self, command: &Command) -> Result<(), Refusal>
         ensures answer { (history : History) → StandsFor self.old history → AnswersCommand (command_of command.now) history result self.new }
         ensures err { OnErr result (self.new ≡ self.old) }
@@ -171,7 +171,7 @@ impl Session {
         Ok(())
     }
 
-    /// Takes the last step back. `GroupOpen` while a step is open, else `NothingToUndo` where undo
+    /// Takes the last step back. `GroupOpen` while a step is open, else `NothingToUndo` if undo
     /// goes back no further.
     pub fn undo(&mut self) -> Result<(), HistoryError>
         ensures answer { (history : History) → StandsFor self.old history → AnswersWithMemory (undone history) history result self.new }
@@ -180,8 +180,8 @@ impl Session {
         self.step(Direction::Undo)
     }
 
-    /// Has the step stand again that was taken back last. `GroupOpen` while a step is open, else
-    /// `NothingToRedo` where none was.
+    /// Makes the step that was taken back last stand again. `GroupOpen` while a step is open, else
+    /// `NothingToRedo` if none was.
     pub fn redo(&mut self) -> Result<(), HistoryError>
         ensures answer { (history : History) → StandsFor self.old history → AnswersWithMemory (redone history) history result self.new }
         ensures err { OnErr result (self.new ≡ self.old) }
@@ -200,7 +200,7 @@ impl Session {
         self.walk(direction, 1).or(Err(HistoryError::NoMemory))
     }
 
-    /// Refuses where there is no step in a direction.
+    /// Refuses if there is no step in a direction.
     fn ensure_ahead(&self, direction: Direction) -> Result<(), HistoryError>
         ensures ahead { result ≡ ensured_ahead direction self.now }
 
@@ -239,8 +239,8 @@ impl Session {
         }
     }
 
-    /// Has the name mark the present point, and no other. `GroupOpen` while a step is open, else
-    /// `TooManyMarks` for a new name where there are `MAX_MARKS`.
+    /// Makes the name mark the present point, and no other. `GroupOpen` while a step is open, else
+    /// `TooManyMarks` for a new name if there are `MAX_MARKS`.
     pub fn mark(&mut self, name: &[u8]) -> Result<(), HistoryError>
         ensures answer { (history : History) → StandsFor self.old history → AnswersWithMemory (marked name.now history) history result self.new }
         ensures err { OnErr result (self.new ≡ self.old) }
@@ -261,7 +261,7 @@ impl Session {
         find_point(self.marks.as_slice(), name).is_some() || self.marks.len() < MAX_MARKS
     }
 
-    /// Has the name mark nothing. `GroupOpen` while a step is open, else `NoMark` where it marks
+    /// Makes the name mark nothing. `GroupOpen` while a step is open, else `NoMark` if it marks
     /// nothing.
     pub fn unmark(&mut self, name: &[u8]) -> Result<(), HistoryError>
         ensures answer { (history : History) → StandsFor self.old history → Answers (unmarked name.now history) history result self.new }
@@ -271,9 +271,9 @@ impl Session {
         unbind(&mut self.marks, name).ok_or(HistoryError::NoMark)
     }
 
-    /// Goes to the marked point, by as many undos or redos. `GroupOpen` while a step is open, else
-    /// `NoMark` where the name marks nothing. Where there is no memory for one of them, those before
-    /// it stand, and `Stopped` says how many they are.
+    /// Goes to the marked point, by as many undos or redos as that takes. `GroupOpen` while a step
+    /// is open, else `NoMark` if the name marks nothing. If there is no memory for one of them,
+    /// those before it stand, and `Stopped` says how many they are.
     pub fn back(&mut self, name: &[u8]) -> Result<(), HistoryError>
         ensures answer { (history : History) → StandsFor self.old history → AnswersBack name.now history result self.new }
         ensures err { IfErr result (λ error. (self.new ≡ self.old) ⊎ IsStop error) }
@@ -287,7 +287,7 @@ impl Session {
             .map_err(|taken| HistoryError::Stopped { taken })
     }
 
-    /// Opens a step: the commands from now on are one. `GroupOpen` where one is open.
+    /// Opens a step: the commands from now on are one. `GroupOpen` if one is open.
     pub fn begin(&mut self) -> Result<(), HistoryError>
         ensures answer { (history : History) → StandsFor self.old history → Answers (opened history) history result self.new }
         ensures err { OnErr result (self.new ≡ self.old) }
@@ -297,8 +297,8 @@ impl Session {
         Ok(())
     }
 
-    /// Ends the open step, or refuses with `NoGroup`. One without a command leaves all as it was
-    /// before it. Where there is no memory it stays open.
+    /// Ends the open step, or refuses with `NoGroup`. A step without a command leaves everything as
+    /// it was before it. If there is no memory, it stays open.
     pub fn end(&mut self) -> Result<(), HistoryError>
         ensures answer { (history : History) → StandsFor self.old history → AnswersWithMemory (closed history) history result self.new }
         ensures err { OnErr result (self.new ≡ self.old) }
@@ -317,8 +317,8 @@ impl Session {
         Ok(())
     }
 
-    /// Takes the commands of the open step back, and closes it, or refuses with `NoGroup`. Where
-    /// there is no memory for one of them, it stays open with that one and those before it, and
+    /// Takes the commands of the open step back, and closes it, or refuses with `NoGroup`. If there
+    /// is no memory for one of them, the step stays open with that one and those before it, and
     /// `Stopped` says how many were taken back.
     pub fn cancel(&mut self) -> Result<(), HistoryError>
         ensures answer { (history : History) → StandsFor self.old history → AnswersCancel history result self.new }
@@ -335,7 +335,7 @@ impl Session {
     }
 }
 
-/// Carries a change out, and puts what leads back last in a list.
+/// Carries a change out, and appends what leads back to a list.
 fn flip_onto(
     alloc: Global,
     document: &mut Document,

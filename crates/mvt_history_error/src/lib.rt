@@ -13,7 +13,7 @@ pub enum HistoryError {
     /// Undo goes back no further.
     #[error("there is nothing to undo")]
     NothingToUndo,
-    /// No step was undone that could stand again.
+    /// There is no undone step that could stand again.
     #[error("there is nothing to redo")]
     NothingToRedo,
     /// The name marks nothing.
@@ -26,10 +26,10 @@ pub enum HistoryError {
     /// `taken` commands of the open step were taken back by a `cancel`; that stands.
     #[error("out of memory after {taken} steps")]
     Stopped { taken: usize },
-    /// A step is open, and this has to wait for its end.
+    /// A step is open, and this request has to wait for its end.
     #[error("a step is open")]
     GroupOpen,
-    /// No step is open that could be ended or cancelled.
+    /// There is no open step to end or cancel.
     #[error("no step is open")]
     NoGroup,
     /// Memory was refused, and nothing has changed.

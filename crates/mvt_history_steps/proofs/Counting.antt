@@ -1,4 +1,4 @@
--- Marks whose points are counted from a floor, beside what is done to marks.
+-- Marks whose points are counted from a floor, alongside what is done to marks.
 use Rattle.std.proofs.Common.{◌≡◌, ℕ, ◌+◌, Bool, not, ◌&&◌, nat_le, option_map, List, [], ◌∷◌, ◌++◌, length, filter, map, refl, sym, ap, ap₂, ◌∙◌, subst, inl, inr, arith}
 use Rattle.std.specs.List.{AllByRecursion, slice_get}
 use Rattle.std.specs.List.Sorted.{IsStrictlySortedBy}
@@ -60,7 +60,7 @@ counted_names floor (mark ∷ marks) = ap (λ ys. mark.name ∷ ys) (counted_nam
 pub in_order_from_counted : (floor : ℕ) (marks : List Mark) → InOrder (map (counted_from floor) marks) → InOrder marks
 in_order_from_counted floor marks order = subst (IsStrictlySortedBy compared) (counted_names floor marks) order
 
--- ---- what holds of each
+-- ---- what holds for each
 
 pub all_from_counted : (P Q : Mark → Type 0) (floor : ℕ) → ((mark : Mark) → Q (counted_from floor mark) → P mark) → (marks : List Mark) → AllByRecursion Q (map (counted_from floor) marks) → AllByRecursion P marks
 all_from_counted P Q floor says [] all = tt

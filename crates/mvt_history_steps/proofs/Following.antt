@@ -1,5 +1,5 @@
--- Each document of a history follows from the one before. Changes that lead back look only at the steps below their point,
--- and lead to the documents there; those that lead on lead to the documents above.
+-- Each document of a history follows from the one before. Changes that lead back depend only on the steps below their
+-- point, and lead to the documents there; those that lead on lead to the documents above.
 use Rattle.std.proofs.Common.{◌≡◌, ℕ, zero, suc, ◌+◌, ◌-◌, ◌<◌, ◌≤◌, List, [], ◌∷◌, ◌++◌, length, take, drop, get_or, refl, sym, ap, subst, ◌∙◌, arith}
 use Rattle.std.proofs.lemmas.List.{take_more, get_or-take, take-take}
 use Rattle.mvt_document.specs.Plain.{Document}

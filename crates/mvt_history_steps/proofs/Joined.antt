@@ -1,4 +1,4 @@
--- The changes of an open step, a command each, lead out of it; joined they lead back over it as one step.
+-- The changes of an open step, one per command, lead out of it; joined they lead back over it as one step.
 use Rattle.std.proofs.Common.{◌≡◌, ℕ, zero, suc, ◌+◌, ◌-◌, ◌≤◌, Option, Some, None, Ok, List, [], ◌∷◌, ◌++◌, append_assoc, length, length-append, length-take-le, take, drop, get_or, refl, sym, ap, subst, ◌∙◌, arith}
 use Rattle.std.proofs.lemmas.List.{append-nil, length-map, length-drop, take_all, take_at, take_more, take-map, take-take, map-append, get_or_at}
 use Rattle.std.proofs.lemmas.List.Sums.{sum_by-append}

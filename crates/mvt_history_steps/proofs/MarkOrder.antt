@@ -1,4 +1,4 @@
--- Marks that are set and taken away stay in order, are few, and are of the points that they were of.
+-- Marks that are set and removed stay in order, are few, and are of the points that they were of.
 use Rattle.std.proofs.Common.{◌≡◌, subst, ℕ, suc, ◌+◌, ◌<◌, ◌≤◌, Bool, true, cond, not, is_some, nat_lt, Some, option_map, List, [], ◌∷◌, ◌++◌, length, map, refl, ap, ◌∙◌, inl, inr, arith, length-append, ◌||◌}
 use Rattle.std.specs.List.{AllByRecursion, filter, slice_get}
 use Rattle.std.specs.List.Sorted.{IsStrictlySortedBy}
@@ -13,9 +13,9 @@ use Rattle.mvt_meaning.proofs.Elements.{all_filtered}
 use Rattle.mvt_history_steps.specs.Marks.{Mark, compared, has_name, is_before, is_behind, InOrder, point_of, bound, unbound}
 use Rattle.mvt_history_steps.specs.declared.TheConstants.{MAX_MARKS}
 
--- ---- what holds of each
+-- ---- what holds for each
 
--- what holds of each that passes
+-- what holds for each that passes
 pub all_passed : {A : Type 0} (P : A → Type 0) (test : A → Bool) → ((x : A) → test x ≡ true → P x) → (xs : List A) → AllByRecursion P (filter test xs)
 all_passed P test says [] = tt
 all_passed P test says (x ∷ xs) =
@@ -75,7 +75,7 @@ names_joined : (P : List ℕ → Type 0) (before : List Mark) (middle : Mark) (b
 names_joined P [] middle behind low here high = (here, high)
 names_joined P (mark ∷ before) middle behind low here high = (low.0, names_joined P before middle behind low.1 here high)
 
--- two lists in order, one before a name and the other behind it
+-- two lists in order, one before a name and the other after it
 joined_in_order : (before : List Mark) (middle : Mark) (behind : List Mark) → InOrder before → AllByRecursion (λ other. compared other middle.name ≡ Less) (names before) → AllByRecursion (λ other. compared middle.name other ≡ Less) (names behind) → InOrder behind → InOrder (before ++ middle ∷ behind)
 unfolding IsStrictlySortedBy
 joined_in_order [] middle behind order low high more = (high, more)
@@ -97,7 +97,7 @@ length_filtered test (x ∷ xs) =
     let rest = length_filtered test xs in
     elim (cases_Bool (test x)) [ inl kept ↦ rw kept (omega arith) | inr gone ↦ rw gone (omega arith) ]
 
--- each mark is before the name, has it, or is behind it
+-- each mark is before the name, has it, or is after it
 by_order : (order : Ordering) (before same behind : List Mark) (mark : Mark) (all : ℕ) → length before + length same + length behind ≡ all → length (cond (is_lt order) (mark ∷ before) before) + length (cond (is_eq order) (mark ∷ same) same) + length (cond (is_gt order) (mark ∷ behind) behind) ≡ suc all
 by_order Less before same behind mark all e = omega (arith, e)
 by_order Equal before same behind mark all e = omega (arith, e)
@@ -131,6 +131,6 @@ first_holds : (P : ℕ → Type 0) (marks : List Mark) → AllByRecursion (λ ma
 first_holds P [] all point e = absurd cc
 first_holds P (mark ∷ marks) all point e = let same : mark.point ≡ point = cc in subst P same all.0
 
--- what holds of all points holds of the one that a name marks
+-- what holds for all points holds for the one that a name marks
 pub point_holds : (P : ℕ → Type 0) (name : List ℕ) (marks : List Mark) → AllByRecursion (λ mark. P mark.point) marks → (point : ℕ) → point_of name marks ≡ Some point → P point
 point_holds P name marks all point e = first_holds P (filter (has_name name) marks) (all_filtered (λ mark. P mark.point) (has_name name) marks all) point e

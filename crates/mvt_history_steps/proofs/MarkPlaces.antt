@@ -36,7 +36,7 @@ rises_by first second name less Greater e = at_most_greater (compared first name
 
 -- ---- what is found
 
--- all marks that come after a name are behind it
+-- all marks that come after a name pass `is_behind`
 all_behind : (name : List ℕ) (marks : List Mark) → AllByRecursion (λ other. compared name other ≡ Less) (map (λ mark. mark.name) marks) → (filter (is_before name) marks ≡ []) × (filter (is_behind name) marks ≡ marks)
 all_behind name [] all = (refl, refl)
 all_behind name (mark ∷ marks) all =
@@ -128,9 +128,9 @@ module _ (name : List ℕ) (marks : List Mark) where
   others_behind : unbound name (filter (is_behind name) marks) ≡ filter (is_behind name) marks
   others_behind = all_pass (is_behind name) (λ mark. not (has_name name mark)) (λ mark greater. ap not (greater_differs (compared mark.name name) greater)) marks
 
--- ---- where the name is there
+-- ---- where the name is found
 
--- a list cut at a place, and what stands there
+-- a list cut at a place, and what is there
 cut_at : (P : Mark → Type 0) (marks : List Mark) (place : ℕ) → IsSomeAnd (slice_get marks place) P → (mark : Mark) × P mark × (slice_get marks place ≡ Some mark) × (marks ≡ take place marks ++ mark ∷ drop (suc place) marks)
 cut_at P [] place there = absurd there
 cut_at P (mark ∷ marks) zero there = (mark, there, refl, refl)
@@ -168,7 +168,7 @@ unbound_there name marks place is =
     ap (unbound name) split.3 ∙ filter-append (λ mark. not (has_name name mark)) (filter (is_before name) marks) (mark ∷ filter (is_behind name) marks) ∙ ap₂ (λ xs ys. xs ++ ys) (others_before name marks) behind in
     ap₂ (λ xs ys. xs ++ ys) is.0 is.1 ∙ sym left
 
--- ---- where it is not there
+-- ---- where it is not found
 
 split_not_there : (name : List ℕ) (marks : List Mark) (place : ℕ) → IsPlaceOf name marks (Err place) → marks ≡ filter (is_before name) marks ++ filter (is_behind name) marks
 split_not_there name marks place is = sym (take-append-drop place marks) ∙ ap₂ (λ xs ys. xs ++ ys) is.0 is.1

@@ -1,4 +1,4 @@
--- In each history that requests make, the numbers and marks lie as they should.
+-- In each history that requests make, the numbers and marks relate as they should.
 use Rattle.std.proofs.Common.{◌≡◌, ℕ, ◌+◌, ◌-◌, ◌<◌, ◌≤◌, Bool, true, ◌&&◌, is_some, nat_le, nat_lt, not, ◌||◌, Option, Some, None, Result, Ok, Err, List, [], ◌∷◌, ◌++◌, length, take, refl, ap, ◌∙◌, inl, inr, arith, length-append, length-take-le, ◌==◌, IfOk, if◌then◌else◌}
 use Rattle.std.specs.List.{AllByRecursion}
 use Rattle.std.proofs.lemmas.Bool.{cases_Bool}
@@ -158,7 +158,7 @@ pub sound_cancelled : (history : History) → IsSound history → IfOk (cancelle
 sound_cancelled history sound =
     elim (cases_Bool (is_some history.group)) [ inl there ↦ rw there (sound_with_group None history sound) | inr none ↦ rw none tt ]
 
--- what holds of the history that is answered, and of the one before, holds after the request
+-- what holds for the history that is answered, and for the one before, holds after the request
 pub or_before_has : {E : Type 0} (P : History → Type 0) (before : History) (answer : Result History E) → P before → IfOk answer P → P (or_before before answer)
 or_before_has P before (Ok after) holds answered = answered
 or_before_has P before (Err error) holds answered = holds

@@ -47,7 +47,7 @@ module _ {X : Type 0} where
   pub before_pushed : (items : List X) (item : X) → take (length (items ++ item ∷ []) - 1) (items ++ item ∷ []) ≡ items
   before_pushed items item = take_at items (item ∷ []) (length (items ++ item ∷ []) - 1) (omega (arith, length_push items item))
 
-  -- where there is room for one more, all are kept
+  -- if there is room for one more, all are kept
   pub keeps_pushed : (capacity : ℕ) (items : List X) (item : X) → length items < capacity → keep_last capacity (items ++ item ∷ []) ≡ items ++ item ∷ []
   keeps_pushed capacity items item room =
       let none : length (items ++ item ∷ []) - capacity ≡ 0 = omega (arith, room, length_push items item) in
@@ -96,14 +96,14 @@ step_taken from to held capacity change flipped popped before after is room held
     (ap from_last (keeps_pushed capacity to popped room) ∙ from_last_push to popped ∙ ap (λ c. change_of c ∷ from_last to) same ∙ ap (λ c. c ∷ from_last to) turned)
     ∙ ap (λ ahead. step_over ahead (walk_of before (from_last from) (from_last to))) (sym (from_last_ends from change is))
 
--- what is answered where it is refused
+-- what is answered if it is refused
 pub on_refusal : {A E X : Type 0} (answer : Result A E) (accepted refused : X) → IsErr answer → (if is_ok answer then accepted else refused) ≡ refused
 on_refusal (Ok done) accepted refused err = absurd (false≢true err)
 on_refusal (Err error) accepted refused err = refl
 
 -- ---- steps
 
--- after `taken` steps the changes ahead fit, and as many have come behind
+-- after `taken` steps the changes ahead fit, and as many have moved behind
 pub record IsOnTheWay (before : Track) (taken : ℕ) (now : Track) : Type 0 where
   pub is : now ≡ walked taken before
   pub fit : FitAlong now.ahead now.document
@@ -127,7 +127,7 @@ further before now next taken way left is =
       behind = omega (arith, stays.2, way.behind);
     }
 
--- ---- changes that are let go
+-- ---- changes that are dropped
 
 next_on : (changes rest : List plain.Change) (taken : ℕ) (change : plain.Change) (document : Document) → drop taken changes ≡ change ∷ rest → (go_along (take (suc taken) changes) document ≡ go change (go_along (take taken changes) document)) × (drop (suc taken) changes ≡ rest)
 next_on [] rest zero change document is = absurd cc
@@ -144,7 +144,7 @@ one_more changes rest taken change document is =
     let one : suc taken ≡ taken + 1 = omega arith in
     subst (λ n. (go_along (take n changes) document ≡ go change (go_along (take taken changes) document)) × (drop n changes ≡ rest)) one (next_on changes rest taken change document is)
 
--- after `taken` changes were carried out and let go, the others are left
+-- after `taken` changes were carried out and dropped, the others are left
 pub record IsTakenBack (all : List plain.Change) (before : Document) (taken : ℕ) (left : List plain.Change) (now : Document) : Type 0 where
   pub document : now ≡ go_along (take taken all) before
   pub rest : left ≡ drop taken all

@@ -1,5 +1,5 @@
--- Which steps of commands stand, and the document that they make of the tile at the start. No change and no inverse is
--- in it. The point is how many steps stand; the floor is the least point to which undo goes back.
+-- Which steps of commands stand, and the document that they make of the tile at the start. No change and no inverse
+-- appears here. The point is how many steps stand; the floor is the lowest point to which undo goes back.
 use Rattle.std.specs.Prelude.{ℕ, ◌+◌, ◌-◌, ◌≤◌, max, List, [], ◌∷◌, ◌++◌, length, take, Option, Some, None, Result, Ok, Err, ◌==◌, ◌||◌, nat_lt, is_some, if◌then◌else◌}
 use Rattle.std.specs.List.{AllByRecursion}
 use Rattle.mvt_document.specs.Plain.{Document}
@@ -11,7 +11,7 @@ use Rattle.mvt_history_steps.specs.declared.TheConstants.{MAX_MARKS}
 use Rattle.mvt_history_error.specs.declared.HistoryError.{HistoryError}
 use Rattle.mvt_history_error.specs.declared.HistoryError.TheVariants.{NothingToUndo, NothingToRedo, NoMark, TooManyMarks, GroupOpen, NoGroup}
 
--- the tile at the start; the steps, each of one or more commands, those that were undone included; how many of them
+-- the tile at the start; the steps, each of one or more commands, including those that were undone; how many of them
 -- stand; the floor; how many steps undo goes back at most; the marks; and the commands of the open step, where one is
 -- open
 pub record History : Type 0 where
@@ -39,7 +39,7 @@ abbrev pub after_steps : List (List Command) → Document → Document
 after_steps [] document = document
 after_steps (step ∷ steps) document = after_steps steps (after_all step document)
 
--- the document after the first steps, `point` of them
+-- the document after the first `point` steps
 abbrev pub document_at : ℕ → History → Document
 document_at point history = after_steps (take point history.steps) history.start
 
@@ -56,14 +56,15 @@ commands_in (Some commands) = commands
 abbrev pub standing_document : History → Document
 standing_document history = after_all (commands_in history.group) (present_document history)
 
--- ---- how its numbers and marks lie to one another
+-- ---- how its numbers and marks relate
 
 -- the mark is of a point from `low` to `high`
 abbrev pub IsWithin : ℕ → ℕ → Mark → Type 0
 IsWithin low high mark = (low ≤ mark.point) × (mark.point ≤ high)
 
--- the depth is at least 1; the floor is not above the present point, nor that above the end; from the floor to the end
--- there are no more steps than the depth; the marks are in order, at most 256, and of points from the floor to the end
+-- the depth is at least 1; the floor is not above the present point, nor the present point above the end; from the
+-- floor to the end there are no more steps than the depth; the marks are in order, at most 256, and of points from the
+-- floor to the end
 pub record IsSound (history : History) : Type 0 where
   pub some_depth : 1 ≤ history.depth
   pub above_floor : history.floor ≤ history.present
@@ -114,7 +115,7 @@ edited_to command history (Err refusal) = Err refusal
 abbrev pub edited : Command → History → Result History Refusal
 edited command history = edited_to command history (applied command (standing_document history))
 
--- the answer; while a step is open, the refusal that one is
+-- the answer; while a step is open, the refusal that a step is open
 abbrev pub unless_open : Option (List Command) → Result History HistoryError → Result History HistoryError
 unless_open None answer = answer
 unless_open (Some commands) answer = Err GroupOpen
@@ -127,8 +128,8 @@ undone history = unless_open history.group (if history.present == history.floor 
 abbrev pub redone : History → Result History HistoryError
 redone history = unless_open history.group (if history.present == length history.steps then Err NothingToRedo else Ok (at_point (history.present + 1) history))
 
--- the history where the name marks the present point; a new name is refused where there are 256, and each while a step
--- is open
+-- the history where the name marks the present point; a new name is refused where there are 256, and any name while a
+-- step is open
 abbrev pub marked : List ℕ → History → Result History HistoryError
 marked name history = unless_open history.group (if is_some (point_of name history.marks) || nat_lt (length history.marks) MAX_MARKS then Ok (with_marks (bound name history.present history.marks) history) else Err TooManyMarks)
 

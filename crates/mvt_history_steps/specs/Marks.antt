@@ -14,7 +14,7 @@ pub record Mark : Type 0 where
 abbrev pub compared : List ℕ → List ℕ → Ordering
 compared first second = slice_cmp nat_cmp first second
 
--- ---- where a mark stands beside a name
+-- ---- how a mark compares with a name
 
 -- the mark has this name
 abbrev pub has_name : List ℕ → Mark → Bool
@@ -28,11 +28,11 @@ is_before name mark = is_lt (compared mark.name name)
 abbrev pub is_behind : List ℕ → Mark → Bool
 is_behind name mark = is_gt (compared mark.name name)
 
--- each name comes before those after it, so no name is there twice
+-- each name comes before those after it, so no name occurs twice
 abbrev pub InOrder : List Mark → Type 0
 InOrder marks = IsStrictlySortedBy compared (map (λ mark. mark.name) marks)
 
--- ---- marks that are set, taken away and looked up
+-- ---- marks that are set, removed and looked up
 
 -- the point that the name marks, or none
 abbrev pub point_of : List ℕ → List Mark → Option ℕ

@@ -26,8 +26,8 @@ step_allowance commands document = 2 * length commands + all_taken_by commands d
 
 -- ---- one change
 
--- the change leads from one document to another, holds at most `held` bytes, and turned at most `turned`; twice its
--- steps are within the allowance
+-- the change leads from one document to another, holds at most `held` bytes, and once turned at most `turned`; twice
+-- its steps are within the allowance
 pub record Leads (change : Change) (from to : Document) (held turned allowance : ℕ) : Type 0 where
   pub fits : Fits change from
   pub leads : go change from ≡ to
@@ -36,8 +36,8 @@ pub record Leads (change : Change) (from to : Document) (held turned allowance :
   pub few_steps : 2 * length change ≤ allowance
 
 -- the change leads from the document after the step to the one before it, holds no more bytes than the step took out,
--- and turned no more than it put in; its steps are at most one for each command of the step plus half as many as these
--- bytes together
+-- and once turned no more than it put in; its steps are at most one for each command of the step plus half as many as
+-- these bytes together
 abbrev pub LeadsBack : List Command → Document → Change → Type 0
 LeadsBack step before change = Leads change (after_all step before) before (all_taken_by step before) (all_put_by step before) (step_allowance step before)
 

@@ -42,7 +42,7 @@ LeavesOpen End = ⊥
 LeavesOpen Cancel = ⊥
 LeavesOpen request = Unit {0}
 
--- what is answered to a further request, where the one before was accepted; else its refusal
+-- the answer to a further request, where the one before was accepted; else its refusal
 abbrev pub and_then : Result History HistoryError → (History → Result History HistoryError) → Result History HistoryError
 and_then (Ok after) more = more after
 and_then (Err error) more = Err error

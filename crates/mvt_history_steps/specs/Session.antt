@@ -36,31 +36,31 @@ pub record StandsFor (session : Standing) (history : History) : Type 0 where
 
 -- ---- answers
 
--- the session holds the history that was asked for; or the request is refused as it is defined, and the session holds
--- the history before
+-- the session holds the history that was asked for; or the request is refused as defined, and the session holds the
+-- history before
 abbrev pub Answers : Result History HistoryError → History → Result (Unit {0}) HistoryError → Standing → Type 0
 Answers asked history (Ok done) new = (after : History) × (asked ≡ Ok after) × StandsFor new after
 Answers asked history (Err error) new = (asked ≡ Err error) × StandsFor new history
 
 -- the session holds the history that was asked for, or out of memory is answered in place of that; or the request is
--- refused as it is defined; where it is not accepted the session holds the history before
+-- refused as defined; where it is not accepted the session holds the history before
 abbrev pub AnswersWithMemory : Result History HistoryError → History → Result (Unit {0}) HistoryError → Standing → Type 0
 AnswersWithMemory asked history (Ok done) new = (after : History) × (asked ≡ Ok after) × StandsFor new after
 AnswersWithMemory asked history (Err error) new = (((error ≡ NoMemory) × IsOk asked) ⊎ (asked ≡ Err error)) × StandsFor new history
 
--- the session holds the history after the command; or it is refused as it is defined, or out of memory is answered in
--- place of either, and the session holds the history before
+-- the session holds the history after the command; or it is refused as defined, or out of memory is answered in place
+-- of either, and the session holds the history before
 abbrev pub AnswersCommand : Command → History → Result (Unit {0}) Refusal → Standing → Type 0
 AnswersCommand command history (Ok done) new = (after : History) × (edited command history ≡ Ok after) × StandsFor new after
 AnswersCommand command history (Err refusal) new = ((refusal ≡ edit.NoMemory) ⊎ (edited command history ≡ Err refusal)) × StandsFor new history
 
 -- ---- requests that may stop halfway
 
--- the point `at` lies `taken` steps on the way from one point to another, and more are left
+-- the point `at` is `taken` steps along the way from one point to another, and more are left
 abbrev pub IsOnTheWay : ℕ → ℕ → ℕ → ℕ → Type 0
 IsOnTheWay from to taken at = ((at + taken ≡ from) × (to < at)) ⊎ ((from + taken ≡ at) × (at < to))
 
--- the history `between` stands `taken` steps nearer to the mark than the other, and not at it; no step is open
+-- the history `between` is `taken` steps nearer to the mark than the other, and not at it; no step is open
 pub record StopsAt (name : List ℕ) (history : History) (taken : ℕ) (between : History) : Type 0 where
   pub is_closed : history.group ≡ None
   pub to : ℕ
@@ -69,21 +69,21 @@ pub record StopsAt (name : List ℕ) (history : History) (taken : ℕ) (between 
   pub on_the_way : IsOnTheWay history.present to taken at
   pub stands : between ≡ at_point at history
 
--- the session holds the history at the mark; or the request is refused as it is defined, and the session holds the
--- history before; or it was stopped on the way, and the session holds the history there
+-- the session holds the history at the mark; or the request is refused as defined, and the session holds the history
+-- before; or it was stopped on the way, and the session holds the history there
 abbrev pub AnswersBack : List ℕ → History → Result (Unit {0}) HistoryError → Standing → Type 0
 AnswersBack name history (Ok done) new = (after : History) × (gone_back name history ≡ Ok after) × StandsFor new after
 AnswersBack name history (Err error) new = ((gone_back name history ≡ Err error) × StandsFor new history) ⊎ ((taken : ℕ) × (between : History) × (error ≡ Stopped taken) × StopsAt name history taken between × StandsFor new between)
 
--- in the history `between` the last commands of the open step are taken back, `taken` of them, and others are left
+-- in the history `between` the last `taken` commands of the open step are taken back, and others are left
 pub record StopsWithin (history : History) (taken : ℕ) (between : History) : Type 0 where
   pub commands : List Command
   pub is_open : history.group ≡ Some commands
   pub some_left : taken < length commands
   pub stands : between ≡ with_group (Some (take (length commands - taken) commands)) history
 
--- the session holds the history without the open step; or the request is refused as it is defined, and the session
--- holds the history before; or it was stopped within the step, and the session holds the history there
+-- the session holds the history without the open step; or the request is refused as defined, and the session holds the
+-- history before; or it was stopped within the step, and the session holds the history there
 abbrev pub AnswersCancel : History → Result (Unit {0}) HistoryError → Standing → Type 0
 AnswersCancel history (Ok done) new = (after : History) × (cancelled history ≡ Ok after) × StandsFor new after
 AnswersCancel history (Err error) new = ((cancelled history ≡ Err error) × StandsFor new history) ⊎ ((taken : ℕ) × (between : History) × (error ≡ Stopped taken) × StopsWithin history taken between × StandsFor new between)
@@ -102,7 +102,7 @@ NotStarted document (start.NoMemory refused) = refused ≡ document
 
 -- ---- marks
 
--- what is returned of a mark, where there is one: its name, and its point less the present one
+-- what is returned of a mark, where there is one: its name, and its point minus the present one
 abbrev pub SeesMark : ℕ → Option (Bor (List ℕ) × ℤ) → Option Mark → Type 0
 SeesMark present None None = Unit {0}
 SeesMark present (Some seen) (Some mark) = (seen.0.now ≡ mark.name) × (seen.1 ≡ pos mark.point -ℤ pos present)

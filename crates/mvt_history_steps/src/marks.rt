@@ -1,4 +1,4 @@
-//! Names of points, in the order of the bytes of the names: looked up, bound, taken away, and those
+//! Names of points, in the order of the bytes of the names: looked up, bound, removed, and those
 //! that stay.
 
 ghost use Rattle.std.specs.Prelude.{◌≡◌, ◌↔◌, map, is_ok, None, IsSome, IsErr, if◌then◌else◌};
@@ -7,7 +7,7 @@ ghost use Rattle.mvt_history_steps.specs.Marks.{InOrder, IsPlaceOf, between, bou
 
 use std::alloc::{AllocError, Global};
 
-/// A name, and the point that it marks, counted from the least one to which undo goes back.
+/// A name, and the point that it marks, counted from the lowest one to which undo goes back.
 #[derive(Drop)]
 pub struct Mark {
     pub name: Vec<u8>,
@@ -31,7 +31,7 @@ pub fn find_point(marks: &[Mark], name: &[u8]) -> Option<u32>
     Some(marks[place].point)
 }
 
-/// Has the name mark the point. An `Err` changes nothing.
+/// Makes the name mark the point. An `Err` changes nothing.
 pub fn bind(alloc: Global, marks: &mut Vec<Mark>, name: &[u8], point: u32) -> Result<(), AllocError>
     requires { InOrder (map mark_of marks.old.items) }
     ensures marks { map mark_of marks.new.items ≡ (if is_ok result then bound name.now point (map mark_of marks.old.items) else map mark_of marks.old.items) }
@@ -47,7 +47,7 @@ pub fn bind(alloc: Global, marks: &mut Vec<Mark>, name: &[u8], point: u32) -> Re
     Ok(())
 }
 
-/// Has the name mark nothing. `None` where it marked nothing before.
+/// Makes the name mark nothing. `None` if it marked nothing before.
 pub fn unbind(marks: &mut Vec<Mark>, name: &[u8]) -> Option<()>
     requires { InOrder (map mark_of marks.old.items) }
     ensures there { IsSome result ↔ IsSome (point_of name.now (map mark_of marks.old.items)) }

@@ -17,14 +17,14 @@ use mvt_change::{Change, flip};
 use mvt_document::Document;
 use std::alloc::{AllocError, Global};
 
-/// The two ways along a history.
+/// The two directions along a history.
 #[derive(Clone, Copy)]
 pub enum Direction {
     Undo,
     Redo,
 }
 
-/// In which direction one point lies from another, and by how many steps.
+/// In which direction one point is from another, and by how many steps.
 pub fn way(from: usize, to: usize) -> (Direction, usize)
     ensures { LeadsAlong result.0 result.1 from to }
 {
@@ -35,8 +35,8 @@ pub fn way(from: usize, to: usize) -> (Direction, usize)
     }
 }
 
-/// Keeps the change for undo, and none for redo any more. Where undo has no room for one more, the
-/// oldest goes. Marks stay as far as their points are still reached.
+/// Keeps the change for undo, and no change for redo any longer. If undo has no room for one more,
+/// the oldest goes. The marks whose points are still reached stay.
 pub fn keep(
     undo: &mut HeapCircularBuffer<Change>,
     redo: &mut HeapCircularBuffer<Change>,
@@ -57,8 +57,8 @@ pub fn keep(
     keep_between(marks, gone, present);
 }
 
-/// Carries the last change of the one list out, if there is one, and puts what leads back last in
-/// the other. An `Err` changes nothing.
+/// Carries out the last change of one list, if there is one, and appends what leads back to the
+/// other. An `Err` changes nothing.
 fn step(
     alloc: Global,
     document: &mut Document,
@@ -112,8 +112,8 @@ pub fn walk(
     Ok(())
 }
 
-/// Carries the changes out, the last one first, and lets them go. An `Err` says how many were
-/// carried out; the others are left.
+/// Carries the changes out, the last one first, and drops them. An `Err` says how many were carried
+/// out; the others are left.
 pub fn take_back(
     alloc: Global,
     document: &mut Document,

@@ -1,4 +1,4 @@
--- What holds of each item of a list holds of those that pass.
+-- What holds for each item of a list holds for those that pass.
 use Rattle.std.proofs.Common.{Bool, List, [], ◌∷◌, filter, inl, inr}
 use Rattle.std.specs.List.{AllByRecursion}
 use Rattle.std.proofs.lemmas.Bool.{cases_Bool}

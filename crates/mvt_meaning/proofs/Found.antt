@@ -1,4 +1,4 @@
--- Where the item of an ordinal stands: lists changed from there on, and the lists of a document.
+-- Where the item of an ordinal is: lists changed from there on, and the lists of a document.
 use Rattle.std.proofs.Common.{◌≡◌, ℕ, zero, suc, ◌+◌, ◌-◌, ◌≤◌, Bool, true, false, ◌==◌, is_some, Option, Some, None, Err, List, [], ◌∷◌, ◌++◌, length, take, drop, filter, slice_get, refl, sym, ap, ◌∙◌, inl, inr, arith}
 use Rattle.std.proofs.lemmas.Bool.{cases_Bool}
 use Rattle.std.proofs.lemmas.Bool.Decides.{nat_tests}
@@ -29,7 +29,7 @@ from_later passes change ordinal x xs pass =
 pub from_behind : {A : Type 0} (passes : A → Bool) (change : List A → List A) (ordinal : ℕ) (x : A) (xs : List A) → passes x ≡ false → from_nth passes change ordinal (x ∷ xs) ≡ x ∷ from_nth passes change ordinal xs
 from_behind passes change ordinal x xs skip = rw skip refl
 
--- one item more in front, where the place lies behind it
+-- one more item in front, where the place is after it
 one_before : {A : Type 0} (change : List A → List A) (x : A) (xs rest : List A) (n j k : ℕ) → n + 1 ≤ k → k ≡ n + j → ((i : ℕ) → k ≡ n + 1 + i → rest ≡ take i xs ++ change (drop i xs)) → x ∷ rest ≡ take j (x ∷ xs) ++ change (drop j (x ∷ xs))
 one_before change x xs rest n zero k low at more = absurd (omega arith)
 one_before change x xs rest n (suc i) k low at more = ap (λ ys. x ∷ ys) (more i (omega arith))
@@ -102,7 +102,7 @@ filtered_at passes n (x ∷ xs) ordinal k j e at =
 pub filtered_found : {A : Type 0} (passes : A → Bool) (xs : List A) (ordinal position : ℕ) → slice_get (positions_from passes 0 xs) ordinal ≡ Some position → slice_get (filter passes xs) ordinal ≡ slice_get xs position
 filtered_found passes xs ordinal position e = filtered_at passes 0 xs ordinal position position e (omega arith)
 
--- what is picked of a list's items is picked of those of which something is
+-- what is picked from the items of a list is picked from those of them that yield something
 picked_of : {A B : Type 0} (pick : A → Option B) (x : A) (picked : Option B) (xs : List A) (ordinal : ℕ) → pick x ≡ picked → ((m : ℕ) → slice_get (filter_map pick xs) m ≡ option_and_then pick (slice_get (filter (λ y. is_some (pick y)) xs) m)) → slice_get (filter_map pick (x ∷ xs)) ordinal ≡ option_and_then pick (slice_get (filter (λ y. is_some (pick y)) (x ∷ xs)) ordinal)
 picked_of pick x None xs ordinal e more = rw e (more ordinal)
 picked_of pick x (Some y) xs zero e more = rw e (sym e)

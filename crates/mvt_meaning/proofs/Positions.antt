@@ -4,7 +4,7 @@ use Rattle.std.proofs.lemmas.Bool.{cases_Bool, or_parts, or_from, and_right, and
 use Rattle.std.specs.List.{enumerate_from, list_any, last_or}
 use Rattle.mvt_meaning.specs.Ordinals.{change_last}
 
--- the positions of the items that pass, where the first item stands at n
+-- the positions of the items that pass, where the first item is at n
 abbrev pub positions_from : {A : Type 0} → (A → Bool) → ℕ → List A → List ℕ
 positions_from {A} passes n items = map (λ p. p.0) (filter (λ (p : ℕ × A). passes p.1) (enumerate_from n items))
 
@@ -18,7 +18,7 @@ first_or_later : (n i k len : ℕ) (rest : List ℕ) → slice_get (n ∷ rest) 
 first_or_later n zero k len rest e later = let same : n ≡ k = cc in (omega arith, omega arith)
 first_or_later n (suc j) k len rest e later = let bounds = later j e in (omega arith, omega arith)
 
--- they lie among the items
+-- they are among the items
 pub positions_within : {A : Type 0} (passes : A → Bool) (n : ℕ) (xs : List A) (i k : ℕ) → slice_get (positions_from passes n xs) i ≡ Some k → (n ≤ k) × (k < n + length xs)
 positions_within passes n [] i k e = absurd cc
 positions_within passes n (x ∷ xs) i k e =
@@ -39,7 +39,7 @@ last_some : {A : Type 0} (x : A) (xs : List A) → last_or (Some x) xs ≡ None 
 last_some x [] e = cc
 last_some x (y ∷ xs) e = last_some y xs e
 
--- none passes where there is no last one
+-- none passes if there is no last one
 pub no_last : {A : Type 0} (passes : A → Bool) (n : ℕ) (xs : List A) → last_or None (positions_from passes n xs) ≡ None → list_any passes xs ≡ false
 no_last passes n [] e = refl
 no_last passes n (x ∷ xs) e =

@@ -1,4 +1,4 @@
--- The layer that is selected stands in the tile, and the feature in its layer.
+-- The layer that is selected is in the tile, and the feature in its layer.
 use Rattle.std.proofs.Common.{◌≡◌, ℕ, ◌<◌, Some, Ok, List, [], ◌∷◌, length, slice_get, ap, arith}
 use Rattle.std.proofs.lemmas.Bool.Decides.{nat_tests}
 use Rattle.mvt_document.specs.Plain.{Layer, Document}

@@ -1,4 +1,4 @@
--- Keys and values that no feature uses, where commands take them out.
+-- Keys and values that no feature uses, where commands remove them.
 use Rattle.std.specs.Prelude.{ℕ, zero, suc, ◌+◌, ◌==◌, Bool, true, false, not, List, [], ◌∷◌, map, filter, Option, Some, is_some, if◌then◌else◌}
 use Rattle.std.specs.List.{enumerate_from, flat_map, list_any}
 use Rattle.std.specs.Option.{option_map_or, unwrap_or}
@@ -26,14 +26,14 @@ is_value_used items ordinal = list_any (λ pair. pair.1 == ordinal) (all_pairs i
 abbrev pub is_any : List LayerItem → ℕ → Bool
 is_any items ordinal = true
 
--- ---- a pool of which some entries stay
+-- ---- a pool in which some entries stay
 
 -- the item of a layer is one of the entries that are LEN fields of this number: a key or a value (tiles 4.1)
 abbrev pub is_entry : ℕ → LayerItem → Bool
 is_entry number (OfFeature feature) = false
 is_entry number (PlainInLayer field) = is_some (content_in number field)
 
--- of the items that pass those whose ordinals stay, the first of which has this one, and all other items
+-- those of the items that pass whose ordinals stay, where the first that passes has this ordinal, and all other items
 abbrev pub staying : {A : Type 0} → (A → Bool) → (ℕ → Bool) → ℕ → List A → List A
 staying passes stays ordinal [] = []
 staying passes stays ordinal (x ∷ xs) =
@@ -46,14 +46,14 @@ abbrev pub new_ordinal : (ℕ → Bool) → ℕ → ℕ
 new_ordinal stays zero = 0
 new_ordinal stays (suc ordinal) = new_ordinal stays ordinal + (if stays ordinal then 1 else 0)
 
--- ---- a layer of which some keys and values stay
+-- ---- a layer in which some keys and values stay
 
 -- what is decided on each number of these pairs, where some keys and some values stay: each names what it named
 -- (tiles 4.4)
 abbrev pub repointed : (ℕ → Bool) → (ℕ → Bool) → List (ℕ × ℕ) → List (Option ℕ)
 repointed keys values pairs = flat_map (λ pair. Some (new_ordinal keys pair.0) ∷ Some (new_ordinal values pair.1) ∷ []) pairs
 
--- the same of the tags of a feature, in a layer of these items; nothing where they make no pairs (tiles 4.4)
+-- the same for the tags of a feature, in a layer of these items; nothing where they make no pairs (tiles 4.4)
 abbrev pub new_ordinals : (ℕ → Bool) → (ℕ → Bool) → List LayerItem → List Field → List (Option ℕ)
 new_ordinals keys values items fields = option_map_or (repointed keys values) (pairs_among items fields) []
 
@@ -66,7 +66,7 @@ with_new_ordinals keys values items fields = renumber 2 (new_ordinals keys value
 abbrev pub with_entries : (ℕ → Bool) → (ℕ → Bool) → List LayerItem → List LayerItem
 with_entries keys values items = staying (is_entry value_field) values 0 (staying (is_entry key_field) keys 0 (map (in_feature (with_new_ordinals keys values items)) items))
 
--- the same, where it follows from the items which keys and which values stay
+-- the same, where the items determine which keys and which values stay
 abbrev pub compacted : (List LayerItem → ℕ → Bool) → (List LayerItem → ℕ → Bool) → List LayerItem → List LayerItem
 compacted keys values items = with_entries (keys items) (values items) items
 

@@ -14,7 +14,7 @@ decided_fields number decisions (field ∷ more) = (take (length (field_numbers 
 abbrev pub is_renumbered : ℕ → List (Option ℕ) × Field → Bool
 is_renumbered number at = list_any (λ p. option_map_or (λ value. not (value == p.1.value)) p.0 true) (zip at.0 (field_numbers number at.1))
 
--- the fields of which a number goes or gets another value, each with what is decided on its numbers
+-- the fields in which a number goes or gets another value, each with what is decided on its numbers
 abbrev pub renumbered_fields : ℕ → List (Option ℕ) → List Field → List (List (Option ℕ) × Field)
 renumbered_fields number decisions fields = filter (is_renumbered number) (decided_fields number decisions fields)
 

@@ -39,8 +39,8 @@ geometry_among fields = option_and_then (geometry_in (unwrap_or (last_value 3 fi
 abbrev pub further : ℤ → ℕ → ℤ
 further delta parameter = unzigzag parameter +ℤ delta
 
--- what is decided on the integers of a geometry that moves: the two parameters behind the first command, which lead
--- from (0, 0), lead further, and all else stays (tiles 4.3.2)
+-- what is decided on the integers of a geometry that moves: the two parameters after the first command, which lead from
+-- (0, 0), lead further, and all else stays (tiles 4.3.2)
 abbrev pub moved_integers : ℤ → ℤ → List ℕ → List (Option ℕ)
 moved_integers dx dy (command ∷ x ∷ y ∷ more) = Some command ∷ Some (zigzag (further dx x)) ∷ Some (zigzag (further dy y)) ∷ []
 moved_integers dx dy integers = []
@@ -55,7 +55,7 @@ can_move_integers dx dy integers = true
 abbrev pub moves : ℤ → ℤ → List Field → List (Option ℕ)
 moves dx dy fields = option_map_or (moved_integers dx dy) (integers_among fields) []
 
--- the integers of a feature of these fields can hold what its geometry is where it moves (tiles 4.3)
+-- the integers of a feature of these fields can hold its geometry once it has moved (tiles 4.3)
 abbrev pub can_move : ℤ → ℤ → List Field → Bool
 can_move dx dy fields = option_map_or (can_move_integers dx dy) (integers_among fields) true
 
@@ -63,7 +63,7 @@ can_move dx dy fields = option_map_or (can_move_integers dx dy) (integers_among 
 abbrev pub shifted : ℤ → ℤ → List Field → List Field
 shifted dx dy fields = renumber 4 (moves dx dy fields) fields
 
--- the geometry fields of a feature of which an integer gets another value, where its geometry moves, each with what is
+-- the geometry fields of a feature in which an integer gets another value, where its geometry moves, each with what is
 -- decided on its integers (tiles 4.3)
 abbrev pub shifting : ℤ → ℤ → List Field → List (List (Option ℕ) × Field)
 shifting dx dy fields = renumbered_fields 4 (moves dx dy fields) fields

@@ -1,6 +1,6 @@
 -- What a command makes of a document, and when it is refused. `applied` has a line for each refusal, in their order,
--- and one for the meaning: a list of the tile, of a layer or of a feature in which one item or each is changed, one is
--- left out, moved or new, or which is filtered.
+-- and one for the meaning: a list of the tile, of a layer or of a feature in which one item or each is changed, or one
+-- is left out, moved or new, or which is filtered.
 use Rattle.std.specs.Prelude.{ℕ, ◌==◌, nat_lt, ℤ, Bool, true, ◌&&◌, not, List, [], ◌∷◌, length, map, filter, slice_get, Option, None, Result, Ok, Err, is_some, if◌then◌else◌}
 use Rattle.std.specs.List.{list_any}
 use Rattle.std.specs.Option.{option_map_or}
@@ -53,7 +53,7 @@ named_items name items = put_last is_name (with_text name) (PlainInLayer (new_co
 abbrev pub is_taken : List ℕ → ℕ → Document → Bool
 is_taken name ordinal document = list_any (λ other. not (other == ordinal)) (ordinals_of (is_named name) (layers document))
 
--- the item of the tile is no layer, or a layer that has one of the names (tiles 4.1)
+-- the item of the tile is not a layer, or is a layer that has one of the names (tiles 4.1)
 abbrev pub is_kept : List (List ℕ) → TileItem → Bool
 is_kept names (OfLayer layer) = list_any (λ name. is_named name layer) names
 is_kept names (PlainInTile field) = true
@@ -132,8 +132,8 @@ repeats_key key ordinal feature document = nat_lt 1 (pairs_with key (items_of or
 abbrev pub is_drawn : ℕ → ℕ → Document → Bool
 is_drawn ordinal feature document = is_some (geometry_among (fields_of ordinal feature document))
 
--- the integers of the feature of this ordinal, in the layer of that ordinal, can hold what its geometry is where it
--- moves by dx and dy (tiles 4.3)
+-- the integers of the feature of this ordinal, in the layer of that ordinal, can hold its geometry once it has moved by
+-- dx and dy (tiles 4.3)
 abbrev pub can_shift : ℤ → ℤ → ℕ → ℕ → Document → Bool
 can_shift dx dy ordinal feature document = can_move dx dy (fields_of ordinal feature document)
 

@@ -38,14 +38,14 @@ without passes ordinal items = from_nth passes (λ rest. drop 1 rest) ordinal it
 abbrev pub before : {A : Type 0} → (A → Bool) → ℕ → A → List A → List A
 before passes ordinal new items = from_nth passes (λ rest. new ∷ rest) ordinal items
 
--- the list with a new item right behind the item of this ordinal among those that pass
+-- the list with a new item right after the item of this ordinal among those that pass
 abbrev pub behind : {A : Type 0} → (A → Bool) → ℕ → A → List A → List A
 behind passes ordinal new items = from_nth passes (λ rest. take 1 rest ++ new ∷ drop 1 rest) ordinal items
 
 -- ---- moves and insertions
 
--- the list with the item of ordinal `from`, among those that pass, moved to ordinal `to`: right behind the item that
--- has that ordinal now, where it is greater, and right before it, where it is smaller
+-- the list with the item of ordinal `from`, among those that pass, moved to ordinal `to`: right after the item that has
+-- that ordinal now, where `to` is greater, and right before it, where `to` is smaller
 abbrev pub move_nth : {A : Type 0} → (A → Bool) → ℕ → ℕ → List A → List A
 move_nth passes from to items = option_map_or (λ item.
     if nat_lt from to then behind passes (to - 1) item (without passes from items)
@@ -53,7 +53,7 @@ move_nth passes from to items = option_map_or (λ item.
     else items) (slice_get (filter passes items) from) items
 
 -- the list with a new item right before the item of this ordinal among those that pass; where there is none, right
--- behind the last that passes, or at the end
+-- after the last that passes, or at the end
 abbrev pub insert_nth : {A : Type 0} → (A → Bool) → ℕ → A → List A → List A
 insert_nth passes ordinal new items =
     if nat_lt ordinal (count passes items) then before passes ordinal new items

@@ -72,8 +72,8 @@ without_attribute key items fields = renumber 2 (removals key items fields) fiel
 abbrev pub excluded : List ℕ → List LayerItem → List LayerItem
 excluded key items = map (in_feature (without_attribute key items)) items
 
--- of some layers the features whose tags make no pairs, in order, each by the ordinal of its layer and its own
--- (tiles 4.4)
+-- among the features of some layers those whose tags make no pairs, in order, each by the ordinal of its layer and its
+-- own (tiles 4.4)
 abbrev pub unreadable : List (ℕ × (ℕ × Layer)) → List (ℕ × ℕ)
 unreadable found = flat_map (λ at. map (λ feature. (at.0, feature)) (ordinals_of (λ feature. not (is_some (pairs_of at.1.1 feature))) (features at.1.1))) found
 
@@ -87,7 +87,7 @@ with_decisions decisions fields = decided_fields 2 decisions fields
 abbrev pub differs : List (Option ℕ) × Field → Bool
 differs at = is_renumbered 2 at
 
--- the tags fields of a feature of which a number goes or gets another value, each with what is decided on its numbers
+-- the tags fields of a feature in which a number goes or gets another value, each with what is decided on its numbers
 abbrev pub differing : List (Option ℕ) → List Field → List (List (Option ℕ) × Field)
 differing decisions fields = renumbered_fields 2 decisions fields
 
@@ -96,7 +96,7 @@ differing decisions fields = renumbered_fields 2 decisions fields
 abbrev pub losing : List ℕ → List LayerItem → List Field → List (List (Option ℕ) × Field)
 losing key items fields = differing (removals key items fields) fields
 
--- the same of all features of a layer, in order (tiles 4.4)
+-- the same for all features of a layer, in order (tiles 4.4)
 abbrev pub losing_in : List ℕ → Layer → List (List (Option ℕ) × Field)
 losing_in key layer = flat_map (λ feature. losing key layer.items feature.fields) (features layer)
 
@@ -114,7 +114,7 @@ key_ordinal key items = entry_ordinal key (contents key_field (plain_fields item
 abbrev pub value_ordinal : List ℕ → List LayerItem → ℕ
 value_ordinal value items = entry_ordinal value (contents value_field (plain_fields items))
 
--- the new entry of these bytes, behind this tag, where there is none (tiles 4.1)
+-- the new entry of these bytes with this tag, where there is none yet (tiles 4.1)
 abbrev pub missing_entry : ℕ → List ℕ → List (List ℕ) → List LayerItem
 missing_entry tag bytes entries = if list_any (bytes_eq bytes) entries then [] else PlainInLayer (new_content tag bytes) ∷ []
 
@@ -141,16 +141,16 @@ replacements key value items fields = option_map_or (revalued (is_key_at items k
 abbrev pub is_packed_last : List Field → Bool
 is_packed_last fields = option_map_or (λ field. is_some (content_in 2 field)) (last_or None (filter is_tags fields)) false
 
--- a LEN body with these bytes behind its own; another body as it is
+-- a LEN body with these bytes after its own; another body as it is
 abbrev pub with_more : List ℕ → Body → Body
 with_more more (Delimited width bytes) = Delimited width (bytes ++ more)
 with_more more body = body
 
--- the field with these bytes behind its own, where it is a LEN field
+-- the field with these bytes after its own, where it is a LEN field
 abbrev pub with_more_content : List ℕ → Field → Field
 with_more_content more field = record field { body = with_more more field.body }
 
--- the fields of a feature with these bytes behind those of the last tags field, where that is a LEN field, and else in a
+-- the fields of a feature with these bytes after those of the last tags field, where that is a LEN field, and else in a
 -- new one at the end (tiles 4.2)
 abbrev pub with_more_tags : List ℕ → List Field → List Field
 with_more_tags more fields = if is_packed_last fields then change_last is_tags (with_more_content more) fields else fields ++ new_content 18 more ∷ []

@@ -48,17 +48,19 @@ id_weight choice feature document seen = of_selected (selected choice document) 
 abbrev pub key_weight : List ℕ → LayerChoice → Document → Document → ℕ
 key_weight key choice document seen = of_selected (selected choice document) (λ ordinal. weigh layer_item_bytes (filter (is_key key) (items_of ordinal seen)))
 
--- ---- fields of which numbers go or get other values
+-- ---- fields in which numbers go or get other values
 
--- what comes of these tags fields
+-- what is left of these tags fields
 abbrev pub as_after : List (List (Option ℕ) × Field) → List Field
 as_after decided = as_renumbered 2 decided
 
--- the bytes, seen so, of the tags fields that lose a pair of the key in the feature that is selected
+-- the bytes, before or after as `seen` says, of the tags fields that lose a pair of the key in the feature that is
+-- selected
 abbrev pub unset_weight : (List (List (Option ℕ) × Field) → List Field) → LayerChoice → FeatureChoice → List ℕ → Document → ℕ
 unset_weight seen choice feature key document = of_selected (selected choice document) (λ ordinal. of_selected (selected_in feature ordinal document) (λ found. weigh field_bytes (seen (losing key (items_of ordinal document) (fields_of ordinal found document)))))
 
--- the bytes, seen so, of the tags fields that lose a pair of the key in all features of the selected layers
+-- the bytes, before or after as `seen` says, of the tags fields that lose a pair of the key in all features of the
+-- selected layers
 abbrev pub excluded_weight : (List (List (Option ℕ) × Field) → List Field) → LayersChoice → List ℕ → Document → ℕ
 excluded_weight seen choice key document = of_selected (selected_layers choice document) (λ layers. weigh field_bytes (seen (flat_map (λ found. losing_in key found.1.1) layers)))
 
@@ -83,7 +85,8 @@ set_weight weight choice feature document = of_selected (selected choice documen
 
 -- ---- the geometry of a feature
 
--- the bytes, seen so, of the geometry fields of which an integer gets another value in the feature that is selected
+-- the bytes, before or after as `seen` says, of the geometry fields in which an integer gets another value in the
+-- feature that is selected
 abbrev pub shift_weight : (List (List (Option ℕ) × Field) → List Field) → LayerChoice → FeatureChoice → ℤ → ℤ → Document → ℕ
 shift_weight seen choice feature dx dy document = of_selected (selected choice document) (λ ordinal. of_selected (selected_in feature ordinal document) (λ found. weigh field_bytes (seen (shifting dx dy (fields_of ordinal found document)))))
 

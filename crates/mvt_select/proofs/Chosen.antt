@@ -1,4 +1,4 @@
--- The selected layers are found where they stand.
+-- The selected layers are found where they are.
 use Rattle.std.proofs.Common.{◌≡◌, ℕ, suc, zero, ◌+◌, ◌<◌, ◌==◌, true, false, Option, Some, None, Ok, Err, List, [], ◌∷◌, length, filter, get_or, slice_get, refl, sym, ap, ◌∙◌, arith}
 use Rattle.std.proofs.lemmas.Bool.Decides.{nat_tests}
 use Rattle.std.proofs.lemmas.Option.{slice_get-get_or}
@@ -36,7 +36,7 @@ the_numbered {B} k n (suc index) (y ∷ list) x place is =
     let other : (k == n) ≡ false = grind (arith, nat_tests) in
     rw other (the_numbered (k + 1) n index list x (omega arith) is)
 
--- ---- what was found, by where it stands
+-- ---- what was found, by where it is
 
 is_found : (document : Document) (ordinal position : ℕ) (layer : Layer) (answer : Option (ℕ × (ℕ × Layer))) → slice_get (found_layers document) ordinal ≡ answer → slice_get (layer_positions document) ordinal ≡ Some position → slice_get document position ≡ Some (OfLayer layer) → answer ≡ Some (ordinal, (position, layer))
 is_found document ordinal position layer None is placed there =
@@ -50,7 +50,7 @@ is_found document ordinal position layer (Some found) is placed there =
     let same : found.1.1 ≡ layer = (let both : Some (OfLayer found.1.1) ≡ Some (OfLayer layer) = sym item ∙ there in cc) in
     ap (λ n. Some (n, found.1)) number ∙ ap (λ p. Some (ordinal, (p, found.1.1))) place ∙ ap (λ l. Some (ordinal, (position, l))) same
 
--- the layer at an ordinal, where it stands
+-- the layer at an ordinal, where it is
 pub found_there : (document : Document) (ordinal position : ℕ) (layer : Layer) → slice_get (layer_positions document) ordinal ≡ Some position → slice_get document position ≡ Some (OfLayer layer) → slice_get (found_layers document) ordinal ≡ Some (ordinal, (position, layer))
 found_there document ordinal position layer placed there =
     is_found document ordinal position layer (slice_get (found_layers document) ordinal) refl placed there
@@ -73,7 +73,7 @@ one_selected choice document found is = selected_alone choice document found.ord
 pub none_selected : {refusal : Refusal} (choice : LayerChoice) (document : Document) → selected choice document ≡ Err refusal → selected_layers (TheLayer choice) document ≡ Err refusal
 none_selected choice document refused = rw refused refl
 
--- the one selected layer, where it stands
+-- the one selected layer, where it is
 pub record TheOne (choice : LayerChoice) (document : Document) (ordinal : ℕ) : Type 0 where
   pub position : ℕ
   pub layer : Layer

@@ -54,7 +54,7 @@ named_more name seen found =
     ∙ filter-append (λ (f : ℕ × (ℕ × plain.Layer)). is_named name f.1.1) (map found_layer_seen seen) (found_layer_seen found ∷ [])
     ∙ ap (λ (more : List (ℕ × (ℕ × plain.Layer))). named_among name seen ++ more) (one_among name (found_layer_seen found))
 
--- one more layer that came, of which it is known whether it has the name
+-- one more layer that came, for which it is known whether it has the name
 pub one_more : (name : List ℕ) (seen : List FoundLayer) (found : FoundLayer) (counts : Bool) (answer : Result FoundLayer Refusal) → counts ≡ is_named name (layer_of found.layer.now) → result_map_both found_layer_seen (λ refusal. refusal) answer ≡ the_one NoLayer AmbiguousLayer (named_among name seen ++ (if counts then found_layer_seen found ∷ [] else [])) → result_map_both found_layer_seen (λ refusal. refusal) answer ≡ the_one NoLayer AmbiguousLayer (named_among name (seen ++ found ∷ []))
 one_more name seen found counts answer is e = (rw is at e) ∙ ap (the_one NoLayer AmbiguousLayer) (sym (named_more name seen found))
 
@@ -75,7 +75,7 @@ other_of_two name n layers (x ∷ y ∷ more) ordinal are e = two_others x y ord
 pub two_other : (name : List ℕ) (document : plain.Document) (ordinal : ℕ) → Err AmbiguousLayer ≡ one_layer (ordinals_of (is_named name) (layers document)) → true ≡ is_taken name ordinal document
 two_other name document ordinal e = other_of_two name 0 (layers document) (ordinals_of (is_named name) (layers document)) ordinal refl e
 
--- ---- an answer with one thing more
+-- ---- an answer with one more part
 
 pub ok_with : {F M E : Type 0} (P : F → Type 0) (answer : Result (F × M) E) (found : Result F E) → result_map_both (λ (a : F × M). a.0) (λ e. e) answer ≡ found → IfOk found P → IfOk answer (λ a. P a.0)
 ok_with P (Ok a) found e is = subst (λ r. IfOk r P) (sym e) is

@@ -15,7 +15,7 @@ position_more : {A B : Type 0} (found : Option B) (position : ℕ) (x : A) (plac
 position_more None position x placed passed e = e
 position_more (Some found) position x placed passed e = ap (λ more. position ∷ more) e
 
--- the entries of number 1 stand where the names do
+-- the entries of number 1 are where the names are
 entries_named : (position : ℕ) (items : List LayerItem) → map (λ (p : ℕ × List ℕ). p.0) (filter_map (with_position (entry_in 1)) (enumerate_from position items)) ≡ positions_from is_name position items
 entries_named position [] = refl
 entries_named position (OfFeature feature ∷ items) = entries_named (position + 1) items
@@ -26,7 +26,7 @@ numbered_positions : {B : Type 0} (ordinal : ℕ) (placed : List (ℕ × B)) →
 numbered_positions ordinal [] = refl
 numbered_positions ordinal (x ∷ placed) = ap (λ more. x.0 ∷ more) (numbered_positions (ordinal + 1) placed)
 
--- the last entry of number 1 stands where the last name does
+-- the last entry of number 1 is where the last name is
 pub last_named : (items : List LayerItem) → option_map (λ (found : ℕ × (ℕ × List ℕ)). found.1.0) (last_or None (found_entries 1 items)) ≡ last_or None (positions_of is_name items)
 last_named items =
     map_last (λ found. found.1.0) None (found_entries 1 items)

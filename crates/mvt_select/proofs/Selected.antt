@@ -1,4 +1,4 @@
--- What is found is what is selected, and stands where its positions say.
+-- What is found is what is selected, and is where its positions say.
 use Rattle.std.proofs.Common.{◌≡◌, ℕ, suc, zero, ◌+◌, ◌<◌, ◌≤◌, Bool, is_some, Option, Some, None, option_map, Result, Ok, Err, List, [], ◌∷◌, length, map, filter, slice_get, refl, sym, ap, ◌∙◌, inl, inr, arith}
 use Rattle.std.proofs.lemmas.Bool.{cases_Bool}
 use Rattle.std.proofs.lemmas.Bool.Decides.{nat_tests}
@@ -22,7 +22,7 @@ use Rattle.mvt_meaning.proofs.Found.{picked_found}
 use Rattle.mvt_meaning.proofs.Positions.{positions_from, positions_pass, positions_skip}
 use Rattle.mvt_select.specs.Found.{IsFoundFeature, IsFoundLayer}
 
--- ---- where each stands
+-- ---- where each is
 
 number_at : {P : Type 0} (start : ℕ) (placed : List P) (index : ℕ) (found : ℕ × P) → slice_get (enumerate_from start placed) index ≡ Some found → (found.0 ≡ start + index) × (slice_get placed index ≡ Some found.1)
 number_at start [] index found e = absurd cc
@@ -40,7 +40,7 @@ placed_positions : {A B : Type 0} (pick : A → Option B) (position : ℕ) (item
 placed_positions pick position [] = refl
 placed_positions pick position (x ∷ items) = position_here pick position x items (filter_map (with_position pick) (enumerate_from (position + 1) items)) (pick x) refl (placed_positions pick (position + 1) items)
 
--- what stands at an index has it as its ordinal, and stands at its position
+-- what is at an index has it as its ordinal, and is at its position
 pub record Stands {A B : Type 0} (pick : A → Option B) (items : List A) (index : ℕ) (found : ℕ × (ℕ × B)) : Type 0 where
   pub ordinal : found.0 ≡ index
   pub placed : slice_get (positions_from (λ x. is_some (pick x)) 0 items) found.0 ≡ Some found.1.0
@@ -68,7 +68,7 @@ past [] index e = omega arith
 past (x ∷ list) zero e = absurd cc
 past (x ∷ list) (suc index) e = let more = past list index e in omega arith
 
--- where nothing has the index `index`, there are at most `index`
+-- if nothing has the index `index`, there are at most `index`
 pub none_stands : {A B : Type 0} (pick : A → Option B) (items : List A) (index : ℕ) → slice_get (found_in pick items) index ≡ None → length (filter_map pick items) ≤ index
 none_stands pick items index e = omega (arith, past (found_in pick items) index e, found_count pick items)
 
@@ -127,7 +127,7 @@ one_ordinal {A} {B} pick passes none several items =
     ∙ ap (the_one none several) (sym (ordinals_among passes 0 (placed_from pick 0 items)))
     ∙ one_mapped (λ (f : ℕ × (ℕ × B)). f.0) none several (filter (λ (f : ℕ × (ℕ × B)). passes f.1.1) (found_in pick items))
 
--- and it stands where its position says
+-- and it is where its position says
 pub one_stands : {A B : Type 0} (pick : A → Option B) (passes : B → Bool) (none several : Refusal) (items : List A) (found : ℕ × (ℕ × B)) → the_one none several (filter (λ (f : ℕ × (ℕ × B)). passes f.1.1) (found_in pick items)) ≡ Ok found → (index : ℕ) × Stands pick items index found
 one_stands {A} {B} pick passes none several items found e =
     let among = filtered_at (λ (f : ℕ × (ℕ × B)). passes f.1.1) (found_in pick items) 0 found (one_at none several (filter (λ (f : ℕ × (ℕ × B)). passes f.1.1) (found_in pick items)) found e) in

@@ -11,7 +11,7 @@ use Rattle.mvt_layers.specs.declared.found.FoundFeature.{FoundFeature}
 use Rattle.mvt_select.specs.declared.layers.SelectedLayers.{SelectedLayers}
 use Rattle.mvt_select.specs.declared.layers.SelectedLayers.TheVariants.{One, All}
 
--- the layer that was found is the selected one, and stands at its position in the tile (tiles 4.1)
+-- the layer that was found is the selected one, and is at its position in the tile (tiles 4.1)
 pub record IsFoundLayer (choice : LayerChoice) (document : plain.Document) (found : FoundLayer) : Type 0 where
   pub selects : selected choice document ≡ Ok found.ordinal
   pub placed : slice_get (layer_positions document) found.ordinal ≡ Some found.position
@@ -22,7 +22,7 @@ abbrev pub layers_left : SelectedLayers → List (ℕ × (ℕ × plain.Layer))
 layers_left (One found) = cons_option (option_map found_layer_seen found) []
 layers_left (All layers) = layers
 
--- the feature that was found is the selected one, and stands at its position in the layer (tiles 4.2)
+-- the feature that was found is the selected one, and is at its position in the layer (tiles 4.2)
 pub record IsFoundFeature (choice : FeatureChoice) (layer : plain.Layer) (found : FoundFeature) : Type 0 where
   pub selects : selected_feature choice layer ≡ Ok found.ordinal
   pub placed : slice_get (feature_positions layer.items) found.ordinal ≡ Some found.position

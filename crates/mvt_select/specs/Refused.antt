@@ -1,4 +1,4 @@
--- The refusals for what selects no layer and no feature.
+-- The refusals where no layer, or no feature, is selected.
 use Rattle.mvt_layers.specs.declared.select.LayerError.{LayerError}
 use Rattle.mvt_layers.specs.declared.select.LayerError.TheVariants as layers_seen
 use Rattle.mvt_layers.specs.declared.select.FeatureError.{FeatureError}

@@ -1,4 +1,4 @@
-//! The selected layer and the selected feature, each with where it stands.
+//! The selected layer and the selected feature, each with where it is.
 
 ghost use Rattle.std.specs.Prelude.{◌≡◌, Err, IfErr, IfOk, filter, slice_get};
 ghost use Rattle.std.specs.Result.{result_map_both};

@@ -15,7 +15,7 @@ use mvt_meaning::Refusal;
 /// The selected layers, in order, each with its ordinal and its position.
 #[derive(Clone, Debug, Drop)]
 pub enum SelectedLayers<'a> {
-    /// The selected one, until it has come.
+    /// The selected one, until it has been yielded.
     One(Option<FoundLayer<'a>>),
     All(LayerViews<'a>),
 }

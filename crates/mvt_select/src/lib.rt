@@ -1,12 +1,12 @@
-//! Which layer, which feature and which layers are selected, and where they stand.
+//! Which layer, which feature and which layers are selected, and where they are.
 //!
 //! - A layer is found by its ordinal or its name, and a feature of a layer by its ordinal or its
 //!   id, as the definitions say, each with its ordinal and its position, or refused as they say:
 //!   `find_layer`, `find_feature`.
-//! - The selected layers, one or all, come in their order with the same, or are refused:
-//!   `find_layers`.
+//! - The selected layers, one or all, come in their order, each with its ordinal and its position,
+//!   or are refused: `find_layers`.
 //! - The position of the layer or the feature of an ordinal: `place_of_layer`, `place_of_feature`.
-//! - In the same walk it is found whether a layer of another ordinal has a name: `find_and_taken`.
+//! - Whether a layer of another ordinal has a name is found in the same walk: `find_and_taken`.
 //! - The last name of a layer, which is the one that counts, is found by position: `last_name`.
 #![tactic(auto)]
 

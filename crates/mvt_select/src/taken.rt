@@ -1,4 +1,4 @@
-//! A layer that is to have a name, and whether another layer has it.
+//! A layer that is to get a name, and whether another layer has it.
 
 ghost use Rattle.std.specs.Prelude.{◌≡◌, ℕ, Bool, List, [], ◌∷◌, ◌++◌, Err, IfErr, IfOk, filter, if◌then◌else◌};
 ghost use Rattle.std.specs.Result.{result_map_both};
@@ -21,8 +21,8 @@ use mvt_document::Document;
 use mvt_layers::{FoundLayer, layers};
 use mvt_meaning::Refusal;
 
-/// The selected layer, and whether a layer of another ordinal has the name. Each layer's name
-/// is looked for once.
+/// The selected layer, and whether a layer of another ordinal has the name. Each layer's name is
+/// looked up once.
 pub fn find_and_taken<'a>(
     document: &'a Document,
     choice: &LayerChoice,
@@ -79,7 +79,7 @@ fn named_twice<'a>(
     (of_one, of_other)
 }
 
-/// The one layer of those before and this one, where this one counts.
+/// The one layer among those before and this one, if this one counts.
 fn and_layer<'a>(
     before: Result<FoundLayer<'a>, Refusal>,
     found: FoundLayer<'a>,

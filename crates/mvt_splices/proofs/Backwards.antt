@@ -10,7 +10,7 @@ use Rattle.mvt_splices.proofs.Runs.{after_joined, length-spliced, turned_joined}
 length_front : {A : Type 0} (index : ℕ) (put items : List A) → index ≤ length items → length (take index items ++ put) ≡ index + length put
 length_front index put items within = length-append (take index items) put ∙ ap (λ n. n + length put) (length-take-le index items within)
 
--- the prefix stays, and so does what is behind
+-- the prefix stays, and so does what comes after
 take-splice : {A : Type 0} (index taken : ℕ) (put items : List A) → index ≤ length items → take index (splice index taken put items) ≡ take index items
 take-splice index taken put items within =
     rw append_assoc (take_at (take index items) (put ++ drop (index + taken) items) index (length-take-le index items within))

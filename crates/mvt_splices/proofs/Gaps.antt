@@ -1,11 +1,11 @@
--- A list in a ring, which begins behind a gap and ends before it.
+-- A list in a ring, which begins after a gap and ends before it.
 use Rattle.std.proofs.Common.{◌≡◌, ℕ, zero, suc, ◌+◌, ◌-◌, ◌≤◌, List, [], ◌∷◌, ◌++◌, length, length-drop, take, drop, append_assoc, take-append-drop, refl, sym, ap, ◌∙◌, arith}
 use Rattle.std.proofs.lemmas.List.{drop-append-le, drop-drop, drop_at, length-take-le, take_all, take_at, take-append-le, take-take}
 use Rattle.mvt_document.specs.Splicing.{splice}
 
 -- ---- the gap goes to an index
 
--- the list of a ring whose first `behind` items stand behind the gap
+-- the list of a ring whose first `behind` items are after the gap
 abbrev pub unrolled : {A : Type 0} → ℕ → List A → List A
 unrolled behind ring = drop behind ring ++ take behind ring
 
@@ -39,7 +39,7 @@ turned_back behind index ring within =
     ∙ ap (λ rest. rest ++ take index front) (sym (drop-append-le index front back there))
     ∙ ap (λ rest. drop index (front ++ back) ++ rest) (sym (take-append-le index front back there))
 
--- .. that is behind it
+-- .. that is after it
 pub turned_on : {A : Type 0} (behind count index : ℕ) (ring : List A) → behind ≤ length ring → count ≤ behind → index + behind ≡ length ring + count → drop count ring ++ take count ring ≡ drop index (unrolled behind ring) ++ take index (unrolled behind ring)
 turned_on behind count index ring within few is =
     let front = drop behind ring in
@@ -54,7 +54,7 @@ turned_on behind count index ring within few is =
     ∙ ap (λ rest. drop (length front + count) (front ++ back) ++ rest) (sym (take_past count front back))
     ∙ ap (λ n. drop n (front ++ back) ++ take n (front ++ back)) sum
 
--- items come behind the gap, which goes to an index
+-- items come after the gap, which goes to an index
 pub put_behind : {A : Type 0} (behind index : ℕ) (put items : List A) → length (put ++ drop index items) ≡ behind → unrolled behind (put ++ (drop index items ++ take index items)) ≡ splice index 0 put items
 put_behind behind index put items is =
     let front = put ++ drop index items in

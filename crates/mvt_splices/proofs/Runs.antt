@@ -82,7 +82,7 @@ module _ {S T : Type 0} (splice_of : S → Splice T) where
     roomy_longest (s ∷ steps) (t ∷ roomy) n all =
         ap (λ m. max n (longest splice_of roomy m)) (roomy_length (splice_of s) (splice_of t) n (law s t all.0)) ∙ ap (max n) (roomy_longest steps roomy (spliced_length (splice_of s) n) all.1)
 
-  -- ---- one step more
+  -- ---- one more step
 
   pub after_joined : (first second : List S) (items : List T) → after_all splice_of (first ++ second) items ≡ after_all splice_of second (after_all splice_of first items)
   after_joined [] second items = refl
@@ -119,7 +119,7 @@ module _ {S T : Type 0} (splice_of : S → Splice T) where
 
 -- ---- steps that are carried out
 
--- what holds of the item at a position holds of it where it is read again
+-- what holds for the item at a position holds for it where it is read again
 pub read_again : {S : Type 0} (on : S → Type 0) (steps : List S) (n : ℕ) (c d : S) → n < length steps → on (get_or steps n c) → on (get_or steps n d)
 read_again on steps n c d inside here = subst on (get_or_default steps n c d inside) here
 

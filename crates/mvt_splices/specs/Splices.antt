@@ -5,7 +5,7 @@ use Rattle.std.specs.List.{AllByRecursion, AllZip}
 use Rattle.mvt_document.specs.Held.{Held}
 use Rattle.mvt_document.specs.Splicing.{part, splice}
 
--- a splice of a list: how many items from which index are taken out, and the held ones that come in their place
+-- a splice of a list: how many items from which index are taken out, and the held items that go in their place
 pub record Splice (T : Type 0) : Type 0 where
   pub index : ℕ
   pub taken : ℕ
@@ -55,10 +55,11 @@ module _ {S T : Type 0} (splice_of : S → Splice T) where
   turned_all turned [] items = []
   turned_all turned (s ∷ steps) items = turned s items ∷ turned_all turned steps (spliced (splice_of s) items)
 
--- ---- steps that begin on one list, and may go on on others; `on` says that a step is on the list
+-- ---- steps that begin on one list, and may continue on others; `on` says that a step is on the list
 
 module _ {S : Type 0} (on : S → Type 0) where
-  -- as far as the steps are on the list each takes out items that are there, in a list that has `n` items before the first
+  -- for as long as the steps are on the list, each takes out items that are there, in a list that has `n` items before
+  -- the first
   abbrev pub FitRun : {T : Type 0} → (S → Splice T) → List S → ℕ → Type 0
   FitRun splice_of [] n = Unit {0}
   FitRun splice_of (s ∷ steps) n = on s → ((splice_of s).index + (splice_of s).taken ≤ n) × FitRun splice_of steps (spliced_length (splice_of s) n)
@@ -75,8 +76,9 @@ pub record OnlyMakesRoom {S T : Type 0} (roomier : S → S → Type 0) (steps ne
   pub are_roomier : AllZip roomier steps new
 
 module _ {S T : Type 0} (on : S → Type 0) (splice_of : S → Splice T) (turned : S → List T → S) (roomier : S → S → Type 0) where
-  -- of the steps the first `n` are carried out on the list, and each is turned: all these are on the list, which has the
-  -- room for its greatest length on the way, and each of them had the room for what it takes out; the others are as they were
+  -- the first `n` of the steps are carried out on the list, and each is turned: all these are on the list, which has
+  -- the room for its greatest length on the way, and each of them had the room for what it takes out; the others are as
+  -- they were
   pub record AreCarriedOut (n : ℕ) (steps new : List S) (list made : Held T) : Type 0 where
     pub within : n ≤ length steps
     pub run : AllByRecursion on (take n steps)
@@ -86,13 +88,14 @@ module _ {S T : Type 0} (on : S → Type 0) (splice_of : S → Splice T) (turned
     pub are_turned : (roomy : List S) × AllZip roomier (take n steps) roomy × AllByRecursion (λ s. FindsRoom (splice_of s)) roomy × (take n new ≡ turned_all splice_of turned roomy list.items)
     pub left : drop n new ≡ drop n steps
 
-  -- the first steps are carried out, as far as they are on the list; or memory ran out, and only room has changed
+  -- the first steps are carried out, for as long as they are on the list; or memory ran out, and only room has changed
   pub record CarriesOut {E : Type 0} (result : Result ℕ E) (steps new : List S) (list made : Held T) : Type 0 where
     pub first : IfOk result (λ n. AreCarriedOut n steps new list made)
     pub ends : IfOk result (λ n. StartElsewhere on (drop n steps))
     pub refused : OnErr result (OnlyMakesRoom roomier steps new list made)
 
--- the steps are `first` turned, each on the list that it met, on what these made of the items; it has the room for the way back
+-- the steps are `first` turned, each on the list that it met, and the list is what `first` made of the items, with the
+-- room for the way back
 pub record LeadBack {S T : Type 0} (splice_of : S → Splice T) (turned : S → List T → S) (steps : List S) (list : Held T) (first : List S) (items : List T) : Type 0 where
   pub fit : FitAll splice_of first (length items)
   pub find_room : AllByRecursion (λ s. FindsRoom (splice_of s)) first

@@ -1,4 +1,4 @@
-//! A list that is open at a gap: a ring that begins behind the gap and ends before it.
+//! A list that is open at a gap: a ring that begins after the gap and ends before it.
 
 ghost use Rattle.std.specs.Prelude.{◌≡◌, ◌+◌, ◌-◌, ◌<◌, ◌≤◌, ◌↔◌, [], ◌++◌, length, take, drop, vec_len, vec_capacity, OnOk, IsTrue};
 ghost use Rattle.std.specs.VecDeque.{deque_len, deque_capacity};
@@ -11,12 +11,12 @@ use std::collections::VecDeque;
 use std::marker::Model;
 use std::mem;
 
-/// How many items a ring turns by one by one: for those that are more it is dearer than to turn it at once.
+/// The most items that a ring rotates one by one: for more, rotating it at once is cheaper.
 const FEW: usize = 4;
 
-/// A list that is open at a gap, in a ring: what stands behind the gap, and then what stands before it. The
-/// gap goes to where a part is exchanged, so exchanges in order of their indexes, up or down, move
-/// each item once, and in the list's own memory. Contracts see the whole list, and beside it the room for more.
+/// A list that is open at a gap, in a ring: first what is after the gap, then what is before it. The gap goes
+/// to where a part is exchanged, so exchanges in order of their indexes, up or down, move each item once, and
+/// in the list's own memory. Contracts see the whole list, and also the room for more.
 pub struct Gap<T> {
     ring: VecDeque<T>,
     behind: usize,
@@ -35,7 +35,8 @@ impl<T> Model for Gap<T> {
 }
 
 impl<T> Gap<T> {
-    /// Opens the list of a vector, which is empty until the gap is closed. It stays in the vector's memory.
+    /// Opens the list of a vector, which is empty until the gap is closed. The list stays in the vector's
+    /// memory.
     pub fn open(alloc: Global, list: &mut Vec<T>) -> Gap<T>
         ensures gap { result ≡ held_in list.old }
         ensures empty { list.new.items ≡ [] }
@@ -56,7 +57,8 @@ impl<T> Gap<T> {
         self.ring.reserve(more)
     }
 
-    /// Exchanges `taken` items from `index` for the ones to put, and puts them there in turn.
+    /// Exchanges `taken` items from `index` for the ones to put, and the list of those to put gets
+    /// the taken ones in turn.
     pub fn exchange(&mut self, index: usize, taken: usize, put: &mut Put<T>)
     where
         T: Drop,
@@ -92,7 +94,8 @@ impl<T> Gap<T> {
     }
 }
 
-/// The gap of a list, with `behind` items behind it, goes to `index`: those behind it come first.
+/// Moves the gap of a list, with `behind` items after it, to `index`: the items after it come
+/// first.
 fn move_gap<T>(ring: &mut VecDeque<T>, behind: usize, index: usize)
     requires behind { behind ≤ deque_len ring.old }
     requires there { index ≤ deque_len ring.old }
@@ -110,8 +113,8 @@ fn move_gap<T>(ring: &mut VecDeque<T>, behind: usize, index: usize)
     turn(ring, count);
 }
 
-/// The first `count` items come last. Mostly that is one, or all but one, and that one goes by
-/// itself.
+/// Moves the first `count` items to the end. Mostly that is one, or all but one, and that one is
+/// moved on its own.
 fn turn<T>(ring: &mut VecDeque<T>, count: usize)
     requires there { count ≤ deque_len ring.old }
     requires room { deque_len ring.old ≤ deque_capacity ring.old }
@@ -147,7 +150,7 @@ fn turn_few<T>(ring: &mut VecDeque<T>, count: usize)
     }
 }
 
-/// The last `count` items come first, one after the other.
+/// Moves the last `count` items to the front, one after the other.
 fn turn_few_back<T>(ring: &mut VecDeque<T>, count: usize)
     requires there { count ≤ deque_len ring.old }
     requires room { deque_len ring.old ≤ deque_capacity ring.old }
@@ -165,8 +168,8 @@ fn turn_few_back<T>(ring: &mut VecDeque<T>, count: usize)
     }
 }
 
-/// Whether the items to put come first: where the gap goes back, and one item comes and none goes, it need not pass by that
-/// item at the next exchange.
+/// Whether the items to put come first: if the gap goes back, and one item comes and none goes, the gap need not pass
+/// that item at the next exchange.
 fn comes_first(goes_back: bool, taken: usize, given: usize) -> bool
     ensures { IsTrue result ↔ (IsTrue goes_back × (taken ≡ 0) × (given ≡ 1)) }
 {
@@ -207,7 +210,7 @@ fn exchange_first<T: Drop>(ring: &mut VecDeque<T>, taken: usize, put: &mut Put<T
     *put = Put::from_vec(items);
 }
 
-/// The same, where one item goes at most, and one comes.
+/// The same, if at most one item goes, and at most one comes.
 fn exchange_one<T: Drop>(ring: &mut VecDeque<T>, taken: usize, put: &mut Put<T>)
     requires few { taken ≤ 1 }
     requires few_put { length put.old.items ≤ 1 }
@@ -230,7 +233,7 @@ fn exchange_one<T: Drop>(ring: &mut VecDeque<T>, taken: usize, put: &mut Put<T>)
     }
 }
 
-/// The same, where the ones to put are in a vector.
+/// The same, if the ones to put are in a vector.
 fn exchange_many<T>(ring: &mut VecDeque<T>, taken: usize, put: &mut Vec<T>)
     requires there { taken ≤ deque_len ring.old }
     requires room { deque_len ring.old + vec_len put.old ≤ deque_capacity ring.old + taken }
@@ -257,7 +260,7 @@ fn exchange_many<T>(ring: &mut VecDeque<T>, taken: usize, put: &mut Vec<T>)
     mem::replace(put, queue.into_vec()).destroy_empty();
 }
 
-/// The first `count` items go behind those of a vector, which has room for them.
+/// Moves the first `count` items to the end of a vector that has room for them.
 fn take_first<T>(ring: &mut VecDeque<T>, count: usize, to: &mut Vec<T>)
     requires there { count ≤ deque_len ring.old }
     requires room { vec_len to.old + count ≤ vec_capacity to.old }
@@ -292,7 +295,7 @@ fn put_last<T>(ring: &mut VecDeque<T>, put: &mut Vec<T>)
     }
 }
 
-/// The first `count` items go behind those of another ring, which has room for them.
+/// Moves the first `count` items to the end of another ring that has room for them.
 fn pass_on<T>(ring: &mut VecDeque<T>, to: &mut VecDeque<T>, count: usize)
     requires there { count ≤ deque_len ring.old }
     requires room { deque_len to.old + count ≤ deque_capacity to.old }
@@ -313,7 +316,7 @@ fn pass_on<T>(ring: &mut VecDeque<T>, to: &mut VecDeque<T>, count: usize)
     }
 }
 
-/// The first `count` items of either ring go behind those of the other.
+/// Moves the first `count` items of each ring to the end of the other.
 fn trade<T>(ring: &mut VecDeque<T>, other: &mut VecDeque<T>, count: usize)
     requires there { count ≤ deque_len ring.old }
     requires here { count ≤ deque_len other.old }

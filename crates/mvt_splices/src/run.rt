@@ -1,4 +1,5 @@
-//! Steps on one list, or on one message with its size: each is carried out at the gap, as far as they are on the list.
+//! Steps on one list, or on one message with its size: each is carried out at the gap, for as long as they are on the
+//! list.
 
 ghost use Rattle.std.specs.Prelude.{◌≡◌, ◌+◌, ◌≤◌, List, length, is_ok, if◌then◌else◌, OnErr, OnOk, IfSome, vec_len};
 ghost use Rattle.std.specs.List.{flat_map};
@@ -11,8 +12,8 @@ use crate::splices::Splices;
 use mvt_document::{Items, Measured, Message, size_of_all};
 use std::alloc::{AllocError, Global};
 
-/// Carries out the first steps that are on the list at this place, in one pass over it, and makes each the step that leads
-/// back. How many they are. An `Err` changes nothing but room.
+/// Carries out the first steps that are on the list at this place, in one pass over it, and turns each into the step
+/// that leads back. Returns their number. An `Err` changes nothing but room.
 pub fn splice_items<T: Measured, S: Splices<T>>(
     alloc: Global,
     list: &mut Items<T>,
@@ -25,8 +26,8 @@ pub fn splice_items<T: Measured, S: Splices<T>>(
     splice_vec(alloc, list.as_vec_mut(), &mut None, place, steps)
 }
 
-/// The same on a message. Its size, where it is known then, is the right one; that it stays known no
-/// clause says.
+/// The same on a message. Its size, if known afterwards, is the right one; no clause says that it
+/// stays known.
 pub fn splice_message<T: Measured, S: Splices<T>>(
     alloc: Global,
     list: &mut Message<T>,
@@ -61,7 +62,7 @@ fn splice_vec<T: Measured, S: Splices<T>>(
     made
 }
 
-/// Carries out the first steps that are on the list at this place. Where memory runs out at one, those
+/// Carries out the first steps that are on the list at this place. If memory runs out at one, those
 /// before it are taken back, for which there is room, and the gap goes back the way it came.
 fn exchange_all<T: Measured, S: Splices<T>>(
     gap: &mut Gap<T>,
@@ -131,7 +132,7 @@ fn make_room<T, S: Splices<T>>(gap: &mut Gap<T>, step: &mut S) -> Result<(), All
     step.reserve()
 }
 
-/// Carries out one step, and measures what comes and what goes where the size of all is known.
+/// Carries out one step, and measures what comes and what goes if the size of all is known.
 fn exchange_one<T: Measured, S: Splices<T>>(
     gap: &mut Gap<T>,
     size: Option<usize>,

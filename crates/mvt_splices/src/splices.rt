@@ -1,4 +1,4 @@
-//! What a step on a list has to say of itself, as a trait.
+//! What a step on a list has to say about itself, as a trait.
 
 ghost use Rattle.std.specs.Prelude.{◌≡◌, ◌+◌, ◌≤◌, ◌↔◌, List, length, IsTrue, OnOk};
 ghost use Rattle.mvt_splices.specs.Splices.{Splice, IsRoomier, FindsRoom, splice_back, spliced};
@@ -39,7 +39,7 @@ pub trait Splices<T> {
         ensures same { roomier self.old self.new }
         ensures ok { OnOk result (FindsRoom (splice_of self.new)) };
 
-    /// Carries the step out, and makes it the step that leads back.
+    /// Carries the step out, and turns it into the step that leads back.
     fn exchange(&mut self, gap: &mut Gap<T>)
         requires there { (splice_of self.old).index + (splice_of self.old).taken ≤ length gap.old.items }
         requires room { length (splice_of self.old).put.items ≤ gap.old.room + (splice_of self.old).taken }

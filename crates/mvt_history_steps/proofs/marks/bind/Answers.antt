@@ -16,7 +16,7 @@ returns-in-Ok-clause-marks c =
     let same = ap (λ mark. mark.name.items) c.index_mut.ensures.value ∙ held_name name old place c.index_mut.result.now is in
     map-set mark_of old place (record { name = c.index_mut.result.now.name; point = c.args.point }) ∙ ap (λ own. set (map mark_of old) place (record { name = own; point = c.args.point })) same ∙ bound_there name c.args.point (map mark_of old) place is
 
--- a new mark stands there
+-- a new mark is there
 pub returns-in_ok-insert-in-Err-clause-marks : goal.returns-in_ok-insert-in-Err-clause-marks
 returns-in_ok-insert-in-Err-clause-marks c =
     let name = c.args.name.now in
@@ -25,7 +25,7 @@ returns-in_ok-insert-in-Err-clause-marks c =
     let is = subst (λ marks. IsPlaceOf name (map mark_of marks) (Err place)) c.as_slice.ensures.value c.in-Err.ensures in
     ap (map mark_of) c.in_ok-insert-in-Err.ensures.items ∙ map-insert mark_of old place (record { name = c.in_ok-name-in-Err.name; point = c.args.point }) ∙ ap (λ own. insert (map mark_of old) place (record { name = own; point = c.args.point })) c.in_ok-name-in-Err.ensures.items ∙ bound_not_there name c.args.point (map mark_of old) place is
 
--- memory is asked for where no mark has the name
+-- memory is asked for only if no mark has the name
 
 unmarked : (name : List ℕ) (marks seen : List Mark) (place : ℕ) → seen ≡ marks → IsPlaceOf name (map mark_of seen) (Err place) → point_of name (map mark_of marks) ≡ None
 unmarked name marks seen place same is = point_not_there name (map mark_of marks) place (subst (λ held. IsPlaceOf name (map mark_of held) (Err place)) same is)

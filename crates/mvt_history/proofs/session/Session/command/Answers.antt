@@ -38,7 +38,7 @@ returns-in_ok-flip_onto-clause-answer c = λ history stands.
     rw (c.in_ok-flip_onto.ensures.ok, c.in_ok-flip_onto.ensures.document)
     (command_within (command_of c.args.command.now) history session (from_last pending) (change_of change) is c.self.invariant.ready.valid c.in_ok-change.ensures before)
 
--- ---- where none is
+-- ---- where none is open
 
 pub flipped-requires : goal.flipped-requires
 flipped-requires c = c.in_ok-change.ensures.fits
