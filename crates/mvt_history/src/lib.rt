@@ -1,4 +1,4 @@
-//! A document that commands edit, with undo and redo to any depth, marks, and steps of several
+//! A document that commands edit, with undo and redo, marks, and steps of several
 //! commands.
 //!
 //! - A session begins with the document and no history (`ok`), or hands the document back, as out
