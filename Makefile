@@ -39,11 +39,11 @@ rows: toolchain
 	tools/build row_tests
 	cd crates/row_tests/data && ../out/row_tests $$(cat ../args)
 
-## make pages        writes what pages of docs/ have from the sources
+## make pages        writes the parts of the pages in docs/ that are made from the sources
 pages:
 	tools/pages
 
-## make fuzz SECONDS=60  build/tileshell beside the model of tools/ on random tiles and scripts; a SEED gives the same again
+## make fuzz SECONDS=60  compares build/tileshell with the model of tools/ on random tiles and scripts; a SEED gives the same again
 fuzz:
 	python3 tools/fuzz --seconds $(or $(SECONDS),60) $(if $(SEED),--seed $(SEED))
 
@@ -53,7 +53,7 @@ check: toolchain
 	tools/pages --check
 	tools/wrong-bodies --with-proofs --then "$(MAKE) check-program"
 
-# what is tried of the program, beside the wrong bodies that are left once all is proved
+# what is tried of the program, alongside the wrong bodies that are left once everything is proved
 check-program:
 	mkdir -p build
 	cp crates/tileshell_program/out/tileshell_program build/tileshell
@@ -73,15 +73,15 @@ check-failing-calls:
 	tools/failing-calls --self-test
 	tools/failing-calls
 
-## make bench        speed and memory beside other programs; TILESHELL=PATH measures a program that was built before
+## make bench        speed and memory compared with other programs; TILESHELL=PATH measures a program that was built before
 bench: $(if $(TILESHELL),,all)
 	python3 bench/bench.py $(or $(TILESHELL),build/tileshell)
 
-## make bench-hostile time and memory on hostile tiles; fails where they are not bounded as they should be
+## make bench-hostile time and memory on hostile tiles; fails if they are not bounded as they should be
 bench-hostile: $(if $(TILESHELL),,all)
 	python3 bench/hostile.py $(or $(TILESHELL),build/tileshell)
 
-## make compare TILES=".."  what tileshell lists of TILES, as they are and edited, and TILES with each geometry shifted, beside what GDAL says
+## make compare TILES=".."  what tileshell lists of TILES, as they are and edited, and TILES with each geometry shifted, compared with what GDAL says
 compare: all
 	compare/gdal.py build/tileshell $(TILES)
 	compare/gdal.py --script compare/edits.script build/tileshell $(TILES)
@@ -91,7 +91,7 @@ compare: all
 install: all
 	$(MAKE) -f install.mk install PREFIX=$(PREFIX)
 
-## make uninstall    takes away what `make install` put there
+## make uninstall    removes what `make install` put there
 uninstall:
 	$(MAKE) -f install.mk uninstall PREFIX=$(PREFIX)
 
@@ -103,7 +103,7 @@ deb: all
 	cd build/deb/tileshell && dpkg-buildpackage --build=binary --no-sign
 	lintian --fail-on error,warning build/deb/*.changes
 
-## make tar          a tar of what `make install` puts under PREFIX, with its checksum, in build
+## make tar          a tar archive of what `make install` puts under PREFIX, with its checksum, in build
 tar: all
 	rm -rf build/$(RELEASE)
 	$(MAKE) -f install.mk install DESTDIR=build/$(RELEASE) PREFIX=

@@ -1,23 +1,24 @@
-"""Single calls, as the tables of crates/row_tests have them, and what becomes of one where a growth is refused."""
+"""Single calls, as the tables of crates/row_tests have them, and what becomes of one when a growth is refused."""
 import re
 
 from tables import CALLS, NO_MEMORY, UNREAD, texts
 
-# Calls that read many tiles, and do not distinguish a tile that there was no memory to read from one that is none.
+# Calls that read many tiles, and do not distinguish a tile that there was no memory to read from bytes that are not a
+# tile.
 UNDISTINGUISHED = ["wire cuts"]
 
-# A piece that comes a thousand times or more: a row with one makes too many growths to refuse each.
+# A piece repeated a thousand times or more: a row with one makes too many growths to refuse each.
 MANY = re.compile(r"\b\d{4,}\*")
 
 # What the program says of a row that cannot be tried, as its tile or what it is given cannot be read.
 UNTRIED = ["the tile does not open, or lacks what is looked at", "the call cannot be given this"]
 
-# What becomes of a row: it is answered as ever, or is out of memory, or is not come to.
+# What becomes of a row: it is answered as ever, or is out of memory, or is not reached.
 ANSWERED, OUT_OF_MEMORY, NOT_COME_TO = "answered", "out of memory", "not come to"
 
 
 def tables():
-    """Tables of one row: of each call the first row of each kind of answer, which its first word says."""
+    """Tables of one row: for each call the first row of each kind of answer, which its first word says."""
     found, pieces = {}, {}
     for text in texts(CALLS):
         call, tile, given = "", "", ""
@@ -50,7 +51,7 @@ def table_of(lines, pieces):
 
 
 def judged(status, printed, complaint):
-    """What became of the row of a table, by what the program printed; None where it is none of the known."""
+    """What became of the row of a table, by what the program printed; None if it is not one of the known ends."""
     if (status, printed, complaint) == (0, "1 rows, 0 differ\n", ""):
         return ANSWERED
     lines = complaint.splitlines()

@@ -1,9 +1,9 @@
 """Copies of a crate with wrong bodies in them, and what the prover says of such a copy.
 
-A wrong body is put into the place of what it turns, or beside it: behind the function that it turns comes a further one, which has
-the same contract and the same proof files under a name of its own. What a function has to prove goes by the contracts of those that
-it calls, and not by their proofs. So a copy can be lean: the other functions have no proof there, and the prover spends no time on
-one. Whether a goal of a turned function is proved is the same in it, but whether the function is proved, it cannot say.
+A wrong body is put into the place of what it turns, or beside it: after the function that it turns comes another one, which has the
+same contract and the same proof files under a name of its own. What a function has to prove depends on the contracts of those that
+it calls, and not on their proofs. So a copy can be lean: the other functions have no proof there, and the prover spends no time on
+them. Whether a goal of a turned function is proved is the same in it, but it cannot say whether the function is proved.
 """
 import contextlib
 import functools
@@ -18,7 +18,7 @@ from pathlib import Path
 
 from functions import functions_of, inside
 
-# A line that the prover prints as it ends with a function.
+# A line that the prover prints when it is done with a function.
 ENDED = re.compile(r"checked \w+::(\S+), \d+ of \d+")
 
 
@@ -27,7 +27,7 @@ def lines_of(folder, file):
 
 
 def is_of_an_impl(lines, function):
-    """Returns whether the function stands in an impl of methods alone, which one more can be put into."""
+    """Returns whether the function is in an impl with only methods, which one more can be put into."""
     head = next(at for at in range(function.first - 1, -1, -1) if re.match(r"\w", lines[at]))
     header = " ".join(lines[head:function.first]).partition("{")[0]
     return header.startswith("impl") and " for " not in header
@@ -35,13 +35,15 @@ def is_of_an_impl(lines, function):
 
 @functools.cache
 def texts_of(folder):
-    """Returns the texts in which a crate names proofs, by their paths: its proof files and its code, this with the dots of a proof file."""
+    """Returns the texts in which a crate names proofs, by their paths: its proof files and its code, the latter with the dots of a
+    proof file."""
     proofs = {it: it.read_text() for it in Path(folder, "proofs").rglob("*.antt")}
     return proofs | {it: it.read_text().replace("::", ".") for it in Path(folder, "src").rglob("*.rt")}
 
 
 def is_known_outside(folder, function, but=r"(?!Met\b)"):
-    """Returns whether a lemma or the proof of another function names more of this one than that it meets its contract, or with no `but` that too."""
+    """Returns whether a lemma or the proof of another function names more of this one than that it meets its contract, or, without
+    `but`, even that."""
     path = function.name.split("::")
     known = re.compile(rf"proofs\.{re.escape('.'.join(path))}\.{but}")
     return any(known.search(text) for it, text in texts_of(folder).items() if it.parent != Path(folder, "proofs", *path))
@@ -52,16 +54,18 @@ def is_of_no_trait(lines, function):
 
 
 def can_go_unproved(folder, function):
-    """Returns whether nothing else of the crate names the proof of a function, which is of no trait and in no cycle of calls."""
+    """Returns whether nothing else in the crate names the proof of a function, which is not of a trait and not in a cycle of
+    calls."""
     lines = lines_of(folder, function.file)
     is_in_a_cycle = any("#[cycle" in it for it in lines[function.first - 1:function.last])
     return is_of_no_trait(lines, function) and not is_in_a_cycle and not is_known_outside(folder, function, but="")
 
 
 def can_stand_beside(folder, edit):
-    """Returns whether the edit turns lines of one function alone, which can have one of another name beside it.
+    """Returns whether the edit turns lines of only one function, which can have one of another name beside it.
 
-    That is of no trait, does not call itself, and has its goals proved by its own proof files alone: these hold of the other one as well.
+    Such a function is not of a trait, does not call itself, and has its goals proved by its own proof files alone: these hold of
+    the other one as well.
     """
     if len(edit.functions) != 1:
         return False
@@ -75,7 +79,7 @@ def can_stand_beside(folder, edit):
 
 @dataclass
 class Turned:
-    """The functions that an edit turns, as they stand in a copy, and its lines there."""
+    """The functions that an edit turns, as they are in a copy, and its lines there."""
     functions: list
     lines: set
 
@@ -90,7 +94,7 @@ class Copy:
                 shutil.copytree(Path(crate.folder, part), Path(room, part))
         names = self.put_beside(beside)
         self.write()
-        # in the place of what it turns an edit may end a line as the layout does not
+        # in the place of what it turns, an edit may end a line as the layout does not
         self.functions = functions_of(room)
         by_name = {it.name: it for it in self.functions}
         for edit in beside:
@@ -137,7 +141,7 @@ class Copy:
         return set(placed)
 
     def put_beside(self, edits):
-        """Puts a function for each edit behind the one that it turns, the last of a file first, and returns their names."""
+        """Puts a function for each edit after the one that it turns, the last of a file first, and returns their names."""
         names = {}
         for number, edit in sorted(enumerate(edits, 1), key=lambda it: -it[1].functions[0].last):
             of = edit.functions[0]
@@ -161,7 +165,8 @@ class Copy:
             new.write_text(file.read_text().replace(f"proofs.{'.'.join(of)}.", f"proofs.{'.'.join(to)}."))
 
     def check(self, rt, kept):
-        """Has the prover check the functions that the edits turn. Returns its status, what it printed, and the seconds that each function took."""
+        """Makes the prover check the functions that the edits turn. Returns its status, what it printed, and the seconds that each
+        function took."""
         only = sorted({it.name for turned in self.turned.values() for it in turned.functions})
         stages = Path(self.room, "stages")
         flags = ["--jobs", "1", "--progress", "--stage-times", str(stages), *(["--incremental", kept] if kept else [])]
@@ -178,9 +183,10 @@ class Copy:
 
 
 def leave_out_offers(ran, stages):
-    """Has a check end once it knows what it will say: behind that it would write proof files to offer, for a tenth of its time, which nobody reads.
+    """Makes a check end once it knows what it will say: after that it would write proof files to offer, for a tenth of its time,
+    which nobody reads.
 
-    It finds no module for them where it can open no more files, says so in a note, and prints its lines.
+    It finds no module for them when it cannot open any more files, says so in a note, and prints its lines.
     """
     while ran.poll() is None:
         if stages.exists() and "stage lines " in stages.read_text():

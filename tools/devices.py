@@ -12,8 +12,8 @@ from runs import Ended
 from tiles import bytes_of, read_tile
 from walks import State, answers
 
-# The devices and the calls, in the order of tools/fail.c. The input is standard input, which is the script where no file
-# is named.
+# The devices and the calls, in the order of tools/fail.c. The input is standard input, which is the script if no file is
+# named.
 DEVICES = ["input", "replies", "complaint", "tile", "script", "out"]
 CALLS = ["open", "read", "write", "seek", "close"]
 
@@ -29,7 +29,7 @@ INTERRUPTED = -errno.EINTR
 
 @dataclass(frozen=True)
 class Trouble:
-    """What `count` calls of one kind on a device meet, from `first` on, which is counted from 1."""
+    """What `count` calls of one kind on a device meet, from call `first` on, which is counted from 1."""
     device: str
     call: str
     first: int
@@ -51,7 +51,7 @@ class Run:
     # Whether the script is a file that the command line names, and whether OUT is the file TILE.
     is_file: bool = False
     is_in_place: bool = False
-    # How many bytes each call on a device gives or takes at most, where that is not all.
+    # How many bytes each call on a device gives or takes at most, if that is not all.
     most: dict = field(default_factory=dict)
 
     @property
@@ -102,7 +102,7 @@ class Devices:
             self.call(device, "close")
 
     def again(self, device, answer):
-        """The call that was answered so is made again, where it was interrupted."""
+        """Makes the call with this answer again, if it was interrupted."""
         if answer != INTERRUPTED or not self.retries:
             raise Failed(device)
         self.retries -= 1
@@ -130,7 +130,7 @@ class Devices:
         return data
 
     def hold(self, data):
-        """A part of a reply is held back, but what is longer than may be held is written."""
+        """A part of a reply is held back, but anything longer than may be held is written."""
         if len(self.held) + len(data) > MOST_HELD or len(data) >= MOST_HELD:
             self.pass_on()
         self.held += self.write("replies", data, MOST_HELD)
@@ -158,13 +158,13 @@ class Devices:
 
 
 class Point:
-    """A point of a plain walk: the state there, and what each line comes to that was next."""
+    """A point of a plain walk: the state there, and what each line that was next comes to."""
 
     def __init__(self, state, line=0):
         self.state, self.line, self.found = state, line, {}
 
     def next(self, content):
-        """The answer to the line, None where it asks for nothing, and the point behind it."""
+        """The answer to the line, None if it asks for nothing, and the point after it."""
         if content not in self.found:
             answer = next(iter(answers(self.state, self.line + 1, content)), None)
             self.found[content] = answer, Point(answer.state if answer else self.state, self.line + 1)
@@ -173,13 +173,13 @@ class Point:
 
 @cache
 def start(tile, depth):
-    """The point at the start; how far the bytes are a tile, where they are none."""
+    """The point at the start; how far the bytes are a tile, if they are not one."""
     place = fault_place(tile)
     return Point(State(read_tile(tile), depth)) if place is None else place
 
 
 def ended_over(run, troubles=()):
-    """How a run ends whose devices meet these troubles, and how often each call was made."""
+    """How a run whose devices meet these troubles ends, and how often each call was made."""
     devices = Devices(run, troubles)
     try:
         status, complaint = carried_out(run, devices)
@@ -194,7 +194,7 @@ def ended_over(run, troubles=()):
 
 
 def carried_out(run, devices):
-    """The status, and what is to be printed on standard error. First standard input is looked at by a read of nothing."""
+    """The status, and what is to be printed on standard error. First standard input is checked by a read of nothing."""
     devices.call("input", "seek")
     has_input = devices.call("input", "read") >= 0
     devices.open("tile")

@@ -3,10 +3,10 @@
  *
  * FAILING has five numbers for each trouble: the device, the call, the first such call on that device that meets it, how
  * many do, and what they answer: a negative error; or of reads and writes 0, or how many bytes they give or take at most.
- * MOST has for each device how many bytes each call gives or takes at most, or 0 where that is all.
+ * MOST has for each device how many bytes each call gives or takes at most, or 0 if that is all.
  * COUNTS names a file, which gets how often each call was made on each device.
  *
- * PLANTED is the number of a mistake: the program behind this library is then as one that makes it. */
+ * PLANTED is the number of a mistake: the program on top of this library is then like one that makes it. */
 
 typedef __SIZE_TYPE__ size_t;
 
@@ -34,7 +34,7 @@ enum { NO_MISTAKE, FAILED_WRITE_IS_IGNORED, SHORT_WRITE_IS_IGNORED, FAILED_READ_
 
 enum { FILES = 16, TROUBLES = 4, NUMBERS = 5 };
 
-/* What a call answers that meets no trouble. */
+/* What a call that meets no trouble answers. */
 static const long PASS = __LONG_MAX__;
 
 /* The devices of the open files, each with 1 added. */
@@ -75,7 +75,7 @@ static long counted(int device, int call) {
     return PASS;
 }
 
-/* Counts a call, and gives what a program takes for its answer that makes the mistake. */
+/* Counts a call, and gives what a program that makes the mistake takes for its answer. */
 static long answer_of(int device, int call) {
     long answer = counted(device, call);
     if (PLANTED == FAILED_CALL_IS_MADE_AGAIN && answer < 0 && answer != -INTERRUPTED) {
@@ -95,7 +95,7 @@ static long failed(long answer) {
     return -1;
 }
 
-/* The device of an open file, or -1 where the program has not opened it. */
+/* The device of an open file, or -1 if the program has not opened it. */
 static int device_of(int file) {
     if (!counts) {
         begin();
@@ -130,7 +130,7 @@ long lseek(int file, long offset, int from) {
     return answer < 0 ? failed(answer) : syscall(SEEK_CALL, file, offset, (long)from);
 }
 
-/* A file is closed whatever its closing answers, as the system does it. */
+/* A file is closed whatever the call answers, as the system does it. */
 int close(int file) {
     int device = device_of(file);
     long answer = device < 0 ? PASS : answer_of(device, CLOSE), closed = syscall(CLOSE_CALL, file);

@@ -1,7 +1,7 @@
 """The functions of a crate's source files: their lines, and the names by which the prover speaks of them.
 
-The files are in the layout of `rt fmt`, which the gate holds them to: an item ends at the first closing brace that
-stands as far in as the item's first word.
+The files are in the layout of `rt fmt`, which the gate holds them to: an item ends at the first closing brace that is
+indented as far as the item's first word.
 """
 import re
 from dataclasses import dataclass
@@ -21,7 +21,7 @@ class Function:
 
 
 def without_parameters(text):
-    """Leaves out what stands in angle brackets: `Vec<Option<u8>>` is `Vec`."""
+    """Leaves out what is in angle brackets: `Vec<Option<u8>>` is `Vec`."""
     while "<" in text:
         shorter = re.sub(r"<[^<>]*>", "", text)
         if shorter == text:
@@ -36,9 +36,9 @@ def words_of(text):
 
 
 def name_of_impl(header):
-    """Returns what the prover calls an impl: its type, and right behind it the trait with its parameters, where it has one.
+    """Returns what the prover calls an impl: its type, and right after it the trait with its parameters, if it has one.
 
-    An impl of methods alone has those of its type in place of these, as `Run+Field` of `Run<Field>`.
+    An impl of only methods has those of its type in place of these, as `Run+Field` of `Run<Field>`.
     """
     header = header.replace("->", "")
     if header.startswith("<"):
@@ -69,7 +69,7 @@ def last_line(lines, number, indent):
 
 
 def inside(lines, function):
-    """Returns the numbers of the lines of a function's body, between the braces. There are none where these stand in one line."""
+    """Returns the numbers of the lines of a function's body, between the braces. There are none if these are on one line."""
     indent = lines[function.last - 1].removesuffix("}")
     opens = (at for at in range(function.first, function.last) if lines[at - 1].startswith(indent) and lines[at - 1].endswith("{"))
     first = next((at for at in opens if not lines[at - 1].startswith(indent + " ")), function.last)
@@ -77,7 +77,7 @@ def inside(lines, function):
 
 
 def functions_in(text, file, above, homes):
-    """Returns the functions with a body in one file, whose own path is `above`. A trait's own are proved at each impl alone.
+    """Returns the functions with a body in one file, whose own path is `above`. A trait's own are proved only at each impl.
 
     A method without a trait has the path of the file that its type is in, which `homes` says.
     """
@@ -114,5 +114,5 @@ def functions_of(folder):
     texts = {path.relative_to(folder): path.read_text() for path in sorted(Path(folder, "src").rglob("*.rt"))}
     homes = {file: {name: path_of(file) for name in TYPE.findall(text)} for file, text in texts.items()}
     all_homes = {name: path for of in homes.values() for name, path in of.items()}
-    # two files may have types of one name: a method is mostly of the one in its own
+    # two files may have types of the same name: a method is mostly of the one in its own
     return [it for file, text in texts.items() for it in functions_in(text, str(file), path_of(file), all_homes | homes[file])]

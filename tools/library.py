@@ -27,7 +27,7 @@ class Module:
 
     @property
     def head(self):
-        """The text at its top, of the lines that begin with `//!`."""
+        """The text at its top, in the lines that begin with `//!`."""
         lines = re.match(r"(?://!.*\n)*", self.text)[0].splitlines()
         return "\n".join(line.removeprefix("//!").removeprefix(" ") for line in lines)
 
@@ -71,7 +71,7 @@ def root_of(crate):
 
 
 def modules_of(crate):
-    """Its modules by name, but for its root."""
+    """Its modules by name, except for its root."""
     root = root_of(crate)
     paths = sorted(root.path.parent.rglob("*.rt"))
     return [Module(crate, str(path.relative_to(root.path.parent).with_suffix("")), path) for path in paths if path != root.path]
@@ -85,7 +85,7 @@ def laws_in(module):
 
 
 def cited_in(module, start, clause=None):
-    """The definitions that a contract cites: of the item that so begins, in one clause or in all."""
+    """The definitions that a contract cites: that of the item that begins like this, in one clause or in all."""
     text = re.sub(r"^ *//.*\n", "", module.text, flags=re.MULTILINE)
     item = text[text.index(start):]
     item = item[:re.search(r"\n[{}]", item).start()]

@@ -1,4 +1,5 @@
-"""What tileshell lists of a tile, read again: its layers, their features, and of each its id, its attributes and its geometry."""
+"""What tileshell lists of a tile, read back: its layers, their features, and for each feature its id, its attributes and its
+geometry."""
 import re
 import struct
 import subprocess
@@ -15,7 +16,7 @@ UNREADABLE = "unreadable"
 
 @dataclass
 class Feature:
-    # None where there is none.
+    # None if there is none.
     id: int
     # Pairs of a key and a value, each a text, a whole number or a float.
     attributes: Counter
@@ -29,12 +30,12 @@ class Layer:
     name: str
     extent: int
     features: list
-    # The kinds of its columns by their keys, where another program printed them.
+    # The kinds of its columns by their keys, if another program printed them.
     kinds: dict = field(default_factory=dict)
 
 
 def run(tileshell, tile, lines, out, statuses=(0,)):
-    """What is replied to a script, which ends with one of these statuses."""
+    """What is replied to a script, whose run ends with one of these statuses."""
     done = subprocess.run([tileshell, tile, out], input="".join(f"{line}\n" for line in lines), capture_output=True, text=True)
     if done.returncode not in statuses:
         raise SystemExit(f"{tile}: status {done.returncode}: {done.stderr}{done.stdout[-200:]}")
@@ -42,7 +43,7 @@ def run(tileshell, tile, lines, out, statuses=(0,)):
 
 
 def replies(tileshell, tile, lines):
-    """The lines before `ok` of the reply to each line of a script, of which none is refused."""
+    """The lines before `ok` of the reply to each line of a script, none of which is refused."""
     with tempfile.NamedTemporaryFile() as out:
         printed = run(tileshell, tile, lines, out.name)
     reply = []

@@ -1,4 +1,4 @@
-"""What the program offers to who uses it: options, requests, refusals, statuses and its version, as the code has them; and
+"""What the program offers to its users: options, requests, refusals, statuses and its version, as the code has them; and
 the pages that have to say the same.
 """
 import re
@@ -35,7 +35,7 @@ def version():
 
 
 def options():
-    """The long options, with the two that are there unasked."""
+    """The long options, with the two that are always there."""
     return {*re.findall(r'\.long\("([\w-]+)"\)', read(OPTIONS)), "help", "version"}
 
 
@@ -52,7 +52,7 @@ def refusals():
 # ---- pages
 
 def table(place, heads):
-    """The cells of the rows of each table whose head begins so."""
+    """The cells of the rows of each table whose head begins like this."""
     parts = re.findall(rf"^\| {re.escape(heads)}.*\n\|[-|]+\n((?:\|.*\n)+)", read(place), re.MULTILINE)
     return [[cell.strip() for cell in row.strip("|").split("|")] for part in parts for row in part.splitlines()]
 
@@ -63,13 +63,13 @@ def forms_in(place, *heads):
 
 
 def section(place, name):
-    """A section of a manual page, with what it writes otherwise for the formatter."""
+    """A section of a manual page, with what it writes differently for the formatter."""
     text = re.search(rf"^\.SH {name}\n(.*?)(?=^\.SH )", read(place), re.MULTILINE | re.DOTALL)[1]
     return text.replace(r"\-", "-")
 
 
 def heads_in(place, name):
-    """What stands at the head of each paragraph of a section, where it has some text."""
+    """What is at the head of each paragraph of a section, if it has some text."""
     lines = re.findall(r"^\.TP\n\.BI? (.*)\n(?!\.(?:TP|S[HS])\b)", section(place, name), re.MULTILINE)
     return {line.replace('"', "").replace("  ", " ") for line in lines}
 
@@ -113,7 +113,7 @@ def option_faults():
     yield from differences(HELP, "status", statuses[0], set(re.findall(r"^  (\d)  ", read(HELP), re.MULTILINE)))
 
 
-# Where a version stands, with what is around it.
+# Where a version is given, with what is around it.
 VERSIONS = {
     FORMATS: r"the version is `tileshell (.*?)`",
     PROGRAM: r'^\.TH \S+ \S+ \S+ "tileshell (.*?)"',
@@ -130,6 +130,6 @@ def version_faults():
 
 
 def faults():
-    """A row for each that a page lacks, or has and the code has not."""
+    """A row for each that a page lacks, or that a page has and the code lacks."""
     for of in (request_faults, refusal_faults, option_faults, version_faults):
         yield from of()

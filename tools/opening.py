@@ -1,4 +1,4 @@
-"""Which bytes are a tile, as docs/FORMATS.md has it, and where others stop being one."""
+"""Which bytes are a tile, as docs/FORMATS.md has it, and where other bytes stop being one."""
 from tiles import END, FEATURE, GROUP, LAYER, LEN, SIZES, number_at
 
 VARINT = 0
@@ -10,11 +10,11 @@ LONGEST_NUMBER, MOST_OPEN = 10, 100
 
 
 class Broken(Exception):
-    """The bytes are no item from this place on."""
+    """The bytes are not an item from this place on."""
 
 
 def fault_place(data, inner=TILE):
-    """The length of the longest prefix that is whole items, or None where all the bytes are."""
+    """The length of the longest prefix that is whole items, or None if all the bytes are."""
     at = 0
     while at < len(data):
         try:
@@ -25,7 +25,7 @@ def fault_place(data, inner=TILE):
 
 
 def item_end(data, at, inner):
-    """Where the item ends that begins there."""
+    """Where the item that begins there ends."""
     key, behind = whole_tag(data, at)
     begin, end = whole_body(data, behind, key, 0)
     if key in inner and fault_place(data[begin:end], inner[key]) is not None:
@@ -52,7 +52,7 @@ def whole_tag(data, at):
 
 
 def whole_body(data, at, key, opened):
-    """Where the content begins of the field whose tag ends there, and where it ends; `opened` groups are open around it."""
+    """Where the content of the field whose tag ends there begins, and where it ends; `opened` groups are open around it."""
     wire_type = key & 7
     if wire_type == VARINT:
         return at, whole_number(data, at)[1]
@@ -66,7 +66,8 @@ def whole_body(data, at, key, opened):
 
 
 def whole_group(data, at, key, opened):
-    """Where the end tag ends of the group with this tag whose first field begins there; `opened` groups are open, it among them."""
+    """Where the end tag of the group with this tag whose first field begins there ends; `opened` groups are open, including this
+    one."""
     if opened > MOST_OPEN:
         raise Broken
     inner, behind = whole_tag(data, at)

@@ -1,4 +1,5 @@
-"""What a script may come to where one growth of memory is refused: what is printed of it, held against the model of `walks`."""
+"""What a script may come to when one growth of memory is refused: what is printed of it, checked against the model of
+`walks`."""
 from dataclasses import dataclass, field
 from functools import cache
 
@@ -8,8 +9,8 @@ from walks import State, plain_walk, replies_of, walk
 # Each line is answered as if no growth were refused: a list that asks for room ahead can do without it.
 PLAIN = "plain"
 
-# What a refused growth does to a script: a line is refused, or the run ends and writes no tile. Of a line that goes back or
-# on over steps this is said by itself.
+# What a refused growth does to a script: a line is refused, or the run ends and writes no tile. For a line that goes back
+# or on over steps this is said separately.
 LINE = "line"
 GOING_BACK = "going back"
 RUN = "run"
@@ -26,7 +27,7 @@ class Printed:
     tile: bytes = b""
     script: list = field(default_factory=list)
     replies: list = field(default_factory=list)
-    # None where no tile was written.
+    # None if no tile was written.
     edited: bytes = None
 
 
@@ -35,7 +36,7 @@ class Wrong(Exception):
 
 
 def judged_script(printed):
-    """To what the growth was refused. What was printed is held against the model."""
+    """What the growth was refused to. What was printed is checked against the model."""
     if printed.outcome == "NoMemory":
         check_cut(printed)
         return RUN
@@ -84,7 +85,7 @@ def model_walk(printed):
 
 
 def check_end(printed, outcome, state):
-    """The run ended so, and wrote the tile of the state."""
+    """The run ended like this, and wrote the tile of the state."""
     stands = tiles.bytes_of(state.tile())
     if printed.outcome != outcome:
         raise Wrong(f"it ended as {printed.outcome}, and should as {outcome}")

@@ -20,7 +20,7 @@ def clang():
 
 
 def library(folder, source, *words):
-    """Makes a library of a source beside this one."""
+    """Makes a library from a source next to this one."""
     made = Path(folder) / "-".join([*words, f"{source}.so"])
     how = ["-shared", "-fPIC", "-O1", "-nostdlib", "-fuse-ld=lld", *words, TOOLS / source, "-o", made]
     subprocess.run([clang(), *how], check=True)
@@ -45,7 +45,7 @@ class Room:
         return path
 
     def ended(self, program, run, given):
-        """How the program ends with these variables given; its tile is what OUT holds then."""
+        """How the program ends with these variables given; its tile is what OUT then holds."""
         tile, script = self.file("tile", run.tile), self.file("script", run.script)
         out = tile if run.is_in_place else self.file("out", before(run))
         words = [tile, out, "--depth", str(run.depth), *["--strict"] * run.strict, *["--script", script] * run.is_file]

@@ -1,7 +1,8 @@
 #!/usr/bin/env python3
-"""Holds the model of `walks` against the rows of whole runs of crates/row_tests, which the program is held against too.
+"""Checks the model of `walks` against the rows of whole runs of crates/row_tests, which the program is checked against
+too.
 
-A script of many lines takes the model too long: such rows are passed over, and counted.
+A script of many lines takes the model too long: such rows are skipped, and counted.
 `crates/row_tests/src/main.rt` says how a row is written.
 """
 import sys
@@ -11,7 +12,7 @@ from dataclasses import dataclass
 from runs import ended
 from tables import RUNS, texts
 
-# The model goes through all standing commands at each line, and is asked for no more lines than this.
+# The model goes through all standing commands at each line, and is given no more lines than this.
 MOST_LINES = 1000
 
 
@@ -24,7 +25,7 @@ class Row:
     script: bytes = b""
     ends: str = "Done"
     replies: bytes = b""
-    # None where it is not said.
+    # None if it is not given.
     gives: bytes = None
 
     def tile_wanted(self):
@@ -89,7 +90,7 @@ def outcome_of(end):
 
 
 def fault_of(row):
-    """What the model answers otherwise, or None."""
+    """What the model answers differently, or None."""
     end = ended(row.tile, row.script, row.depth, row.strict)
     outcome = outcome_of(end)
     if (outcome, end.replies, end.tile) == (row.ends, row.replies, row.tile_wanted()):
@@ -98,7 +99,7 @@ def fault_of(row):
 
 
 def wrong_rows():
-    """What the model answers otherwise."""
+    """What the model answers differently."""
     return [fault for row in read_rows() if not unmodelled(row) and (fault := fault_of(row))]
 
 

@@ -13,12 +13,12 @@ class Ended:
     replies: bytes
     # What is printed on standard error.
     complaint: bytes
-    # None where no tile is written.
+    # None if no tile is written.
     tile: bytes
 
 
 def ended(tile, script, depth=100, strict=False):
-    """How the run ends over a tile and a script, both bytes; where there is memory, and the devices serve."""
+    """How the run ends over a tile and a script, both bytes, if there is memory and the devices serve."""
     place = fault_place(tile)
     if place is not None:
         return Ended(3, b"", b"tileshell: tile refused: 1 BadWire place %d\n" % place, None)
@@ -27,7 +27,7 @@ def ended(tile, script, depth=100, strict=False):
 
 
 def end_of(start, found, strict):
-    """How the run ends from this state on whose lines have these answers."""
+    """How the run whose lines have these answers ends, from this state on."""
     refused = [place for place, answer in enumerate(found) if answer.refusal]
     if strict and refused:
         return Ended(1, replies_of(found[:refused[0] + 1]).encode(), b"", None)

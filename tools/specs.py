@@ -2,7 +2,7 @@
 
 A definition is a paragraph. The comment right above it is its sentence, and may end with its sources in parentheses,
 as `(guide, Groups)` or `(tiles 4.1; guide, Message Structure)`. The comment at the top of a file says what is in it.
-A definition names each definition whose name stands in it, also where that is the name of a variable there.
+A definition names each definition whose name is in it, even where that is the name of a variable there.
 """
 import re
 from dataclasses import dataclass, field
@@ -11,7 +11,7 @@ from pathlib import Path
 
 CRATES = Path(__file__).resolve().parent.parent / "crates"
 
-# Specs that the toolchain makes of the code: types, traits, constants and their contracts.
+# Specs that the toolchain makes from the code: types, traits, constants and their contracts.
 MADE = {"declared", "contracts", "TheConstants"}
 
 # The sections that a source can name, of the Vector Tile Specification 2.1 and of the Protocol Buffers encoding guide.
@@ -23,7 +23,7 @@ GUIDE = {
 
 COMMENT = re.compile(r"\s*-- ?(.*)")
 
-# What can stand right before a definition, and of that what sets the lines before it apart.
+# What can come right before a definition, and what of that sets the lines before it apart.
 BESIDE = re.compile(r"\s*(?:--|module _|infix)")
 APART = re.compile(r"\s*(?:-- ----|module _)")
 
@@ -127,7 +127,7 @@ def sentence_of(comment):
 
 
 def arguments(left):
-    """What stands behind the name on the left of an equation, one by one, but for what is in braces."""
+    """What follows the name on the left of an equation, one by one, except for what is in braces."""
     found, depth = [], 0
     for word in left.split()[1:]:
         if depth:
@@ -145,7 +145,7 @@ def is_source(text):
 
 
 def parameters_of(name, code):
-    """The names of what a definition takes: `_` where an argument has none in any equation."""
+    """The names of what a definition takes: `_` if an argument has none in any equation."""
     if PLAIN.match(code[0]):
         return [word for names in EXPLICIT.findall(code[0].rpartition(" : ")[0] + " : ") for word in names.split()]
     lefts = [arguments(line.partition(" =")[0]) for line in code if line.split()[0] == name and " =" in line]
@@ -168,7 +168,7 @@ def definition_in(file, first, lines):
 
 @cache
 def file_at(crate, name):
-    """A file of specs, or none where the crate has no such file of its own."""
+    """A file of specs, or none if the crate has no such file of its own."""
     path = CRATES / crate / "specs" / f"{name}.antt"
     if not path.exists():
         return None
@@ -189,7 +189,7 @@ def files_of(crate):
 # ---- what a definition names
 
 def find(crate, file, name):
-    """The definition of this name that a file of specs has or passes on, or none where it is made of the code."""
+    """The definition of this name that a file of specs has or re-exports, or none if it is made from the code."""
     if file.split(".")[0] in MADE:
         return None
     at = file_at(crate, file)
@@ -202,7 +202,7 @@ def find(crate, file, name):
 
 
 def words_of(text):
-    """The names in a text, those behind a dot with what stands before it, and its operators: `do` is written with one."""
+    """The names in a text, those after a dot with what comes before it, and its operators: `do` is written with one."""
     code = "\n".join(line for line in text.split("\n") if not COMMENT.match(line))
     words = {*NAMES.findall(code), *(f"◌{word}◌" for word in code.split())}
     return words | {"◌>>=◌"} if "do" in words else words

@@ -13,10 +13,10 @@ LEN, GROUP, END = 2, 3, 4
 SIZES = {1: 8, 5: 4}
 KINDS = ["unknown", "point", "line", "polygon"]
 
-# How far a delta goes at most, and how often a command is carried out.
+# How far a delta goes at most, and how often a command is carried out at most.
 MAX_DELTA, MAX_COUNT = 2**31 - 1, 2**29 - 1
 
-# The commands of a part of each kind: which one, how often at least, and at most.
+# The commands of a part of each kind: which one, and how often at least and at most.
 PATHS = {1: [(1, 1, MAX_COUNT)], 2: [(1, 1, 1), (2, 1, MAX_COUNT)], 3: [(1, 1, 1), (2, 2, MAX_COUNT), (7, 1, 1)]}
 
 
@@ -26,7 +26,7 @@ class Refused(Exception):
     def __init__(self, number, behind=""):
         super().__init__(number)
         self.number = number
-        # What a reply prints behind the name of the refusal.
+        # What a reply prints after the name of the refusal.
         self.behind = behind
 
 
@@ -34,7 +34,7 @@ class Refused(Exception):
 class Item:
     """A field as it is spelled, or a layer or a feature, whose content is its items."""
     tag: bytes
-    # Where there is a length, the width that it was spelled in, else 0.
+    # The width that a length was spelled in, if there is one, else 0.
     width: int
     content: object
 
@@ -52,7 +52,7 @@ def number_at(data, at):
 
 
 def spelled(number, width=1):
-    """The number in that many bytes, or in the least that it needs."""
+    """The number in that many bytes, or in as few as it needs."""
     groups = []
     while number or len(groups) < width:
         groups.append(number & 0x7F)
@@ -88,7 +88,7 @@ def read_items(data, inner):
 
 
 def bounds(data, at, wire_type):
-    """Where the content of the field begins whose tag ends there, and where it ends."""
+    """Where the content of the field whose tag ends there begins, and where it ends."""
     if wire_type == LEN:
         length, begin = number_at(data, at)
         return begin, begin + length
@@ -98,7 +98,7 @@ def bounds(data, at, wire_type):
 
 
 def group_end(data, at):
-    """Where the end tag ends of the group whose first field begins there."""
+    """Where the end tag of the group whose first field begins there ends."""
     key, behind = number_at(data, at)
     while key & 7 != END:
         key, behind = number_at(data, bounds(data, behind, key & 7)[1])
@@ -132,7 +132,7 @@ def without(items, gone):
 
 
 def put_last(items, key, content):
-    """The last field with the tag has the content, and where there is none it comes at the end."""
+    """The last field with the tag gets the content, and if there is none, one is added at the end."""
     found = places(items, key)
     if not found:
         return (*items, Item(spelled(key), int(key & 7 == LEN), content))
@@ -175,7 +175,7 @@ def in_feature(tile, place, feature, fields):
 
 
 def moved(items, key, place, index):
-    """The item comes to stand at the ordinal among those with the tag."""
+    """The item moves to the ordinal among those with the tag."""
     found = places(items, key)
     if index >= len(found):
         refuse(24)
@@ -269,7 +269,7 @@ def clear_id(tile, chosen, feature):
 
 
 def layer_places(tile, chosen):
-    """The positions of the selected layers: of all by None, else of the one that is named."""
+    """The positions of the selected layers: of all for None, else of the one that is named."""
     return places(tile, LAYER) if chosen is None else [layer_place(tile, chosen)]
 
 
@@ -286,9 +286,9 @@ def rename_key(tile, chosen, old, new):
 
 
 def numbers_in(field, single=TAG, packed=TAGS):
-    """The numbers of a tags field, or of one with these tags, each as it is spelled; none of another.
+    """The numbers of a tags field, or of one with these tags, each as it is spelled; none of any other.
 
-    A body that is no such sequence is refused.
+    A body that is not such a sequence is refused.
     """
     if field.key == single:
         return [field.content]
@@ -314,7 +314,7 @@ def pairs_in(layer, fields):
 
 
 def readable(tile, place, feature):
-    """The pairs of the feature at this position of the layer at that one, which is refused where there are none."""
+    """The pairs of the feature at this position of the layer at that one, which is refused if there are none."""
     layer = tile[place].content
     try:
         return pairs_in(layer, layer[feature].content)
@@ -329,7 +329,7 @@ def feature_shown(tile, place, feature):
 
 
 def without_key(tile, place, feature, key):
-    """The tile, where the feature has no pair of the key."""
+    """The tile, with no pair of the key in the feature."""
     layer = tile[place].content
     keys = [layer[at].content for at in places(layer, KEY)]
     stays = [keys[pair[0]] != key for pair in readable(tile, place, feature) for _ in pair]
@@ -344,7 +344,7 @@ def without_key(tile, place, feature, key):
 
 
 def set_attribute(tile, chosen, feature, key, value):
-    """The feature has the value, which is its bytes, for the key."""
+    """The feature gets the value, which is its bytes, for the key."""
     place = layer_place(tile, chosen)
     found = feature_place(tile[place], feature)
     pairs = readable(tile, place, found)
@@ -365,7 +365,7 @@ def set_attribute(tile, chosen, feature, key, value):
 
 
 def entry(layer, tag, content):
-    """The ordinal of the first of a layer's keys or values that has the content, and what it lacks of it."""
+    """The ordinal of the first of a layer's keys or values that has the content, and what the layer lacks of it."""
     contents = [layer[at].content for at in places(layer, tag)]
     if content in contents:
         return contents.index(content), []
@@ -383,7 +383,7 @@ def with_numbers(fields, wanted, *keys):
 
 
 def with_pair(fields, pair):
-    """The fields of a feature, with a further pair of tags, behind those of the last field where that is packed."""
+    """The fields of a feature, with one more pair of tags, after those of the last field if that is packed."""
     tags = [place for place, field in enumerate(fields) if field.key in (TAG, TAGS)]
     if not tags or fields[tags[-1]].key == TAG:
         return (*fields, Item(spelled(TAGS), 1, pair))
@@ -448,13 +448,13 @@ def compact(tile, chosen):
 
 
 def command_at(numbers, at):
-    """The command that stands there, and where it ends with its parameters."""
+    """The command that is there, and where it ends with its parameters."""
     command, count = numbers[at] & 7, numbers[at] >> 3
     return command, at + 1 + (2 * count if command != 7 else 0)
 
 
 def end_of_run(numbers, at, command, least, most):
-    """Where the command ends that is carried out there, `least` to `most` times, with its parameters."""
+    """Where the command that is carried out there, `least` to `most` times, ends with its parameters."""
     found, end = command_at(numbers, at) if at < len(numbers) else (None, 0)
     if found != command or not least <= numbers[at] >> 3 <= most or end > len(numbers):
         raise ValueError

@@ -12,7 +12,7 @@ import shutil
 import sys
 from collections import Counter
 
-# How many parts of a crate are proved at a time, at most, where nearly all of the others wait for it.
+# How many parts of a crate are proved at a time, at most, if nearly all of the others wait for it.
 JOBS_OF_A_BASE = 3
 
 
@@ -35,7 +35,7 @@ def load():
 
 
 def remember_stamps(rtlib):
-    """Has each crate's stamp computed once."""
+    """Causes each crate's stamp to be computed once."""
     computed, known = rtlib.Crate.stamp, {}
 
     def stamp(crate):
@@ -47,8 +47,9 @@ def remember_stamps(rtlib):
 
 
 def share_bases(rt):
-    """Has a crate for which nearly all of the others wait proved in parts at a time, where memory holds them. `rt` gives the first crates a
-    processor each, and once the small ones are proved the others stand idle until the base of all is."""
+    """Causes a crate that nearly all of the others wait for to be proved in parts at a time, if memory holds them. `rt` gives
+    the first crates a processor each, and once the small ones are proved the other processors are idle until the base of all
+    is proved."""
     in_lanes = rt.in_lanes
 
     def shared(tasks):
@@ -70,7 +71,7 @@ def share_bases(rt):
 
 
 def is_built(rt, library):
-    """Returns whether a library is proved as it stands: by its stamp, or as `rt ci` leaves it, newer than what it is made from."""
+    """Returns whether a library is proved as it is: by its stamp, or as `rt ci` leaves it, newer than what it is made from."""
     if library.is_built():
         return True
     files = [file for it in [library, *library.below()] for file in rt.rtlib.files_of(it.folder)]
@@ -78,7 +79,8 @@ def is_built(rt, library):
 
 
 def crates_of(rt, top, names=()):
-    """Returns the crates of the repository, lowest first: all, or those that are named with all that these stand on."""
+    """Returns the crates of the repository, lowest first: all, or those that are named with everything that these stand
+    on."""
     rt.Crate.allowed = rt.handles_of(str(top))
     crates = sorted(rt.rtlib.crates_below(str(top)), key=lambda it: len(it.below()))
     lacking = set(names) - {it.name for it in crates}

@@ -1,8 +1,8 @@
 """The walks that a script may take: what each of its lines may be answered, and the state that then stands.
 
-A plain walk answers each line as docs/FORMATS.md says. Where memory is refused a line may be answered otherwise: a
-line that is looked at for words by 60, with nothing changed, and a `back` or `cancel` by 54 with as many steps or
-commands taken as it says. A state is the tile at the start and the commands since: its tile is made of these anew.
+A plain walk answers each line as docs/FORMATS.md says. If memory is refused, a line may be answered differently: a line
+that is looked at for words by 60, with nothing changed, and a `back` or `cancel` by 54 with as many steps or commands
+taken as it says. A state is the tile at the start and the commands since: its tile is made anew from these.
 """
 import re
 import sys
@@ -48,7 +48,7 @@ class State:
     point: int = 0
     floor: int = 0
     marks: dict = field(default_factory=dict)
-    # The commands of the open step, where one is open.
+    # The commands of the open step, if one is open.
     opened: tuple = None
 
     def tile(self):
@@ -67,9 +67,9 @@ class State:
 class Answer:
     reply: str
     state: State
-    # The number of the refusal, where the line is refused.
+    # The number of the refusal, if the line is refused.
     refusal: int = None
-    # How many steps or commands were taken, where it is 54.
+    # How many steps or commands were taken, if it is 54.
     taken: int = None
 
 
@@ -191,7 +191,7 @@ COMMANDS = {
 
 
 def command_of(request, words):
-    """The command and its arguments; none where the request is no command."""
+    """The command and its arguments; none if the request is not a command."""
     if request == "keep":
         return tiles.keep, [text(word) for word in words or refuse(13)]
     if request == "insert":
@@ -214,7 +214,7 @@ def arguments(kinds, words):
 
 
 def edit(state, command):
-    """The state behind a command that is accepted."""
+    """The state after a command that is accepted."""
     function, given = command
     function(state.tile(), *given)
     if state.opened is not None:
@@ -296,7 +296,7 @@ VIEWS = {"marks": marks_printed, "history": history_printed, "size": size_printe
 
 
 def carried_out(state, words):
-    """The state behind the request, and the lines that it prints."""
+    """The state after the request, and the lines that it prints."""
     request, rest = words[0].text, words[1:]
     if words[0].is_quoted:
         refuse(12)
@@ -318,7 +318,7 @@ def refusal(line, state, reason, taken=None, behind=""):
 
 
 def plain(state, line, words):
-    """What the line is answered where there is memory."""
+    """How the line is answered if there is memory."""
     try:
         after, printed = carried_out(state, words)
     except Refused as refused:
@@ -327,7 +327,7 @@ def plain(state, line, words):
 
 
 def stops(state, line, request, after):
-    """What an accepted `back` or `cancel` is answered that stops on its way."""
+    """How an accepted `back` or `cancel` that stops on its way is answered."""
     if request == "back":
         way = after.point - state.point
         for taken in range(abs(way)):
@@ -338,7 +338,7 @@ def stops(state, line, request, after):
 
 
 def answers(state, line, content):
-    """Each answer that the line, which is bytes, may have; the first is the plain one. None where it asks for nothing."""
+    """Each answer that the line, which is bytes, may have; the first is the plain one. None if it asks for nothing."""
     if len(content) > MAX_LINE:
         return [refusal(line, state, 17)]
     try:

@@ -1,4 +1,4 @@
-"""A run as crates/row_tests makes it, as a call, over readers and writers and one byte a call; and what becomes of it where
+"""A run as crates/row_tests makes it, as a call, over readers and writers and one byte a call; and what becomes of it when
 a growth is refused."""
 import re
 
@@ -6,10 +6,10 @@ from runs import ended
 from tables import NO_MEMORY, UNREAD
 from out_of_memory import PLAIN, RUN, Printed, Wrong, judged_script
 
-# What becomes of a growth that is none of the runs: the table is not read, or what came of a run is not compared.
+# What becomes of a growth that is not one of the runs: the table is not read, or the result of a run is not compared.
 ELSEWHERE = "elsewhere"
 
-# A run as a call ends out of memory: this, and behind how many lines of replies.
+# A run as a call ends out of memory: this, and after how many lines of replies.
 CUT = "cut behind"
 
 # What the program prints of a run that is not as its row has it.
@@ -18,7 +18,7 @@ DIFFERS = re.compile(r"is (.*), with the replies\n(.*)\nand (?:no tile|the tile 
 
 
 def table_of(run):
-    """The run as a table of one row, with what comes of it where there is memory."""
+    """The run as a table of one row, with what results when there is memory."""
     end = ended(run.tile, run.script, run.depth, run.strict)
     lines = [("row", ["a run"]), ("depth", [run.depth]), ("tile", [run.tile.hex()]), (">", run.script.decode().split("\n")[:-1]),
              ("<", end.replies.decode().splitlines()), ("ends", [["Done", "SomeRefused"][end.status]]), ("gives", [end.tile.hex()])]
@@ -26,7 +26,7 @@ def table_of(run):
 
 
 def count(replies):
-    """How many lines they are, the last one whole or not."""
+    """How many lines there are, the last one whole or not."""
     return len(replies.splitlines())
 
 
@@ -39,7 +39,7 @@ def lost(run, said):
 
 
 def judged(run, status, printed, complaint):
-    """To what the growth was refused; None where what the program printed is none of the known."""
+    """What the growth was refused to; None if what the program printed is not one of the known outputs."""
     if (status, printed, complaint) == (0, "1 rows, 0 differ\n", ""):
         return PLAIN
     if (status, printed, complaint) == (1, "", NO_MEMORY) or status == 1 and complaint.startswith(UNREAD):
@@ -52,7 +52,7 @@ def judged(run, status, printed, complaint):
 
 
 def judged_way(run, way, outcome, replies, tile):
-    """To what the growth was refused. Where a reply has no room, or the tile, what came of it is a prefix."""
+    """What the growth was refused to. If a reply has no room, or the tile, what came of it is a prefix."""
     plain = ended(run.tile, run.script, run.depth, run.strict)
     is_prefix = plain.replies.startswith(replies.encode())
     if way == "a call" and outcome == "NoMemory" and is_prefix and tile is None:

@@ -3,9 +3,9 @@
     python3 tools/fuzz [--seconds N] [--runs N] [--seed S] [--first N] [PROGRAM]
     python3 tools/fuzz --self-test [PROGRAM]
 
-PROGRAM is build/tileshell where it is not named. The seed is printed first; each trial is made from it and its own
+PROGRAM is build/tileshell if it is not named. The seed is printed first; each trial is made from it and its own
 place, so `--seed S --first N --runs 1` runs one again. A difference is made smaller, and printed as a row of
-crates/row_tests is written, with how both end; the status is 1 then, and where a request or a refusal never came.
+crates/row_tests is written, with how both end; the status is then 1, as it is if a request or a refusal never came.
 
 With --self-test mistakes are planted in the model, one at a time: each must be found within the seconds.
 """
@@ -28,7 +28,8 @@ from trials import by_model, by_program, random_trial
 
 PROGRAM = TOP / "build" / "tileshell"
 
-# Behind this number of trials each request was accepted once, and each refusal given; but these say that memory was refused.
+# After this number of trials each request was accepted once, and each refusal given, except these, which say that memory was
+# refused.
 ENOUGH = 2000
 NEVER = {54, 60}
 
@@ -111,7 +112,7 @@ def show_difference(trial, program_ends):
 
 
 def drawn(seed, place):
-    """The trial of this place, and how the model ends; says which one it is where the model fails."""
+    """The trial of this place, and how the model ends; says which one it is if the model fails."""
     try:
         trial = random_trial(seed, place)
         return trial, by_model(trial)

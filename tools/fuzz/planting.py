@@ -1,4 +1,4 @@
-"""Plants mistakes in the model, one at a time, and has each found."""
+"""Plants mistakes in the model, one at a time, and checks that each is found."""
 import shutil
 import subprocess
 import sys
@@ -29,7 +29,7 @@ def planted(top, folder, path):
 
 
 def fault_of(path, top, arguments):
-    """What is wrong where the mistake of the edit is not found as a difference, or None; prints what is found."""
+    """What is wrong if the mistake of the edit is not found as a difference, or None; prints what is found."""
     with tempfile.TemporaryDirectory(prefix="planted-") as name:
         words = [arguments.program, "--seconds", str(arguments.seconds), "--seed", arguments.seed]
         begun = time.monotonic()
@@ -42,7 +42,7 @@ def fault_of(path, top, arguments):
 
 
 def self_test(top, arguments):
-    """Has each mistake found, and returns the status."""
+    """Checks that each mistake is found, and returns the status."""
     print(f"fuzz: seed {arguments.seed}", flush=True)
     edits = sorted(FOLDER.glob("*.edit"))
     faults = [fault for path in edits if (fault := fault_of(path, top, arguments))]

@@ -4,7 +4,7 @@ from random_words import LARGEST, REQUESTS
 from tiles import LAYER
 from walks import MAX_LINE, MAX_MARKS, answers
 
-# Words that fit nowhere, or only at few places.
+# Words that fit nowhere, or only in few places.
 JUNK = ['"', '"a', 'a"', '"a"b', '"\\n"', '"\\x80"', '"\\x7F"', "x:f", "x:fF", "x:", "#", "@", "#0", "@1", "#x", "*", "/", '"*"', "-", "-1", "+1",
         "1.0", "00", str(LARGEST), str(LARGEST + 1), "9" * 5000, "int", "string", "true", "point", "1,1", "1,", "2147483648,0", "UNDO",
         "\u00e9", "\u00a0", '""']
@@ -12,10 +12,10 @@ JUNK = ['"', '"a', 'a"', '"a"b', '"\\n"', '"\\x80"', '"\\x7F"', "x:f", "x:fF", "
 BLANKS = [" ", "\t", "\r", " \t "]
 COMMENTS = ["", " ", "\r", "# undo", " \t#", "#\u00e9"]
 
-# A layer of more items takes the model long, and has few lines.
+# A layer of more items takes the model a long time, and has few lines.
 MANY_ITEMS = 100
 
-# How often each is drawn: what makes an end of all the rest is drawn seldom, and undo and redo often.
+# How often each is drawn: what puts an end to all the rest is drawn seldom, and undo and redo often.
 WEIGHTS = {**dict.fromkeys(REQUESTS, 4), "drop-layer": 1, "keep": 1, "exclude-all": 1, "drop-feature": 2, "set": 8, "shift": 6,
            "undo": 14, "redo": 20, "list": 12, "end": 8, "mark": 6, "back": 8}
 
@@ -34,13 +34,13 @@ def laid_out(draw, words):
 
 
 def long_line(draw):
-    """A line that is as long as one may be, or longer by a byte."""
+    """A line that is as long as one may be, or longer by one byte."""
     front = draw.choice([b"#", b'mark "', b"undo "])
     return front + b" " * (MAX_LINE - len(front) + draw.randrange(2))
 
 
 def weights(state):
-    """How often each request is drawn in this state: seldom where it would be refused."""
+    """How often each request is drawn in this state: seldom if it would be refused."""
     is_open = state.opened is not None
     fits = {"undo": state.point > state.floor, "redo": state.point < len(state.steps), "back": state.marks, "unmark": state.marks}
     fits = {request: fit and not is_open for request, fit in {**fits, "mark": True, "begin": True}.items()}

@@ -1,4 +1,4 @@
-"""Random tiles: whole ones with all that is odd and may be, pieces of a real one, and broken ones."""
+"""Random tiles: whole ones with everything that is odd but allowed, pieces of a real one, and broken ones."""
 from dataclasses import replace
 from pathlib import Path
 
@@ -9,19 +9,19 @@ from tiles import (EXTENT, FEATURE, GEOMETRY, GROUP, ID, INTEGER, KEY, KIND, LAY
 
 REAL = Path(__file__).resolve().parents[2] / "tests" / "data" / "states.pbf"
 
-# Few, so that layers, keys and values often share one. One makes a length need two bytes.
+# Few, so that layers, keys and values often share one. One of them makes a length need two bytes.
 TEXTS = [b"a", b"b", b"k", b"roads", b"name", b"", "\u00e9\u4e16".encode(), b'q"\\', b"\x00\x7f\n", b"\xff\x80", b"x" * 126]
 IDS = [0, 1, 2, 3, 17, 2**63, 2**64 - 1]
 NUMBERS = [0, 1, 2, 5, 127, 128, 300, 2**31, 2**32 - 1, 2**32, 2**63, 2**64 - 1]
 
-# Where fields of no meaning are made: numbers that a message has, and others.
+# For fields of no meaning: numbers that a message has, and others.
 FIELD_NUMBERS = [1, 2, 3, 4, 5, 6, 7, 15, 16, 100, 2**29 - 1]
 
-# Bodies of numbers that are no whole spellings.
+# Bodies of numbers that are not whole spellings.
 BROKEN_BODIES = [b"\x80", b"\x00\xff", b"\x80" * 10 + b"\x00", b"\xff" * 9 + b"\x02"]
 
-# Fields that are none: tags of no number or no type, or too great; groups that do not end or end as another, and an end
-# alone; a length and a number too great, and bodies that are cut off.
+# Bytes that are not fields: tags of no number or no type, or too great; groups that do not end or end as another, and
+# an end alone; a length and a number too great, and bodies that are cut off.
 BROKEN_FIELDS = [b"\x00\x00", b"\x0e\x00", b"\x0f\x00", spelled(2**32 + 8) + b"\x00", spelled(9 << 3, 10)[:-1] + b"\x80\x00\x00",
                  b"\x0b", b"\x0b\x14", b"\x0b\x13\x0c\x14", b"\x0b\x08\x01\x8c\x01", b"\x0c", b"\x4a" + spelled(2**64 - 1),
                  *(b"\x48" + body for body in BROKEN_BODIES), b"\x4a\x05\x00", b"\x4d\x00\x00\x00", b"\x49\x00"]
@@ -34,7 +34,7 @@ def one_in(draw, count):
 
 
 def number(draw, value):
-    """A spelling of the number; some are longer than they need."""
+    """A spelling of the number; some are longer than they need to be."""
     return spelled(value, draw.randint(1, 10) if one_in(draw, 10) else 1)
 
 
@@ -108,7 +108,7 @@ def parts(draw, kind):
 
 
 def geometry(draw, kind):
-    """The numbers of a geometry of this kind, or of about one."""
+    """The numbers of a geometry of this kind, or nearly of one."""
     body = tiles.encoded(kind, parts(draw, kind))
     numbers = [number_at(each, 0)[0] for each in tiles.numbers_in(Item(spelled(GEOMETRY), 1, body), INTEGER, GEOMETRY)]
     if one_in(draw, 10):
@@ -119,7 +119,7 @@ def geometry(draw, kind):
 
 
 def times(draw):
-    """How often a field stands that should stand once."""
+    """How often a field is there that should be there once."""
     return draw.choice([1] * 10 + [0, 2])
 
 
@@ -163,7 +163,7 @@ def deep_groups(draw):
 
 
 def piece_of_real_tile(draw):
-    """The real tile with a few of its features, and of its keys and values those that they use, and some more."""
+    """The real tile with a few of its features, those of its keys and values that they use, and some more."""
     tile = read_tile(REAL.read_bytes())
     at = draw.randrange(len(tile))
     items = tile[at].content
@@ -174,14 +174,14 @@ def piece_of_real_tile(draw):
 
 
 def leaves(items):
-    """The ways to the fields within: the positions from the outermost item on."""
+    """The paths to the fields within: the positions from the outermost item on."""
     for place, item in enumerate(items):
         inner = leaves(item.content) if isinstance(item.content, tuple) else [()]
         yield from ((place, *way) for way in inner)
 
 
 def with_leaf(items, way, turned):
-    """The items, where what `turned` makes of its content is the content of the field to which the way leads."""
+    """The items, where the content of the field to which the path leads is what `turned` makes of its content."""
     item, inner = items[way[0]], way[1:]
     content = with_leaf(item.content, inner, turned) if inner else turned(item.content)
     return tiles.put(items, way[0], replace(item, content=content))
@@ -196,7 +196,8 @@ def mutated(draw, data):
 
 
 def mutated_within(draw, data):
-    """The tile with the content of a LEN field mutated, whose length is that of the content again; what is no tile as it is."""
+    """The tile with the content of a LEN field mutated, whose length is again that of the content; anything that is not a tile
+    as it is."""
     items = read_tile(data) if fault_place(data) is None else ()
     texts = [way for way in leaves(items) if key_at(items, way) & 7 == LEN]
     return bytes_of(with_leaf(items, draw.choice(texts), lambda content: mutated(draw, content))) if texts else data
@@ -208,7 +209,7 @@ def key_at(items, way):
 
 
 def random_tile(draw):
-    """A tile, or bytes that are none."""
+    """A tile, or bytes that are not one."""
     kind = draw.randrange(400)
     tile = REAL.read_bytes() if kind == 0 else piece_of_real_tile(draw) if kind < 40 else made_tile(draw)
     tile += deep_groups(draw) if kind == 50 else b""

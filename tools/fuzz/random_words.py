@@ -1,4 +1,4 @@
-"""The words behind each request, drawn such that the tile mostly has what they name."""
+"""The words after each request, drawn so that the tile mostly has what they name."""
 import tiles
 from random_tiles import IDS, MAX, NUMBERS, TEXTS, one_in, parts
 from tiles import FEATURE, ID, KEY, LAYER, NAME, last, places
@@ -7,7 +7,7 @@ LARGEST = 2**64 - 1
 
 
 def quoted(draw, text):
-    """A word that writes the text: quoted where it is UTF-8, or by its digits."""
+    """A word that writes the text: quoted if it is UTF-8, or by its digits."""
     try:
         letters = text.decode()
     except UnicodeDecodeError:
@@ -157,7 +157,7 @@ def name(draw, tile):
     return [quoted(draw, draw.choice(TEXTS[:4]))]
 
 
-# The words behind each command.
+# The words after each command.
 COMMANDS = {
     "rename-layer": lambda draw, tile: [*of_layer(draw, tile), text(draw)],
     "move-layer": lambda draw, tile: [*of_layer(draw, tile), below(draw, len(places(tile, LAYER)))],
@@ -171,7 +171,7 @@ COMMANDS = {
     "compact-keys": of_layers, "compact-values": of_layers, "compact": of_layers,
 }
 
-# The words behind each other request.
+# The words after each other request.
 OTHERS = {"undo": nothing, "redo": nothing, "mark": name, "unmark": name, "back": name, "begin": nothing, "end": nothing,
           "cancel": nothing, "marks": nothing, "history": nothing, "size": nothing, "list": listing}
 

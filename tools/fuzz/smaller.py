@@ -1,4 +1,4 @@
-"""Makes a trial smaller of which something holds: fewer lines, fewer items and bytes, shorter spellings."""
+"""Makes a trial that something holds of smaller: fewer lines, fewer items and bytes, shorter spellings."""
 import time
 from dataclasses import replace
 
@@ -67,14 +67,14 @@ def shorter(item, content):
 
 
 def smaller_tile(tile, holds):
-    """The tile with as few items and bytes as are found; bytes that are no tile, with as few bytes."""
+    """The tile with as few items and bytes as are found; bytes that are not a tile, with as few bytes."""
     if fault_place(tile) is None:
         tile = bytes_of(smaller_items(read_tile(tile), lambda items: holds(bytes_of(items))))
     return fewer(tile, holds) if len(tile) < 2000 else tile
 
 
 def smaller(trial, holds):
-    """A smaller trial of which it holds, where it holds of this one."""
+    """A smaller trial of which it holds, if it holds of this one."""
     ends = time.monotonic() + LIMIT
 
     def in_time(other):

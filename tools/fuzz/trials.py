@@ -16,7 +16,7 @@ BEFORE = b"as it was"
 # The seconds that a run may take.
 LIMIT = 60
 
-# Depths that a script of some lines meets, and others.
+# Depths that a script of some lines reaches, and others.
 DEPTHS = ["1", "2", "3", "+4", "05", "100", "10000"]
 
 
@@ -24,13 +24,13 @@ DEPTHS = ["1", "2", "3", "+4", "05", "100", "10000"]
 class Trial:
     tile: bytes
     script: bytes
-    # None where it is not said.
+    # None if it is not given.
     depth: str = None
     strict: bool = False
     # Whether the script comes from a file, and whether OUT is the file TILE.
     is_file: bool = False
     is_in_place: bool = False
-    # Of each line that is answered by the model, the request and the answer.
+    # For each line that the model answers, the request and the answer.
     answers: list = field(default=(), compare=False)
 
     def words(self):
@@ -53,13 +53,13 @@ def random_trial(seed, place):
 
 
 def by_model(trial):
-    """How the model ends; its tile is what OUT holds then."""
+    """How the model ends; its tile is what OUT then holds."""
     end = ended(trial.tile, trial.script, int(trial.depth or 100), trial.strict)
     return end if end.tile is not None else replace(end, tile=trial.before())
 
 
 def by_program(program, folder, trial):
-    """How the program ends; its tile is what OUT holds then."""
+    """How the program ends; its tile is what OUT then holds."""
     tile, script = folder / "tile", folder / "script"
     out = tile if trial.is_in_place else folder / "out"
     out.write_bytes(BEFORE)

@@ -22,7 +22,7 @@ one_selected choice document ordinal other selects is = let both = sym is ∙ se
 pub some_same : {A : Type 0} (x y : A) (o : Option A) → o ≡ Some x → o ≡ Some y → x ≡ y
 some_same x y o is is_too = let both = sym is ∙ is_too in cc
 
--- what is got of a list of which each item is changed
+-- what is got from a list in which each item is changed
 pub got_mapped : {A B : Type 0} (f : A → B) (list : List A) (n : ℕ) (x : A) → slice_get list n ≡ Some x → slice_get (map f list) n ≡ Some (f x)
 got_mapped f [] n x is = absurd cc
 got_mapped f (y ∷ list) zero x is = let same : y ≡ x = cc in ap (λ item. Some (f item)) same

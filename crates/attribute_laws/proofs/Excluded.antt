@@ -88,7 +88,7 @@ attributes_staying key layer (pair ∷ pairs) names =
     filtered_first (attribute_at layer) (λ (pair : ℕ × ℕ). not (is_key_at layer.items key pair.0)) (λ (attribute : List ℕ × List ℕ). not (bytes_eq key attribute.0)) pair pairs (not (bytes_eq key (attribute_at layer pair).0))
     (ap not same) refl (attributes_staying key layer pairs names.1)
 
--- the attributes of a feature hang on the fields of its layer alone
+-- the attributes of a feature depend only on the fields of its layer
 attributes_by_fields : (one other : Layer) (feature : Feature) → plain_fields one.items ≡ plain_fields other.items → attributes one feature ≡ attributes other feature
 attributes_by_fields one other feature same =
     ap (λ (fields : List Field). option_map (map (λ (pair : ℕ × ℕ). (get_or (contents key_field fields) pair.0 [], get_or (contents value_field fields) pair.1 []))) (pairs_in (length (contents key_field fields)) (length (contents value_field fields)) (numbers 2 feature.fields))) same
@@ -124,7 +124,7 @@ pub read_there : (document : Document) (ordinal index : ℕ) (layer : Layer) (fe
 read_there document ordinal index layer feature there is has =
     sym (ap (λ (found : Option (List (ℕ × ℕ))). is_some found) (pairs_found document ordinal index layer feature there is)) ∙ has
 
--- the fields of a layer that are no features stay where one feature changes
+-- the fields of a layer that are not features stay where one feature changes
 fields_kept : (choice : FeatureChoice) (change : List Field → List Field) (layer : Layer) (ordinal : ℕ) → selected_feature choice layer ≡ Ok ordinal → plain_fields (change_nth is_feature (in_feature change) ordinal layer.items) ≡ plain_fields layer.items
 fields_kept choice change layer ordinal selects = (changes_feature choice (λ former present. Unit {0}) change layer ordinal selects (λ former was. tt)).alone.fields
 

@@ -1,4 +1,4 @@
--- A layer whose keys and values have more behind them: the attributes of its features stay.
+-- A layer with more keys and values after its own: the attributes of its features stay.
 use Rattle.std.proofs.Common.{◌≡◌, ℕ, zero, suc, ◌<◌, ◌≤◌, ◌^◌, true, Option, Some, None, option_map, List, [], ◌∷◌, ◌++◌, length, length-append, get_or, map, slice_get, refl, ap, ◌∙◌, arith}
 use Rattle.std.specs.Prelude.{nat_lt}
 use Rattle.std.proofs.lemmas.Bool.{and_from, and_parts, lt-ltb, ltb-true}

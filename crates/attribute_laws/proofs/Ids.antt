@@ -1,4 +1,4 @@
--- The id of a feature hangs on its fields that are no tags.
+-- The id of a feature depends on its fields other than tags.
 use Rattle.std.proofs.Common.{◌≡◌, None, ap, arith}
 use Rattle.std.specs.List.{last_or}
 use Rattle.mvt_document.specs.Plain.{Feature}

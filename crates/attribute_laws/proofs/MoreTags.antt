@@ -1,4 +1,4 @@
--- The tags of a feature with more numbers behind them: what is read of them, and the fields that are no tags.
+-- The tags of a feature with more numbers after them: what is read of them, and the fields other than tags.
 use Rattle.std.proofs.Common.{◌≡◌, ℕ, ◌/◌, Bool, true, false, ◌&&◌, not, is_some, ◌==◌, Option, Some, None, List, [], ◌∷◌, ◌++◌, filter, refl, sym, ap, ◌∙◌, inl, inr, append_assoc, append-nil}
 use Rattle.std.proofs.lemmas.Bool.{and_parts, cases_Bool, cond_both, or_parts}
 use Rattle.std.proofs.lemmas.List.Concat.{flat_map-append}
@@ -120,7 +120,7 @@ module _ (more : List Number) (valid : AllByRecursion IsNumber more) where
       (λ packed. read_is 2 changed ∙ last_more fields found packed (sym (read_is 2 fields) ∙ e))
       (λ other. appended_is_read 2 fields (new_content 18 bytes ∷ []) found more e new_read)
 
--- ---- the fields that are no tags
+-- ---- the fields other than tags
 
 module _ (more : List ℕ) where
   still_tags : (tag : Number) (body : Body) → is_tags (with_more_content more (record { tag = tag; body = body })) ≡ is_tags (record { tag = tag; body = body })

@@ -17,7 +17,7 @@ in_pairs-flat (pair ∷ pairs) = ap (and_more (pair.0, pair.1)) (in_pairs-flat p
 are_pairs : (key_count value_count : ℕ) (pairs : List (ℕ × ℕ)) → list_all (is_pair key_count value_count) pairs ≡ true → if_pairs key_count value_count pairs ≡ Some pairs
 are_pairs key_count value_count pairs is = rw is refl
 
--- numbers that are read make the pairs whose ordinals they are
+-- numbers that are read make the pairs that have them as ordinals
 pub pairs_again : (key_count value_count : ℕ) (fields : List Field) (list : List Number) (pairs : List (ℕ × ℕ)) → read_numbers 2 fields ≡ Some list → value_list list ≡ flat pairs → list_all (is_pair key_count value_count) pairs ≡ true → pairs_in key_count value_count (numbers 2 fields) ≡ Some pairs
 pairs_again key_count value_count fields list pairs read are each =
     let found : values_in (numbers 2 fields) ≡ Some (flat pairs) = values_of_read 2 fields list read ∙ ap Some are in

@@ -13,7 +13,7 @@ use Rattle.mvt_meaning.specs.Meaning.{refuse_first}
 use Rattle.command_laws.proofs.Elements.{got_holds}
 use Rattle.attribute_laws.specs.ChangedLayers.{IsSelected}
 
--- ---- lists of which nothing is made
+-- ---- lists that nothing is made of
 
 none_joined : {A : Type 0} (xs ys : List A) → xs ++ ys ≡ [] → (xs ≡ []) × (ys ≡ [])
 none_joined [] ys e = (refl, e)
@@ -36,7 +36,7 @@ module _ {A B : Type 0} (f : A → List B) where
         | inr skip ↦ ((λ is. absurd cc), none_made_of passes xs (rw skip at e))
       ]
 
--- each item passes, where no number of one that does not is found
+-- each item passes, where no number of an item that does not pass is found
 each_passes : {A : Type 0} (passes : A → Bool) (n : ℕ) (xs : List A) (index : ℕ) (x : A) → filter (λ (p : ℕ × A). not (passes p.1)) (enumerate_from n xs) ≡ [] → slice_get xs index ≡ Some x → passes x ≡ true
 each_passes passes n [] index x e is = absurd cc
 each_passes passes n (y ∷ xs) zero x e is =

@@ -1,4 +1,4 @@
--- A key of another name, in a layer and in the attributes of its features.
+-- A renamed key, in a layer and in the attributes of its features.
 use Rattle.std.proofs.Common.{◌≡◌, ℕ, zero, suc, ◌/◌, ◌==◌, Bool, true, false, ◌&&◌, not, cond, Option, Some, None, option_map, List, [], ◌∷◌, ◌++◌, length, get_or, map, filter, slice_get, refl, sym, ap, ◌∙◌, inl, inr, subst, arith}
 use Rattle.std.proofs.lemmas.Bool.{cases_Bool, eqb-true, ne_eqb, or_parts}
 use Rattle.std.proofs.lemmas.List.{length-map}
@@ -31,7 +31,7 @@ module _ (former present : List ℕ) where
   abbrev rekeyed : LayerItem → LayerItem
   rekeyed item = cond (is_key former item) (with_text present item) item
 
-  -- the content of a field of a number that the item is
+  -- the content of the item, where it is a field of this number
   abbrev entry : ℕ → LayerItem → Option (List ℕ)
   entry number (OfFeature feature) = None
   entry number (PlainInLayer field) = content_in number field
@@ -142,7 +142,7 @@ module _ (former present : List ℕ) where
   attributes_so : (layer : Layer) (feature : Feature) → attributes (renamed_layer layer) feature ≡ option_map (map of_new_key) (attributes layer feature)
   attributes_so layer feature = ap (option_map (map (attribute_at (renamed_layer layer)))) (pairs_stay layer feature) ∙ attributes_by layer feature (pairs_of layer feature) refl
 
-  -- ---- the items that are neither key
+  -- ---- the items that are neither of the keys
 
   new_is_key : (field : Field) → is_key former (PlainInLayer field) ≡ true → is_key present (with_text present (PlainInLayer field)) ≡ true
   new_is_key field key = is_key_of field.tag field.body key
@@ -155,7 +155,7 @@ module _ (former present : List ℕ) where
       is_key_of tag (Delimited width bytes) key =
           elim (cases_Bool (tag.value / 8 == 3)) [ inl three ↦ rw three ((bytes_eq-Decides present present).1 refl) | inr other ↦ absurd (let is = rw other at key in cc) ]
 
-  -- where no key is the new one, or the old one is it
+  -- where no key is the new one, or the old one is the new one
   others_stay : (items : List LayerItem) → (list_any (is_key present) items && not (bytes_eq former present)) ≡ false → filter (λ item. not (is_key present item)) (renamed_keys former present items) ≡ filter (λ item. not (is_key former item)) items
   others_stay items free =
       elim (cases_Bool (bytes_eq former present)) [

@@ -20,7 +20,7 @@ tested_by view passes n (x ∷ list) =
       | inr skip ↦ rw skip (tested_by view passes (n + 1) list)
     ]
 
--- the ordinals of the items whose view passes hang on the views alone
+-- the ordinals of the items whose view passes depend only on the views
 same_ordinals : {A B : Type 0} (view : A → B) (passes : B → Bool) (one other : List A) → map view one ≡ map view other → map (λ (p : ℕ × A). p.0) (filter (λ (p : ℕ × A). passes (view p.1)) (enumerate_from 0 one)) ≡ map (λ (p : ℕ × A). p.0) (filter (λ (p : ℕ × A). passes (view p.1)) (enumerate_from 0 other))
 same_ordinals {A} {B} view passes one other same =
     tested_by view passes 0 one

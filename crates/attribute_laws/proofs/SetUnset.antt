@@ -1,4 +1,4 @@
--- A key that gets a value and is unset then: both are accepted, and the attributes of other keys are left.
+-- A key that gets a value and is then unset: both are accepted, and the attributes of other keys are left.
 use Rattle.std.proofs.Common.{◌≡◌, ℕ, ◌/◌, Bool, true, false, ◌||◌, not, ◌==◌, is_some, Option, Some, None, option_map, Result, Ok, Err, List, [], ◌∷◌, ◌++◌, append-nil, map, slice_get, refl, sym, ap, ◌∙◌, inl, inr, arith}
 use Rattle.std.proofs.lemmas.Bool.{cases_Bool, eqb-true, ne_eqb}
 use Rattle.std.proofs.lemmas.List.Elements.{filter-append, filter_map-append}
@@ -27,7 +27,7 @@ use Rattle.attribute_laws.proofs.Setting.{set_sets}
 
 -- ---- the name of the layer
 
--- keys and values are no names
+-- keys and values are not names
 no_name : (field : Field) → is_entry field ≡ true → content_in 1 field ≡ None
 no_name field entry =
     elim (cases_Bool (field.tag.value / 8 == 1)) [
@@ -110,7 +110,7 @@ one_ordinal found one other is is_too = let both = sym is ∙ is_too in cc
 one_item : {A : Type 0} (list : List A) (at place : ℕ) (one other : A) → place ≡ at → slice_get list at ≡ Some one → slice_get list place ≡ Some other → other ≡ one
 one_item list at place one other here is is_too = let there = ap (slice_get list) (sym here) ∙ is_too in let both = sym is ∙ there in cc
 
--- a feature that got the value, and lost the key then
+-- a feature that got the value and then lost the key
 loses_after : (key value : List ℕ) (old between was new : Layer) (former gained lost present : Feature) → was ≡ between → lost ≡ gained → FeatureBecomes (GetsAttribute key value old between) former gained → FeatureBecomes (LosesAttribute key was new) lost present → FeatureBecomes (LosesAttribute key old new) former present
 loses_after key value old between was new former gained lost present layer_is feature_is g l =
     let had : attributes between gained ≡ Some l.changed.found = ap (λ (layer : Layer). attributes layer gained) (sym layer_is) ∙ ap (attributes was) (sym feature_is) ∙ l.changed.had in

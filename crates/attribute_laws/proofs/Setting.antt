@@ -97,7 +97,7 @@ joined bytes entries true = append-nil entries
 joined bytes entries false = refl
 
 module _ (key value : List ℕ) where
-  -- the entries that come, where the key and the value are there or not
+  -- the entries that are added, where the key and the value are there or not
   abbrev lacks : Bool → Bool → List LayerItem
   lacks has_key has_value = cond has_key [] (PlainInLayer (new_content 26 key) ∷ []) ++ cond has_value [] (PlainInLayer (new_content 34 value) ∷ [])
 
@@ -317,7 +317,7 @@ module _ (key value : List ℕ) (index : ℕ) (layer : Layer) (within : weigh la
         ∙ ap (option_map (map (attribute_at set_layer))) pairs_so
         ∙ ap Some (all_revalued pairs names)
 
-    -- the pair that comes
+    -- the pair that is added
     abbrev new_numbers : List Number
     new_numbers = minimal key_place ∷ minimal value_place ∷ []
 

@@ -1,4 +1,4 @@
--- A key that is excluded twice is excluded once.
+-- Excluding a key twice is excluding it once.
 use Rattle.std.proofs.Common.{◌≡◌, ℕ, zero, suc, ◌+◌, Bool, true, false, not, is_some, Option, Some, None, Ok, List, [], ◌∷◌, ◌++◌, length, map, filter, slice_get, option_map, refl, sym, ap, ◌∙◌, subst, inl, inr}
 use Rattle.std.proofs.lemmas.Bool.{cases_Bool}
 use Rattle.std.proofs.lemmas.Simd.{map-map}
@@ -37,7 +37,7 @@ use Rattle.attribute_laws.proofs.SameSelected.{same_layer}
 -- ---- the fields of a feature
 
 module _ (goes : ℕ → Bool) where
-  -- of the pairs that stay all numbers stay
+  -- all numbers of the pairs that stay are left
   all_stay : (pairs : List (ℕ × ℕ)) → without_pairs goes (staying goes pairs) ≡ map (λ n. Some n) (flat (staying goes pairs))
   all_stay [] = refl
   all_stay (pair ∷ pairs) =
@@ -98,7 +98,7 @@ module _ (key : List ℕ) (all : List LayerItem) where
   items_read (OfFeature feature ∷ items) read = ((done key all feature.fields read.0).readable, items_read items read.1)
   items_read (PlainInLayer field ∷ items) read = items_read items read
 
--- what is read, and what goes, hangs on the fields of a layer that are no features
+-- what is read, and what goes, depends on the fields of a layer that are not features
 module _ (one other : List LayerItem) (same : plain_fields one ≡ plain_fields other) where
   pub pairs_by_fields : (fields : List Field) → pairs_among one fields ≡ pairs_among other fields
   pairs_by_fields fields = ap (λ (list : List Field). pairs_in (length (contents key_field list)) (length (contents value_field list)) (numbers 2 fields)) same
@@ -147,7 +147,7 @@ all_found_read k n (PlainInTile field ∷ document) read = all_found_read k (n +
 
 -- ---- the same layer is selected
 
--- the fields of the layers that are no features
+-- the fields of the layers that are not features
 abbrev pub fields_of_layers : Document → List (List Field)
 fields_of_layers document = map (λ (layer : Layer). plain_fields layer.items) (layers document)
 

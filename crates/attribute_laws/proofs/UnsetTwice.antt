@@ -1,4 +1,4 @@
--- A key that is unset twice is unset once.
+-- Unsetting a key twice is unsetting it once.
 use Rattle.std.proofs.Common.{◌≡◌, ℕ, zero, suc, ◌<◌, true, ◌||◌, not, is_some, Option, Some, None, Ok, List, [], ◌∷◌, length, map, slice_get, get_or, refl, sym, ap, ◌∙◌, arith}
 use Rattle.std.proofs.lemmas.Bool.{not-false}
 use Rattle.std.proofs.lemmas.Option.{slice_get-get_or}
@@ -64,7 +64,7 @@ module _ (change : List Field → List Field) where
       ap (λ first. in_feature change (in_feature change first) ∷ items) here ∙ ap (λ fields. with_these fields ∷ items) once ∙ ap (λ first. in_feature change first ∷ items) (sym here)
   at_twice (suc position) (item ∷ items) feature is once = ap (λ rest. item ∷ rest) (at_twice position items feature is once)
 
--- the selected feature, where it stands
+-- the selected feature, and where it is
 record TheFeature (layer : Layer) (index : ℕ) : Type 0 where
   item : ℕ
   feature : Feature

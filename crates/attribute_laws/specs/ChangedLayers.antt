@@ -1,4 +1,4 @@
--- What stays of a tile where the selected layers change.
+-- What stays the same in a tile where the selected layers change.
 use Rattle.std.specs.Prelude.{◌≡◌, ℕ, Some, Ok, slice_get}
 use Rattle.mvt_document.specs.Plain.{Layer, Document}
 use Rattle.mvt_command.specs.Command.{LayersChoice, TheLayer, EachLayer}

@@ -15,14 +15,14 @@ use Rattle.mvt_meaning.specs.Meaning.{applied}
 use Rattle.command_laws.specs.Kept.{ChangesFeature, ChangesLayer}
 use Rattle.attribute_laws.specs.ChangedLayers.{ChangesLayers}
 
--- ---- a key of another name
+-- ---- a renamed key
 
--- a key, which is the new one where it was the old one (tiles 4.4)
+-- the new key where the key is the old one, and else the key itself (tiles 4.4)
 abbrev pub renamed : List ℕ → List ℕ → List ℕ → List ℕ
 renamed former present key = if bytes_eq former key then present else key
 
--- the keys of the layer, and those of the attributes of each feature in it, are the new one where they were the old one;
--- the values, the features, and all items that are neither key are as they were (tiles 4.1, 4.4)
+-- the keys of the layer, and those of the attributes of each feature in it, are the new one where they were the old
+-- one; the values, the features, and all items that are neither of these keys are as they were (tiles 4.1, 4.4)
 pub record RenamesKey (former present : List ℕ) (old new : Layer) : Type 0 where
   pub keys_so : keys new ≡ map (renamed former present) (keys old)
   pub attributes_so : (feature : Feature) → attributes new feature ≡ option_map (map (λ pair. (renamed former present pair.0, pair.1))) (attributes old feature)
@@ -44,24 +44,23 @@ pub record FeatureBecomes (way : Feature → Feature → Type 0) (former present
 
 -- ---- no attribute of a key
 
--- the attributes of other keys than this one, in order (tiles 4.4)
+-- the attributes of keys other than this one, in order (tiles 4.4)
 abbrev pub of_other_keys : List ℕ → List (List ℕ × List ℕ) → List (List ℕ × List ℕ)
 of_other_keys key found = filter (λ attribute. not (bytes_eq key attribute.0)) found
 
--- the feature had attributes in the former layer, and in the present one it has those of other keys, in their order; all
--- its fields that are no tags are as they were (tiles 4.2, 4.4)
+-- the feature had attributes in the former layer, and in the present one it has those of other keys, in their order;
+-- all its fields other than tags are as they were (tiles 4.2, 4.4)
 pub record LosesAttribute (key : List ℕ) (former present : Layer) (old new : Feature) : Type 0 where
   pub found : List (List ℕ × List ℕ)
   pub had : attributes former old ≡ Some found
   pub has : attributes present new ≡ Some (of_other_keys key found)
   pub others : without_tags new.fields ≡ without_tags old.fields
 
--- where it is accepted that a key is unset, the selected feature loses the attributes of that key, and nothing else
--- differs
+-- where unsetting a key is accepted, the selected feature loses the attributes of that key, and nothing else differs
 abbrev pub UnsetUnsets : Type 0
 UnsetUnsets = (choice : LayerChoice) (feature : FeatureChoice) (key : List ℕ) (old new : Document) → applied (UnsetAttribute choice feature key) old ≡ Ok new → ChangesLayer choice (λ former present. ChangesFeature feature (LosesAttribute key former present) former present) old new
 
--- where it is accepted that a key is unset, the same is accepted of what is made, and changes nothing
+-- where unsetting a key is accepted, the same command is accepted on the result, and changes nothing
 abbrev pub UnsetAgainChangesNothing : Type 0
 UnsetAgainChangesNothing = (choice : LayerChoice) (feature : FeatureChoice) (key : List ℕ) (old new : Document) → applied (UnsetAttribute choice feature key) old ≡ Ok new → applied (UnsetAttribute choice feature key) new ≡ Ok new
 
@@ -83,7 +82,7 @@ with_value key value found =
     then map (valued key value) found
     else found ++ (key, value) ∷ []
 
--- the keys or the values of a layer, with these bytes at the end where they lack them (tiles 4.1)
+-- the keys or the values of a layer, with these bytes at the end where they are missing (tiles 4.1)
 abbrev pub with_entry : List ℕ → List (List ℕ) → List (List ℕ)
 with_entry bytes entries = if list_any (bytes_eq bytes) entries then entries else entries ++ bytes ∷ []
 
@@ -92,7 +91,7 @@ abbrev pub is_entry : Field → Bool
 is_entry field = is_some (content_in key_field field) || is_some (content_in value_field field)
 
 -- the feature had attributes in the former layer, of which at most one had the key; in the present one it has them with
--- the value for the key, and all its fields that are no tags are as they were (tiles 4.2, 4.4)
+-- the value for the key, and all its fields other than tags are as they were (tiles 4.2, 4.4)
 pub record GetsAttribute (key value : List ℕ) (former present : Layer) (old new : Feature) : Type 0 where
   pub found : List (List ℕ × List ℕ)
   pub had : attributes former old ≡ Some found
@@ -134,8 +133,8 @@ pub record SelectedLoses (choice : FeatureChoice) (key : List ℕ) (old new : La
   pub is : slice_get (features new) ordinal ≡ Some present
   pub becomes : FeatureBecomes (LosesAttribute key old new) former present
 
--- where a value for a key is accepted, it is accepted then that the key is unset; of the attributes that the selected
--- feature had before both, it has those of other keys then, as if the key had been unset alone
+-- where a value for a key is accepted, unsetting the key is then accepted; of the attributes that the selected feature
+-- had before both, it then has those of other keys, as if the key had been unset alone
 abbrev pub SetThenUnset : Type 0
 SetThenUnset = (choice : LayerChoice) (feature : FeatureChoice) (key : List ℕ) (value : Value) (old between : Document) → applied (SetAttribute choice feature key value) old ≡ Ok between
     → (new : Document) × (applied (UnsetAttribute choice feature key) between ≡ Ok new) × ChangesLayer choice (SelectedLoses feature key) old new
@@ -149,12 +148,12 @@ pub record ExcludesKey (key : List ℕ) (old new : Layer) : Type 0 where
   pub fields : plain_fields new.items ≡ plain_fields old.items
   pub positions : feature_positions new.items ≡ feature_positions old.items
 
--- where it is accepted that a key is excluded, each feature of each selected layer loses the attributes of that key,
--- and nothing else differs
+-- where excluding a key is accepted, each feature of each selected layer loses the attributes of that key, and nothing
+-- else differs
 abbrev pub ExcludeExcludes : Type 0
 ExcludeExcludes = (choice : LayersChoice) (key : List ℕ) (old new : Document) → applied (Exclude choice key) old ≡ Ok new → ChangesLayers choice (ExcludesKey key) old new
 
--- where it is accepted that a key is excluded, the same is accepted of what is made, and changes nothing
+-- where excluding a key is accepted, the same command is accepted on the result, and changes nothing
 abbrev pub ExcludeAgainChangesNothing : Type 0
 ExcludeAgainChangesNothing = (choice : LayersChoice) (key : List ℕ) (old new : Document) → applied (Exclude choice key) old ≡ Ok new → applied (Exclude choice key) new ≡ Ok new
 
@@ -164,7 +163,7 @@ ExcludeAgainChangesNothing = (choice : LayersChoice) (key : List ℕ) (old new :
 abbrev pub untagged_feature : Feature → Feature
 untagged_feature feature = record feature { fields = without_tags feature.fields }
 
--- no feature of the layer has an attribute; each has its fields that are no tags, in their order, and the other fields
+-- no feature of the layer has an attribute; each has its fields other than tags, in their order, and the other fields
 -- of the layer and the positions of the features are as they were (tiles 4.1, 4.2)
 pub record LosesAttributes (old new : Layer) : Type 0 where
   pub none : AllByRecursion (λ feature. attributes new feature ≡ Some []) (features new)
@@ -172,7 +171,6 @@ pub record LosesAttributes (old new : Layer) : Type 0 where
   pub fields : plain_fields new.items ≡ plain_fields old.items
   pub positions : feature_positions new.items ≡ feature_positions old.items
 
--- where it is accepted that all attributes are excluded, each selected layer loses those of its features, and nothing
--- else differs
+-- where excluding all attributes is accepted, each selected layer loses those of its features, and nothing else differs
 abbrev pub ExcludeAllExcludes : Type 0
 ExcludeAllExcludes = (choice : LayersChoice) (old new : Document) → applied (ExcludeAll choice) old ≡ Ok new → ChangesLayers choice LosesAttributes old new

@@ -3,30 +3,30 @@
 
 ghost use Rattle.attribute_laws.specs.Laws.{ExcludeAgainChangesNothing, ExcludeAllExcludes, ExcludeExcludes, RenameKeyRenames, SetSets, SetThenUnset, UnsetAgainChangesNothing, UnsetUnsets};
 
-/// Where a value for a key is accepted, at most one attribute of the selected feature had the key. It
-/// has the value in place of the old one, or the key and the value behind its attributes. Its fields
-/// that are no tags, the other features, the attributes of all of them, and the other layers are as
-/// they were; the keys and the values are as they were, with the key and the value behind them where
-/// they lacked them.
+/// Where a value for a key is accepted, at most one attribute of the selected feature had the key.
+/// The feature has the value in place of the old one, or the key and the value after its
+/// attributes. Its fields other than tags, the other features and their attributes, and the other
+/// layers are as they were; the keys and the values are as they were, with the key and the value
+/// added at the end where they were missing.
 pub fn set_sets()
     ensures { SetSets }
 {}
 
-/// Where a value for a key is accepted, it is accepted then that the key is unset, and the selected
+/// Where a value for a key is accepted, unsetting the key is then accepted, and the selected
 /// feature has, of the attributes that it had before both, those of other keys: what unset alone
 /// leaves.
 pub fn set_then_unset()
     ensures { SetThenUnset }
 {}
 
-/// Where it is accepted that a key is unset, the selected feature has its attributes of other keys,
-/// in their order, and all its fields that are no tags. The keys, the values, the other features and
+/// Where unsetting a key is accepted, the selected feature has its attributes of other keys, in
+/// their order, and all its fields other than tags. The keys, the values, the other features and
 /// the other layers are as they were.
 pub fn unset_unsets()
     ensures { UnsetUnsets }
 {}
 
-/// Where it is accepted that a key is unset, the same command is accepted again, and changes nothing.
+/// Where unsetting a key is accepted, the same command is accepted again, and changes nothing.
 pub fn unset_again_changes_nothing()
     ensures { UnsetAgainChangesNothing }
 {}
@@ -38,22 +38,20 @@ pub fn rename_key_renames()
     ensures { RenameKeyRenames }
 {}
 
-/// Where it is accepted that a key is excluded, each feature of the selected layers has its
-/// attributes of other keys, in their order, and all its fields that are no tags. The keys, the
-/// values and the other layers are as they were.
+/// Where excluding a key is accepted, each feature of the selected layers has its attributes of
+/// other keys, in their order, and all its fields other than tags. The keys, the values and the
+/// other layers are as they were.
 pub fn exclude_excludes()
     ensures { ExcludeExcludes }
 {}
 
-/// Where it is accepted that a key is excluded, the same command is accepted again, and changes
-/// nothing.
+/// Where excluding a key is accepted, the same command is accepted again, and changes nothing.
 pub fn exclude_again_changes_nothing()
     ensures { ExcludeAgainChangesNothing }
 {}
 
-/// Where it is accepted that all attributes are excluded, no feature of the selected layers has an
-/// attribute; all fields that are no tags, the keys, the values and the other layers are as they
-/// were.
+/// Where excluding all attributes is accepted, no feature of the selected layers has an attribute;
+/// all fields other than tags, the keys, the values and the other layers are as they were.
 pub fn exclude_all_excludes()
     ensures { ExcludeAllExcludes }
 {}

@@ -12,12 +12,12 @@ use Rattle.mvt_meaning.specs.Meaning.{◌>>=◌, refuse_if, within_limit}
 use Rattle.mvt_meaning.specs.declared.refusal.Refusal.{Refusal}
 use Rattle.mvt_meaning.proofs.Positions.{positions_within}
 
--- the step that was accepted first, and what came then
+-- the step that was accepted first, and what came after it
 pub accepted : {A B : Type 0} (first : Result A Refusal) (next : A → Result B Refusal) (made : B) → (first >>= next) ≡ Ok made → (x : A) × (first ≡ Ok x) × (next x ≡ Ok made)
 accepted (Err refusal) next made e = absurd cc
 accepted (Ok x) next made e = (x, refl, e)
 
--- what holds of each result of the second step holds of that of both
+-- what holds of each result of the second step holds of the result of both
 pub then_so : {A B : Type 0} (P : B → Type 0) (r : Result A Refusal) (f : A → Result B Refusal) → ((x : A) → IfOk (f x) P) → IfOk (r >>= f) P
 then_so P (Ok x) f all = all x
 then_so P (Err e) f all = tt

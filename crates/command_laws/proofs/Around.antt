@@ -29,7 +29,7 @@ remove_between (y ∷ front) x back (suc n) e = ap (λ rest. y ∷ rest) (remove
 abbrev pub has_part : {A B : Type 0} → (A → Option B) → A → Bool
 has_part part item = is_some (part item)
 
--- the items but the one of an ordinal among those that have a part
+-- the items except the one of an ordinal among those that have a part
 abbrev pub without_part : {A B : Type 0} → (A → Option B) → ℕ → List A → Option (List A)
 without_part part ordinal items = option_map (remove items) (slice_get (positions_of (has_part part) items) ordinal)
 
@@ -148,9 +148,9 @@ module _ {A B : Type 0} (part : A → Option B) where
       let at = ap (slice_get (positions_of (has_part part) (front ++ item ∷ back))) (sym counted) ∙ position_between front item value back 0 (length front) has (omega arith) in
       ap (option_map (remove (front ++ item ∷ back))) at ∙ ap (λ list. Some list) (remove_between front item back (length front) refl)
 
--- ---- one item changed, a new one put, and one gone
+-- ---- one item changed, a new one put in, and one gone
 
--- two lists alike but for the part of this ordinal; rest is what the other items have
+-- two lists that are alike except for the part of this ordinal; rest is what the other items have
 pub record OneDiffers {A B C : Type 0} (part : A → Option B) (rest : A → Option C) (ordinal : ℕ) (old new : List A) (former present : B) : Type 0 where
   pub was : slice_get (filter_map part old) ordinal ≡ Some former
   pub is : slice_get (filter_map part new) ordinal ≡ Some present
@@ -223,7 +223,7 @@ module _ {A B C : Type 0} (part : A → Option B) (rest : A → Option C) (apart
         items = ap (λ list. Some list) made ∙ sym (ap (without_part part ordinal) a.whole ∙ without_between part a.front a.item a.value a.back ordinal a.has a.counted);
       }
 
--- ---- before an item, behind it, and at the end
+-- ---- before an item, after it, and at the end
 
 module _ {A B : Type 0} (part : A → Option B) where
   put_before : (ordinal : ℕ) (new : A) (items : List A) → Around part ordinal items → Put part ordinal new items (before (has_part part) ordinal new items)

@@ -102,7 +102,7 @@ readable_valid change keeps choice document valid =
     then_so IsDocument (selected_layers choice document) _ (λ layers.
     then_so IsDocument (refuse_first (unreadable layers)) _ (λ readable. layers_valid change keeps choice document valid))
 
--- a feature of whose fields it is known which they are
+-- a feature whose fields are known
 module _ (change : List Field → List Field) (ordinal feature : ℕ) (document : Document) (keeps : (fields : List Field) → fields_of ordinal feature document ≡ fields → AllByRecursion IsField fields → AllByRecursion IsField (change fields)) where
   feature_at : (items : List LayerItem) → items_of ordinal document ≡ items → (item : LayerItem) → slice_get (filter is_feature items) feature ≡ Some item → IsLayerItem item → IsLayerItem (in_feature change item)
   feature_at items is (PlainInLayer field) there valid = valid

@@ -1,4 +1,4 @@
--- What holds of each item of a list holds of each after a change of it.
+-- What holds of each item of a list holds of each after the list is changed.
 use Rattle.std.proofs.Common.{◌≡◌, ℕ, zero, suc, ◌+◌, ◌-◌, ◌≤◌, Bool, false, ◌&&◌, not, cond, ltb, ◌==◌, Option, Some, None, List, [], ◌∷◌, ◌++◌, length, length-append, take, drop, map, filter, slice_get, refl, subst, inl, inr, arith}
 use Rattle.std.specs.List.{AllByRecursion, flat_map, list_any}
 use Rattle.std.specs.Option.{option_map_or}
@@ -120,7 +120,7 @@ module _ {A : Type 0} (P : A → Type 0) where
       (λ _. (valid, all_filtered P (λ y. not (passes y)) xs all.1))
       (λ _. (all.0, all_put_once passes new valid xs all.1))
 
--- the item of an ordinal changed, where the change keeps what holds of those that are within a limit then
+-- the item of an ordinal changed, where the change keeps what holds of those that are then within a limit
 pub all_changed_within : {A : Type 0} (P : A → Type 0) (bytes : A → List ℕ) (limit : ℕ) (passes : A → Bool) (change : A → A) → ((x : A) → P x → length (bytes (change x)) ≤ limit → P (change x)) → (ordinal : ℕ) (xs : List A) → AllByRecursion P xs → length (flat_map bytes (change_nth passes change ordinal xs)) ≤ limit → AllByRecursion P (change_nth passes change ordinal xs)
 all_changed_within P bytes limit passes change keeps ordinal [] all within = tt
 all_changed_within P bytes limit passes change keeps ordinal (x ∷ xs) all within =

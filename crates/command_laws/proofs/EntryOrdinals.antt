@@ -23,11 +23,11 @@ within_by bytes entries (first ∷ more) is =
     let bounds = positions_within (bytes_eq bytes) 0 entries 0 first (rw is refl) in
     omega (arith, bounds.1)
 
--- it is at most how many entries there are
+-- it is at most the number of entries
 pub entry_within : (bytes : List ℕ) (entries : List (List ℕ)) → entry_ordinal bytes entries ≤ length entries
 entry_within bytes entries = within_by bytes entries (ordinals_of (bytes_eq bytes) entries) refl
 
--- a LEN field has at least a byte
+-- a LEN field has at least one byte
 content_some : (number : ℕ) (tag : Number) (body : Body) (bytes : List ℕ) → content_in number (record { tag = tag; body = body }) ≡ Some bytes → 1 ≤ length (field_bytes (record { tag = tag; body = body }))
 content_some number tag (Spelled value) bytes e = absurd (elim (cases_Bool (tag.value / 8 == number)) [ inl one ↦ let at = rw one at e in cc | inr other ↦ let at = rw other at e in cc ])
 content_some number tag (Eight eight) bytes e = absurd (elim (cases_Bool (tag.value / 8 == number)) [ inl one ↦ let at = rw one at e in cc | inr other ↦ let at = rw other at e in cc ])

@@ -1,4 +1,4 @@
--- The last item with a part, where it was changed or a new one came to the end.
+-- The last item with a part, where it was changed or a new one was added at the end.
 use Rattle.std.proofs.Common.{◌≡◌, suc, ◌-◌, ◌<◌, Bool, true, false, ◌&&◌, ◌||◌, not, is_some, Option, Some, None, List, [], ◌∷◌, ◌++◌, filter, length, refl, ap, ◌∙◌, inl, inr, arith}
 use Rattle.std.proofs.lemmas.Bool.{cases_Bool, and_left}
 use Rattle.std.proofs.lemmas.List.{append-nil}
@@ -44,7 +44,7 @@ module _ {A B : Type 0} (part : A → Option B) (change : A → A) (value : B) (
             )
       ]
 
-  -- the parts are the former ones but for the last
+  -- the parts are the former ones, except for the last
   pub parts_put : (new : A) (items : List A) → part new ≡ Some value → filter_map part (put_last (has_part part) change new items) ≡ all_but_last (filter_map part items) ++ value ∷ []
   parts_put new items has =
       elim (cases_Bool (list_any (has_part part) items)) [

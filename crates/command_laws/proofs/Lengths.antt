@@ -73,7 +73,7 @@ module _ {A : Type 0} (bytes : A → List ℕ) where
       (λ _. omega (arith, rest, length-append (bytes x) (flat_map bytes (filter passes xs)), length-append (bytes x) (flat_map bytes xs)))
       (λ _. omega (arith, rest, length-append (bytes x) (flat_map bytes xs)))
 
-  -- the same of a list of which something holds of each item, where what changes one hangs on that
+  -- the same for a list in which something holds of each item, where what changes one depends on that
   change_nth_shorter : (P : A → Type 0) (passes : A → Bool) (change : A → A) → ((x : A) → P x → length (bytes (change x)) ≤ length (bytes x)) → (ordinal : ℕ) (xs : List A) → AllByRecursion P xs → weigh bytes (change_nth passes change ordinal xs) ≤ weigh bytes xs
   change_nth_shorter P passes change less ordinal [] all = omega arith
   change_nth_shorter P passes change less ordinal (x ∷ xs) all =
@@ -105,7 +105,7 @@ module _ {A : Type 0} (bytes : A → List ℕ) where
   map_no_longer change less (x ∷ xs) =
       omega (arith, less x, map_no_longer change less xs, length-append (bytes (change x)) (flat_map bytes (map change xs)), length-append (bytes x) (flat_map bytes xs))
 
-  -- what is taken out is as much shorter as the item is long
+  -- without an item the list is shorter by the length of that item
   without_weighs : (passes : A → Bool) (ordinal : ℕ) (xs : List A) (item : A) → slice_get (filter passes xs) ordinal ≡ Some item → weigh bytes (without passes ordinal xs) + length (bytes item) ≡ weigh bytes xs
   without_weighs passes ordinal [] item is = absurd cc
   without_weighs passes zero (x ∷ xs) item is =

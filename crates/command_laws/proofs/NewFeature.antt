@@ -1,4 +1,4 @@
--- The feature that an insertion brings has the geometry.
+-- The feature that an insertion adds has the geometry.
 use Rattle.std.proofs.Common.{◌≡◌, ℕ, ◌+◌, true, Option, Some, None, option_map, List, [], ◌∷◌, ◌++◌, length, map, refl, ap, ◌∙◌}
 use Rattle.std.proofs.lemmas.List.{append-nil}
 use Rattle.mvt_document.specs.Plain.{Feature}

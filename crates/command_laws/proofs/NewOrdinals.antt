@@ -1,4 +1,4 @@
--- What is decided on numbers of tags, where some keys and values stay: none is greater.
+-- What is decided on numbers of tags, where some keys and values stay: none gets greater.
 use Rattle.std.proofs.Common.{◌≡◌, ℕ, ◌≤◌, Bool, Option, Some, None, option_map, List, [], ◌∷◌, length, map, refl, sym, ap, ◌∙◌, subst, arith}
 use Rattle.std.proofs.lemmas.Simd.{map-map}
 use Rattle.std.specs.List.{flat_map}

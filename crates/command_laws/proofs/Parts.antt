@@ -31,7 +31,7 @@ pub layer_differs : (change : List LayerItem → List LayerItem) (ordinal : ℕ)
 layer_differs change ordinal document a =
     one_differs layer_in field_in layer_apart (in_layer change) ordinal document a (with_items change a.value) (layer_given change a.item a.value a.has)
 
--- the layers before that one, what it has become, and those behind it
+-- the layers before that one, what it has become, and those after it
 pub layers_between : (change : List LayerItem → List LayerItem) (ordinal : ℕ) (document : Document) (a : Around layer_in ordinal document) → layers (change_layer change ordinal document) ≡ filter_map layer_in a.front ++ with_items change a.value ∷ filter_map layer_in a.back
 layers_between change ordinal document a =
     ap layers (from_around layer_in (change_first (in_layer change)) ordinal document a)

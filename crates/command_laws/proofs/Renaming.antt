@@ -31,7 +31,7 @@ text_given : (name : List ℕ) (item : LayerItem) → is_name item ≡ true → 
 text_given name (OfFeature feature) e = absurd cc
 text_given name (PlainInLayer field) e = name_in_field name field.tag field.body e
 
--- the contents of which the last is a layer's name are those of its name fields, in order
+-- the contents whose last is a layer's name are those of its name fields, in order
 names_given : (items : List LayerItem) → contents 1 (plain_fields items) ≡ filter_map name_in items
 names_given [] = refl
 names_given (OfFeature feature ∷ items) = names_given items
@@ -43,13 +43,13 @@ name_of_renamed name layer =
     ap (last_or None) (names_given (named_items name layer.items))
     ∙ last_put name_in (with_text name) name (text_given name) (PlainInLayer (new_content 10 name)) layer.items refl
 
--- a layer that is renamed keeps all but its names
+-- a layer that is renamed keeps everything but its names
 rest_of_renamed : (name : List ℕ) (layer : Layer) → without_names (with_items (named_items name) layer) ≡ without_names layer
 rest_of_renamed name layer =
     ap (λ (items : List LayerItem). record { tag = layer.tag; width = layer.width; items = items })
     (others_put name_in (with_text name) name (text_given name) (PlainInLayer (new_content 10 name)) layer.items refl)
 
--- ---- the layer alone has it
+-- ---- only the layer has it
 
 none_before : {A : Type 0} (passes : A → Bool) (n at : ℕ) (xs : List A) → at < n → list_any (λ other. not (other == at)) (positions_from passes n xs) ≡ false → positions_from passes n xs ≡ []
 none_before passes n at [] low e = refl

@@ -1,4 +1,5 @@
--- The same layer and the same feature are selected, where one layer or one feature changes but for its name or its id.
+-- The same layer and the same feature are selected, where one layer or one feature changes except for its name or its
+-- id.
 use Rattle.std.proofs.Common.{◌≡◌, ◌≢◌, ℕ, suc, ◌+◌, Bool, false, cond, ◌==◌, Some, option_map, Result, Ok, Err, List, [], ◌∷◌, length, slice_get, refl, sym, ap, ◌∙◌, inl, inr}
 use Rattle.std.specs.Prelude.{nat_lt}
 use Rattle.std.proofs.lemmas.Bool.{cases_Bool, eq-eqb, eqb-true}
@@ -12,7 +13,7 @@ use Rattle.mvt_meaning.specs.declared.refusal.Refusal.{Refusal}
 use Rattle.mvt_meaning.specs.declared.refusal.Refusal.TheVariants.{AmbiguousFeature, AmbiguousLayer, NoFeature, NoLayer}
 use Rattle.mvt_meaning.proofs.Positions.{positions_from, positions_pass, positions_skip}
 
--- ---- lists of which one item differs
+-- ---- lists in which one item differs
 
 -- they are alike in what that item keeps
 module _ {A B : Type 0} (f : A → B) (xs ys : List A) (at : ℕ) (x y : A) (was : slice_get xs at ≡ Some x) (is : slice_get ys at ≡ Some y) (others : (other : ℕ) → other ≢ at → slice_get ys other ≡ slice_get xs other) (same : f y ≡ f x) where

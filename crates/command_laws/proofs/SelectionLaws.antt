@@ -43,7 +43,7 @@ passes_position passes n (x ∷ xs) (suc j) k place e =
       | inr skip ↦ (later.0, rw (positions_skip passes n x xs skip) later.1)
     ]
 
--- ---- one item alone passes
+-- ---- only one item passes
 
 only_one : (ordinals : List ℕ) (ordinal : ℕ) → one_layer ordinals ≡ Ok ordinal → ordinals ≡ ordinal ∷ []
 only_one [] ordinal e = absurd cc

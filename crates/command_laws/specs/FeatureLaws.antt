@@ -21,7 +21,7 @@ pub record IsNew (geometry : Geometry) (feature : Feature) : Type 0 where
   pub only : map (λ field. field.tag.value / 8) feature.fields ≡ 3 ∷ 4 ∷ []
 
 -- the feature of this ordinal is new and has the geometry; the other features, the other fields of the layer, and both
--- together are the former ones in their order (tiles 4.2)
+-- together are the former ones, in their order (tiles 4.2)
 pub record InsertsFeature (index : ℕ) (geometry : Geometry) (old new : Layer) : Type 0 where
   pub feature : Feature
   pub there : slice_get (features new) index ≡ Some feature
@@ -53,7 +53,7 @@ MoveFeatureMoves = (choice : LayerChoice) (feature : FeatureChoice) (index : ℕ
 
 -- ---- fewer features
 
--- the selected feature is gone; the other features, the other fields of the layer, and both together are there in their
+-- the selected feature is gone; the other features, the other fields of the layer, and both together stay, in their
 -- order (tiles 4.2)
 pub record DropsFeature (choice : FeatureChoice) (old new : Layer) : Type 0 where
   pub ordinal : ℕ
@@ -62,7 +62,7 @@ pub record DropsFeature (choice : FeatureChoice) (old new : Layer) : Type 0 wher
   pub fields : plain_fields new.items ≡ plain_fields old.items
   pub items : Some new.items ≡ without_feature ordinal old
 
--- an accepted drop takes the selected feature out of its layer, and nothing else differs
+-- an accepted drop removes the selected feature from its layer, and nothing else differs
 abbrev pub DropFeatureDrops : Type 0
 DropFeatureDrops = (choice : LayerChoice) (feature : FeatureChoice) (old new : Document) → applied (DropFeature choice feature) old ≡ Ok new → ChangesLayer choice (DropsFeature feature) old new
 
@@ -72,21 +72,21 @@ DropFeatureDrops = (choice : LayerChoice) (feature : FeatureChoice) (old new : D
 abbrev pub ids : Feature → List ℕ
 ids feature = filter_map (value_in 1) feature.fields
 
--- the feature has this id in place of its last one, and all its fields that are no ids, in their order (tiles 4.2)
+-- the feature has this id in place of its last one, and all its fields other than ids, in their order (tiles 4.2)
 pub record SetsId (id : ℕ) (old new : Feature) : Type 0 where
   pub has : id_of new ≡ Some id
   pub last : ids new ≡ all_but_last (ids old) ++ id ∷ []
   pub others : without_id new.fields ≡ without_id old.fields
 
--- an accepted id is that of the selected feature, and nothing but its ids differs
+-- an accepted id becomes that of the selected feature, and nothing but its ids differs
 abbrev pub SetIdSets : Type 0
 SetIdSets = (choice : LayerChoice) (feature : FeatureChoice) (id : ℕ) (old new : Document) → applied (SetId choice feature id) old ≡ Ok new → ChangesLayer choice (ChangesFeature feature (SetsId id)) old new
 
--- the feature has no id, and all its fields that are no ids, in their order (tiles 4.2)
+-- the feature has no id, and all its fields other than ids, in their order (tiles 4.2)
 pub record ClearsId (old new : Feature) : Type 0 where
   pub none : id_of new ≡ None
   pub others : new.fields ≡ without_id old.fields
 
--- where it is accepted that an id is cleared, the selected feature has none, and nothing but its ids differs
+-- where clearing the id is accepted, the selected feature has none, and nothing but its ids differs
 abbrev pub ClearIdClears : Type 0
 ClearIdClears = (choice : LayerChoice) (feature : FeatureChoice) (old new : Document) → applied (ClearId choice feature) old ≡ Ok new → ChangesLayer choice (ChangesFeature feature ClearsId) old new

@@ -1,4 +1,4 @@
--- What stays of a tile where one of its layers changes, and of a layer where one of its features does.
+-- What stays the same in a tile where one of its layers changes, and in a layer where one of its features does.
 use Rattle.std.specs.Prelude.{◌≡◌, ◌≢◌, ℕ, ◌-◌, List, Option, Some, None, Ok, length, option_map, slice_get, take}
 use Rattle.std.specs.List.{filter_map, remove}
 use Rattle.mvt_document.specs.Plain.{Field, Feature, LayerItem, Layer, TileItem, OfLayer, PlainInTile, Document}
@@ -8,7 +8,7 @@ use Rattle.mvt_meaning.specs.Selection.{layer_positions, feature_positions, sele
 
 -- ---- one layer of a tile
 
--- the field that an item of a tile is, or none where it is a layer (tiles 4.1)
+-- an item of a tile as a field, or none where it is a layer (tiles 4.1)
 abbrev pub field_in : TileItem → Option Field
 field_in (OfLayer layer) = None
 field_in (PlainInTile field) = Some field

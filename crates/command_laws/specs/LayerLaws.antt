@@ -24,8 +24,8 @@ pub record IsRenamed (name : List ℕ) (ordinal : ℕ) (old new : Document) : Ty
   pub fields : filter_map field_in new ≡ filter_map field_in old
   pub positions : layer_positions new ≡ layer_positions old
 
--- an accepted rename selects a layer, and the tile is renamed at its ordinal; which of the names of the layer changes
--- is said by `applied`
+-- an accepted rename selects a layer, and the tile is renamed at its ordinal; `applied` says which of the names of the
+-- layer changes
 abbrev pub RenameNames : Type 0
 RenameNames = (choice : LayerChoice) (name : List ℕ) (old new : Document) → applied (RenameLayer choice name) old ≡ Ok new → (ordinal : ℕ) × (selected choice old ≡ Ok ordinal) × IsRenamed name ordinal old new
 
@@ -45,14 +45,14 @@ MoveLayerMoves = (choice : LayerChoice) (index : ℕ) (old new : Document) → a
 
 -- ---- fewer layers
 
--- the layer of this ordinal is gone; the other layers, the other fields of the tile, and both together are there in
--- their order (tiles 4.1)
+-- the layer of this ordinal is gone; the other layers, the other fields of the tile, and both together stay, in their
+-- order (tiles 4.1)
 pub record IsDropped (ordinal : ℕ) (old new : Document) : Type 0 where
   pub others : layers new ≡ remove (layers old) ordinal
   pub fields : tile_fields new ≡ tile_fields old
   pub items : Some new ≡ without_layer ordinal old
 
--- an accepted drop takes out the selected layer, and nothing else
+-- an accepted drop removes the selected layer, and nothing else
 abbrev pub DropLayerDrops : Type 0
 DropLayerDrops = (choice : LayerChoice) (old new : Document) → applied (DropLayer choice) old ≡ Ok new → (ordinal : ℕ) × (selected choice old ≡ Ok ordinal) × IsDropped ordinal old new
 
@@ -60,7 +60,7 @@ DropLayerDrops = (choice : LayerChoice) (old new : Document) → applied (DropLa
 abbrev pub has_one_of : List (List ℕ) → Layer → Bool
 has_one_of names layer = list_any (λ name. is_named name layer) names
 
--- the first list is some items of the second, in their order
+-- the first list consists of some items of the second, in their order
 abbrev pub IsPartOf : {A : Type 0} → List A → List A → Type 0
 IsPartOf [] ys = Unit {0}
 IsPartOf (x ∷ xs) [] = ⊥
@@ -74,6 +74,6 @@ pub record AreKept (names : List (List ℕ)) (old new : Document) : Type 0 where
   pub fields : tile_fields new ≡ tile_fields old
   pub items : IsPartOf new old
 
--- what an accepted `keep` leaves of the layers are those that have one of the names
+-- the layers that an accepted `keep` leaves are those that have one of the names
 abbrev pub KeepLayersKeeps : Type 0
 KeepLayersKeeps = (names : List (List ℕ)) (old new : Document) → applied (KeepLayers names) old ≡ Ok new → AreKept names old new

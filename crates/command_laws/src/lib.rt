@@ -21,60 +21,60 @@ pub fn move_layer_moves()
     ensures { MoveLayerMoves }
 {}
 
-/// An accepted drop takes out the selected layer; all else of the tile is there in its order.
+/// An accepted drop removes the selected layer; everything else in the tile stays, in its order.
 pub fn drop_layer_drops()
     ensures { DropLayerDrops }
 {}
 
-/// An accepted `keep` leaves of the layers those that have one of the names, at least one, in their
-/// order; the other fields of the tile are there in their order.
+/// An accepted `keep` leaves those layers that have one of the names, at least one, in their order;
+/// the other fields of the tile stay, in their order.
 pub fn keep_layers_keeps()
     ensures { KeepLayersKeeps }
 {}
 
 /// An accepted insertion of a valid geometry puts a new feature at the ordinal asked for in the
-/// selected layer, with the geometry, no id, no tags and no other field; all else of the layer is
-/// there in its order, and no other layer or field of the tile differs.
+/// selected layer, with the geometry, no id, no tags and no other field; everything else in the
+/// layer stays, in its order, and no other layer or field of the tile differs.
 pub fn insert_feature_inserts()
     ensures { InsertFeatureInserts }
 {}
 
-/// An accepted move brings the selected feature to the ordinal asked for in its layer; all else of
-/// the layer keeps its order, and no other layer or field of the tile differs.
+/// An accepted move brings the selected feature to the ordinal asked for in its layer; everything
+/// else in the layer keeps its order, and no other layer or field of the tile differs.
 pub fn move_feature_moves()
     ensures { MoveFeatureMoves }
 {}
 
-/// An accepted drop takes the selected feature out of its layer; all else of the layer is there in
-/// its order, and no other layer or field of the tile differs.
+/// An accepted drop removes the selected feature from its layer; everything else in the layer
+/// stays, in its order, and no other layer or field of the tile differs.
 pub fn drop_feature_drops()
     ensures { DropFeatureDrops }
 {}
 
-/// An accepted id is that of the selected feature, in place of its last one; no other field of it,
-/// and no other feature, layer or field of the tile differs.
+/// An accepted id becomes that of the selected feature, in place of its last one; no other field of
+/// it, and no other feature, layer or field of the tile differs.
 pub fn set_id_sets()
     ensures { SetIdSets }
 {}
 
-/// Where it is accepted that an id is cleared, the selected feature has none; no other field of it,
-/// and no other feature, layer or field of the tile differs.
+/// Where clearing the id is accepted, the selected feature has none; no other field of it, and no
+/// other feature, layer or field of the tile differs.
 pub fn clear_id_clears()
     ensures { ClearIdClears }
 {}
 
-/// A name selects the layer of an ordinal exactly where that layer alone has it.
+/// A name selects the layer of an ordinal exactly where only that layer has it.
 pub fn name_means_the_one()
     ensures { NameMeansTheOne }
 {}
 
-/// A name is refused as that of no layer exactly where none has it.
+/// A name is refused as that of no layer exactly where no layer has it.
 pub fn name_means_none()
     ensures { NameMeansNone }
 {}
 
-/// An accepted command makes a document of a document. A file has numbers below 2^64 alone, so a new
-/// id has to be such a number, as each of the program is.
+/// An accepted command makes a document of a document. A file has only numbers below 2^64, so a new
+/// id has to be such a number, as each id of the program is.
 pub fn command_makes_document()
     ensures { CommandMakesDocument }
 {}
@@ -84,8 +84,8 @@ pub fn command_fits()
     ensures { CommandFits }
 {}
 
-/// An accepted command other than a rename of a layer or of a key, an insertion, a new id, a value for
-/// a key, a shift and another geometry makes no document longer.
+/// An accepted command makes no document longer, unless it is a rename of a layer or of a key, an
+/// insertion, a new id, a value for a key, a shift or another geometry.
 pub fn never_longer()
     ensures { NeverLonger }
 {}

@@ -26,7 +26,7 @@ use Rattle.compaction_laws.proofs.Repointed.{new_items}
 use Rattle.compaction_laws.proofs.Used.{keys_all_used, read_new, values_all_used}
 use Rattle.compaction_laws.specs.Laws.{key_of, value_of}
 
--- an item of a layer is an entry where it has a content
+-- an item of a layer is an entry where it has content
 one_item : (number : ℕ) (field : Field) (items : List LayerItem) (found : Option (List ℕ)) → content_in number field ≡ found → length (filter (is_entry number) items) ≡ length (contents number (plain_fields items)) → length (filter (is_entry number) (PlainInLayer field ∷ items)) ≡ length (contents number (plain_fields (PlainInLayer field ∷ items)))
 one_item number field items None is more = rw is more
 one_item number field items (Some bytes) is more = rw is (ap suc more)

@@ -1,4 +1,4 @@
--- Of a layer keys go and then values, as if both went at once.
+-- The keys of a layer go and then its values, as if both went at once.
 use Rattle.std.proofs.Common.{◌≡◌, ℕ, Bool, true, Some, List, [], ◌∷◌, length, map, refl, sym, ap, ◌∙◌, subst, arith}
 use Rattle.std.specs.List.{AllByRecursion}
 use Rattle.std.specs.Option.{option_map_or}
@@ -85,7 +85,7 @@ module _ (keys_stay values_stay : ℕ → Bool) (all : List LayerItem) where
       ∙ ap (λ more. with_these (with_new_ordinals keys_stay values_stay all feature.fields) ∷ more) (features_in_turn items read.1)
   features_in_turn (PlainInLayer field ∷ items) read = ap (λ more. PlainInLayer field ∷ more) (features_in_turn items read)
 
-  -- the values go then, as if they had gone with the keys
+  -- then the values go, as if they had gone with the keys
   layer_in_turn : AllByRecursion (IsReadStaying keys_stay every all) (features_in all) → with_entries every values_stay between ≡ with_entries keys_stay values_stay all
   layer_in_turn read =
       let first = map (in_feature (new_fields keys_stay every all)) all in

@@ -1,4 +1,4 @@
--- The laws of compaction that are of more than one command.
+-- The laws of compaction about more than one command.
 use Rattle.std.proofs.Common.{◌≡◌, ℕ, Bool, Result, Ok, List, refl, sym, ap, ◌∙◌}
 use Rattle.mvt_document.specs.Plain.{LayerItem, Document}
 use Rattle.mvt_command.specs.Command.{LayersChoice, CompactKeys, CompactValues, Compact}
@@ -16,7 +16,7 @@ use Rattle.compaction_laws.proofs.InTurn.{keys_then_values}
 use Rattle.compaction_laws.proofs.Repointed.{none_of_other, plain_new}
 use Rattle.compaction_laws.proofs.Used.{read_new}
 
--- the names of a layer are no keys and no values
+-- the names of a layer are neither keys nor values
 names : (keys values : List LayerItem → ℕ → Bool) (items : List LayerItem) → contents 1 (plain_fields (compacted keys values items)) ≡ contents 1 (plain_fields items)
 names keys values items =
     ap (contents 1) (plain_new (keys items) (values items) items)

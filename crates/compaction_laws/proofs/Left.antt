@@ -1,11 +1,11 @@
--- Of which list a list is what is left.
+-- When a list is what is left of another.
 use Rattle.std.proofs.Common.{ℕ, ◌+◌, Bool, List, [], ◌∷◌, inl, inr}
 use Rattle.std.proofs.lemmas.Bool.{cases_Bool}
 use Rattle.mvt_meaning.specs.Compaction.{staying}
 use Rattle.compaction_laws.specs.Laws.{IsLeftOf, gone, nothing, stayed}
 
 module _ {A : Type 0} (passes : A → Bool) (stays : ℕ → Bool) where
-  -- what stays is left of all
+  -- what stays is left of the whole
   pub left_staying : (n : ℕ) (xs : List A) → IsLeftOf A (staying passes stays n xs) xs
   left_staying n [] = nothing
   left_staying n (x ∷ xs) =
@@ -17,7 +17,7 @@ module _ {A : Type 0} (passes : A → Bool) (stays : ℕ → Bool) where
         | inr skip ↦ rw skip (stayed x (left_staying n xs))
       ]
 
--- what is left of what is left
+-- to be left of another list is transitive
 pub left_twice : {A : Type 0} {xs ys zs : List A} → IsLeftOf A xs ys → IsLeftOf A ys zs → IsLeftOf A xs zs
 left_twice first nothing = first
 left_twice (stayed x first) (stayed y second) = stayed x (left_twice first second)

@@ -1,4 +1,4 @@
--- A layer of which some keys and values stay, those of all pairs among them: its features have the attributes that they
+-- A layer of which some keys and values stay, including those of all pairs: its features have the attributes that they
 -- had.
 use Rattle.std.proofs.Common.{◌≡◌, ℕ, ◌+◌, ◌/◌, ◌==◌, ◌^◌, Bool, true, false, Some, None, option_map, List, [], ◌∷◌, length, map, get_or, refl, ap, ◌∙◌, inl, inr, subst, arith}
 use Rattle.std.specs.Prelude.{nat_lt}
@@ -94,7 +94,7 @@ module _ (keys_stay values_stay : ℕ → Bool) where
       (and_from (is_ordinal new_keys new.0) (is_ordinal new_values new.1) (ordinal_stays keys_stay key_count pair.0 both.0 stay.0.0) (ordinal_stays values_stay value_count pair.1 both.1 stay.1.0))
       (still_pairs key_count value_count pairs parts.1 (stay.0.1, stay.1.1))
 
-  -- the pairs that are read then
+  -- the pairs that are then read
   pairs_repointed : (items : List LayerItem) (fields : List Field) (pairs : List (ℕ × ℕ)) → pairs_among items fields ≡ Some pairs → Stay pairs
       → pairs_in (new_ordinal keys_stay (length (contents key_field (plain_fields items)))) (new_ordinal values_stay (length (contents value_field (plain_fields items)))) (numbers 2 (renumber 2 (repointed keys_stay values_stay pairs) fields)) ≡ Some (map repoint pairs)
   pairs_repointed items fields pairs is stay =
@@ -122,7 +122,7 @@ fields_staying number stays n (PlainInLayer field ∷ items) =
       | inr skip ↦ rw skip (ap (λ rest. field ∷ rest) (fields_staying number stays n items))
     ]
 
--- a key is no value, and a value no key
+-- a key is not a value, and a value not a key
 pub none_of_other : (number other : ℕ) → (number == other) ≡ false → (field : Field) → is_entry_of number field ≡ true → content_in other field ≡ None
 none_of_other number other differ field is =
     elim (cases_Bool (field.tag.value / 8 == number)) [
@@ -218,6 +218,6 @@ module _ (keys_stay values_stay : ℕ → Bool) (all : List LayerItem) where
       let second : (bytes : List ℕ) → List (List ℕ × List ℕ) = λ bytes. (get_or (contents key_field (plain_fields all)) pair.0 [], bytes) ∷ rest in
       ap first key ∙ ap second value ∙ ap (λ more. attribute_among all pair ∷ more) (attributes_new pairs (stay.0.1, stay.1.1))
 
-  -- a feature has then the attributes that it had
+  -- a feature then has the attributes that it had
   pub attributes_kept : (fields : List Field) (pairs : List (ℕ × ℕ)) → pairs_among all fields ≡ Some pairs → Stay keys_stay values_stay pairs → option_map (map (attribute_among new_items)) (pairs_among new_items (new_fields fields)) ≡ Some (map (attribute_among all) pairs)
   attributes_kept fields pairs is stay = ap (option_map (map (attribute_among new_items))) (pairs_new fields pairs is stay) ∙ ap Some (attributes_new pairs stay)

@@ -1,4 +1,4 @@
--- Lists of which some entries stay, by their ordinals: which these are, and which ordinals they have then.
+-- Lists of which some entries stay, by their ordinals: which these are, and which ordinals they then have.
 use Rattle.std.proofs.Common.{◌≡◌, ℕ, zero, suc, ◌+◌, ◌-◌, ◌<◌, ◌≤◌, Bool, true, false, cond, is_some, Option, Some, None, List, [], ◌∷◌, length, map, filter, get_or, refl, ap, ◌∙◌, inl, inr, subst, arith}
 use Rattle.std.proofs.lemmas.Bool.{cases_Bool}
 use Rattle.std.specs.List.{cons_option, enumerate_from, filter_map}
@@ -51,7 +51,7 @@ module _ {A : Type 0} (stays : ℕ → Bool) where
         | inr goes ↦ rw goes (omega (arith, more, next_goes stays n goes, ap (new_ordinal stays) e))
       ]
 
-  -- an entry that stays is got by its new ordinal
+  -- an entry that stays is found at its new ordinal
   pub got_kept : (d : A) (n : ℕ) (xs : List A) (k j : ℕ) → new_ordinal stays n + j ≡ new_ordinal stays (n + k) → stays (n + k) ≡ true → get_or (kept stays n xs) j d ≡ get_or xs k d
   got_kept d n [] zero zero at is = refl
   got_kept d n [] zero (suc j) at is = refl
@@ -121,7 +121,7 @@ module _ {A : Type 0} (stays : ℕ → Bool) where
 -- ---- entries among other items
 
 module _ {A : Type 0} (passes : A → Bool) (stays : ℕ → Bool) where
-  -- of the items that pass those that stay
+  -- of the items that pass, those that stay
   pub filter-staying : (n : ℕ) (xs : List A) → filter passes (staying passes stays n xs) ≡ kept stays n (filter passes xs)
   filter-staying n [] = refl
   filter-staying n (x ∷ xs) =
@@ -157,7 +157,7 @@ module _ {A : Type 0} (passes : A → Bool) (stays : ℕ → Bool) where
   none_picked (Some y) is = absurd cc
 
   module _ {B : Type 0} (pick : A → Option B) where
-    -- of what the items that pass hold that of those that stay
+    -- of what the items that pass hold, that of those that stay
     pub filter_map-staying : ((x : A) → is_some (pick x) ≡ passes x) → (n : ℕ) (xs : List A) → filter_map pick (staying passes stays n xs) ≡ kept stays n (filter_map pick xs)
     filter_map-staying holds n [] = refl
     filter_map-staying holds n (x ∷ xs) =
@@ -206,7 +206,7 @@ module _ {A : Type 0} (passes : A → Bool) (stays : ℕ → Bool) where
         | inr skip ↦ (let too = same x ∙ skip in rw (skip, too) (ap (λ rest. f x ∷ rest) (map-staying f also same n xs)))
       ]
 
-  -- where the ordinals of all that pass stay, all stays
+  -- where the ordinals of all that pass stay, everything stays
   pub all_staying : (n : ℕ) (xs : List A) → ((k : ℕ) → n ≤ k → k < n + length (filter passes xs) → stays k ≡ true) → staying passes stays n xs ≡ xs
   all_staying n [] all = refl
   all_staying n (x ∷ xs) all =

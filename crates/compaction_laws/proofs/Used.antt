@@ -1,4 +1,4 @@
--- Which keys and values the features of a layer use, before unused ones go and then.
+-- Which keys and values the features of a layer use, before and after unused ones go.
 use Rattle.std.proofs.Common.{◌≡◌, ℕ, zero, suc, ◌+◌, ◌==◌, ◌<◌, Bool, true, ◌||◌, is_some, Some, List, [], ◌∷◌, ◌++◌, length, map, slice_get, refl, sym, ap, ◌∙◌, inl, inr, subst, arith}
 use Rattle.std.proofs.lemmas.Bool.{cases_Bool, eq-eqb, eqb-true, or_left, or_right}
 use Rattle.std.proofs.lemmas.List.{map-append}
@@ -33,7 +33,7 @@ module _ (part : ℕ × ℕ → ℕ) where
         (λ pair is. or_right (part first == part pair) (names part pairs (part pair)) is) pairs (names_own pairs),
   )
 
-  -- what one of some lists names, all of them together name
+  -- what one of several lists names, all of them together name
   names_joined : {B : Type 0} (f : B → List (ℕ × ℕ)) (list : List B) (index : ℕ) (y : B) (n : ℕ) → slice_get list index ≡ Some y → names part (f y) n ≡ true → names part (flat_map f list) n ≡ true
   names_joined f [] index y n is here = absurd cc
   names_joined f (x ∷ list) zero y n is here =
@@ -83,7 +83,7 @@ joined_same part f (x ∷ list) n =
 pub used_same : (part : ℕ × ℕ → ℕ) (layer : Layer) → names part (all_pairs layer.items) ≡ is_used part layer
 used_same part layer = λ i n. joined_same part (pairs_by layer.items) (features_in layer.items) n i
 
--- ---- features that are read, of whose pairs all stay
+-- ---- features that are read, whose pairs all stay
 
 module _ (keys_stay values_stay : ℕ → Bool) (all : List LayerItem) where
   -- the tags of the feature make pairs, and what they name stays
@@ -113,11 +113,11 @@ module _ (keys_stay values_stay : ℕ → Bool) (all : List LayerItem) where
   still_read [] read = tt
   still_read (feature ∷ list) read = (ap is_some (pairs_new keys_stay values_stay all feature.fields read.0.pairs read.0.is read.0.stay), still_read list read.1)
 
-  -- each feature is read then
+  -- each feature is then read
   pub read_new : AllByRecursion IsReadStaying (features_in all) → AreRead (new_items keys_stay values_stay all) (features_in (new_items keys_stay values_stay all))
   read_new read = subst (AreRead (new_items keys_stay values_stay all)) (sym (features_new keys_stay values_stay all)) (still_read (features_in all) read)
 
-  -- where the keys stay that are used, each key is used then
+  -- where the keys that are used stay, each key is then used
   pub keys_all_used : AllByRecursion IsReadStaying (features_in all) → keys_stay ≡ is_key_used all → (n : ℕ) → n < length (contents key_field (plain_fields (new_items keys_stay values_stay all))) → is_key_used (new_items keys_stay values_stay all) n ≡ true
   keys_all_used read are n below =
       let shorter : n < length (kept keys_stay 0 (contents key_field (plain_fields all))) = subst (λ (list : List (List ℕ)). n < length list) (keys_new keys_stay values_stay all) below in
@@ -129,7 +129,7 @@ module _ (keys_stay values_stay : ℕ → Bool) (all : List LayerItem) where
       ∙ subst (λ m. names key_of (map (repoint keys_stay values_stay) (all_pairs all)) m ≡ true) new
       (names_become key_of (new_ordinal keys_stay) (repoint keys_stay values_stay) (λ pair. refl) (all_pairs all) found.0 old)
 
-  -- where the values stay that are used, each value is used then
+  -- where the values that are used stay, each value is then used
   pub values_all_used : AllByRecursion IsReadStaying (features_in all) → values_stay ≡ is_value_used all → (n : ℕ) → n < length (contents value_field (plain_fields (new_items keys_stay values_stay all))) → is_value_used (new_items keys_stay values_stay all) n ≡ true
   values_all_used read are n below =
       let shorter : n < length (kept values_stay 0 (contents value_field (plain_fields all))) = subst (λ (list : List (List ℕ)). n < length list) (values_new keys_stay values_stay all) below in

@@ -1,4 +1,4 @@
--- Laws of the commands that take keys and values out which no feature uses, in the words of a tile: what an accepted
+-- Laws of the commands that remove the keys and values that no feature uses, in the words of a tile: what an accepted
 -- command makes.
 use Rattle.std.specs.Prelude.{◌≡◌, ℕ, ◌<◌, ◌==◌, Bool, true, false, ◌||◌, not, List, [], ◌∷◌, length, map, filter, Option, Some, is_some, Ok, slice_get}
 use Rattle.std.specs.List.{enumerate_from, list_any}
@@ -47,7 +47,7 @@ pub record LosesUnused (number : ℕ) (named : ℕ × ℕ → ℕ) (old new : La
 -- ---- what stays
 
 -- the feature had attributes in the former layer, and has the same in the present one; it has as many fields as it had,
--- with the same tags in their order, and all that are no tags of the feature are as they were (tiles 4.2, 4.4)
+-- with the same tags in their order, and all its fields other than tags are as they were (tiles 4.2, 4.4)
 pub record KeepsAttributes (former present : Layer) (old new : Feature) : Type 0 where
   pub found : List (List ℕ × List ℕ)
   pub had : attributes former old ≡ Some found
@@ -59,7 +59,7 @@ pub record KeepsAttributes (former present : Layer) (old new : Feature) : Type 0
 abbrev pub EachKeepsAttributes : Layer → Layer → Type 0
 EachKeepsAttributes old new = (ordinal : ℕ) (former : Feature) → slice_get (features old) ordinal ≡ Some former → (present : Feature) × (slice_get (features new) ordinal ≡ Some present) × FeatureBecomes (KeepsAttributes old new) former present
 
--- the items of a layer as fields, in order, and for each feature that there is one (tiles 4.1)
+-- the items of a layer as fields, in order, with `None` in place of each feature (tiles 4.1)
 abbrev pub outline : Layer → List (Option Field)
 outline layer = map plain_in layer.items
 
@@ -75,22 +75,22 @@ pub data IsLeftOf (A : Type 0) : List A → List A → Type 0 where
 
 -- ---- the commands
 
--- the layer has lost the keys that no feature used; each feature keeps its attributes, no item has moved, and the features
--- and the fields that are no keys stand as they did (tiles 4.1, 4.2, 4.4)
+-- the layer has lost the keys that no feature used; each feature keeps its attributes, no item has moved, and the
+-- features and the fields other than keys stand as they did (tiles 4.1, 4.2, 4.4)
 pub record LosesKeys (old new : Layer) : Type 0 where
   pub keys_so : LosesUnused key_field key_of old new
   pub each : EachKeepsAttributes old new
   pub others : filter (λ item. not (is_entry_in key_field item)) (outline new) ≡ filter (λ item. not (is_entry_in key_field item)) (outline old)
   pub unmoved : IsLeftOf (Option Field) (outline new) (outline old)
 
--- the same of values (tiles 4.1, 4.2, 4.4)
+-- the same for values (tiles 4.1, 4.2, 4.4)
 pub record LosesValues (old new : Layer) : Type 0 where
   pub values_so : LosesUnused value_field value_of old new
   pub each : EachKeepsAttributes old new
   pub others : filter (λ item. not (is_entry_in value_field item)) (outline new) ≡ filter (λ item. not (is_entry_in value_field item)) (outline old)
   pub unmoved : IsLeftOf (Option Field) (outline new) (outline old)
 
--- the same of keys and values (tiles 4.1, 4.2, 4.4)
+-- the same for keys and values (tiles 4.1, 4.2, 4.4)
 pub record LosesBoth (old new : Layer) : Type 0 where
   pub keys_so : LosesUnused key_field key_of old new
   pub values_so : LosesUnused value_field value_of old new
@@ -98,22 +98,22 @@ pub record LosesBoth (old new : Layer) : Type 0 where
   pub others : filter (λ item. not (is_entry_in key_field item || is_entry_in value_field item)) (outline new) ≡ filter (λ item. not (is_entry_in key_field item || is_entry_in value_field item)) (outline old)
   pub unmoved : IsLeftOf (Option Field) (outline new) (outline old)
 
--- where it is accepted that unused keys go, each selected layer loses them, and nothing else differs
+-- where removing unused keys is accepted, each selected layer loses them, and nothing else differs
 abbrev pub CompactKeysCompacts : Type 0
 CompactKeysCompacts = (choice : LayersChoice) (old new : Document) → applied (CompactKeys choice) old ≡ Ok new → ChangesLayers choice LosesKeys old new
 
--- where it is accepted that unused values go, each selected layer loses them, and nothing else differs
+-- where removing unused values is accepted, each selected layer loses them, and nothing else differs
 abbrev pub CompactValuesCompacts : Type 0
 CompactValuesCompacts = (choice : LayersChoice) (old new : Document) → applied (CompactValues choice) old ≡ Ok new → ChangesLayers choice LosesValues old new
 
--- where it is accepted that unused keys and values go, each selected layer loses them, and nothing else differs
+-- where removing unused keys and values is accepted, each selected layer loses them, and nothing else differs
 abbrev pub CompactCompacts : Type 0
 CompactCompacts = (choice : LayersChoice) (old new : Document) → applied (Compact choice) old ≡ Ok new → ChangesLayers choice LosesBoth old new
 
--- where the command is accepted, it is accepted of what it makes, and changes nothing
+-- where the command is accepted, it is accepted again on the result, and changes nothing
 abbrev pub AgainChangesNothing : Command → Type 0
 AgainChangesNothing command = (old new : Document) → applied command old ≡ Ok new → applied command new ≡ Ok new
 
--- that unused keys and values go is that unused keys go, and then unused values: the same tile, or the same refusal
+-- removing unused keys and values is removing unused keys, and then unused values: the same tile, or the same refusal
 abbrev pub CompactIsBoth : Type 0
 CompactIsBoth = (choice : LayersChoice) (old : Document) → applied (Compact choice) old ≡ (applied (CompactKeys choice) old >>= λ between. applied (CompactValues choice) between)

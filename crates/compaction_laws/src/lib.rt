@@ -1,29 +1,29 @@
-//! Laws of the commands that take out the keys and the values that no feature uses. Each function does
-//! nothing: its contract is the law.
+//! Laws of the commands that remove the keys and the values that no feature uses. Each function
+//! does nothing: its contract is the law.
 #![tactic(auto)]
 
 ghost use Rattle.mvt_command.specs.Command.{Compact, CompactKeys, CompactValues, LayersChoice};
 ghost use Rattle.compaction_laws.specs.Laws.{AgainChangesNothing, CompactCompacts, CompactIsBoth, CompactKeysCompacts, CompactValuesCompacts};
 
-/// Where it is accepted that the unused keys go, each key of the selected layers is used by a
+/// Where removing the unused keys is accepted, each key of the selected layers is used by a
 /// feature, and each that was used has stayed, in its order and to the byte. Each feature has its
-/// attributes and its fields that are no tags. The features, all other fields of these layers and
+/// attributes and its fields other than tags. The features, all other fields of these layers and
 /// the other layers stand as they did.
 pub fn compact_keys_compacts()
     ensures { CompactKeysCompacts }
 {}
 
-/// Where it is accepted that the unused values go, the same holds of values in place of keys.
+/// Where removing the unused values is accepted, the same holds of values in place of keys.
 pub fn compact_values_compacts()
     ensures { CompactValuesCompacts }
 {}
 
-/// Where it is accepted that the unused keys and values go, the same holds of both.
+/// Where removing the unused keys and values is accepted, the same holds of both.
 pub fn compact_compacts()
     ensures { CompactCompacts }
 {}
 
-/// Where it is accepted that unused keys, or values, or both go, the same command is accepted again,
+/// Where removing unused keys, or values, or both is accepted, the same command is accepted again,
 /// and changes nothing.
 pub fn compact_again_changes_nothing()
     ensures keys { (choice : LayersChoice) → AgainChangesNothing (CompactKeys choice) }
@@ -31,8 +31,8 @@ pub fn compact_again_changes_nothing()
     ensures both { (choice : LayersChoice) → AgainChangesNothing (Compact choice) }
 {}
 
-/// That unused keys and values go is that unused keys go, and then unused values: the same tile comes
-/// of it, or the same refusal.
+/// Removing unused keys and values is removing unused keys, and then unused values: it makes the
+/// same tile, or is refused with the same refusal.
 pub fn compact_is_both()
     ensures { CompactIsBoth }
 {}

@@ -1,7 +1,7 @@
-//! Gives a layer of a tile another name: how a program calls `tileshell::edit`.
+//! Renames a layer of a tile: how a program calls `tileshell::edit`.
 //!
-//! Its words are TILE OUT OLD NEW. It prints the replies to its script, and writes the edited tile to
-//! OUT where no line was refused.
+//! Its arguments are TILE OUT OLD NEW. It prints the replies to its script, and writes the edited
+//! tile to OUT if no line was refused.
 #![tactic(auto)]
 
 use std::alloc::{AllocError, Global};

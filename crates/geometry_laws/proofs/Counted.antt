@@ -1,5 +1,5 @@
 -- A feature of a document has no more numbers than the document has bytes, so that its geometry reaches no further than
--- as many deltas lead.
+-- that many deltas lead.
 use Rattle.std.proofs.Common.{◌≡◌, ℕ, zero, suc, ◌*◌, ◌/◌, ◌^◌, ◌==◌, ◌≤◌, Option, Some, None, List, [], ◌∷◌, length, length-append, slice_get, refl, sym, ap, ◌∙◌, inl, inr, subst, arith}
 use Rattle.std.proofs.lemmas.Bool.{cases_Bool}
 use Rattle.std.proofs.lemmas.List.{length-map}
@@ -93,7 +93,7 @@ feature_of (OfFeature first ∷ items) (suc ordinal) feature is valid =
     let more = feature_of items ordinal feature is valid.1 in
     (more.0, omega (arith, more.1, length-append (layer_item_bytes (OfFeature first)) (flat_map layer_item_bytes items)))
 
--- a feature of a valid document within the limit has no more numbers than bytes fit into that
+-- a feature of a valid document within the limit has no more numbers than the limit has bytes
 pub numbers_within : (number : ℕ) (document : Document) (ordinal index : ℕ) (layer : Layer) (feature : Feature) (list : List Number) → IsDocument document → length (bytes_of document) ≤ MAX_FILE → slice_get (layers document) ordinal ≡ Some layer → slice_get (features layer) index ≡ Some feature → read_numbers number feature.fields ≡ Some list → length list ≤ MAX_FILE
 numbers_within number document ordinal index layer feature list valid within there is read =
     let l = layer_of document ordinal layer there valid in

@@ -36,7 +36,7 @@ use Rattle.command_laws.proofs.ReadValues.{value_list, values_of_read}
 use Rattle.geometry_laws.specs.Laws.{SetGeometrySets, SetsGeometry, without_geometry, without_kind}
 use Rattle.geometry_laws.proofs.Shifted.{one_of_feature}
 
--- ---- lists of which items are left out
+-- ---- lists with items left out
 
 module _ {A : Type 0} (passes : A → Bool) where
   none_twice : (xs : List A) → filter passes (filter (λ x. not (passes x)) xs) ≡ []

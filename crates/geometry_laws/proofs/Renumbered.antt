@@ -1,5 +1,5 @@
--- Fields of whose numbers none goes: what stands before their contents, how many numbers each has, and what is left where
--- all numbers stay, or get their own values again.
+-- Fields that lose no numbers: what comes before their contents, how many numbers each has, and what is left where all
+-- numbers stay, or get their own values again.
 use Rattle.std.proofs.Common.{◌≡◌, ℕ, suc, ◌^◌, ◌<◌, ◌≤◌, true, is_some, Option, Some, None, List, [], ◌∷◌, ◌++◌, length, map, take, drop, refl, sym, ap, ◌∙◌, arith}
 use Rattle.std.specs.Prelude.{IfSome}
 use Rattle.std.proofs.Math.Seq.{drop-append_seam, take-append_seam}
@@ -33,7 +33,7 @@ same_count (None ∷ decisions) (number ∷ list) all = absurd (let none = all.0
 same_count (Some value ∷ decisions) (number ∷ list) all =
     ap length (renumbered_more (Some value) decisions number list) ∙ ap suc (same_count decisions list all.1)
 
--- ---- what stands before the contents
+-- ---- what comes before the contents
 
 width_stays : (list : List Number) (body : Body) → stored_width (with_numbers list body) ≡ stored_width body
 width_stays list (Spelled number) = refl
@@ -66,7 +66,7 @@ kept (number ∷ list) =
     ∙ ap (λ (n : Number). n ∷ renumbered (keeping list) list) (with_number-same number.value number refl)
     ∙ ap (λ (more : List Number). number ∷ more) (kept list)
 
--- a field of which its own numbers are left is the field
+-- a field that is left with its own numbers is the field itself
 own_left : (number : ℕ) (field : Field) → with_left field (field_numbers number field) (field_numbers number field) ≡ field ∷ []
 own_left number field =
     let own = field_numbers number field in
@@ -96,7 +96,7 @@ all_stay number decisions (field ∷ fields) all e =
 
 -- ---- numbers that get other values, and their own again
 
--- a field of which other numbers are left, and then its own
+-- a field that is left with other numbers, and then with its own
 record Back (number : ℕ) (field : Field) (own new : List Number) : Type 0 where
   made : Field
   left : with_left field own new ≡ made ∷ []
@@ -108,7 +108,7 @@ one_by number field None list read is some = absurd (omega (arith, ap length is,
 one_by number field (Some found) list read is some =
     read_is number (field ∷ []) ∙ ap (λ (first : Option (List Number)). both_found first (Some [])) read ∙ ap Some (append-nil found ∙ is)
 
--- a field with numbers is read alone
+-- a field with numbers is read on its own
 one_read : (number : ℕ) (field : Field) (first : Number) (more : List Number) → field_numbers number field ≡ first ∷ more → read_numbers number (field ∷ []) ≡ Some (first ∷ more)
 one_read number field first more is = one_by number field (field_read number field) (first ∷ more) refl is (omega arith)
 

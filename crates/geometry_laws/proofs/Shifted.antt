@@ -93,7 +93,7 @@ module _ (dx dy : ℤ) where
 
 -- ---- a feature
 
--- the kind of a feature hangs on its fields that are no geometry fields
+-- the kind of a feature depends on its fields that are not geometry fields
 pub kind_stays : (old new : Feature) → without_geometry new.fields ≡ without_geometry old.fields → kind_of new ≡ kind_of old
 kind_stays old new same = ap (λ (values : List ℕ). unwrap_or (last_or None values) 0) (values_stay 4 3 (λ e. omega (arith, e)) old.fields new.fields same)
 

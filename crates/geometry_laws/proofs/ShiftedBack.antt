@@ -1,4 +1,4 @@
--- A shift, and the shift back.
+-- A shift, and shifting back.
 use Rattle.std.proofs.Common.{◌≡◌, ◌≢◌, ℕ, zero, suc, ◌^◌, ◌≤◌, Bool, true, false, ◌==◌, ℤ, pos, negsuc, ◌+ℤ◌, is_some, Option, Some, None, Result, Ok, Err, List, [], ◌∷◌, length, filter, slice_get, nat_lt, refl, sym, ap, ◌∙◌, inl, inr, subst, arith}
 use Rattle.std.specs.Prelude.{neg_ℤ, unsigned_abs}
 use Rattle.std.proofs.lemmas.Bool.{and_from, cases_Bool, cond_both, eqb-true, le-ltb, lt-ltb}
@@ -61,7 +61,7 @@ short_back delta number shortest =
     (λ same. with_number-same value number (sym (eqb-true led.value number.value same) ∙ number_given value number))
     (λ other. sym shortest)
 
--- a parameter in its shortest spelling is the same again, and so is one that stays
+-- a parameter in its shortest spelling is again the same, and so is one that stays
 led_back : (delta : ℤ) (number : Number) → (delta ≢ pos 0 → number ≡ minimal number.value) → led_further (neg_ℤ delta) (led_further delta number) ≡ number
 led_back (pos zero) number shortest = ap (led_further (pos 0)) (no_further number) ∙ no_further number
 led_back (pos (suc n)) number shortest = short_back (pos (suc n)) number (shortest (λ e. absurd cc))
@@ -119,7 +119,7 @@ module _ (there back : List Field → List Field) (ordinal index : ℕ) (documen
   document_back =
       item_back is_layer (in_layer (change_nth is_feature (in_feature there) index)) (in_layer (change_nth is_feature (in_feature back) index)) (still_layer (change_nth is_feature (in_feature there) index)) ordinal document layer_back
 
--- ---- the shift back
+-- ---- shifting back
 
 ok_same : (found : Result ℕ Refusal) (one other : ℕ) → found ≡ Ok one → found ≡ Ok other → one ≡ other
 ok_same found one other is is_too = let both = sym is ∙ is_too in cc

@@ -78,7 +78,7 @@ module _ (dx dy : ℤ) where
   moved_last from [] = refl
   moved_last from (to ∷ points) = moved_last to points
 
-  -- what is behind the first parameters of a path
+  -- what follows the first parameters of a path
   abbrev behind : List ℕ → ℕ → List ℕ → List ℕ → List ℕ
   behind closing count numbers rest = (command 2 count ∷ (numbers ++ closing)) ++ rest
 
@@ -104,8 +104,8 @@ module _ (dx dy : ℤ) where
 
   -- ---- the first point
 
-  -- the integers of a geometry begin with a command and the deltas to its first point; where it moves, these are further,
-  -- and all else is the same
+  -- the integers of a geometry begin with a command and the deltas to its first point; where it moves, these are
+  -- further, and everything else is the same
   record Begins (g : Geometry) : Type 0 where
     number : ℕ
     first : Point
@@ -215,7 +215,7 @@ module _ (dx dy : ℤ) where
         down = subst IsDelta (sym (unzigzag-zigzag (b.first.y -ℤ pos 0))) b.down;
       }
 
-  -- integers that can lead further have the geometry that moves as far, where they are few enough
+  -- integers that can lead further have the geometry that is moved that far, where they are few enough
   pub has_moved : (kind : ℕ) (list : List ℕ) (g : Geometry) → HasGeometry kind list g → can_move_integers dx dy list ≡ true → length list * 2 ^ 31 ≤ 2 ^ 62 → HasGeometry kind (led dx dy list) (moved dx dy g)
   has_moved kind list g h can few =
       let b = begins g.kind g.parts h.valid h.in_range in

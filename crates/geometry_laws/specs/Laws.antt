@@ -25,11 +25,11 @@ use Rattle.command_laws.specs.Kept.{ChangesFeature, ChangesLayer, all_but_last}
 
 -- ---- a feature and its fields
 
--- the fields of a feature that are no geometry fields (tiles 4.2)
+-- the fields of a feature that are not geometry fields (tiles 4.2)
 abbrev pub without_geometry : List Field → List Field
 without_geometry fields = filter (λ field. not (is_geometry_field field)) fields
 
--- the fields of a feature that are no kind fields (tiles 4.2)
+-- the fields of a feature that are not kind fields (tiles 4.2)
 abbrev pub without_kind : List Field → List Field
 without_kind fields = filter (λ field. not (is_kind field)) fields
 
@@ -38,7 +38,7 @@ abbrev pub stored_width : Body → Option ℕ
 stored_width (Delimited width bytes) = Some width
 stored_width body = None
 
--- what stands before the content of a field: its tag, and the stored width of its length, where it has one
+-- what comes before the content of a field: its tag, and the stored width of its length, where it has one
 abbrev pub front : Field → Number × Option ℕ
 front field = (field.tag, stored_width field.body)
 
@@ -48,8 +48,8 @@ number_count field = length (field_numbers 4 field)
 
 -- ---- how far a geometry reaches
 
--- in a valid document of at most 67,108,864 bytes the integers of a feature lead no further from 0 than 2^57 along either
--- axis, where its deltas are in range: that no coordinate may be further than 2^62 asks nothing more of a geometry
+-- in a valid document of at most 67,108,864 bytes the integers of a feature lead no further from 0 than 2^57 along
+-- either axis, where its deltas are in range: so the bound of 2^62 on coordinates asks nothing more of a geometry
 -- (tiles 4.3.2, 4.3.3)
 abbrev pub NoCoordinateIsFar : Type 0
 NoCoordinateIsFar = (document : Document) (ordinal index : ℕ) (layer : Layer) (feature : Feature) (geometry : Geometry) → IsDocument document → length (bytes_of document) ≤ MAX_FILE → slice_get (layers document) ordinal ≡ Some layer → slice_get (features layer) index ≡ Some feature
@@ -57,7 +57,7 @@ NoCoordinateIsFar = (document : Document) (ordinal index : ℕ) (layer : Layer) 
 
 -- ---- a geometry that moves
 
--- the point that is dx and dy further
+-- the point that lies dx and dy further
 abbrev pub moved_point : ℤ → ℤ → Point → Point
 moved_point dx dy point = record { x = point.x +ℤ dx; y = point.y +ℤ dy }
 
@@ -72,8 +72,8 @@ led_further delta number = with_number (zigzag (further delta number.value)) num
 
 -- the feature has the geometry that it had, moved by dx and dy, and no other. Of the numbers in its geometry fields the
 -- second leads further by dx and the third by dy, and each other one is spelled as it was; each field has its tag, its
--- stored width and as many numbers as it had, and all fields that are no geometry fields are as they were
--- (tiles 4.2, 4.3)
+-- stored width and as many numbers as it had, and all fields that are not geometry fields are as they were (tiles 4.2,
+-- 4.3)
 pub record Shifts (dx dy : ℤ) (old new : Feature) : Type 0 where
   pub geometry : Geometry
   pub had : HasFeatureGeometry old geometry
@@ -90,7 +90,7 @@ pub record Shifts (dx dy : ℤ) (old new : Feature) : Type 0 where
   pub others : without_geometry new.fields ≡ without_geometry old.fields
 
 -- where a shift of a valid document of at most 67,108,864 bytes is accepted, the geometry of the selected feature moves
--- by as much, and nothing but the first two parameters of its geometry differs
+-- by that much, and nothing but the first two parameters of its geometry differs
 abbrev pub ShiftShifts : Type 0
 ShiftShifts = (choice : LayerChoice) (feature : FeatureChoice) (dx dy : ℤ) (old new : Document) → IsDocument old → length (bytes_of old) ≤ MAX_FILE → applied (Shift choice feature dx dy) old ≡ Ok new → ChangesLayer choice (ChangesFeature feature (Shifts dx dy)) old new
 
@@ -105,7 +105,7 @@ IsShortIfMoved dx dy choice feature document = (ordinal found : ℕ) (command al
     → read_numbers 4 (fields_of ordinal found document) ≡ Some (command ∷ along ∷ down ∷ more) → (dx ≢ pos 0 → along ≡ minimal along.value) × (dy ≢ pos 0 → down ≡ minimal down.value)
 
 -- where a shift of a valid document of at most 67,108,864 bytes is accepted, and the parameters that it changes were in
--- their shortest spelling, the shift back is accepted then and leaves the document as it was
+-- their shortest spelling, shifting back is then accepted and leaves the document as it was
 abbrev pub ShiftBack : Type 0
 ShiftBack = (choice : LayerChoice) (feature : FeatureChoice) (dx dy : ℤ) (old between : Document) → IsDocument old → length (bytes_of old) ≤ MAX_FILE → IsShortIfMoved dx dy choice feature old → applied (Shift choice feature dx dy) old ≡ Ok between → applied (Shift choice feature (neg_ℤ dx) (neg_ℤ dy)) between ≡ Ok old
 
@@ -124,7 +124,7 @@ pub record SetsGeometry (geometry : Geometry) (old new : Feature) : Type 0 where
   pub once : filter is_geometry_field new.fields ≡ new_content 34 (encoded geometry) ∷ []
   pub others : without_geometry (without_kind new.fields) ≡ without_geometry (without_kind old.fields)
 
--- where a valid geometry is accepted, it is that of the selected feature, and nothing but its kind and its geometry
--- differs
+-- where a valid geometry is accepted, it becomes that of the selected feature, and nothing but its kind and its
+-- geometry differs
 abbrev pub SetGeometrySets : Type 0
 SetGeometrySets = (choice : LayerChoice) (feature : FeatureChoice) (geometry : Geometry) (old new : Document) → IsGeometry geometry → applied (SetGeometry choice feature geometry) old ≡ Ok new → ChangesLayer choice (ChangesFeature feature (SetsGeometry geometry)) old new

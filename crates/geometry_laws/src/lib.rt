@@ -11,9 +11,9 @@ pub fn no_coordinate_is_far()
 {}
 
 /// Where a shift of a valid document is accepted, every point of every part of the selected feature
-/// moves by as much. Nothing but the second and the third number of its geometry differs: the other
-/// numbers keep their spellings and stay in their fields, each field keeps its tag and its stored
-/// width, and all other fields, the other features and the other layers are as they were.
+/// moves by that much. Nothing but the second and the third number of its geometry differs: the
+/// other numbers keep their spellings and stay in their fields, each field keeps its tag and its
+/// stored width, and all other fields, the other features and the other layers are as they were.
 pub fn shift_shifts()
     ensures { ShiftShifts }
 {}
@@ -24,8 +24,8 @@ pub fn shift_by_nothing()
 {}
 
 /// Where a shift of a valid document is accepted, and the numbers that it changes were in their
-/// shortest spelling, the shift back is accepted then, and leaves the document as it was before both,
-/// to the byte.
+/// shortest spelling, shifting back is then accepted, and leaves the document as it was before
+/// both, to the byte.
 pub fn shift_back()
     ensures { ShiftBack }
 {}

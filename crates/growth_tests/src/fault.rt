@@ -8,7 +8,7 @@ use thiserror::Error;
 /// Why a trial ends early.
 #[derive(Clone, Copy, Debug, PartialEq, Eq, Error)]
 pub enum Fault {
-    /// This ends a trial for the first time where the refused growth is one of a call that the trial
+    /// This ends the first attempt at a trial whose refused growth is one of a call that the trial
     /// does not look at.
     #[error("a second growth was refused")]
     NoMemory,

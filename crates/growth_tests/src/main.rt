@@ -2,7 +2,7 @@
 //!
 //! A line of standard input names a trial. Of a change the answer says to which call of the trial a
 //! growth was refused, and of a script what was replied and which tile it wrote.
-//! `tools/refused-growths` has each growth of each trial refused in turn.
+//! `tools/refused-growths` refuses each growth of each trial in turn.
 #![tactic(auto)]
 
 mod fault;

@@ -1,7 +1,7 @@
 //! The trials of scripts, whole or up to one of their lines.
 //!
-//! A script is run on a tile by the public call. What came of it is printed, with what was run, so
-//! that `tools/refused-growths` can hold it against what each line may be answered.
+//! A script is run on a tile by the public call. The result is printed, with what was run, so that
+//! `tools/refused-growths` can check it against what each line may be answered.
 
 ghost use Rattle.std.specs.Prelude.{◌≤◌};
 
@@ -148,11 +148,11 @@ impl Script {
 #[derive(Clone, Copy, Debug, PartialEq, Eq)]
 pub struct Front {
     script: Script,
-    /// How many lines are run, where they are not all.
+    /// How many lines are run, if not all.
     count: Option<usize>,
 }
 
-/// The script of this name, or its first lines, as many as the number behind `@`.
+/// The script of this name, or its first lines, as many as the number after `@`.
 pub fn front_named(name: &str) -> Option<Front> {
     let Some((script, count)) = name.split_once('@') else {
         let script = script_named(name)?;
@@ -186,8 +186,8 @@ impl Front {
         }
     }
 
-    /// Runs the lines, and prints what was run and what came of it. Only the run itself takes
-    /// memory: there is room for its replies and its tile.
+    /// Runs the lines, and prints what was run and the result. Only the run itself takes memory:
+    /// there is room for its replies and its tile.
     pub fn run<R: Print + AllocGlobal>(self, rt: &R) -> io::Result<()> {
         let tile = self.script.tile();
         let lines = self.lines();
@@ -242,7 +242,7 @@ fn written(sink: &Cursor<[u8; ROOM]>) -> &[u8] {
     &room[..count]
 }
 
-/// Prints each line of the text behind the word.
+/// Prints each line of the text after the word.
 fn print_lines<R: Print>(rt: &R, word: &str, text: &str) -> io::Result<()> {
     for line in text.lines() {
         println!(rt; "{word} {line}")?;

@@ -5,7 +5,7 @@ pub const LAYERS: &[u8] = b"\
     \x1a\x03\x0a\x01a\x1a\x03\x0a\x01b\x1a\x03\x0a\x01c\x1a\x03\x0a\x01d\
     \x1a\x03\x0a\x01e\x1a\x03\x0a\x01f\x1a\x03\x0a\x01g";
 
-/// A layer of one feature, whose kind stands between two ids.
+/// A layer of one feature, whose kind is between two ids.
 pub const IDS_APART: &[u8] = b"\x1a\x08\x12\x06\x08\x05\x18\x01\x08\x06";
 
 pub const RENAME_AND_UNDO: &str = "\
@@ -83,7 +83,7 @@ undo
 redo
 ";
 
-/// A layer of one feature, whose key and value stand behind those that it does not have.
+/// A layer of one feature, whose key and value come after those that it does not have.
 pub const UNUSED: &[u8] = b"\
     \x1a\x14\x12\x04\x12\x02\x01\x01\
     \x1a\x01m\x1a\x01k\x22\x02\x20\x06\x22\x02\x20\x05";
@@ -202,7 +202,7 @@ undo
 redo
 ";
 
-/// Nothing is to undo, or to redo, whatever memory there is.
+/// There is nothing to undo, or to redo, however much memory there is.
 pub const FLOOR: &str = "\
 undo
 rename-layer #0 \"b\"

@@ -29,7 +29,7 @@ pub enum Trial {
     DropFeature,
     SetId,
     ClearId,
-    /// Two ids that are no neighbours.
+    /// Two ids that are not neighbours.
     ClearIds,
     Shift,
     SetGeometry,
@@ -195,7 +195,7 @@ fn on(alloc: Global, edit: &mut Edit, command: &Command) -> Result<Refused, Faul
     Ok(prepared.or(flip_twice(alloc, edit)?))
 }
 
-/// A ring comes in behind the first feature.
+/// A ring is inserted after the first feature.
 fn polygon(alloc: Global) -> Result<Command, Fault> {
     insert_polygon(alloc, 1)?.ok_or(Fault::NoCommand)
 }
@@ -205,7 +205,7 @@ fn another_polygon(alloc: Global) -> Result<Command, Fault> {
     set_polygon(alloc)?.ok_or(Fault::NoCommand)
 }
 
-/// A layer "a", a field that is no layer, and two layers "b".
+/// A layer "a", a field that is not a layer, and two layers "b".
 fn four_items(alloc: Global) -> Result<Vec<u8>, AllocError> {
     joined(alloc, &[&T0, b"\x80\x01\x07".as_slice(), OTHER, OTHER])
 }
@@ -215,7 +215,7 @@ fn four_layers(alloc: Global) -> Result<Vec<u8>, AllocError> {
     joined(alloc, &[TWO_IDS, OTHER, OTHER, OTHER])
 }
 
-/// One change sets an id, and then sets it anew.
+/// One change sets an id, and then sets it again.
 fn set_twice(alloc: Global) -> Result<Edit, Fault> {
     let series = Series::read(alloc, &T0)?
         .then(alloc, set_id(300))?

@@ -65,7 +65,7 @@ named_point P name (mark ∷ marks) all point e =
       | inr other ↦ named_point P name marks all.1 point (rw other at e)
     ]
 
--- the marks beside the name that is set have other names
+-- the marks other than the one that is set have other names
 only_bound : (P : Mark → Type 0) (name : List ℕ) (point : ℕ) (marks : List Mark) → P (record { name = name; point = point }) → AllByRecursion (λ mark. mark.name ≡ name → P mark) (bound name point marks)
 only_bound P name point marks new =
     let Q : Mark → Type 0 = λ mark. mark.name ≡ name → P mark in

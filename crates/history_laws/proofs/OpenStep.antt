@@ -1,4 +1,4 @@
--- A step that is opened: whatever is asked but to close it changes nothing but the step's commands.
+-- A step that is opened: whatever is asked, except to close it, changes nothing but the step's commands.
 use Rattle.std.proofs.Common.{◌≡◌, None, Some, Result, Ok, Err, List, [], ◌∷◌, ◌++◌, refl, sym, ap, ◌∙◌}
 use Rattle.std.specs.List.{AllByRecursion}
 use Rattle.mvt_document.specs.Plain.{Document}
@@ -10,7 +10,7 @@ use Rattle.mvt_command.specs.Requests.{HistoryRequest, Edit, Undo, Redo, SetMark
 use Rattle.mvt_history_steps.specs.Requests.{LeavesOpen, or_before, asked, asked_all}
 use Rattle.history_laws.proofs.UndosRedos.{none_open}
 
--- nothing but the open step is another
+-- nothing but the open step differs
 abbrev pub DiffersInStep : History → History → Type 0
 DiffersInStep history other = (commands : List Command) × (other ≡ with_group (Some commands) history)
 
@@ -40,7 +40,7 @@ step_after_all (request ∷ requests) commands history leave =
     let rest = step_after_all requests first.0 history leave.1 in
     (rest.0, ap (asked_all requests) first.1 ∙ rest.1)
 
--- no step was open before, and now one is, and all else is as before
+-- no step was open before, and now one is, and everything else is as before
 pub within_step : (requests : List HistoryRequest) (history opening : History) → opened history ≡ Ok opening → AllByRecursion LeavesOpen requests → (history.group ≡ None) × DiffersInStep history (asked_all requests opening)
 within_step requests history opening open_so leave =
     let closed = none_open history.group (Ok (with_group (Some []) history)) opening open_so in

@@ -63,7 +63,7 @@ sum_doubled : (number : Change → ℕ) (changes : List Change) → sum_by (λ c
 sum_doubled number [] = refl
 sum_doubled number (change ∷ changes) = omega (arith, sum_by-cons (λ c. 2 * number c) change changes, sum_by-cons number change changes, sum_doubled number changes)
 
--- ---- what changes come to, each of which has a bound by the step over which it leads
+-- ---- what changes add up to, each of which has a bound by the step over which it leads
 
 -- the bound of the step at a point
 abbrev bound_at : (List Command → Document → ℕ) → List (List Command) → Document → ℕ → ℕ
@@ -75,7 +75,7 @@ IsBoundBack number bound = (step : List Command) (before : Document) (change : C
 abbrev IsBoundOn : (Change → ℕ) → (List Command → Document → ℕ) → Type 0
 IsBoundOn number bound = (step : List Command) (before : Document) (change : Change) → LeadsOn step before change → number change ≤ bound step before
 
--- the bound of several commands is that of each added up
+-- the bound of several commands is the sum of their bounds
 record IsAddedUp (bound : List Command → Document → ℕ) : Type 0 where
   none : (document : Document) → bound [] document ≡ 0
   more : (command : Command) (commands : List Command) (document : Document) → bound (command ∷ commands) document ≡ bound (command ∷ []) document + bound commands (after command document)

@@ -53,7 +53,7 @@ pub tile_item_weighs : TileItemWeighs
 tile_item_weighs (OfLayer layer) valid = message_weighs layer.tag layer.width (flat_map layer_item_bytes layer.items) valid.number
 tile_item_weighs (PlainInTile field) valid = field_weighs field valid.0
 
--- ---- items that have no bytes are none
+-- ---- a list of valid items without bytes is empty
 
 none_put : {A : Type 0} (bytes : A → List ℕ) (P : A → Type 0) → ((x : A) → P x → 2 ≤ length (bytes x)) → (put : List A) → AllByRecursion P put → length (flat_map bytes put) ≡ 0 → length put ≡ 0
 none_put bytes P weighs [] valid nothing = refl

@@ -66,8 +66,8 @@ UndoAtOnce =
     → edited command history ≡ Ok after
     → (back : History) × (undone after ≡ Ok back) × (standing_document back ≡ standing_document history)
 
--- the end of an open step of one or more commands is accepted, and so is an undo right after it, and the document is
--- the one before all of them
+-- ending an open step of one or more commands is accepted, and so is an undo right after it, and the document is the
+-- one before all of them
 abbrev pub UndoAfterEnd : Type 0
 UndoAfterEnd =
     (command : Command) (commands : List Command) (history : History) → IsSound history
@@ -77,8 +77,8 @@ UndoAfterEnd =
     × (undone after ≡ Ok back)
     × (standing_document back ≡ present_document history)
 
--- a step is opened, then anything is asked but to end or cancel it, and one or more commands are accepted: its end is
--- accepted, and so is an undo right after it, and the document is the one that stood when the step was opened
+-- a step is opened, then anything is asked except to end or cancel it, and one or more commands are accepted: ending it
+-- is accepted, and so is an undo right after it, and the document is the one that stood when the step was opened
 abbrev pub StepUndoesWhole : Type 0
 StepUndoesWhole =
     (requests : List HistoryRequest) (history opening : History) → IsSound history
@@ -90,8 +90,8 @@ StepUndoesWhole =
     × (undone after ≡ Ok back)
     × (standing_document back ≡ standing_document history)
 
--- a step is opened, then anything is asked but to end or cancel it, and no command is accepted: its end is accepted,
--- and leaves the very history before it, with the steps that were undone and the marks
+-- a step is opened, then anything is asked except to end or cancel it, and no command is accepted: ending it is
+-- accepted, and leaves the very history from before it, with the steps that were undone and the marks
 abbrev pub EmptyStepLeavesNoTrace : Type 0
 EmptyStepLeavesNoTrace =
     (requests : List HistoryRequest) (history opening : History)
@@ -100,22 +100,22 @@ EmptyStepLeavesNoTrace =
     → (asked_all requests opening).group ≡ Some []
     → closed (asked_all requests opening) ≡ Ok history
 
--- where a number of undos are accepted, as many redos after them are, and lead to the very history before
+-- where a number of undos are accepted, so are as many redos after them, and they lead to the very history from before
 abbrev pub RedosUndoUndos : Type 0
 RedosUndoUndos =
     (count : ℕ) (history after : History) → IsSound history
     → then_times count undone history ≡ Ok after
     → then_times count redone after ≡ Ok history
 
--- where a number of redos are accepted, as many undos after them are, and lead to the very history before
+-- where a number of redos are accepted, so are as many undos after them, and they lead to the very history from before
 abbrev pub UndosUndoRedos : Type 0
 UndosUndoRedos =
     (count : ℕ) (history after : History) → IsSound history
     → then_times count redone history ≡ Ok after
     → then_times count undone after ≡ Ok history
 
--- a mark is set, then anything is asked but to set it anew: where going back to it is accepted, the document is the one
--- that stood when it was set
+-- a mark is set, then anything is asked except to set it again: where going back to it is accepted, the document is the
+-- one that stood when it was set
 abbrev pub BackToTheMark : Type 0
 BackToTheMark =
     (name : List ℕ) (requests : List HistoryRequest) (history set back : History) → IsSound history
@@ -124,8 +124,8 @@ BackToTheMark =
     → gone_back name (asked_all requests set) ≡ Ok back
     → standing_document back ≡ standing_document history
 
--- a step is opened, then anything is asked but to end or cancel it: cancelling it is accepted, and leaves the very
--- history before it
+-- a step is opened, then anything is asked except to end or cancel it: cancelling it is accepted, and leaves the very
+-- history from before it
 abbrev pub CancelLeavesNoTrace : Type 0
 CancelLeavesNoTrace =
     (requests : List HistoryRequest) (history opening : History)
@@ -164,11 +164,11 @@ abbrev pub sum_from : (ℕ → ℕ) → ℕ → ℕ → ℕ
 sum_from number point zero = 0
 sum_from number point (suc count) = number point + sum_from number (suc point) count
 
--- how many bytes the step behind this point took out
+-- how many bytes the step after this point took out
 abbrev pub taken_at : History → ℕ → ℕ
 taken_at history point = all_taken_by (get_or history.steps point []) (document_at point history)
 
--- how many bytes the step behind this point put in
+-- how many bytes the step after this point put in
 abbrev pub put_at : History → ℕ → ℕ
 put_at history point = all_put_by (get_or history.steps point []) (document_at point history)
 
@@ -179,12 +179,13 @@ KeptWithin = (session : Standing) (history : History) → StandsFor session hist
     sum_by weight session.undo + sum_by weight session.redo + sum_by weight (changes_in session.pending)
     ≤ sum_from (taken_at history) history.floor (length session.undo) + sum_from (put_at history) history.present (length session.redo) + all_taken_by (commands_in history.group) (present_document history)
 
--- twice the number of steps that the change of the step behind this point may have (`step_allowance`)
+-- twice the number of steps that the change of the step after this point may have (`step_allowance`)
 abbrev pub step_allowance_at : History → ℕ → ℕ
 step_allowance_at history point = step_allowance (get_or history.steps point []) (document_at point history)
 
--- the changes that a session keeps have no more steps, all together, than the sum of one for each command of the steps
--- from the floor to the end and of the open step, and half as many as the bytes that these commands took out and put in
+-- the changes that a session keeps have, all together, no more steps than the sum of the number of commands in the
+-- steps from the floor to the end and in the open step, and half the number of bytes that these commands took out and
+-- put in
 abbrev pub FewSteps : Type 0
 FewSteps = (session : Standing) (history : History) → StandsFor session history →
     2 * (sum_by length session.undo + sum_by length session.redo + sum_by length (changes_in session.pending))
@@ -204,11 +205,11 @@ LayerItemWeighs = (item : LayerItem) → IsLayerItem item → 2 ≤ length (laye
 abbrev pub TileItemWeighs : Type 0
 TileItemWeighs = (item : TileItem) → IsTileItem item → 2 ≤ length (tile_item_bytes item)
 
--- how many items a step puts
+-- how many items a step puts in
 abbrev pub put_count : Step → ℕ
 put_count (SpliceStep place index taken put) = length put
 put_count (MoveStep place from to) = 0
 
--- a change that fits and weighs nothing puts no item
+-- a change that fits and weighs nothing puts in no item
 abbrev pub NothingPut : Type 0
 NothingPut = (change : Change) (document : Document) → Fits change document → weight change ≡ 0 → AllByRecursion (λ step. put_count step ≡ 0) change

@@ -4,19 +4,19 @@
 ghost use Rattle.history_laws.specs.Laws.{BackToTheMark, CancelLeavesNoTrace, ChangesLead, EmptyStepLeavesNoTrace, FewSteps, FieldWeighs, HistoryFits, HistoryOfDocuments, KeptWithin, LayerItemWeighs, NothingPut, RedosUndoUndos, StaysSound, StaysValid, StepUndoesWhole, StoppedGoesOn, TileItemWeighs, UndoAfterEnd, UndoAtOnce, UndosUndoRedos};
 
 /// The numbers and marks of a history (how many steps stand, how far undo goes back, which points
-/// are marked) begin in order at a depth of at least 1, and stay so under each request.
+/// are marked) are in order at first, at a depth of at least 1, and stay so under each request.
 pub fn stays_sound()
     ensures { StaysSound }
 {}
 
-/// The commands of a history are valid when it begins, and stay so under each valid request, as each
-/// of the program is.
+/// The commands of a history are valid when it begins, and stay so under each valid request, as
+/// each request of the program is.
 pub fn stays_valid()
     ensures { StaysValid }
 {}
 
-/// Where the tile at the start is a document and the commands are valid, each tile of the history
-/// is a document, each within the open step, and the one that stands.
+/// Where the tile at the start is a document and the commands are valid, each tile of the history,
+/// each within the open step, and the one that stands is a document.
 pub fn history_of_documents()
     ensures { HistoryOfDocuments }
 {}
@@ -27,58 +27,58 @@ pub fn history_fits()
     ensures { HistoryFits }
 {}
 
-/// Where no step is open, an undo right after an accepted command is accepted, and the document is
-/// the one before, stored widths included, so the bytes are the same whatever their spelling. The
-/// history is sound.
+/// In a sound history where no step is open, an undo right after an accepted command is accepted,
+/// and the document is the one before, stored widths included, so the bytes are the same whatever
+/// their spelling.
 pub fn undo_at_once()
     ensures { UndoAtOnce }
 {}
 
-/// The end of an open step of one or more commands is accepted, and so is an undo right after it,
-/// and the document is the one before all of them. The history is sound.
+/// In a sound history, ending an open step of one or more commands is accepted, and so is an undo
+/// right after it, and the document is the one before all of them.
 pub fn undo_after_end()
     ensures { UndoAfterEnd }
 {}
 
-/// A step is opened in a sound history, then anything is asked but to end or cancel it, refused
-/// requests among it, and one or more commands are accepted: its end is accepted, and so is an undo
-/// right after it, and the document is the one that stood when the step was opened.
+/// Where a step is opened in a sound history, then anything is asked except to end or cancel it,
+/// refused requests included, and one or more commands are accepted, ending it is accepted, and so
+/// is an undo right after it, and the document is the one that stood when the step was opened.
 pub fn step_undoes_whole()
     ensures { StepUndoesWhole }
 {}
 
-/// A step is opened, then anything is asked but to end or cancel it, and no command is accepted:
-/// its end is accepted, and leaves the very history before it.
+/// Where a step is opened, then anything is asked except to end or cancel it, and no command is
+/// accepted, ending it is accepted, and leaves the very history from before it.
 pub fn empty_step_leaves_no_trace()
     ensures { EmptyStepLeavesNoTrace }
 {}
 
-/// Where a number of undos are accepted in a sound history, as many redos are, and the history is
-/// the very one before.
+/// Where a number of undos are accepted in a sound history, so are as many redos after them, and
+/// the history is the very one from before.
 pub fn redos_undo_undos()
     ensures { RedosUndoUndos }
 {}
 
-/// Where a number of redos are accepted in a sound history, as many undos are, and the history is
-/// the very one before.
+/// Where a number of redos are accepted in a sound history, so are as many undos after them, and
+/// the history is the very one from before.
 pub fn undos_undo_redos()
     ensures { UndosUndoRedos }
 {}
 
 /// Where a mark is set in a sound history, and going back to it is accepted, the document is the
-/// one that stood when it was set, whatever was asked in between but to set it anew.
+/// one that stood when it was set, whatever was asked in between, except to set it again.
 pub fn back_to_the_mark()
     ensures { BackToTheMark }
 {}
 
-/// A step that is opened can be cancelled, whatever is asked in between but to end or cancel it,
-/// and that leaves the very history before it.
+/// A step that is opened can be cancelled, whatever is asked in between, except to end or cancel
+/// it, and that leaves the very history from before it.
 pub fn cancel_leaves_no_trace()
     ensures { CancelLeavesNoTrace }
 {}
 
-/// A `back` or a `cancel` that was stopped on the way, as memory ran out, asked again with memory,
-/// is accepted and leads where it would have led.
+/// A `back` or a `cancel` that was stopped on the way because memory ran out is accepted when it is
+/// asked again with memory, and leads where it would have led.
 pub fn stopped_goes_on()
     ensures { StoppedGoesOn }
 {}
@@ -97,15 +97,16 @@ pub fn kept_within()
     ensures { KeptWithin }
 {}
 
-/// The changes that a session keeps have no more steps, all together, than the sum of one for each
-/// command of the steps that undo and redo reach and of the open one, and half as many as the bytes
+/// The changes that a session keeps have, all together, no more steps than the sum of the number of
+/// commands in the steps that undo and redo reach and in the open one, and half the number of bytes
 /// that these commands took out and put in.
 pub fn few_steps()
     ensures { FewSteps }
 {}
 
 /// Valid fields, items of a layer and items of a tile have at least two bytes (`fields`,
-/// `layer_items`, `tile_items`), so a change that fits and weighs nothing puts no item (`nothing`).
+/// `layer_items`, `tile_items`), so a change that fits and weighs nothing puts in no item
+/// (`nothing`).
 #[tactic(auto, using(crate::proofs::Weighing::field_weighs, crate::proofs::Weighing::layer_item_weighs, crate::proofs::Weighing::tile_item_weighs, crate::proofs::Weighing::nothing_put))]
 pub fn items_weigh()
     ensures fields { FieldWeighs }

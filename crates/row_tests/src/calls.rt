@@ -41,7 +41,7 @@ pub fn try_calls<R: Eprint + AllocGlobal>(
     Ok(())
 }
 
-/// Whether the line is one of a table, and the row holds that it ends. Where not, that is printed.
+/// Whether the line is one of a table, and the row that it ends holds. If not, that is printed.
 fn is_well<R: Eprint + AllocGlobal>(
     rt: &R,
     row: &Row<'_>,

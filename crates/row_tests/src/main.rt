@@ -1,28 +1,28 @@
-//! Whole runs and single calls as rows of tables: what is given, and what should come of it.
+//! Whole runs and single calls as rows of tables: what is given, and what should result.
 //!
-//! The words of the program are the files of the tables, which lie in `data/`. A line is a word and
-//! what stands behind it. In each table it can be one of these:
+//! The words of the program are the files of the tables, which are in `data/`. A line is a word and
+//! what follows it. In each table it can be one of these:
 //!
 //! - `#`: a comment.
-//! - `piece NAME = PIECES`: names bytes, for the tables of the same kind behind too. `test_fixtures`
-//!   says what a piece is.
+//! - `piece NAME = PIECES`: names bytes, also for the tables of the same kind that follow.
+//!   `test_fixtures` says what a piece is.
 //!
-//! A table of whole runs, `NAME.rows`, has tiles and scripts, with how each run ends, its replies and
-//! its tile. Each row is run as a call, over readers and writers of the standard library, and one byte
-//! a call; where no line is refused, as a strict run too. The name of one that differs is printed.
-//! Blank lines stand between rows.
+//! A table of whole runs, `NAME.rows`, has tiles and scripts, with how each run ends, its replies
+//! and its tile. Each row is run as a call, over readers and writers of the standard library, and
+//! one byte a call; where no line is refused, as a strict run too. The name of one that differs is
+//! printed. There are blank lines between rows.
 //!
 //! - `row NAME`: begins a row.
-//! - `depth N`, `strict`: how the script is run, where it is not with depth 100 or not strict.
+//! - `depth N`, `strict`: how the script is run; without these, with depth 100 and not strict.
 //! - `tile PIECES`: the tile that is read.
-//! - `> LINE`: a line of the script. `>| TEXT` has no line feed behind it, and `>> PIECES` is bytes.
+//! - `> LINE`: a line of the script. `>| TEXT` has no line feed after it, and `>> PIECES` is bytes.
 //! - `< LINE`, `<| TEXT`, `<< PIECES`: what is replied.
-//! - `ends OUTCOME`: how the run ends, where it is not `Done`.
-//! - `gives PIECES`: the tile that is written, where it is not the one that was read. Where the run
-//!   ends otherwise than as `Done` or `SomeRefused`, none is.
+//! - `ends OUTCOME`: how the run ends, if not with `Done`.
+//! - `gives PIECES`: the tile that is written, if it is not the one that was read. If the run ends
+//!   other than as `Done` or `SomeRefused`, none is.
 //!
-//! A table of single calls, `NAME.calls`, has what a call is given, and what it answers. Blank lines
-//! stand where they serve.
+//! A table of single calls, `NAME.calls`, has what a call is given, and what it answers. Blank
+//! lines are put where they help.
 //!
 //! - `call MODULE NAME`: the rows from here on are of this call, which has no tile at first.
 //! - `tile PIECES`: the tile of the rows from here on.
@@ -57,7 +57,7 @@ fn main(rt: HostRuntime) -> ExitCode {
 /// Tries the rows of all tables, and prints how many differ. Returns whether none does.
 fn run_tables<R: Files + Env + Print + Eprint + AllocGlobal>(rt: &R) -> io::Result<bool> {
     let files: Vec<String> = env::args(rt)?.skip(1).collect(rt.alloc())?;
-    // Apart, as some names stand for other bytes in tables of the other kind.
+    // Kept apart, as some names stand for other bytes in tables of the other kind.
     let mut of_runs = Pieces::new(rt.alloc());
     let mut of_calls = Pieces::new(rt.alloc());
     let mut counts = Counts::default();

@@ -47,7 +47,7 @@ answer_refused p (Err error) reason e = (refl, refl, refl)
 pub refused_lines : RefusedLinesChangeNothing
 refused_lines p line reason e = answer_refused p (answer_to line) reason e
 
--- what ends with a line feed is something
+-- text that ends with a line feed is not empty
 added : (xs ys text : List ℕ) → ys ≡ with_feed text → xs ≡ xs ++ ys → ⊥
 added xs ys text whole e =
     let longer : length xs ≡ length (xs ++ ys) = ap length e in
@@ -81,7 +81,7 @@ looking_lines p line request asks looks =
 pub runs_stop : StrictRunsStop
 runs_stop p lines more over = after_lines-append true p lines more ∙ over_stays true (after_lines true p lines) more over
 
--- that a line was refused stays so
+-- once a line was refused, that stays noted
 settled_stays : (p : Progress) (result : Result Answer Refused) → p.any_refused ≡ true → (settled_by p result).any_refused ≡ true
 settled_stays p (Ok answer) refused = refused
 settled_stays p (Err reason) refused = refl

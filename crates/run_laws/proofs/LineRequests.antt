@@ -1,4 +1,4 @@
--- What lines ask of a history, and what so holds after any lines.
+-- What lines ask of a history, and what therefore holds after any lines.
 use Rattle.std.proofs.Common.{◌≡◌, ℕ, ◌≤◌, Bool, List, [], ◌∷◌, ◌++◌, Option, Some, None, Result, Ok, Err, refl, sym, ap, subst, ◌∙◌, inl, inr}
 use Rattle.std.proofs.lemmas.Bool.{cases_Bool}
 use Rattle.mvt_document.specs.Plain.{Document}

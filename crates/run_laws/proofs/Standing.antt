@@ -34,7 +34,7 @@ makes_joined : (document : Document) (commands more : List Command) (between mad
 makes_joined document [] more between made first second = subst (λ d. Makes d more made) first second
 makes_joined document (command ∷ commands) more between made (next, accepted, first) second = (next, accepted, makes_joined next commands more between made first second)
 
--- those at the front, and those behind them
+-- those at the front, and those after them
 makes_parts : (document : Document) (commands more : List Command) (made : Document) → Makes document (commands ++ more) made → Makes document commands (after_all commands document) × Makes (after_all commands document) more made
 makes_parts document [] more made makes = (refl, makes)
 makes_parts document (command ∷ commands) more made (next, accepted, makes) =
@@ -66,7 +66,7 @@ abbrev FromPresent : History → List Command → Type 0
 FromPresent history commands = Makes (present_document history) commands (after_all commands (present_document history))
 
 module _ (document : Document) (depth : ℕ) where
-  -- each command of a step, also of one that was undone, is accepted where it came, and so is each of the open step
+  -- each command of a step, even of one that was undone, is accepted where it came, and so is each of the open step
   record IsMade (history : History) : Type 0 where
     start : history.start ≡ document
     keeps_depth : history.depth ≡ depth

@@ -15,7 +15,7 @@ use Rattle.tile_course.specs.Run.{Progress, after_lines}
 use Rattle.run_laws.specs.RunLaws.{asked_of, asked_in, requests_of, CancelInARun, StepUndoneInARun, BackInARun}
 use Rattle.run_laws.proofs.LineRequests.{asked_joined, lines_are_requests}
 
--- ---- a first line, some lines, and others behind them
+-- ---- a first line, some lines, and others after them
 
 requests_joined : (lines more : List (List ℕ)) → requests_of (lines ++ more) ≡ requests_of lines ++ requests_of more
 requests_joined lines more = flat_map-append (λ line. asked_in (answer_to line)) lines more

@@ -28,7 +28,7 @@ RepliesStand =
 
 -- ---- lines that change nothing
 
--- a line that is refused leaves the tile and the history as they were; that one was refused is kept
+-- a line that is refused leaves the tile and the history as they were; that one was refused is noted
 abbrev pub RefusedLinesChangeNothing : Type 0
 RefusedLinesChangeNothing =
     (p : Progress) (line : List ℕ) (reason : Refused)
@@ -41,7 +41,7 @@ RefusedLinesChangeNothing =
 abbrev pub SilentLinesChangeNothing : Type 0
 SilentLinesChangeNothing = (p : Progress) (line : List ℕ) → (after_line p line).replies ≡ p.replies → after_line p line ≡ record p { lines = p.lines + 1 }
 
--- a line that asks for the marks, the history, the size or a listing, also one that is refused, is counted, and leaves
+-- a line that asks for the marks, the history, the size or a listing, even one that is refused, is counted, and leaves
 -- the tile and the history as they were
 abbrev pub LookingChangesNothing : Type 0
 LookingChangesNothing =
@@ -50,11 +50,11 @@ LookingChangesNothing =
     × (tile_of (after_line p line) ≡ tile_of p)
     × ((after_line p line).lines ≡ p.lines + 1)
 
--- where a strict run is over, no further line changes anything
+-- once a strict run is over, no further line changes anything
 abbrev pub StrictRunsStop : Type 0
 StrictRunsStop = (p : Progress) (lines more : List (List ℕ)) → is_over true (after_lines true p lines) ≡ true → after_lines true p (lines ++ more) ≡ after_lines true p lines
 
--- where a run that is not strict refuses no line, a strict one comes to the same
+-- where a run that is not strict refuses no line, a strict one comes to the same result
 abbrev pub AcceptedRunsAreAlike : Type 0
 AcceptedRunsAreAlike = (p : Progress) (lines : List (List ℕ)) → (after_lines false p lines).any_refused ≡ false → after_lines true p lines ≡ after_lines false p lines
 
@@ -98,8 +98,8 @@ asked_in (Err error) = []
 abbrev pub requests_of : List (List ℕ) → List HistoryRequest
 requests_of lines = flat_map (λ line. asked_in (answer_to line)) lines
 
--- in a run that is not strict, the history after lines is what their requests make of the history before them, so each
--- law of histories holds of such a run
+-- in a run that is not strict, the history after some lines is what their requests make of the history before them, so
+-- each law of histories holds of such a run
 abbrev pub LinesAreRequests : Type 0
 LinesAreRequests = (p : Progress) (lines : List (List ℕ)) → (after_lines false p lines).history ≡ asked_all (requests_of lines) p.history
 
@@ -115,8 +115,8 @@ UndoInARun =
     → ((after_lines strict p (line ∷ undo ∷ [])).replies ≡ p.replies ++ accepted_reply [] ++ accepted_reply [])
     × (tile_of (after_lines strict p (line ∷ undo ∷ [])) ≡ tile_of p)
 
--- the same of two lines at the end of a script, at a depth of at least 1: they are accepted, and the tile is the one of
--- the script without them
+-- the same for two lines at the end of a script, at a depth of at least 1: they are accepted, and the tile is the one
+-- of the script without them
 abbrev pub UndoInAScript : Type 0
 UndoInAScript =
     (document : Document) (options : Options) (prefix line undo : List ℕ) (command : Command) (edited : Document)
@@ -151,8 +151,8 @@ StepUndoneInARun =
     → answer_to end ≡ Ok (Some (OnHistory End)) → answer_to undo ≡ Ok (Some (OnHistory Undo))
     → tile_of (after_lines false p (begin ∷ lines ++ end ∷ undo ∷ [])) ≡ tile_of p
 
--- in a run that is not strict, where a line that sets a mark is accepted, and, after any lines that do not set it anew,
--- a line that goes back to it: the tile is the one that stood when it was set
+-- in a run that is not strict, where a line that sets a mark is accepted, and so, after any lines that do not set it
+-- again, is a line that goes back to it: the tile is the one that stood when it was set
 abbrev pub BackInARun : Type 0
 BackInARun =
     (p : Progress) (name mark back : List ℕ) (lines : List (List ℕ)) (set gone : History) → IsSound p.history

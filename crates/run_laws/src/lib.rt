@@ -1,5 +1,5 @@
 //! Laws of whole runs. Each function does nothing: its contract is the law. The laws of histories
-//! and of how requests are answered are passed on.
+//! and of how requests are answered are re-exported.
 #![tactic(auto)]
 
 ghost use Rattle.tile_course.specs.DeviceLaws.{FailedDevicesAreNamed, WornOutRunsNameADevice, DevicesAreNamedForCause};
@@ -16,8 +16,8 @@ pub use tile_answers::laws::{
 };
 
 /// The lines of a prefix of a script that is empty or ends with a line feed are the first lines of
-/// the script (`lines`). The run on it comes to where the whole run is after those lines, and the
-/// others go on from there (`progress`). What was replied to it stays (`replies`).
+/// the script (`lines`). The run on it gets to where the whole run is after those lines, and the
+/// other lines go on from there (`progress`). What was replied to it stays (`replies`).
 pub fn prefixes_stand()
     ensures lines { PrefixesHaveFirstLines }
     ensures progress { PrefixesStand }
@@ -31,14 +31,14 @@ pub fn refused_lines_change_nothing()
     ensures silent { SilentLinesChangeNothing }
 {}
 
-/// A line that asks for the size, a listing, the marks or the history, also one that is refused,
+/// A line that asks for the size, a listing, the marks or the history, even one that is refused,
 /// leaves the tile and the history as they were.
 pub fn looking_changes_nothing()
     ensures { LookingChangesNothing }
 {}
 
-/// Where a strict run is over, no further line changes anything (`stop`). Where a run that is not
-/// strict refuses no line, a strict one comes to the same (`alike`).
+/// Once a strict run is over, no further line changes anything (`stop`). Where a run that is not
+/// strict refuses no line, a strict one comes to the same result (`alike`).
 pub fn strict_runs_stop()
     ensures stop { StrictRunsStop }
     ensures alike { AcceptedRunsAreAlike }
@@ -51,15 +51,15 @@ pub fn standing_commands()
     ensures { StandingCommands }
 {}
 
-/// In a run that is not strict, the history after lines is what their requests make of the one
-/// before, one after the other. So what a law says of histories holds of such a run.
+/// In a run that is not strict, the history after some lines is what their requests, one after the
+/// other, make of the one before. So what a law says of histories holds of such a run.
 pub fn lines_are_requests()
     ensures { LinesAreRequests }
 {}
 
 /// Where no step is open and the run is not over, a line with an accepted command and a line with
 /// an undo after it are both accepted, and the bytes of the tile are those before: in a sound
-/// history (`progress`), and behind every script that is empty or ends with a line feed, at a depth
+/// history (`progress`), and after every script that is empty or ends with a line feed, at a depth
 /// of at least 1 (`script`).
 pub fn undo_in_a_script()
     ensures progress { UndoInARun }
@@ -68,23 +68,24 @@ pub fn undo_in_a_script()
 
 /// In a run that is not strict, where no step is open: a line that opens a step, any lines but
 /// those that end or cancel one, and a line that cancels it leave the history as it was, and so the
-/// tile (`cancelled`). The same with lines that end the step and undo it leave the tile as it was,
-/// where a command was accepted within it and the history was sound (`undone`).
+/// tile (`cancelled`). With lines that end the step and undo it in place of the one that cancels
+/// it, they leave the tile as it was, where a command was accepted within it and the history was
+/// sound (`undone`).
 pub fn steps_in_a_run()
     ensures cancelled { CancelInARun }
     ensures undone { StepUndoneInARun }
 {}
 
 /// In a run that is not strict and whose history is sound: where a line that sets a mark is
-/// accepted, and, after any lines that do not set it anew, one that goes back to it, the tile is
-/// the one that stood when it was set.
+/// accepted, and so, after any lines that do not set it again, is one that goes back to it, the
+/// tile is the one that stood when it was set.
 pub fn back_in_a_run()
     ensures { BackInARun }
 {}
 
-/// Where growths may be refused and no reply says that one was, by 60 or 54, all comes as with all
-/// memory (`never_out_of_memory`), which is one of the ways that a run may go (`with_memory`) and in which
-/// no reply says so (`never`).
+/// Where growths may be refused and no reply says that one was, by 60 or 54, everything goes as
+/// with all memory (`never_out_of_memory`), which is one of the ways that a run may go
+/// (`with_memory`) and in which no reply says so (`never`).
 pub fn out_of_memory_is_replied()
     ensures never_out_of_memory { WalksNeverOutOfMemoryAreRuns }
     ensures with_memory { RunsAreWalks }

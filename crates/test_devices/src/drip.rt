@@ -31,7 +31,7 @@ impl Calls {
         Calls::new(0, 0, Trouble::Failed)
     }
 
-    /// The call of this number fails, and so does each one behind it.
+    /// The call of this number fails, and so does each one after it.
     pub fn failing_at(call: u64) -> Self {
         Calls::new(call, u64::MAX, Trouble::Failed)
     }
@@ -102,7 +102,7 @@ impl DripSink {
         DripSink::of_most(alloc, 1, calls)
     }
 
-    /// Takes up to `most` bytes a call, and one at least.
+    /// Takes up to `most` bytes a call, and at least one.
     pub fn of_most(alloc: Global, most: usize, calls: Calls) -> Self {
         DripSink {
             taken: Vec::new(alloc),

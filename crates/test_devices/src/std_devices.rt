@@ -3,7 +3,7 @@
 use std::alloc::Global;
 use std::io::{self, ErrorKind, Read, Write};
 
-/// A reader and writer that takes no byte, or answers an error of one kind.
+/// A reader and writer that takes no byte, or returns an error of one kind.
 #[derive(Drop)]
 pub struct Deaf {
     pub error: Option<ErrorKind>,
@@ -33,7 +33,7 @@ impl Write for Deaf {
     }
 }
 
-/// An error that one call answers, and none before or behind it.
+/// An error that one call returns, and none before or after it.
 #[derive(Drop)]
 pub struct Slip {
     calls_before: Option<u64>,

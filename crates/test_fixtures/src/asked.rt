@@ -16,7 +16,7 @@ fn text(alloc: Global, bytes: &[u8]) -> Result<Items<u8>, AllocError> {
     Ok(Items::from_vec(Vec::from_slice(alloc, bytes)?))
 }
 
-/// The layer of one name gets the other.
+/// The layer with one name gets the other.
 pub fn rename(alloc: Global, from: &[u8], to: &[u8]) -> Result<Command, AllocError> {
     Ok(Command::RenameLayer {
         layer: LayerChoice::Name(text(alloc, from)?),
@@ -32,7 +32,7 @@ pub fn rename_first(alloc: Global, to: &[u8]) -> Result<Command, AllocError> {
     })
 }
 
-/// The layers stay that have this name.
+/// The layers that have this name stay.
 pub fn keep(alloc: Global, name: &[u8]) -> Result<Command, AllocError> {
     let mut names = Vec::new(alloc);
     names.push(text(alloc, name)?)?;
@@ -55,7 +55,7 @@ fn polygon(alloc: Global) -> Result<Option<Geometry>, AllocError> {
     Ok(Geometry::new(Kind::Areas, Items::from_vec(parts)).ok())
 }
 
-/// A ring of three points comes into the first layer.
+/// A ring of three points is inserted into the first layer.
 pub fn insert_polygon(alloc: Global, index: u64) -> Result<Option<Command>, AllocError> {
     Ok(polygon(alloc)?.map(|geometry| Command::InsertFeature {
         layer: FIRST,

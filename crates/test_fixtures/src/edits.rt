@@ -1,4 +1,4 @@
-//! A document with a change that fits it, as tests of changes have it.
+//! A document with a change that fits it, as tests of changes use it.
 
 use crate::weights::known_weight;
 use mvt_change::{Change, flip, weight};
@@ -83,14 +83,14 @@ impl Edit {
         Some(weight(&self.change))
     }
 
-    /// The change of the command comes in place of the one that there is.
+    /// The change of the command takes the place of the one that there is.
     pub fn prepare(&mut self, alloc: Global, command: &Command) -> Result<(), Refusal> {
         self.change = prepare(alloc, &self.document, command)?;
         Ok(())
     }
 
-    /// Carries the change out, and turns it. Its steps stand in their order then, so that what is printed of the same
-    /// change is the same.
+    /// Carries the change out, and turns it. Its steps are then in their order, so that the same
+    /// change is always printed the same.
     pub fn flip(&mut self, alloc: Global) -> Result<(), AllocError> {
         let flipped = flip(alloc, &mut self.document, &mut self.change);
         self.change.in_order();

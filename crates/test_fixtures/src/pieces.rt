@@ -1,5 +1,5 @@
-//! Bytes by name, and bytes that are made of them. A piece is pairs of hexadecimal digits, or a name of
-//! before; `3*PIECE` is three of it.
+//! Bytes by name, and bytes that are made of them. A piece is pairs of hexadecimal digits, or a
+//! name from before; `3*PIECE` is three times the piece.
 
 use std::alloc::{AllocError, Global};
 
@@ -35,7 +35,7 @@ impl Pieces {
         Ok(is_well)
     }
 
-    /// Puts the bytes of the pieces behind those that are there. Returns whether each is one.
+    /// Puts the bytes of the pieces after those that are there. Returns whether each is one.
     pub fn put(&self, alloc: Global, words: &str, to: &mut Vec<u8>) -> Result<bool, AllocError> {
         for word in words.split_whitespace() {
             let (count, name) = word.split_once('*').unwrap_or(("1", word));

@@ -45,7 +45,7 @@ impl Series {
         })
     }
 
-    /// The change goes on as the command does.
+    /// The change goes on with what the command does.
     pub fn then(self, alloc: Global, command: Command) -> Result<Series, Refusal> {
         self.on(alloc, &command)
     }
@@ -77,7 +77,7 @@ impl Series {
     }
 }
 
-/// One change, and behind it the other.
+/// One change, and after it the other.
 fn joined(mut first: Change, mut second: Change) -> Result<Change, AllocError>
     ensures { IfOk result (λ change. change_of change ≡ change_of first ++ change_of second) }
 {

@@ -146,7 +146,7 @@ edit_is_not_out_of_memory command history (Ok document) reason other e = absurd 
 edit_is_not_out_of_memory command history (Err refusal) reason other e =
     let same : refused.Edit refusal ≡ reason = cc in subst (λ (r : Refused). ¬ (IsOutOfMemory r)) same (edit_is_other refusal other)
 
--- a request is refused for other reasons alone
+-- a request is refused only for other reasons
 abbrev RefusesOther : Result History HistoryError → Type 0
 RefusesOther (Ok history) = Unit {0}
 RefusesOther (Err error) = IsOther error

@@ -29,7 +29,7 @@ answer_of_change refusal made = result_map_both (λ history. record { lines = []
 abbrev pub answer_of_look : History → Result (List ℕ) Refusal → Result Answer Refused
 answer_of_look history shown = result_map_both (λ lines. record { lines = lines; history = history }) refused.Edit shown
 
--- the line of a mark: its name, and how far its point lies from the present one, below 0 where undo leads there
+-- the line of a mark: its name, and how far its point is from the present one, below 0 where undo leads there
 abbrev pub offset_line : List ℕ → ℤ → List ℕ
 offset_line name offset = codes "mark " ++ text_form name ++ codes " " ++ signed_decimal offset ++ codes "\n"
 
@@ -50,7 +50,7 @@ abbrev pub open_line : Option ℕ → List ℕ
 open_line None = []
 open_line (Some commands) = codes "open " ++ decimal commands ++ codes "\n"
 
--- the lines of a history: how far undo and redo go, and the open step where there is one
+-- the lines of a history: how far undo and redo go, and the open step if there is one
 abbrev pub history_lines : History → List ℕ
 history_lines history = reach_line (history.present - history.floor) (length history.steps - history.present) history.depth ++ open_line (option_map length history.group)
 

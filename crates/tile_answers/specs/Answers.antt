@@ -12,8 +12,8 @@ use Rattle.tile_reply.specs.declared.refused.Refused.{Refused}
 use Rattle.tile_reply.specs.declared.refused.Refused.TheVariants as refused
 use Rattle.tile_answers.specs.Answering.{carried_out}
 
--- the request may be refused with 60, out of memory: not those that take no memory (to take a mark away, to open a
--- step), nor those that are stopped instead (to go back, to cancel); each other, but for a command and a listing, only
+-- the request may be refused with 60, out of memory: not one that takes no memory (to remove a mark, to open a step),
+-- nor one that is stopped instead (to go back, to cancel); any other one, except for a command and a listing, only
 -- where it is accepted with all memory
 abbrev pub NeedsMemory : Request → History → Type 0
 NeedsMemory (OnHistory (Edit command)) history = Unit {0}
@@ -36,7 +36,7 @@ abbrev pub IsRefused : Request → History → Refused → Type 0
 IsRefused request history reason = (NeedsMemory request history × (refusal_number reason ≡ 60)) ⊎ (carried_out request history ≡ Err reason)
 
 -- these lines are printed, and the session holds the history after the request; or the request is refused, and the
--- session holds the history before; or it was stopped, and the session holds the history at which it was
+-- session holds the history before; or it was stopped, and the session holds the history at which it stopped
 abbrev pub IsAnswered : Request → History → Result (Held ℕ) Refused → Standing → Type 0
 IsAnswered request history (Ok lines) new = (after : History) × (carried_out request history ≡ Ok (record { lines = lines.items; history = after })) × StandsFor new after
 IsAnswered request history (Err reason) new =

@@ -1,4 +1,4 @@
--- What is read of each of a list, one after the other.
+-- What is read of each item of a list, one after the other.
 use Rattle.std.proofs.Common.{◌≡◌, ℕ, ◌+◌, ◌<◌, ◌≤◌, Bool, true, false, cond, List, [], ◌∷◌, ◌++◌, map, length, drop, get_or, Result, Ok, Err, refl, sym, ap, ◌∙◌, append_assoc}
 use Rattle.std.specs.List.{slice_split, onto_first}
 use Rattle.std.proofs.lemmas.List.{append-nil, at_drop_more, at_drop_all}
@@ -18,7 +18,7 @@ onto_more {A} {B} f done x rest y e = rw e (joined (each f rest))
     joined (Ok ys) = ap (λ (zs : List B). Ok zs) (sym (append_assoc done (y ∷ []) ys))
     joined (Err fault) = refl
 
--- one more of the list that is gone through
+-- one more of the list that is read through
 pub onto_next : {A B : Type 0} (f : A → Result B ParseError) (xs : List A) (i : ℕ) (d : A) (done : List B) (y : B) → i < length xs → f (get_or xs i d) ≡ Ok y
     → onto done (each f (drop i xs)) ≡ each f xs → onto (done ++ y ∷ []) (each f (drop (i + 1) xs)) ≡ each f xs
 onto_next {A} f xs i d done y lt e so_far =
@@ -52,7 +52,7 @@ onto_first-map : {A B : Type 0} (g : A → B) (x : A) (parts : List (List A)) �
 onto_first-map g x [] = refl
 onto_first-map g x (part ∷ parts) = refl
 
--- what is cut is cut in the same places, whatever is seen of its items
+-- a list is cut in the same places, whatever is seen of its items
 pub split-map : {A B : Type 0} (p : B → Bool) (g : A → B) (xs : List A) → slice_split p (map g xs) ≡ map (map g) (slice_split (λ x. p (g x)) xs)
 split-map p g [] = refl
 split-map {A} {B} p g (x ∷ xs) = at (p (g x)) (split-map p g xs)

@@ -1,4 +1,4 @@
--- Lists that are read as a whole where a test of each says so, and refused for one reason where not.
+-- Lists that are read as a whole where a test of each item says so, and otherwise refused for one reason.
 use Rattle.std.proofs.Common.{◌≡◌, ◌≢◌, Bool, true, false, cond, List, [], ◌∷◌, map, Option, Some, None, Result, Ok, Err, refl, sym, ap, ◌∙◌}
 use Rattle.std.specs.Prelude.{◌&&◌, ◌||◌, is_ok, ok_or, option_and_then}
 use Rattle.std.specs.List.{list_all, slice_split, onto_first}
@@ -89,7 +89,7 @@ one_more : (a b c rest : Bool) → (b && c) ≡ rest → ((a && b) && c) ≡ (a 
 one_more true b c rest e = e
 one_more false b c rest e = refl
 
--- what holds of each part holds of each item that ends none
+-- what holds of each part holds of each item that does not end one
 all_split : {A : Type 0} (ends p : A → Bool) (xs : List A) → list_all (list_all p) (slice_split ends xs) ≡ list_all (λ x. ends x || p x) xs
 all_split ends p [] = refl
 all_split {A} ends p (x ∷ xs) = next (ends x) (slice_split ends xs) (all_split ends p xs)

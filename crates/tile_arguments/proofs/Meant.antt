@@ -25,7 +25,7 @@ pub feature_with_id : (digits : List ℕ) → is_number digits ≡ true → feat
 unfolding feature_of
 feature_with_id digits number = rw (number_is digits number) refl
 
--- a number begins with a digit, and so with no mark
+-- a number begins with a digit, and so not with a mark
 no_mark : (digits : List ℕ) → is_number digits ≡ true → behind_mark (codes "@") digits ≡ None
 no_mark [] number = refl
 no_mark (b ∷ digits) number =

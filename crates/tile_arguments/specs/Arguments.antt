@@ -18,7 +18,7 @@ use Rattle.tile_words.specs.Answers.{◌>>=◌}
 use Rattle.tile_words.specs.declared.parse_error.ParseError.{ParseError}
 use Rattle.tile_words.specs.declared.parse_error.ParseError.TheVariants.{BadArguments, BadNumber, BadValue, BadGeometryText}
 
--- what stands behind a mark, where the bytes begin with it
+-- what follows a mark, where the bytes begin with it
 abbrev pub behind_mark : List ℕ → List ℕ → Option (List ℕ)
 behind_mark mark bytes = if starts_with nat_eq bytes mark then Some (drop (length mark) bytes) else None
 
@@ -32,25 +32,25 @@ are_digits bytes = not (length bytes == 0) && all_ascii_digits bytes
 abbrev pub is_number : List ℕ → Bool
 is_number bytes = are_digits bytes && nat_lt (digits_value 10 bytes) (2 ^ 64)
 
--- the number that the bytes write; else BadNumber
+-- the number that the bytes denote; else BadNumber
 unfoldable pub number_of : List ℕ → Result ℕ ParseError
 number_of bytes = if is_number bytes then Ok (digits_value 10 bytes) else Err BadNumber
 
--- the number that a bare word writes; else BadNumber
+-- the number that a bare word denotes; else BadNumber
 unfoldable pub number_in : Word → Result ℕ ParseError
 number_in (Bare digits) = number_of digits
 number_in (Quoted text) = Err BadNumber
 
--- the number that decimal digits write, where it is at most `most`
+-- the number that decimal digits denote, where it is at most `most`
 unfoldable pub number_up_to : ℕ → List ℕ → Option ℕ
 number_up_to most bytes = if are_digits bytes && nat_le (digits_value 10 bytes) most then Some (digits_value 10 bytes) else None
 
--- the number below 0 of the digits behind a minus sign, or the number of all bytes where there is no sign
+-- the number below 0 of the digits after a minus sign, or the number of all bytes where there is no sign
 abbrev pub signed_by : ℕ → ℕ → Option (List ℕ) → List ℕ → Option ℤ
 signed_by least greatest (Some digits) bytes = option_map (λ n. neg_ℤ (pos n)) (number_up_to least digits)
 signed_by least greatest None bytes = option_map pos (number_up_to greatest bytes)
 
--- the signed number that the bytes write: an optional `-`, then digits; from -least to greatest
+-- the signed number that the bytes denote: an optional `-`, then digits; from -least to greatest
 unfoldable pub signed_of : ℕ → ℕ → List ℕ → Option ℤ
 signed_of least greatest bytes = signed_by least greatest (behind_mark (codes "-") bytes) bytes
 
@@ -62,7 +62,7 @@ integer_of bytes = signed_of (2 ^ 63) (2 ^ 63 - 1) bytes
 abbrev pub delta_of : List ℕ → Option ℤ
 delta_of bytes = signed_of 2147483647 2147483647 bytes
 
--- the coordinate that a bare word writes; else BadNumber
+-- the coordinate that a bare word denotes; else BadNumber
 unfoldable pub distance_of : Word → Result ℤ ParseError
 distance_of (Bare bytes) = ok_or (delta_of bytes) BadNumber
 distance_of (Quoted text) = Err BadNumber
@@ -74,11 +74,11 @@ abbrev pub bare_in : Word → Option (List ℕ)
 bare_in (Bare bytes) = Some bytes
 bare_in (Quoted text) = None
 
--- the bytes that pairs of hexadecimal digits of either case write
+-- the bytes that pairs of hexadecimal digits of either case denote
 unfoldable pub bytes_in : List ℕ → Option (List ℕ)
 bytes_in digits = result_ok (decode_of digits)
 
--- the text that a word says: that of a quoted word, or the bytes that the digits behind `x:` write
+-- the text that a word says: that of a quoted word, or the bytes that the digits after `x:` denote
 unfoldable pub text_in : Word → Option (List ℕ)
 text_in (Quoted text) = Some text
 text_in (Bare bytes) = option_and_then bytes_in (behind_mark (codes "x:") bytes)
@@ -103,7 +103,7 @@ texts_of words = each text_of words
 
 -- ---- layers and features
 
--- the layer of the ordinal behind a mark, or, where there is no mark, of the name that the word says
+-- the layer of the ordinal after a mark, or, where there is no mark, of the name that the word says
 abbrev pub layer_by : Option (List ℕ) → Word → Result LayerChoice ParseError
 layer_by (Some digits) word = number_of digits >>= λ n. Ok (AtOrdinal n)
 layer_by None word = text_of word >>= λ name. Ok (Named name)
@@ -118,11 +118,11 @@ abbrev pub is_star : Word → Bool
 is_star (Bare bytes) = bytes_eq bytes (codes "*")
 is_star (Quoted text) = false
 
--- which layers a word means: the star each, and another word the one that it selects
+-- which layers a word means: the star means each layer, and any other word the one that it selects
 unfoldable pub layers_of : Word → Result LayersChoice ParseError
 layers_of word = if is_star word then Ok EachLayer else (layer_of word >>= λ choice. Ok (TheLayer choice))
 
--- the feature of the id behind a mark, or, where there is no mark, of the ordinal that the bytes write
+-- the feature of the id after a mark, or, where there is no mark, of the ordinal that the bytes denote
 abbrev pub feature_by : Option (List ℕ) → List ℕ → Result FeatureChoice ParseError
 feature_by (Some digits) bytes = number_of digits >>= λ id. Ok (WithId id)
 feature_by None bytes = number_of bytes >>= λ n. Ok (FeatureAtOrdinal n)
@@ -134,7 +134,7 @@ feature_of (Bare bytes) = feature_by (behind_mark (codes "@") bytes) bytes
 
 -- ---- values
 
--- the bytes that pairs of hexadecimal digits of either case write, where there are `count` pairs
+-- the bytes that pairs of hexadecimal digits of either case denote, where there are `count` pairs
 unfoldable pub pairs_in : ℕ → List ℕ → Option (List ℕ)
 pairs_in count digits = result_ok (decode_sized digits count)
 
@@ -172,24 +172,24 @@ value_of (Bare name) word = ok_or (value_in name word) BadValue
 abbrev pub point_at : Option ℤ → Option ℤ → Option Point
 point_at x y = option_map (λ at. record { x = at.0; y = at.1 }) (option_zip x y)
 
--- the point that the bytes write: two coordinates with one comma between them
+-- the point that the bytes denote: two coordinates with one comma between them
 unfoldable pub point_in : List ℕ → Option Point
 point_in bytes = point_at (delta_of (before_first (λ b. b == 44) bytes)) (delta_of (after_first (λ b. b == 44) bytes))
 
--- the point that a bare word writes; else BadGeometryText
+-- the point that a bare word denotes; else BadGeometryText
 unfoldable pub point_of : Word → Result Point ParseError
 point_of word = ok_or (option_and_then point_in (bare_in word)) BadGeometryText
 
--- the points that words write, or the first refusal
+-- the points that words denote, or the first refusal
 unfoldable pub part_of : List Word → Result (List Point) ParseError
 part_of words = each point_of words
 
--- the word is the bar `/` that stands between two parts
+-- the word is the bar `/` that separates two parts
 abbrev pub is_bar : Word → Bool
 is_bar (Bare bytes) = bytes_eq bytes (codes "/")
 is_bar (Quoted text) = false
 
--- the parts that words write, with a bar between each two, or the first refusal
+-- the parts that words denote, with a bar between each two, or the first refusal
 unfoldable pub parts_of : List Word → Result (List (List Point)) ParseError
 parts_of words = each part_of (slice_split is_bar words)
 
@@ -223,7 +223,7 @@ geometry_of (Bare name ∷ words) = do
   shaped kind parts
 geometry_of words = Err BadGeometryText
 
--- the words name a kind, and behind it are points and bars alone
+-- the words name a kind, and after it are only points and bars
 abbrev pub DrawsPoints : List Word → Type 0
 DrawsPoints [] = ⊥
 DrawsPoints (Quoted text ∷ words) = ⊥

@@ -29,7 +29,7 @@ pub fn new_geometry(alloc: Global, words: &[Word<'_>]) -> Result<Geometry, Parse
     shaped(kind, parts)
 }
 
-/// The geometry of these parts, where they are as the kind asks for them.
+/// The geometry of these parts, where they are as the kind requires.
 #[tactic(auto, unfolding(crate::specs::Arguments::shaped))]
 fn shaped(kind: Kind, parts: Items<Part>) -> Result<Geometry, ParseError>
     requires { AllByRecursion (AllByRecursion IsPlaced) (map points_of parts.items) }
@@ -127,7 +127,7 @@ fn point(word: Word<'_>) -> Result<Point, ParseError>
     }
 }
 
-/// The point whose coordinates stand around the first comma.
+/// The point whose coordinates are on either side of the first comma.
 fn point_in(bytes: &[u8]) -> Option<Point>
     ensures { result ≡ point_in bytes.now }
 {

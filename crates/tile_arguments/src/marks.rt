@@ -1,9 +1,9 @@
-//! What stands behind a mark with which a bare word begins.
+//! What follows a mark at the beginning of a bare word.
 
 ghost use Rattle.std.specs.Prelude.{◌≡◌, option_copied};
 ghost use Rattle.tile_arguments.specs.Arguments.{behind_mark};
 
-/// What stands behind the mark, where the bytes begin with it.
+/// What follows the mark, where the bytes begin with it.
 pub(crate) fn behind_mark<'a>(mark: &[u8], bytes: &'a [u8]) -> Option<&'a [u8]>
     ensures { option_copied result ≡ behind_mark mark.now bytes.now }
 {

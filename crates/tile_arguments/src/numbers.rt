@@ -8,10 +8,10 @@ ghost use Rattle.tile_arguments.specs.Arguments.{number_of, number_in, number_up
 use crate::marks::behind_mark;
 use tile_words::{ParseError, Word};
 
-/// How far points move or lie at most.
+/// The farthest that points move or lie.
 const FARTHEST: u64 = 2_147_483_647;
 
-/// The number that the digits write.
+/// The number that the digits denote.
 pub fn number(digits: &[u8]) -> Result<u64, ParseError>
     ensures { result ≡ number_of digits.now }
 {
@@ -48,7 +48,7 @@ fn with_digit(value: u64, digit: u8) -> Option<u64>
     value.checked_mul(10)?.checked_add(u64::from(digit))
 }
 
-/// The number that the digits write, where it is at most so great.
+/// The number that the digits denote, where it is at most this great.
 #[tactic(auto, unfolding(crate::specs::Arguments::number_up_to))]
 fn number_up_to(most: u64, digits: &[u8]) -> Option<u64>
     ensures value { result ≡ number_up_to most digits.now }
@@ -60,7 +60,7 @@ fn number_up_to(most: u64, digits: &[u8]) -> Option<u64>
     }
 }
 
-/// The number of a `-`, where one is there, and digits: from `-least` to `greatest`.
+/// The number of an optional `-` and digits: from `-least` to `greatest`.
 #[tactic(auto, unfolding(crate::specs::Arguments::signed_of))]
 pub(crate) fn signed(least: u64, greatest: u64, bytes: &[u8]) -> Option<i64>
     requires least { least ≤ 2 ^ 63 }
@@ -73,7 +73,7 @@ pub(crate) fn signed(least: u64, greatest: u64, bytes: &[u8]) -> Option<i64>
     }
 }
 
-/// The number that is so far below 0.
+/// The number that is this far below 0.
 fn below_zero(distance: u64) -> i64
     requires { distance ≤ 2 ^ 63 }
     ensures { result ≡ neg_ℤ (pos distance) }

@@ -74,7 +74,7 @@ pub(crate) fn text_in(alloc: Global, word: Word<'_>) -> Result<Option<Items<u8>>
     }
 }
 
-/// The bytes of pairs of hexadecimal digits, where they are such.
+/// The bytes of pairs of hexadecimal digits, where the digits are such pairs.
 fn bytes_in(alloc: Global, digits: &[u8]) -> Result<Option<Items<u8>>, AllocError>
     ensures said { IfOk result (λ said. option_map (λ bytes. bytes.items) said ≡ bytes_in digits.now) }
     ensures no_memory { IsErr result → IsSome (bytes_in digits.now) }

@@ -65,7 +65,7 @@ fn bare_value(name: &[u8], bytes: &[u8]) -> Option<NewValue>
     }
 }
 
-/// The bytes of `N` pairs of hexadecimal digits, where the digits are just these.
+/// The bytes of `N` pairs of hexadecimal digits, where the digits are exactly such pairs.
 fn pairs_in<const N: usize>(digits: &[u8]) -> Option<[u8; N]>
     ensures { result ≡ pairs_in N digits.now }
 {

@@ -65,7 +65,7 @@ has_entry (x ∷ xs) id i low at = by_first (bytes_eq x.0.now id) refl i low at 
     by_first false is zero low at rest = let yes : bytes_eq x.0.now id ≡ true = at x in absurd cc
     by_first false is (suc n) low at rest = rw is (rest n (omega arith) at)
 
--- the first of some values, of which each passes
+-- the first of some values, each of which passes
 first_of_values : (P : Bor (List ℕ) → Type 0) (how : Reading) (values : List (Bor (List ℕ))) → All P values → 0 < length values
     → (v : Bor (List ℕ)) × (option_map (λ (s : Bor (List ℕ)). read_as how s.now) (slice_get values 0) ≡ Some (read_as how v.now)) × P v
 first_of_values P how [] all some = absurd (omega arith)
@@ -181,7 +181,7 @@ defaulted_too a b parser same is = record {
   value = same.parser parser is.value;
 }
 
--- the place behind a list is the only one whose argument has an id that none of the list has
+-- the place after a list is the only one whose argument has an id that none of the list has
 only_last : (xs : List Arg) (x : Arg) → All (λ (a : Arg). a.id.now ≡ x.id.now → ⊥) xs
     → (j : ℕ) (e : Arg) → j < length (xs ++ x ∷ []) → bytes_eq (slice_index_or (xs ++ x ∷ []) j e).id.now x.id.now ≡ true → j ≡ length xs
 only_last xs x free j e low same = elim (cases_lt j (length xs)) [

@@ -12,7 +12,7 @@ use clap::{Arg, ArgAction, ArgMatches, Command, value_parser};
 use mvt_history_steps::MAX_DEPTH;
 use std::alloc::{AllocError, Global};
 
-/// What `--version` prints behind the name of the program.
+/// What `--version` prints after the name of the program.
 const VERSION: &str = "0.1.0";
 
 /// How the program is called.
@@ -29,7 +29,7 @@ pub fn matched<'a>(alloc: Global, words: &'a [&'a str]) -> Result<ArgMatches<'a>
         .try_get_matches_from(words)
 }
 
-/// The command line but for `--depth`.
+/// The command line without `--depth`.
 fn described<'a>(alloc: Global) -> Result<Command<'a>, AllocError>
     ensures { IfOk result (Awaits (codes "depth")) }
 {

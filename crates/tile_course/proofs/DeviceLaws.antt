@@ -128,7 +128,7 @@ worn_out_names options before after outcome r low worn =
       ]
     ]
 
--- an interruption behind which no call is made again is one too many
+-- an interruption after which no call is made again is one too many
 worn_out : (options : Options) (before after : Devices) (outcome : Outcome) (r : Runs options before after outcome) → HaveLowCounts before
     → retries_in r.course ≡ MAX_RETRIES → 1 ≤ last_interruptions r.course → AreWornOut before after
 worn_out options before after outcome r low full last =

@@ -163,7 +163,7 @@ first_lines_in intake script prefix all within = by_whole intake.is_whole refl
 
 -- ---- the headline
 
--- a file opens as one document at most
+-- a file opens as at most one document
 one_opening : (file : List ℕ) (d e : Document) → OpensAs file d → OpensAs file e → d ≡ e
 one_opening file d e p q = one_document_by_bytes d e p.settled q.settled (p.spelled ∙ sym q.spelled)
 
@@ -172,7 +172,7 @@ module _ (options : Options) (before after : Devices) (outcome : Outcome) (r : R
   tile_opened premises opened is =
       one_opening premises.file opened document (subst (λ (t : List ℕ). OpensAs t opened) (whole_file before.tile after.tile r.course.tile premises.file premises.tile premises.serve.tile r.tile is.whole) is.opens) premises.opens
 
-  -- a walk of which no reply says that memory was refused
+  -- a walk in which no reply says that memory was refused
   lines_carried : Premises document script before after outcome → (opened : Document) (progress : Progress) → Walk options.strict (start_of options opened) (lines_in r.course.script) progress
       → IsWritten r.course.replies progress.replies → progress ≡ after_lines options.strict (start_of options opened) (lines_in r.course.script)
   lines_carried premises opened progress walk written =
@@ -187,7 +187,7 @@ module _ (options : Options) (before after : Devices) (outcome : Outcome) (r : R
       ∙ ap (after_lines options.strict (start_of options opened)) (whole_lines_in r.course.script carried.whole ∙ ap lines_of all)
       ∙ ap (λ (d : Document). ran d options script) (tile_opened premises opened is)
 
-  -- the lines behind the end of a strict run change nothing
+  -- the lines after the end of a strict run change nothing
   stopped_strictly : Premises document script before after outcome → (opened : Document) → IsOpened r.course.tile opened
       → (stops : StopsStrictly options.strict (start_of options opened) r.course.script r.course.replies) → stops.progress ≡ ran document options script
   stopped_strictly premises opened is stops =
@@ -298,7 +298,7 @@ headline options before after outcome r document script premises = (comes option
 pub writes_a_tile : (options : Options) (before after : Devices) (outcome : Outcome) → Runs options before after outcome → WritesATile options before after outcome
 writes_a_tile options before after outcome r document script premises = (comes options before after outcome r document script premises).opens
 
--- ---- a tile that opens as no document
+-- ---- a tile that does not open as a document
 
 -- such a tile does not open
 not_opened : (A : Type 0) (old new : Seen) (intake : Intake) (document : Document) (file : List ℕ)

@@ -38,7 +38,7 @@ refused_text line reason = refused_front line reason ++ behind_name reason
 pub refused_ends : (line : ℕ) (reason : Refused) → EndsWithALine (refused_reply line reason)
 refused_ends line reason = inr (refused_text line reason, refl)
 
--- what stands before the line feed at the end of the reply to an accepted line
+-- what comes before the line feed at the end of the reply to an accepted line
 pub accepted_text : (lines : List ℕ) → accepted_reply lines ≡ with_feed (lines ++ codes "ok")
 accepted_text lines = sym (append_assoc lines (codes "ok") (10 ∷ []))
 
@@ -47,7 +47,7 @@ accepted_ends lines = inr (lines ++ codes "ok", accepted_text lines)
 
 -- ---- the last bytes of replies
 
--- the last two bytes of a text that are no digits, where these are those before it
+-- the last two bytes of a text that are not digits, where these are those before it
 abbrev last_two : ℕ × ℕ → List ℕ → ℕ × ℕ
 last_two ends [] = ends
 last_two ends (b ∷ text) = last_two (if is_ascii_digit b then ends else (ends.1, b)) text
@@ -56,7 +56,7 @@ last_two-append : (ends : ℕ × ℕ) (text more : List ℕ) → last_two ends (
 last_two-append ends [] more = refl
 last_two-append ends (b ∷ text) more = last_two-append (if is_ascii_digit b then ends else (ends.1, b)) text more
 
--- a number changes nothing of them
+-- a number does not change them
 glyph_is_digit : (n : ℕ) → is_ascii_digit (digit_glyph false (n % 10)) ≡ true
 glyph_is_digit n =
     let low : nat_lt (n % 10) 10 ≡ true = grind (arith, nat_tests) in
@@ -92,7 +92,7 @@ refused_last line reason =
 abbrev pub runs_out : ℕ → Bool
 runs_out number = (number == 60) || (number == 54)
 
--- the text ends with the y of `NoMemory`, or with a number behind `taken`
+-- the text ends with the y of `NoMemory`, or with a number after `taken`
 abbrev ends_out_of_memory : ℕ × ℕ → Bool
 ends_out_of_memory ends = ((ends.0 == 114) && (ends.1 == 121)) || ((ends.0 == 110) && (ends.1 == 32))
 
@@ -100,7 +100,7 @@ ends_out_of_memory ends = ((ends.0 == 114) && (ends.1 == 121)) || ((ends.0 == 11
 abbrev ends_with_ok : ℕ × ℕ → Bool
 ends_with_ok ends = (ends.0 == 111) && (ends.1 == 107)
 
--- those behind the name of a refusal of tags, of a repeated key or of a geometry
+-- those after the name of a refusal of tags, of a repeated key or of a geometry
 place_last : (ends : ℕ × ℕ) (layer feature : ℕ) → last_two ends (codes " layer " ++ decimal layer ++ codes " feature " ++ decimal feature) ≡ (101, 32)
 place_last ends layer feature =
     let prefix = codes " layer " ++ decimal layer in
@@ -159,7 +159,7 @@ shows_memory ends (refused.History history.NoMemory) = record { alike = λ e lin
 pub out_of_memory_reply : (line : ℕ) (reason : Refused) → refusal_number reason ≡ 60 → refused_reply line reason ≡ refused_reply line (refused.Parse parse.NoMemory)
 out_of_memory_reply line reason e = (shows_memory (0, 0) reason).alike e line
 
--- the reply to an accepted line is that to no refused one
+-- the reply to an accepted line is not that to a refused one
 pub accepted_is_not_refused : (lines : List ℕ) (line : ℕ) (reason : Refused) → accepted_reply lines ≢ refused_reply line reason
 accepted_is_not_refused lines line reason e =
     let same : lines ++ codes "ok" ≡ refused_text line reason = append_cancel_right (lines ++ codes "ok") (refused_text line reason) (10 ∷ []) (sym (accepted_text lines) ∙ e) in
@@ -191,7 +191,7 @@ runs_out_other reason other =
           | inr other ↦ inr (grind (arith, nat_tests))
         ]
 
--- the text of a refusal that is not out of memory is that of none that is
+-- the text of a refusal that is not out of memory is not that of one that is
 pub other_is_not_out_of_memory : (line other_line : ℕ) (reason short_of_memory : Refused) → ¬ (IsOutOfMemory reason) → IsOutOfMemory short_of_memory → refused_text line reason ≢ refused_text other_line short_of_memory
 other_is_not_out_of_memory line other_line reason short_of_memory other out_of_memory e =
     let first = shows_memory (last_two (0, 0) (before_name line reason)) reason in

@@ -47,14 +47,14 @@ pub record IsOpened (tile : Intake) (document : Document) : Type 0 where
   pub untroubled : tile.trouble ≡ None
   pub opens : OpensAs tile.bytes document
 
--- what is wrong with a file: it is too large, or it opens as no document, and the longest prefix that does ends at the
--- place
+-- what is wrong with a file: it is too large, or it does not open as a document, and the longest prefix that does ends
+-- at the place
 abbrev pub IsFaultOf : TileFault → List ℕ → Type 0
 IsFaultOf (faults.BadWire place) file = (length file ≤ MAX_FILE) × OpensAsNothing file × IsPlace file place
 IsFaultOf faults.FileTooLarge file = MAX_FILE < length file
 
--- what is wrong with what was read of the tile: it is too large, or, read to its end, it opens as no document, and the
--- longest prefix that does ends at the place
+-- what is wrong with what was read of the tile: it is too large, or, read to its end, it does not open as a document,
+-- and the longest prefix that does ends at the place
 abbrev pub IsFaulty : TileFault → Intake → Type 0
 IsFaulty (faults.BadWire place) tile = (tile.is_whole ≡ true) × IsFaultOf (faults.BadWire place) tile.bytes
 IsFaulty faults.FileTooLarge tile = MAX_FILE < length tile.bytes
@@ -128,8 +128,8 @@ pub record StopsAtReplies (strict : Bool) (start : Progress) (script : Intake) (
 abbrev pub start_of : Options → Document → Progress
 start_of options document = at_first document options.depth
 
--- the bytes of the standing document open again, as it with each stored width raised to the one that was written
--- (`settle`)
+-- the bytes of the standing document open again, as that document with each stored width raised to the one that was
+-- written (`settle`)
 abbrev pub OpensAgain : Progress → Type 0
 OpensAgain progress = OpensAs (tile_of progress) (settle (standing_document progress.history))
 
@@ -167,8 +167,8 @@ pub record StopsBetween (options : Options) (stops : Bool → Progress → Intak
   pub between : stops options.strict (start_of options document) course.script course.replies
   pub out : IsWritten course.out []
 
--- the tile met no trouble; either the script was not read and nothing replied, or it was carried through; memory ran
--- out then, and nothing was written to `out`
+-- the tile met no trouble; either the script was not read and nothing was replied, or it was carried through; then
+-- memory ran out, and nothing was written to `out`
 pub record StopsForMemory (options : Options) (course : Course) : Type 0 where
   pub untroubled : course.tile.trouble ≡ None
   pub replied : ((course.script ≡ nothing_read) × IsWritten course.replies []) ⊎ RepliesToAll options course

@@ -9,7 +9,7 @@ use Rattle.tile_course.specs.declared.outcome.DeviceName.TheVariants as devices
 use Rattle.tile_device.specs.Seen.{Seen}
 use Rattle.tile_course.specs.Headline.{Devices, HasLowCounts, Runs, all_interruptions}
 
--- a call of the device failed: its count of failures is another
+-- a call of the device failed: its count of failures has changed
 abbrev pub HasFailed : Seen → Seen → Type 0
 HasFailed before after = after.failures ≢ before.failures
 

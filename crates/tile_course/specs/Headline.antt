@@ -112,8 +112,8 @@ WritesATile options before after outcome =
     (document : Document) (script : List ℕ) → Premises document script before after outcome
     → is_over options.strict (ran document options script) ≡ false → OpensAgain (ran document options script)
 
--- for every tile that opens as no document, where all devices serve and the outcome is not `NoMemory`: the outcome is
--- that the tile is refused, for what is wrong with it
+-- for every tile that does not open as a document, where all devices serve and the outcome is not `NoMemory`: the
+-- outcome is that the tile is refused, for what is wrong with it
 abbrev pub RefusesTile : Devices → Devices → Outcome → Type 0
 RefusesTile before after outcome =
     (file : List ℕ) → before.tile.bytes ≡ Some file → OpensAsNothing file → AllServe before after → outcome ≢ outcomes.NoMemory

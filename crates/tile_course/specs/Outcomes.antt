@@ -1,4 +1,4 @@
--- Which outcome of a run each way is in which a step of it stops, or all are done.
+-- Which outcome of a run goes with each way in which one of its steps stops, or with all of them done.
 use Rattle.std.specs.Prelude.{Bool, if◌then◌else◌}
 use Rattle.tile_device.specs.declared.transfer.ReadFault.{ReadFault}
 use Rattle.tile_device.specs.declared.transfer.ReadFault.TheVariants as read_faults

@@ -10,14 +10,14 @@ use Rattle.tile_course.specs.declared.outcome.Options.{Options}
 abbrev pub PrefixesHaveFirstLines : Type 0
 PrefixesHaveFirstLines = (prefix rest : List ℕ) → EndsWithALine prefix → lines_of (prefix ++ rest) ≡ lines_of prefix ++ lines_of rest
 
--- the run on such a prefix comes to where the run on the whole script is after those lines, and the others go on from
--- there
+-- the run on such a prefix gets to where the run on the whole script is after those lines, and the other lines go on
+-- from there
 abbrev pub PrefixesStand : Type 0
 PrefixesStand =
     (document : Document) (options : Options) (prefix rest : List ℕ) → EndsWithALine prefix
     → ran document options (prefix ++ rest) ≡ after_lines options.strict (ran document options prefix) (lines_of rest)
 
--- where growths may be refused, and no reply says that one was, by 60 or 54, all comes as where none is refused
+-- where growths may be refused, and no reply says that one was, by 60 or 54, everything goes as where none is refused
 abbrev pub WalksNeverOutOfMemoryAreRuns : Type 0
 WalksNeverOutOfMemoryAreRuns =
     (strict : Bool) (p q : Progress) (lines : List (List ℕ)) (added : List ℕ) → Walk strict p lines q

@@ -33,7 +33,7 @@ pub enum DeviceName {
 /// Why a tile did not open.
 #[derive(Clone, Copy, Debug, PartialEq, Eq, Error)]
 pub enum TileFault {
-    /// It is no vector tile. The place is the length in bytes of its longest prefix that is one.
+    /// It is not a vector tile. The place is the length in bytes of its longest prefix that is one.
     #[error("1 BadWire place {place}")]
     BadWire { place: usize },
     /// It has more than `MAX_FILE` bytes.
@@ -48,8 +48,8 @@ pub enum Outcome {
     Done,
     /// At least one line was refused, and the tile was written.
     SomeRefused,
-    /// The run is strict, and a line was refused: no line behind it was carried out, and no tile
-    /// was written.
+    /// The run is strict, and a line was refused: no line after it was carried out, and no tile was
+    /// written.
     StrictStop,
     /// The tile did not open. Nothing was written.
     TileRefused(TileFault),

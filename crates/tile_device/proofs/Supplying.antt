@@ -38,11 +38,11 @@ reads_more a b c n m k bytes intake first second =
       pays = record { spent = omega (arith, first.pays.spent, second.pays.spent); last = second.pays.last };
     }
 
--- what a reading up to a limit answers, and what it read
+-- what a reading up to a limit returns, and what it read
 abbrev pub Reading : Seen → Seen → ℕ → ℕ → ℕ → Result (Vec ℕ Global) ReadFault → Type 0
 Reading old new before after limit result = (intake : Intake) × ReadsUpTo limit result intake × Reads old new before after intake
 
--- it met trouble behind these bytes, which are lost
+-- it met trouble after these bytes, which are lost
 pub reading_stopped : (a b c : Seen) (n m k limit : ℕ) (bytes : List ℕ) (trouble : Trouble) (result : Result (Vec ℕ Global) ReadFault)
     → Reads a b n m (part (n - m) bytes) → Reads b c m k (record { bytes = []; is_whole = false; retries = m - k; trouble = Some trouble })
     → length bytes ≤ limit → result ≡ Err (Device trouble) → Reading a c n k limit result

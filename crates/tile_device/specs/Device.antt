@@ -9,13 +9,13 @@ abbrev pub trouble_of : {A : Type 0} → Result A Trouble → Option Trouble
 trouble_of (Ok value) = None
 trouble_of (Err trouble) = Some trouble
 
--- how many interruptions a trouble is: 0 or 1
+-- how many interruptions a trouble counts as: 0 or 1
 abbrev pub interruptions_in : Option Trouble → ℕ
 interruptions_in None = 0
 interruptions_in (Some Interrupted) = 1
 interruptions_in (Some Failed) = 0
 
--- how many failures a trouble is: 0 or 1
+-- how many failures a trouble counts as: 0 or 1
 abbrev pub failures_in : Option Trouble → ℕ
 failures_in None = 0
 failures_in (Some Interrupted) = 0

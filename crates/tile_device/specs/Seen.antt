@@ -64,8 +64,8 @@ nothing_read = record { bytes = []; is_whole = false; retries = 0; trouble = Non
 abbrev pub written : ℕ → List ℕ → Output
 written retries bytes = record { bytes = bytes; retries = retries; trouble = None }
 
--- between two moments a source gave this intake: where it still tells its bytes, they lost those read as a prefix, and
--- are at their end where the intake is whole
+-- between two moments a source gave this intake: where it still tells its bytes, they lost the prefix that was read,
+-- and are at their end where the intake is whole
 pub record Supplies (old new : Seen) (intake : Intake) : Type 0 where
   pub meets : Meets old new intake.retries intake.trouble
   pub bytes : IsTrue new.tells → Consumes old.bytes new.bytes intake.bytes

@@ -25,12 +25,12 @@ pub trait Source {
     // Whether it still tells what its calls do to those bytes.
     ghost tells: { Self → Bool };
 
-    // How many of its calls were interrupted, and how many failed. Both stay at 2^64 - 1.
+    // How many of its calls were interrupted, and how many failed. Both stop at 2^64 - 1.
     ghost interruptions: { Self → ℕ };
 
     ghost failures: { Self → ℕ };
 
-    /// Reads into the front of the buffer. None, with room for one, is the end.
+    /// Reads into the front of the buffer. Reading no byte, with room for one, is the end.
     fn read(&mut self, buffer: &mut [u8]) -> Result<usize, Trouble>
         ensures within { IfOk result (λ n. n ≤ length buffer.new) }
         ensures interruptions { interruptions self.new
@@ -38,7 +38,7 @@ pub trait Source {
         ensures failures { failures self.new
             ≡ failures_after (trouble_of result) (failures self.old) }
 
-        // One that no longer tells never tells again. Where it tells, the bytes lose those
+        // A source that no longer tells never tells again. Where it tells, the bytes lose those
         // read at the front, and after a trouble they are those from before.
         ensures still_tells { IsTrue (tells self.new) → IsTrue (tells self.old) }
         ensures bytes { IsTrue (tells self.new)
@@ -53,7 +53,7 @@ pub trait Sink {
     // Whether it still tells what its calls do to those bytes.
     ghost tells: { Self → Bool };
 
-    // How many of its calls were interrupted, and how many failed. Both stay at 2^64 - 1.
+    // How many of its calls were interrupted, and how many failed. Both stop at 2^64 - 1.
     ghost interruptions: { Self → ℕ };
 
     ghost failures: { Self → ℕ };
@@ -67,7 +67,7 @@ pub trait Sink {
         ensures failures { failures self.new
             ≡ failures_after (trouble_of result) (failures self.old) }
 
-        // One that no longer tells never tells again. Where it tells, the bytes grow by those
+        // A sink that no longer tells never tells again. Where it tells, the bytes grow by those
         // written, and after a trouble they are those from before.
         ensures still_tells { IsTrue (tells self.new) → IsTrue (tells self.old) }
         ensures bytes { IsTrue (tells self.new)

@@ -7,11 +7,11 @@
 //! - A device counts its interruptions and its failures, each up to 2^64 - 1: `Counts::count`. A
 //!   budget of retries begins with a number of them, and says how many are left: `Retries::new`,
 //!   `left`.
-//! - A piece is read into a buffer, and is known to be the end only where nothing came and there
-//!   was room: `read_some` (`reads`). An input is read up to a limit: fewer bytes are all that
-//!   there were, and a fault loses them: `read_to_limit`. Bytes are written, and passed on, as a
-//!   whole, or a prefix of them before a trouble: `write_all` (`sends`) and `write_and_flush`; the
-//!   trouble of a write comes before the last byte (`prefix` of `write_all`).
+//! - A piece is read into a buffer, and is known to be the end only where nothing was read and
+//!   there was room: `read_some` (`reads`). An input is read up to a limit: fewer bytes are all
+//!   that there were, and a fault loses them: `read_to_limit`. Bytes are written, and passed on, as
+//!   a whole, or, before a trouble, a prefix of them: `write_all` (`sends`) and `write_and_flush`;
+//!   the trouble of a write comes before the last byte (`prefix` of `write_all`).
 //! - In all four an interrupted call is made again as long as the budget has a retry left, and
 //!   takes one; an interruption ends the calls only where none is left. The same clauses say so
 //!   (`Pays`).

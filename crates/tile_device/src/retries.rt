@@ -32,7 +32,7 @@ impl Retries {
         self.left
     }
 
-    /// Takes one for an interrupted call. A trouble that it takes none for ends the calls.
+    /// Takes one retry for an interrupted call. A trouble that it takes none for ends the calls.
     pub(crate) fn take_for(&mut self, trouble: Trouble) -> Result<(), Trouble>
         ensures taken { IsOk result ↔ ((trouble ≡ Trouble.Interrupted) × (0 < self.old)) }
         ensures ok { OnOk result (self.old ≡ self.new + 1) }

@@ -19,8 +19,8 @@ pub struct FromStd<D> {
 /// A reader of std as a source. It tells its bytes, where the reader does, until its first trouble.
 pub type FromRead<R> = FromStd<R>;
 
-/// A writer of std as a sink. It tells its bytes, where the writer does, until its first trouble.
-/// A write that takes none of at least one byte has failed, and so has every flush that answers an
+/// A writer of std as a sink. It tells its bytes, where the writer does, until its first trouble. A
+/// write that takes none of at least one byte has failed, and so has every flush that returns an
 /// error.
 pub type FromWrite<W> = FromStd<W>;
 

@@ -1,4 +1,4 @@
-//! A piece read, an input read up to a limit, bytes written and passed on, over calls that give and
+//! A piece read, an input read up to a limit, bytes written and passed on, in calls that give and
 //! take a few bytes each. A call that was interrupted is made again, as long as there are retries
 //! left.
 

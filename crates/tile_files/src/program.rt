@@ -43,8 +43,8 @@ fn edit_files<R: Files + Input + Print + Eprint + AllocGlobal>(
 }
 
 /// Opens the tile and then the script, before either is read. Where no script is named, it is
-/// standard input. Where that is closed the tile would be opened in its place and read as the script,
-/// so it is looked at before.
+/// standard input. If that is closed, the tile would be opened in its place and read as the script,
+/// so this is checked first.
 fn edit_file<R: Files + Input + Print + AllocGlobal>(
     rt: &R,
     tile: &str,
@@ -97,7 +97,7 @@ fn edit_opened<R: Files + Print + AllocGlobal, S: Read + Drop>(
     )
 }
 
-/// The outcome of a run. Nothing else is said of it: at the types of files, what the contract of
+/// The outcome of a run. Nothing else is said of it: for the types of files, what the contract of
 /// `run` says would take long to prove, and no caller here needs it.
 fn outcome_of(
     alloc: Global,

@@ -1,4 +1,4 @@
--- What a cutter holds behind a prefix of a script, and the lines of that prefix.
+-- What a cutter holds after a prefix of a script, and the lines of that prefix.
 use Rattle.std.proofs.Common.{◌≡◌, ◌⊎◌, inl, inr, ℕ, Bool, true, false, cond, ltb, List, [], ◌∷◌, ◌++◌, length, map, Option, Some, None, refl, sym, ap, ◌∙◌, append_assoc, arith, length-append}
 use Rattle.std.specs.List.{cons_option}
 use Rattle.std.specs.Option.{option_to_list}
@@ -24,7 +24,7 @@ joined_cut line byte = by_length (ltb LINE_LIMIT (length line)) refl
         rw longer refl
     by_length false short = refl
 
--- the cut of the bytes behind the last line feed, where there are any
+-- the cut of the bytes after the last line feed, if there are any
 abbrev cut_behind : List ℕ → Option Cut
 cut_behind [] = None
 cut_behind (b ∷ line) = Some (cut_of (b ∷ line))
@@ -37,7 +37,7 @@ some_cut (b ∷ line) = by_length (ltb LINE_LIMIT (length (b ∷ line)))
     by_length true = refl
     by_length false = refl
 
--- what is held stands behind this line, which goes on
+-- what is held is that of this line, which goes on
 record Stands (line : List ℕ) (held : Holding) : Type 0 where
   joins : line_to_join held ≡ cut_of line
   rest : rest_of held ≡ cut_behind line
@@ -53,7 +53,7 @@ other_cut line held byte other stands = rw (other, stands.joins, joined_cut line
 at_start : Stands (open_line []) nothing_held
 at_start = record { joins = refl; rest = refl }
 
--- what is held stands so behind one more byte
+-- and so it is after one more byte
 push_stands : (front : List ℕ) (held : Holding) (byte : ℕ) → Stands (open_line front) held → Stands (open_line (front ++ byte ∷ [])) (pushed held byte)
 push_stands front held byte stands = by_feed (cases_Bool (is_line_feed byte))
   where

@@ -1,4 +1,4 @@
--- The whole lines of a prefix of a script, and the line that goes on behind them.
+-- The whole lines of a prefix of a script, and the line that goes on after them.
 use Rattle.std.proofs.Common.{◌≡◌, ℕ, Bool, true, false, List, [], ◌∷◌, ◌++◌, refl, sym, ap, ◌∙◌}
 use Rattle.std.specs.List.{slice_split, onto_first}
 use Rattle.std.proofs.lemmas.List.{append-nil}
@@ -10,16 +10,16 @@ last_part [] = []
 last_part (part ∷ []) = part
 last_part (part ∷ next ∷ parts) = last_part (next ∷ parts)
 
--- the bytes behind the last line feed
+-- the bytes after the last line feed
 abbrev pub open_line : List ℕ → List ℕ
 open_line text = last_part (slice_split is_line_feed text)
 
--- parts, where a line stands before the first
+-- parts, with a line before the first
 abbrev behind : List ℕ → List (List ℕ) → List (List ℕ)
 behind line [] = line ∷ []
 behind line (part ∷ parts) = (line ++ part) ∷ parts
 
--- there is a part at least
+-- there is at least one part
 some_part : (text : List ℕ) → (first : List ℕ) × (others : List (List ℕ)) × (slice_split is_line_feed text ≡ first ∷ others)
 some_part [] = ([], [], refl)
 some_part (b ∷ text) = by_feed (is_line_feed b) refl (some_part text)
@@ -41,7 +41,7 @@ onto_joined b (part ∷ other ∷ parts) more = refl
 feed_joined : (parts more : List (List ℕ)) (first : List ℕ) (others : List (List ℕ)) → parts ≡ first ∷ others → [] ∷ (without_last parts ++ behind (last_part parts) more) ≡ without_last ([] ∷ parts) ++ behind (last_part ([] ∷ parts)) more
 feed_joined parts more first others e = rw e refl
 
--- the whole lines of a prefix stay, and what stands behind them goes on
+-- the whole lines of a prefix stay, and what comes after them goes on
 split-append : (front more : List ℕ) → slice_split is_line_feed (front ++ more) ≡ whole_lines front ++ behind (open_line front) (slice_split is_line_feed more)
 split-append [] more = let some = some_part more in from_nothing (slice_split is_line_feed more) some.0 some.1 some.2
 split-append (b ∷ front) more = by_feed (is_line_feed b) refl (split-append front more)
@@ -67,7 +67,7 @@ last_part-append [] part more = refl
 last_part-append (first ∷ []) part more = refl
 last_part-append (first ∷ next ∷ parts) part more = last_part-append (next ∷ parts) part more
 
--- the parts of a prefix and of what follows it, with a part at least behind the whole lines
+-- the parts of a prefix and of what follows it, with at least one part after the whole lines
 front_parts : (front more : List ℕ) → (part : List ℕ) × (parts : List (List ℕ)) × (slice_split is_line_feed (front ++ more) ≡ whole_lines front ++ part ∷ parts)
 front_parts front more =
     let some = some_part more in

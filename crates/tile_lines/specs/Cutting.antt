@@ -31,7 +31,7 @@ abbrev pub with_byte : Cut → ℕ → Cut
 with_byte (Whole line) byte = cut_of (line ++ byte ∷ [])
 with_byte TooLong byte = TooLong
 
--- what is held after one more byte: a line feed completes the line, and any other byte joins it; behind a complete line
+-- what is held after one more byte: a line feed completes the line, and any other byte joins it; after a complete line
 -- a new one begins
 unfoldable pub pushed : Holding → ℕ → Holding
 pushed held byte =

@@ -2,7 +2,7 @@
 use Rattle.std.specs.Prelude.{◌≡◌, ◌⊎◌, ℕ, ◌<◌, Bool, false, List, [], ◌∷◌, ◌++◌, length, ◌==◌}
 use Rattle.std.specs.List.{slice_split, AllByRecursion}
 
--- the bytes behind the last line feed: a line, where there are any
+-- the bytes after the last line feed: a line, if there are any
 abbrev pub last_line : List ℕ → List (List ℕ)
 last_line [] = []
 last_line (b ∷ line) = (b ∷ line) ∷ []
@@ -17,7 +17,7 @@ without_empty_end (line ∷ next ∷ more) = line ∷ without_empty_end (next �
 abbrev pub is_line_feed : ℕ → Bool
 is_line_feed b = b == 10
 
--- the lines of a script: what stands before each line feed, and what stands behind the last one, where there are bytes
+-- the lines of a script: what comes before each line feed, and what comes after the last one, if there are bytes
 unfoldable pub lines_of : List ℕ → List (List ℕ)
 lines_of script = without_empty_end (slice_split is_line_feed script)
 
@@ -35,7 +35,7 @@ whole_lines text = without_last (slice_split is_line_feed text)
 abbrev pub HasNoLineFeed : List ℕ → Type 0
 HasNoLineFeed line = AllByRecursion (λ b. is_line_feed b ≡ false) line
 
--- the bytes with a line feed behind them
+-- the bytes with a line feed after them
 abbrev pub with_feed : List ℕ → List ℕ
 with_feed text = text ++ 10 ∷ []
 
@@ -43,7 +43,7 @@ with_feed text = text ++ 10 ∷ []
 abbrev pub EndsWithALine : List ℕ → Type 0
 EndsWithALine front = (front ≡ []) ⊎ ((text : List ℕ) × (front ≡ with_feed text))
 
--- the lines make up the script: each with a line feed behind it, which only a last line that is not empty may lack, and
+-- the lines make up the script: each with a line feed after it, which only a last line that is not empty may lack, and
 -- no line feed within a line
 abbrev pub SpellsLines : List ℕ → List (List ℕ) → Type 0
 SpellsLines script [] = script ≡ []

@@ -37,7 +37,7 @@ impl Model for LineCutter {
 }
 
 impl LineCutter {
-    /// A cutter that holds no byte. Memory is asked for here alone.
+    /// A cutter that holds no byte. Memory is asked for only here.
     pub fn new(alloc: Global) -> Result<LineCutter, AllocError>
         ensures { IfOk result (λ cutter. cutter ≡ nothing_held) }
     {
@@ -79,7 +79,7 @@ impl LineCutter {
         }
     }
 
-    /// The bytes held of a line that is not complete, where there are any.
+    /// The bytes held of a line that is not complete, if there are any.
     pub fn rest(&self) -> Option<Cut<'_>>
         ensures { option_map cut_seen result ≡ rest_of self.now }
     {

@@ -1,8 +1,8 @@
 //! A script cut into its lines.
 //!
 //! - A cutter that takes bytes one by one holds the line that the definition says (`push`), returns
-//!   it where it is complete (`line`), and else what it has of it (`rest`). A new one holds nothing
-//!   (`new`): the contracts of `LineCutter`.
+//!   it where it is complete (`line`), and otherwise what it has of it (`rest`). A new one holds
+//!   nothing (`new`): the contracts of `LineCutter`.
 #![tactic(auto)]
 
 mod cutter;

@@ -1,4 +1,4 @@
--- Numbers that are those of no kind.
+-- Numbers that are not those of a kind.
 use Rattle.std.proofs.Common.{◌≡◌, ◌≢◌, ℕ, eqb, false, [], ◌∷◌, codes, decimal, refl, arith}
 use Rattle.std.proofs.lemmas.Bool.Decides.{nat_tests}
 use Rattle.mvt_geometry.specs.Shapes.{kind_number}

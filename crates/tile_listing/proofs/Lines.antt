@@ -17,7 +17,7 @@ line_more line old now new seen x before put =
     put ∙ ap (λ (s : List ℕ). s ++ with_feed (line x)) before ∙ flat_map_more with_feed old (map line seen) (line x)
     ∙ ap (λ (lines : List (List ℕ)). old ++ joined_lines lines) (sym (map_push line seen x))
 
--- the same of items in order, of which the first `i` were seen
+-- the same for items in order, of which the first `i` were seen
 pub next_line : {A B : Type 0} (view : A → B) (line : B → List ℕ) (old now new : List ℕ) (items : List A) (i : ℕ) (d : A) → i < length items → now ≡ old ++ joined_lines (map line (map view (take i items))) → new ≡ now ++ with_feed (line (view (get_or items i d))) → new ≡ old ++ joined_lines (map line (map view (take (i + 1) items)))
 next_line {A} {B} view line old now new items i d low before put =
     line_more line old now new (map view (take i items)) (view (get_or items i d)) before put

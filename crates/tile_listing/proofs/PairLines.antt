@@ -33,7 +33,7 @@ pub pairs_fit : (layer : Layer) (feature : Feature) (pairs : List Pair) → pair
 pairs_fit layer feature pairs read =
     All-from_recursion _ pairs (all_pass (is_pair (length (keys layer)) (length (values layer))) pair_seen pairs (are_pairs (length (keys layer)) (length (values layer)) (option_and_then in_pairs (values_in (numbers 2 feature.fields))) (map pair_seen pairs) read))
 
--- what stands at an ordinal is there
+-- there is something at an ordinal
 there : {A : Type 0} (xs : List A) (k : ℕ) (d : A) → k < length xs → slice_get xs k ≡ Some (slice_index_or xs k d)
 there [] k d inside = absurd (omega arith)
 there (x ∷ xs) zero d inside = refl
@@ -42,7 +42,7 @@ there (x ∷ xs) (suc k) d inside = there xs k d (omega arith)
 pub ordinal_there : (xs : List (List ℕ)) (k : ℕ) → is_ordinal (length xs) k ≡ true → slice_get xs k ≡ Some (slice_index_or xs k [])
 ordinal_there xs k is = there xs k [] (ltb-true k (length xs) (and_parts (nat_lt k (length xs)) (nat_lt k (2 ^ 32)) is).0)
 
--- the same of the slices that hold the keys and the values
+-- the same for the slices that hold the keys and the values
 pub held_fit : (layer : Layer) (pairs : List Pair) (held_keys held_values : List (Bor (List ℕ))) → contents_of held_keys ≡ keys layer → contents_of held_values ≡ values layer
     → All (λ pair. IsTrue (is_pair (length (keys layer)) (length (values layer)) (pair_seen pair))) pairs → All (λ pair. IsTrue (is_pair (length held_keys) (length held_values) (pair_seen pair))) pairs
 held_fit layer pairs held_keys held_values of_keys of_values fit =
@@ -62,7 +62,7 @@ named_held held_keys held_values pair key value fits =
 
 -- ---- the lines of the attributes
 
--- what the slices name is what the pairs of the layer do
+-- what the slices name is what the pairs of the layer name
 pub held_put : (layer : Layer) (pairs : List (ℕ × ℕ)) (held_keys held_values : List (Bor (List ℕ))) (old new : List ℕ) → contents_of held_keys ≡ keys layer → contents_of held_values ≡ values layer
     → new ≡ old ++ joined_lines (map (λ (pair : ℕ × ℕ). attribute_line (named_by (contents_of held_keys) (contents_of held_values) pair)) pairs) → new ≡ old ++ joined_lines (map (λ (pair : ℕ × ℕ). attribute_line (attribute_at layer pair)) pairs)
 held_put layer pairs held_keys held_values old new of_keys of_values put =

@@ -9,7 +9,7 @@ use Rattle.tile_lines.specs.Lines.{with_feed}
 use Rattle.tile_listing.specs.Listing.{spaced, geometry_line}
 use Rattle.tile_listing.proofs.Shown.{with_geometry, without_geometry}
 
--- what stands where the last call went well
+-- what there is where the last call went well
 pub ok_put : {T E : Type 0} (r : Result T E) (old new piece : List ℕ) → new ≡ cond (is_ok r) (old ++ piece) old → OnOk r (new ≡ old ++ piece)
 ok_put (Ok x) old new piece e = e
 ok_put (Err x) old new piece e = tt

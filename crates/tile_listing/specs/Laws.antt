@@ -1,4 +1,4 @@
--- Laws of listings, in which nothing is said of what they show.
+-- Laws of listings, which say nothing of what listings show.
 use Rattle.std.specs.Prelude.{◌≡◌, ◌≢◌, ℕ, List, Ok, Err}
 use Rattle.mvt_document.specs.Plain.{Document, Feature, Layer}
 use Rattle.mvt_command.specs.Command.{FeatureChoice, LayerChoice}

@@ -21,7 +21,7 @@ use Rattle.tile_request.specs.Request.{What, Whole, OneLayer, OneFeature}
 
 -- ---- lines
 
--- the words, with one space between two of them
+-- the words, with one space between them
 abbrev pub spaced : List (List ℕ) → List ℕ
 spaced words = join_with_byte 32 words
 
@@ -70,7 +70,7 @@ value_line ordinal value = spaced (codes "value" ∷ decimal ordinal ∷ value_s
 abbrev pub id_word : Option ℕ → List ℕ
 id_word id = option_map_or decimal id absent
 
--- the word of the kind with this number; `unknown` for 0, and another number as it is (tiles 4.3.4)
+-- the word of the kind with this number; `unknown` for 0, and any other number as it is (tiles 4.3.4)
 abbrev pub kind_form : ℕ → List ℕ
 kind_form number =
     if number == 0 then codes "unknown"
@@ -141,7 +141,7 @@ joined_lines lines = flat_map with_feed lines
 unfoldable pub listed : What → Document → Result (List ℕ) Refusal
 listed what document = shown what document >>= λ lines. Ok (joined_lines lines)
 
--- a listing is answered as it is defined, or out of memory, and no other refusal, comes in its place
+-- a listing is answered as it is defined, or out of memory, and no other refusal, is answered in its place
 abbrev pub Shows : What → Document → Result (Held ℕ) Refusal → Type 0
 Shows what document (Ok lines) = listed what document ≡ Ok lines.items
 Shows what document (Err refusal) = (refusal ≡ NoMemory) ⊎ (listed what document ≡ Err refusal)

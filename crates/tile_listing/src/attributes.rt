@@ -13,7 +13,8 @@ use mvt_layers::{FeatureView, LayerView, Pair, PairsError, pairs};
 use std::alloc::{AllocError, Global};
 use tile_text::put_text;
 
-/// How many pairs at most are looked up one by one. Each may go through all keys and values of the layer.
+/// How many pairs are looked up one by one at most. Each look-up may go through all keys and values
+/// of the layer.
 const FEW_PAIRS: usize = 32;
 
 /// Adds a line for each attribute of the feature of this layer.
@@ -51,7 +52,7 @@ fn put_pairs(
     }
 }
 
-/// The same of few pairs.
+/// The same for few pairs.
 fn put_few_pairs(text: &mut Vec<u8>, layer: LayerView, pairs: &[Pair]) -> Result<(), AllocError>
     requires { All (λ pair. IsTrue (is_pair (length (keys (layer_seen layer))) (length (values (layer_seen layer))) (pair_seen pair))) pairs.now }
     ensures { OnOk result (text.new.items ≡ text.old.items
@@ -73,7 +74,7 @@ fn put_pair(text: &mut Vec<u8>, layer: LayerView, pair: Pair) -> Result<(), Allo
     put_attribute_line(text, key, value)
 }
 
-/// The same of many pairs. The keys and the values of the layer are gone through once.
+/// The same for many pairs. It goes through the keys and the values of the layer once.
 fn put_many_pairs(
     alloc: Global,
     text: &mut Vec<u8>,
@@ -89,7 +90,7 @@ fn put_many_pairs(
     put_named(text, &keys, &values, pairs)
 }
 
-/// Adds a line for each pair of a key and a value of these.
+/// Adds a line for each pair, which names a key and a value of these.
 fn put_named(
     text: &mut Vec<u8>,
     keys: &[&[u8]],

@@ -12,7 +12,7 @@ use tile_text::{put_decimal, put_text, put_value};
 
 const UNKNOWN: u64 = 0;
 
-/// Adds some text and a number behind it.
+/// Adds some text and a number after it.
 pub(crate) fn put_number(line: &mut Vec<u8>, front: &[u8], number: u64) -> Result<(), AllocError>
     ensures { OnOk result (line.new.items ≡ line.old.items ++ front.now ++ decimal number) }
 {

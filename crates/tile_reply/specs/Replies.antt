@@ -63,9 +63,8 @@ refused_front line reason = codes "line " ++ decimal line ++ codes " refused " +
 abbrev pub place_text : ℕ → ℕ → List ℕ
 place_text layer feature = codes " layer " ++ decimal layer ++ codes " feature " ++ decimal feature
 
--- what stands behind the name of a refusal: the ordinals of the layer and the feature whose tags or geometry are at
--- fault; how many steps, or commands of the open step, were taken before a request was stopped; nothing for another
--- refusal
+-- what follows the name of a refusal: the ordinals of the layer and the feature whose tags or geometry are at fault;
+-- how many steps, or commands of the open step, were taken before a request was stopped; nothing for any other refusal
 abbrev pub behind_name : Refused → List ℕ
 behind_name (refused.Edit (edit.BadTags layer feature)) = place_text layer feature
 behind_name (refused.Edit (edit.RepeatedKey layer feature)) = place_text layer feature
@@ -73,7 +72,7 @@ behind_name (refused.Edit (edit.BadGeometry layer feature)) = place_text layer f
 behind_name (refused.History (history.Stopped taken)) = codes " taken " ++ decimal taken
 behind_name reason = []
 
--- the reply to a refused line: its beginning, what stands behind the name of the refusal, and a line feed
+-- the reply to a refused line: its beginning, what follows the name of the refusal, and a line feed
 abbrev pub refused_reply : ℕ → Refused → List ℕ
 refused_reply line reason = refused_front line reason ++ behind_name reason ++ codes "\n"
 
@@ -91,6 +90,6 @@ reply_to line (Err reason) = refused_reply line reason
 abbrev pub IsOutOfMemory : Refused → Type 0
 IsOutOfMemory reason = (refusal_number reason ≡ 60) ⊎ (refusal_number reason ≡ 54)
 
--- no reply with the refusal 60 or 54 stands at the beginning of the bytes or behind a line feed in them
+-- no reply with the refusal 60 or 54 is at the beginning of the bytes or after a line feed in them
 abbrev pub NoneIsOutOfMemory : List ℕ → Type 0
 NoneIsOutOfMemory replies = (line : ℕ) (reason : Refused) (front rest : List ℕ) → EndsWithALine front → IsOutOfMemory reason → replies ≢ front ++ refused_reply line reason ++ rest

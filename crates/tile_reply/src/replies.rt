@@ -84,7 +84,7 @@ fn write_reason<W: Sink>(
     )
 }
 
-/// Writes what stands behind the name of the refusal, and the end of the line.
+/// Writes what follows the name of the refusal, and the end of the line.
 fn write_end<W: Sink>(
     replies: &mut W,
     reason: Refused,

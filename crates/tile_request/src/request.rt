@@ -22,15 +22,15 @@ pub enum Request {
     Edit(Command),
     /// Takes the last step back.
     Undo,
-    /// Has the step stand again that was taken back last.
+    /// Makes the step that was taken back last stand again.
     Redo,
-    /// Has the name mark the present point.
+    /// Makes the name mark the present point.
     Mark(Items<u8>),
-    /// Has the name mark nothing.
+    /// Makes the name mark nothing.
     Unmark(Items<u8>),
     /// Goes to the point that the name marks.
     Back(Items<u8>),
-    /// Opens a step: the commands from now on are one.
+    /// Opens a step: the commands from now on are one step.
     Begin,
     /// Ends the open step.
     End,

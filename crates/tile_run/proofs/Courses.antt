@@ -1,4 +1,4 @@
--- How a run ends, from what its steps answer.
+-- How a run ends, from what its steps return.
 use Rattle.std.proofs.Common.{◌≡◌, ℕ, ◌+◌, ◌≤◌, Bool, true, false, [], length, refl, arith, sym, ap, subst, ◌∙◌, inl, inr}
 use Rattle.std.specs.Prelude.{Result, Ok, Err}
 use Rattle.mvt_document.specs.declared.TheConstants.{MAX_FILE}
@@ -73,7 +73,7 @@ runs_to_tile options t0 t1 s r o before after stop outcome all opening is =
     let ends = subst (λ (t : Outcome). Ends options t (at_tile tile)) (sym is) (opening_ends options stop tile opening.2) in
     runs_at_tile options t0 t1 s r o before after tile outcome all opening.1 opening.3 ends
 
--- the tile opened, and memory was refused to what the session keeps
+-- the tile opened, and memory was refused for what the session keeps
 pub runs_to_start : (options : Options) (t0 t1 s r o : Seen) (before after : ℕ) (document : program.Document) → before ≡ MAX_RETRIES
     → Opening t0 t1 before after (Ok document) → Runs options (seen t0 s r o) (seen t1 s r o) outcomes.NoMemory
 runs_to_start options t0 t1 s r o before after document all opening =

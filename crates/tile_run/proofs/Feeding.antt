@@ -37,7 +37,7 @@ some_more next before bytes i cut within given some =
     let found = line_completed (before ++ take i bytes) (get_or bytes i 0) cut (ap (λ (t : List ℕ). complete_line (after_pushes nothing_held t)) (sym e) ∙ ap complete_line (sym given) ∙ sym some) in
     (found.0, found.1, ap whole_lines e ∙ found.2)
 
--- the lines of the other bytes come behind
+-- the lines of the other bytes come after it
 others_behind : (before bytes : List ℕ) (i : ℕ) → (others : List (List ℕ)) × (whole_lines (before ++ bytes) ≡ whole_lines (before ++ take i bytes) ++ others)
 others_behind before bytes i =
     let found = whole_lines-front (before ++ take i bytes) (drop i bytes) in

@@ -50,7 +50,7 @@ all_done strict start before now replies less editor after cutter whole to =
       ends = (c.progress, record { whole = refl; within = whole.within; untroubled = refl; walk = c.walk; goes_on = c.over; replies = all_replies (whole.allowed - less) c.progress.replies }, to.at);
     }
 
--- nothing is left behind the last line feed
+-- nothing is left after the last line feed
 pub ends_with_feed : (strict : Bool) (start : Progress) (before now : Moment) (editor : Editor) (cutter : Holding)
     → ReadsWhole strict start before now editor cutter → None ≡ rest_of cutter → CarriesOutScript strict start before now editor (Ok tt)
 ends_with_feed strict start before now editor cutter whole none =

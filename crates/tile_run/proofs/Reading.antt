@@ -58,7 +58,7 @@ so_far_none strict document depth now editor cutter empty at = record {
 
 -- ---- another piece
 
--- another piece was read behind these bytes, whose whole lines were carried out
+-- another piece was read after these bytes, whose whole lines were carried out
 pub record Got (strict : Bool) (start : Progress) (before now : Moment) (room : ℕ) (editor : Editor) (cutter : Holding) (piece : List ℕ) : Type 0 where
   pub bytes : List ℕ
   pub counted : length bytes + room ≡ MAX_SCRIPT
@@ -78,7 +78,7 @@ sends_with_less a b n m i j less bytes before after sends =
       pays = record { spent = omega (arith, sends.pays.spent); last = λ e. absurd cc };
     }
 
--- with fewer retries allowed before and after, wherever the script stands
+-- with fewer retries allowed before and after, in whatever state the script is
 comes_with_less : (strict : Bool) (start : Progress) (lines : List (List ℕ)) (a b : Moment) (first now : Seen) (i j less : ℕ) (editor : Editor) → i + less ≡ a.retries → j + less ≡ b.retries
     → ComesTo strict start lines a b editor → ComesTo strict start lines (record a { script = first; retries = i }) (record b { script = now; retries = j }) editor
 comes_with_less strict start lines a b first now i j less editor before after to =
@@ -137,7 +137,7 @@ cut_at bytes piece room n counted within =
         let short : length (take n piece) ≤ room = omega (arith, length-take-le n piece within) in
         take_all room (take n piece) short ∙ ap (λ (k : ℕ). take k piece) (sym low)
 
--- what was passed on of a piece that stands before other bytes
+-- what was passed on of a piece that comes before other bytes
 pub passed_on : (buffer behind : List ℕ) (k n room : ℕ) → k ≡ min n room → n ≤ length buffer → take k (buffer ++ behind) ≡ take (min n room) buffer
 passed_on buffer behind k n room is within =
     let low : k ≤ length buffer = omega (arith, is) in

@@ -13,7 +13,7 @@ use Rattle.tile_device.specs.Seen.{Intake}
 use Rattle.tile_device.specs.Transfer.{ReadsUpTo}
 use Rattle.tile_run.specs.Steps.{OpensTile, stop_for}
 
--- what the file opens as that the tile was read into, so does the tile
+-- a tile opens as the document that the file that it was read into opens as
 pub opens_so : (read : Vec ℕ Global) (file : List ℕ) (tile : Intake) (document : Document) → file ≡ read.items → ReadsUpTo (MAX_FILE + 1) (Ok read) tile
     → IsErrOf {E = ReadError} (Ok document) FileTooLarge ↔ (MAX_FILE < length file)
     → OpensAs file (document_of document) → OpensTile (Ok document) tile
@@ -28,7 +28,7 @@ opens_so read file tile document same reads too_large opens =
           )
     ]
 
--- what the reader of the file says is wrong with the tile that was read into it, is
+-- what the reader says is wrong with the file that a tile was read into is wrong with the tile
 pub opens_not : (read : Vec ℕ Global) (file : List ℕ) (tile : Intake) (error : ReadError) → file ≡ read.items → ReadsUpTo (MAX_FILE + 1) (Ok read) tile
     → IsErrOf {T = Document} (Err error) FileTooLarge ↔ (MAX_FILE < length file)
     → ((place : ℕ) → IsErrOf {T = Document} (Err error) (BadWire place) → OpensAsNothing file)

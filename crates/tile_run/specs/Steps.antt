@@ -1,4 +1,4 @@
--- What the steps of a run answer.
+-- What the steps of a run return.
 use Rattle.std.specs.Prelude.{◌≡◌, ℕ, ◌+◌, ◌≤◌, Bool, true, false, List, [], ◌++◌, length, Option, Some, None, IsSome, Result, Ok, Err}
 use Rattle.mvt_document.specs.declared.Document.{Document}
 use Rattle.mvt_document.specs.declared.TheConstants.{MAX_FILE}
@@ -34,7 +34,7 @@ use Rattle.mvt_history_steps.specs.Session.{StandsFor}
 
 -- ---- the tile
 
--- the document that opening returned beside something else, or why it returned none
+-- the document that opening returned along with something else, or why it returned none
 abbrev pub document_in : {A : Type 0} → Result (Document × A) Unopened → Result Document Unopened
 document_in (Ok opened) = Ok opened.0
 document_in (Err stop) = Err stop
@@ -47,7 +47,8 @@ OpensTile (Err unopened.Device) tile = IsSome tile.trouble
 OpensTile (Err (unopened.Refused fault)) tile = (tile.trouble ≡ None) × IsFaulty fault tile
 OpensTile (Err unopened.NoMemory) tile = tile.trouble ≡ None
 
--- between two moments the tile was read, to its end or to the first byte that is too many, and opening it ended so
+-- between two moments the tile was read, to its end or to the first byte that is too many, and opening it ended with
+-- this result
 abbrev pub Opening : Seen → Seen → ℕ → ℕ → Result Document Unopened → Type 0
 Opening before after retries left result = (tile : Intake) × (length tile.bytes ≤ MAX_FILE + 1) × OpensTile result tile × Reads before after retries left tile
 
@@ -57,7 +58,7 @@ stop_for (read_errors.BadWire place) = unopened.Refused (faults.BadWire place)
 stop_for read_errors.FileTooLarge = unopened.Refused faults.FileTooLarge
 stop_for read_errors.NoMemory = unopened.NoMemory
 
--- the devices at one moment, of which the tile stands so
+-- the devices at one moment, with the tile in this state
 abbrev pub devices_with : {A B C : Type 0} → Seen → SourceMembers A → SinkMembers B → SinkMembers C → A → B → C → Devices
 devices_with tile a b c script replies out = record { tile = tile; script = source_at a script; replies = sink_at b replies; out = sink_at c out }
 
@@ -68,7 +69,7 @@ abbrev pub printed_in : Result (Held ℕ) Refused → Result (List ℕ) Refused
 printed_in (Ok lines) = Ok lines.items
 printed_in (Err reason) = Err reason
 
--- the progress after a line with this answer, at which the history stands
+-- the progress after a line with this answer and this history
 abbrev pub answered : Progress → History → Option (Result (Held ℕ) Refused) → Progress
 answered p history None = silent (record p { history = history })
 answered p history (Some (Ok lines)) = accepted (record { lines = lines.items; history = history }) p
@@ -87,12 +88,12 @@ pub record IsAt (editor : Editor) (is_strict : Bool) (p : Progress) : Type 0 whe
   pub lines : editor.lines ≡ p.lines
   pub refused : editor.any_refused ≡ p.any_refused
 
--- the editor behind a line, refused or not
+-- the editor after a line, refused or not
 abbrev pub settled : Bool → Editor → Editor
 settled false editor = editor
 settled true editor = record editor { any_refused = true }
 
--- how a line ends that was replied to, in a strict run or not, refused or not
+-- how a line that was replied to ends, in a strict run or not, refused or not
 abbrev pub ends_line : Bool → Bool → Result (Unit {0}) LineStop
 ends_line strict false = Ok tt
 ends_line false true = Ok tt
@@ -106,7 +107,7 @@ pub record Moment : Type 0 where
   pub replies : Seen
   pub retries : ℕ
 
--- the moment at which the sink of the replies stands so
+-- the moment with the sink of the replies in this state
 abbrev pub moment_at : {W : Type 0} → SinkMembers W → Seen → W → ℕ → Moment
 moment_at members script replies retries = record { script = script; replies = sink_at members replies; retries = retries }
 

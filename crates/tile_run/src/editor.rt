@@ -35,7 +35,7 @@ pub(crate) struct Editor {
     session: Session,
     /// Whether the first refused line ends the run.
     strict: bool,
-    /// How many lines came so far, blank ones and comments too.
+    /// How many lines there were so far, including blank ones and comments.
     lines: u64,
     any_refused: bool,
 }
@@ -205,8 +205,7 @@ impl Editor {
     }
 }
 
-/// What is answered to a line that asks for something: the lines that it prints, or why it is
-/// refused.
+/// The answer to a line that asks for something: the lines that it prints, or why it is refused.
 fn carry_out_line(
     alloc: Global,
     session: &mut Session,

@@ -2,15 +2,16 @@
 //! written.
 //!
 //! - `run` has the headline: docs/PROVED.md has its clauses and premises. It is for a program that
-//!   ends behind it, and leaves what it holds to the system. `run_and_hold` hands that back beside
-//!   the outcome, and has the clause from which the headline follows (`course`).
-//! - Private `Editor::carry_out_script` is the step on whose contract both stand: what the lines of a
-//!   script come to as they are read.
+//!   ends after it, and leaves what it holds to the system. `run_and_hold` hands that back with the
+//!   outcome, and has the clause from which the headline follows (`course`).
+//! - Private `Editor::carry_out_script` is the step on whose contract both rest: what the lines of
+//!   a script come to as they are read.
 //! - Private `carry_out_request` is how a session answers a request: it is carried out, or refused,
-//!   as the definition says, with the lines that the definition says (`answer`). Out of memory
-//!   alone may come in place of that: as 60, but not of `unmark`, `back`, `begin` and `cancel`
+//!   as the definition says, with the lines that the definition says (`answer`). Only out of memory
+//!   may be answered instead: as 60, but not to `unmark`, `back`, `begin` and `cancel`
 //!   (`NeedsMemory`); and as a stop of `back` and `cancel`, which says how many steps, or commands,
-//!   were taken (`MayStop`). After every refusal but a stop the session holds what it held (`err`).
+//!   were taken (`MayStop`). After every refusal but a stop the session holds what it held before
+//!   (`err`).
 #![tactic(auto)]
 
 mod answer;

@@ -78,7 +78,7 @@ fn put_open(lines: &mut Vec<u8>, commands: Option<usize>) -> Result<(), AllocErr
     Ok(())
 }
 
-/// The line that says how many bytes the document has. Where they are more than a file can hold,
+/// The line that says how many bytes the document has. Where there are more than a file can hold,
 /// which no tile of a run has, they are not counted, and the answer is that memory ran out.
 pub(crate) fn size_line(alloc: Global, document: &Document) -> Result<Items<u8>, Refusal>
     ensures line { IfOk result (λ line. line.items ≡ size_line (document_of document.now)) }

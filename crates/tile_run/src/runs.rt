@@ -40,7 +40,7 @@ impl Ended {
 /// writes the edited tile.
 ///
 /// What the run still holds at its end, the session with its document, is not freed: it is left to
-/// the system. So this is for a program that ends behind it; `run_and_hold` is for one that goes on.
+/// the system. So this is for a program that ends after it; `run_and_hold` is for one that goes on.
 pub fn run<R1: Source, R2: Source, W1: Sink, W2: Sink>(
     alloc: Global,
     tile: &mut R1,
@@ -64,13 +64,13 @@ pub fn run<R1: Source, R2: Source, W1: Sink, W2: Sink>(
         (devices_at R1.Source R2.Source W1.Sink W2.Sink tile.new script.new replies.new out.new)
         result }
 
-    // A tile that opens as no document is refused for what is wrong with it.
+    // A tile that does not open as a document is refused for what is wrong with it.
     ensures refuses_tile { RefusesTile
         (devices_at R1.Source R2.Source W1.Sink W2.Sink tile.old script.old replies.old out.old)
         (devices_at R1.Source R2.Source W1.Sink W2.Sink tile.new script.new replies.new out.new)
         result }
 
-    // In each other case too: what was read and written, by the outcome.
+    // In every other case too: what was read and written, by the outcome.
     ensures course { Runs options
         (devices_at R1.Source R2.Source W1.Sink W2.Sink tile.old script.old replies.old out.old)
         (devices_at R1.Source R2.Source W1.Sink W2.Sink tile.new script.new replies.new out.new)
@@ -85,8 +85,8 @@ pub fn run<R1: Source, R2: Source, W1: Sink, W2: Sink>(
     outcome
 }
 
-/// Does what `run` does, and hands back what it still holds beside the outcome, so that this can be
-/// freed. What `run` says besides follows from `course`.
+/// Does what `run` does, and hands back what it still holds with the outcome, so that this can be
+/// freed. What else `run` says follows from `course`.
 pub fn run_and_hold<R1: Source, R2: Source, W1: Sink, W2: Sink>(
     alloc: Global,
     tile: &mut R1,
@@ -117,7 +117,7 @@ pub fn run_and_hold<R1: Source, R2: Source, W1: Sink, W2: Sink>(
     Ended::new(outcome, Some(editor))
 }
 
-/// Carries the script out on a document that no line has edited, and writes what it is then. The
+/// Carries the script out on a document that no line has edited, and writes what it has become. The
 /// bytes are made in the memory of this vector.
 fn edit<R: Source, W1: Sink, W2: Sink>(
     alloc: Global,
@@ -151,8 +151,8 @@ fn edit<R: Source, W1: Sink, W2: Sink>(
     Outcome::edited(editor.any_refused())
 }
 
-/// Reads the tile to its end, or to the first byte that is too many, and opens it. Beside the
-/// document is the vector that the tile was read into.
+/// Reads the tile to its end, or to the first byte that is too many, and opens it. With the
+/// document comes the vector that the tile was read into.
 fn open<R: Source>(
     alloc: Global,
     tile: &mut R,
@@ -167,7 +167,7 @@ fn open<R: Source>(
     }
 }
 
-/// Why a tile is not opened that is no document.
+/// Why a tile that is not a document is not opened.
 fn stop_for(error: ReadError) -> Unopened
     ensures { result ≡ stop_for error }
 {

@@ -21,17 +21,17 @@ use Rattle.tile_script.proofs.Silent.{answer_to-words}
 abbrev is_remark_behind : List ℕ → Bool
 is_remark_behind bytes = option_map_or (λ byte. byte == 35) (slice_get bytes 0) true
 
--- a line is no remark, where its first word is bare and begins with another byte
+-- a line is not a remark, where its first word is bare and begins with another byte
 no_remark : (line : List ℕ) (b : ℕ) (name : List ℕ) (words : List Word) → SpellsWords line (Bare (b ∷ name) ∷ words) → is_remark line ≡ eqb b 35
 no_remark line b name words s =
     ap is_remark s.3 ∙ ap is_remark_behind (behind_blanks s.0 (s.1 ++ s.2) s.4 (no_gap s.1 (Bare (b ∷ name)) s.2 s.5)) ∙ ap (λ (bytes : List ℕ). is_remark_behind (bytes ++ s.2)) s.5.0
 
--- a readable line that is no remark asks for what its words ask for
+-- a readable line that is not a remark asks for what its words ask for
 asks : (line : List ℕ) (words : List Word) (request : Request) → IsAsking line → words_of line ≡ Some words → asked_by words ≡ Ok request → answer_to line ≡ Ok (Some request)
 unfolding request_in
 asks line words request takes read asked = answer_to-words line takes ∙ rw (read, asked) refl
 
--- the same of a line whose first word is bare, and begins with another byte than `#`
+-- the same for a line whose first word is bare, and begins with a byte other than `#`
 asks_by : (line : List ℕ) (b : ℕ) (name : List ℕ) (arguments : List Word) (request : Request) → IsReadable line → eqb b 35 ≡ false
     → SpellsWords line (Bare (b ∷ name) ∷ arguments) → asked_by (Bare (b ∷ name) ∷ arguments) ≡ Ok request → answer_to line ≡ Ok (Some request)
 asks_by line b name arguments request readable other s asked =

@@ -165,7 +165,7 @@ first_other : {A : Type 0} (is : Bool) (read : List Word → Result A ParseError
 first_other true read found arguments unknown first others = first
 first_other false read found arguments unknown first others = others
 
--- some readers, of which none refuses arguments as out of memory
+-- some readers, none of which refuses arguments as out of memory
 read_other : {A : Type 0} (readers : List (List ℕ × (List Word → Result A ParseError))) (unknown : Result A ParseError) (name : List ℕ) (arguments : List Word) → AllByRecursion (λ reader. Other parse.NoMemory (reader.1 arguments)) readers → Other parse.NoMemory unknown → Other parse.NoMemory (read_by readers unknown name arguments)
 read_other [] unknown name arguments each other = other
 read_other (reader ∷ readers) unknown name arguments (first, each) other =
@@ -234,7 +234,7 @@ all_alone : (arguments : List Word) (words : List (List ℕ × Request)) (more :
 all_alone arguments [] more others = others
 all_alone arguments (word ∷ words) more others = (alone_other word.1 arguments, all_alone arguments words more others)
 
--- the readers behind those of a mark's name
+-- the readers after those of a mark's name
 abbrev behind_names : List (List ℕ × (List Word → Result Request ParseError))
 behind_names = map (λ word. (word.0, alone_of word.1)) requests_alone ++ (codes "list", list_of) ∷ []
 

@@ -1,4 +1,4 @@
--- A line that sets an attribute is refused for the first of its arguments that is.
+-- A line that sets an attribute is refused for the first of its arguments that is refused.
 use Rattle.std.proofs.Common.{◌≡◌, ℕ, ◌<◌, ◌≤◌, List, [], ◌∷◌, length, map, get_or, Ok, refl, inl, inr, arith}
 use Rattle.mvt_command.specs.Command.{LayerChoice, FeatureChoice}
 use Rattle.tile_arguments.specs.Arguments.{text_of, value_of}

@@ -1,4 +1,5 @@
--- A line that shifts a geometry is refused for its way along x where that is the first argument that is; or it asks for the shift.
+-- A line that shifts a geometry is refused for its distance along x where that is the first argument that is refused;
+-- or it asks for the shift.
 use Rattle.std.proofs.Common.{◌≡◌, ◌<◌, ◌≤◌, ℤ, List, [], ◌∷◌, length, map, get_or, Ok, Err, refl, inr, arith}
 use Rattle.mvt_command.specs.Command.{LayerChoice, FeatureChoice, Shift}
 use Rattle.tile_arguments.specs.Arguments.{distance_of}

@@ -24,12 +24,12 @@ two_texts_of first second = do
   other ← text_of second
   Ok (one, other)
 
--- the layers of arguments that are one word: one layer or all; or the refusal
+-- the layers that arguments of one word mean: one layer or all; or the refusal
 unfoldable pub layers_alone_of : List Word → Result LayersChoice ParseError
 layers_alone_of (layers ∷ []) = layers_of layers
 layers_alone_of words = Err BadArguments
 
--- the rename of these arguments: a layer, and its new name as a text; or the first refusal
+-- the rename with these arguments: a layer, and its new name as a text; or the first refusal
 unfoldable pub rename_layer_of : List Word → Result Command ParseError
 rename_layer_of (layer ∷ name ∷ []) = do
   choice ← layer_of layer
@@ -37,7 +37,7 @@ rename_layer_of (layer ∷ name ∷ []) = do
   Ok (RenameLayer choice text)
 rename_layer_of words = Err BadArguments
 
--- the move of these arguments: a layer, and the ordinal to which it goes; or the first refusal
+-- the move with these arguments: a layer, and the ordinal to which it goes; or the first refusal
 unfoldable pub move_layer_of : List Word → Result Command ParseError
 move_layer_of (layer ∷ index ∷ []) = do
   choice ← layer_of layer
@@ -45,22 +45,22 @@ move_layer_of (layer ∷ index ∷ []) = do
   Ok (MoveLayer choice at)
 move_layer_of words = Err BadArguments
 
--- the drop of these arguments: a layer; or the first refusal
+-- the drop with these arguments: a layer; or the first refusal
 unfoldable pub drop_layer_of : List Word → Result Command ParseError
 drop_layer_of (layer ∷ []) = do
   choice ← layer_of layer
   Ok (DropLayer choice)
 drop_layer_of words = Err BadArguments
 
--- the `keep` of these arguments: one or more names as texts; or the first refusal
+-- the `keep` with these arguments: one or more names as texts; or the first refusal
 unfoldable pub keep_layers_of : List Word → Result Command ParseError
 keep_layers_of [] = Err BadArguments
 keep_layers_of (name ∷ more) = do
   names ← texts_of (name ∷ more)
   Ok (KeepLayers names)
 
--- the insertion of these arguments: a layer, the ordinal of the new feature, and one or more words of its geometry; or
--- the first refusal
+-- the insertion with these arguments: a layer, the ordinal of the new feature, and one or more words of its geometry;
+-- or the first refusal
 unfoldable pub insert_feature_of : List Word → Result Command ParseError
 insert_feature_of (layer ∷ index ∷ kind ∷ points) = do
   choice ← layer_of layer
@@ -69,7 +69,7 @@ insert_feature_of (layer ∷ index ∷ kind ∷ points) = do
   Ok (InsertFeature choice at geometry)
 insert_feature_of words = Err BadArguments
 
--- the move of these arguments: a layer, a feature, and the ordinal to which it goes; or the first refusal
+-- the move with these arguments: a layer, a feature, and the ordinal to which it goes; or the first refusal
 unfoldable pub move_feature_of : List Word → Result Command ParseError
 move_feature_of (layer ∷ feature ∷ index ∷ []) = do
   chosen ← chosen_of layer feature
@@ -77,14 +77,14 @@ move_feature_of (layer ∷ feature ∷ index ∷ []) = do
   Ok (MoveFeature chosen.0 chosen.1 at)
 move_feature_of words = Err BadArguments
 
--- the drop of these arguments: a layer and a feature; or the first refusal
+-- the drop with these arguments: a layer and a feature; or the first refusal
 unfoldable pub drop_feature_of : List Word → Result Command ParseError
 drop_feature_of (layer ∷ feature ∷ []) = do
   chosen ← chosen_of layer feature
   Ok (DropFeature chosen.0 chosen.1)
 drop_feature_of words = Err BadArguments
 
--- the new id of these arguments: a layer, a feature, and the id; or the first refusal
+-- the new id with these arguments: a layer, a feature, and the id; or the first refusal
 unfoldable pub set_id_of : List Word → Result Command ParseError
 set_id_of (layer ∷ feature ∷ id ∷ []) = do
   chosen ← chosen_of layer feature
@@ -92,15 +92,15 @@ set_id_of (layer ∷ feature ∷ id ∷ []) = do
   Ok (SetId chosen.0 chosen.1 number)
 set_id_of words = Err BadArguments
 
--- the cleared id of these arguments: a layer and a feature; or the first refusal
+-- the cleared id with these arguments: a layer and a feature; or the first refusal
 unfoldable pub clear_id_of : List Word → Result Command ParseError
 clear_id_of (layer ∷ feature ∷ []) = do
   chosen ← chosen_of layer feature
   Ok (ClearId chosen.0 chosen.1)
 clear_id_of words = Err BadArguments
 
--- the value for a key of these arguments: a layer, a feature, a key as a text, and the value by the name of its type and
--- a word; or the first refusal
+-- the value for a key with these arguments: a layer, a feature, a key as a text, and the value by the name of its type
+-- and a word; or the first refusal
 unfoldable pub set_of : List Word → Result Command ParseError
 set_of (layer ∷ feature ∷ key ∷ name ∷ value ∷ []) = do
   chosen ← chosen_of layer feature
@@ -109,7 +109,7 @@ set_of (layer ∷ feature ∷ key ∷ name ∷ value ∷ []) = do
   Ok (SetAttribute chosen.0 chosen.1 text said)
 set_of words = Err BadArguments
 
--- the removal of these arguments: a layer, a feature, and a key as a text; or the first refusal
+-- the removal with these arguments: a layer, a feature, and a key as a text; or the first refusal
 unfoldable pub unset_of : List Word → Result Command ParseError
 unset_of (layer ∷ feature ∷ key ∷ []) = do
   chosen ← chosen_of layer feature
@@ -117,7 +117,7 @@ unset_of (layer ∷ feature ∷ key ∷ []) = do
   Ok (UnsetAttribute chosen.0 chosen.1 text)
 unset_of words = Err BadArguments
 
--- the rename of these arguments: a layer, a key and its new bytes as texts; or the first refusal
+-- the rename with these arguments: a layer, a key and its new bytes as texts; or the first refusal
 unfoldable pub rename_key_of : List Word → Result Command ParseError
 rename_key_of (layer ∷ old ∷ new ∷ []) = do
   choice ← layer_of layer
@@ -125,7 +125,7 @@ rename_key_of (layer ∷ old ∷ new ∷ []) = do
   Ok (RenameKey choice keys.0 keys.1)
 rename_key_of words = Err BadArguments
 
--- the exclusion of these arguments: one layer or all, and a key as a text; or the first refusal
+-- the exclusion with these arguments: one layer or all, and a key as a text; or the first refusal
 unfoldable pub exclude_of : List Word → Result Command ParseError
 exclude_of (layers ∷ key ∷ []) = do
   choice ← layers_of layers
@@ -133,13 +133,13 @@ exclude_of (layers ∷ key ∷ []) = do
   Ok (Exclude choice text)
 exclude_of words = Err BadArguments
 
--- the exclusion of all attributes by these arguments: one layer or all; or the first refusal
+-- the exclusion of all attributes with these arguments: one layer or all; or the first refusal
 unfoldable pub exclude_all_of : List Word → Result Command ParseError
 exclude_all_of words = do
   choice ← layers_alone_of words
   Ok (ExcludeAll choice)
 
--- the shift of these arguments: a layer, a feature, and how far the geometry moves along x and along y; or the first
+-- the shift with these arguments: a layer, a feature, and how far the geometry moves along x and along y; or the first
 -- refusal
 unfoldable pub shift_of : List Word → Result Command ParseError
 shift_of (layer ∷ feature ∷ along ∷ down ∷ []) = do
@@ -149,7 +149,7 @@ shift_of (layer ∷ feature ∷ along ∷ down ∷ []) = do
   Ok (Shift chosen.0 chosen.1 dx dy)
 shift_of words = Err BadArguments
 
--- the geometry of these arguments: a layer, a feature, and one or more words of its geometry; or the first refusal
+-- the geometry with these arguments: a layer, a feature, and one or more words of its geometry; or the first refusal
 unfoldable pub set_geometry_of : List Word → Result Command ParseError
 set_geometry_of (layer ∷ feature ∷ kind ∷ points) = do
   chosen ← chosen_of layer feature
@@ -157,19 +157,19 @@ set_geometry_of (layer ∷ feature ∷ kind ∷ points) = do
   Ok (SetGeometry chosen.0 chosen.1 geometry)
 set_geometry_of words = Err BadArguments
 
--- that unused keys go, of these arguments: one layer or all; or the refusal
+-- the removal of unused keys with these arguments: one layer or all; or the refusal
 unfoldable pub compact_keys_of : List Word → Result Command ParseError
 compact_keys_of words = do
   choice ← layers_alone_of words
   Ok (CompactKeys choice)
 
--- that unused values go, of these arguments: one layer or all; or the refusal
+-- the removal of unused values with these arguments: one layer or all; or the refusal
 unfoldable pub compact_values_of : List Word → Result Command ParseError
 compact_values_of words = do
   choice ← layers_alone_of words
   Ok (CompactValues choice)
 
--- that unused keys and values go, of these arguments: one layer or all; or the refusal
+-- the removal of unused keys and values with these arguments: one layer or all; or the refusal
 unfoldable pub compact_of : List Word → Result Command ParseError
 compact_of words = do
   choice ← layers_alone_of words
@@ -199,7 +199,7 @@ commands =
     ∷ (codes "compact", compact_of)
     ∷ []
 
--- what the reader of this word among some makes of the arguments, or `unknown` where none has the word
+-- what the reader of this word in a list makes of the arguments, or `unknown` where none has the word
 abbrev pub read_by : {A : Type 0} → List (List ℕ × (List Word → Result A ParseError)) → Result A ParseError → List ℕ → List Word → Result A ParseError
 read_by readers unknown name arguments = option_map_or (λ read. read arguments) (lookup (bytes_eq name) readers) unknown
 

@@ -30,7 +30,7 @@ unfoldable pub name_of : List Word → Result (List ℕ) ParseError
 name_of (name ∷ []) = text_of name
 name_of words = Err BadArguments
 
--- the listing of these arguments: none, a layer, or a layer and one of its features; or the first refusal
+-- the listing with these arguments: none, a layer, or a layer and one of its features; or the first refusal
 unfoldable pub list_of : List Word → Result Request ParseError
 list_of [] = Ok (Lists Whole)
 list_of (layer ∷ []) = do
@@ -41,7 +41,7 @@ list_of (layer ∷ feature ∷ []) = do
   Ok (Lists (OneFeature chosen.0 chosen.1))
 list_of words = Err BadArguments
 
--- the requests that are no commands, each with its word and how its arguments are read
+-- the requests that are not commands, each with its word and how its arguments are read
 abbrev pub requests : List (List ℕ × (List Word → Result Request ParseError))
 requests =
     map (λ word. (word.0, λ arguments. name_of arguments >>= λ name. Ok (OnHistory (word.1 name)))) requests_by_name
@@ -57,7 +57,7 @@ unfoldable pub asked_by : List Word → Result Request ParseError
 asked_by (Bare name ∷ arguments) = request_by name arguments
 asked_by words = Err UnknownCommand
 
--- a line that asks for nothing: behind the blanks at its beginning there is nothing, or first a `#`
+-- a line that asks for nothing: after the blanks at its beginning there is nothing, or a `#` comes first
 abbrev pub is_remark : List ℕ → Bool
 is_remark line = option_map_or (λ byte. byte == 35) (slice_get (after_blanks line) 0) true
 
@@ -82,7 +82,7 @@ IsReadable line = (length line ≤ LINE_LIMIT) × IsUtf8 line
 abbrev pub IsAsking : List ℕ → Type 0
 IsAsking line = IsReadable line × (is_remark line ≡ false)
 
--- to read the line takes memory: it asks for something, and not by one word alone; no other line is refused as out of
--- memory as it is read
+-- reading the line takes memory: it asks for something, and not by a single word; no other line is refused as out of
+-- memory when it is read
 abbrev pub TakesMemory : List ℕ → Type 0
 TakesMemory line = IsAsking line × ¬ IsLoneWord line

@@ -48,7 +48,7 @@ pub(crate) fn command(
     }
 }
 
-/// The same of the commands behind those on layers.
+/// The same for the commands after those on layers.
 fn feature_command(
     alloc: Global,
     name: &[u8],
@@ -72,7 +72,7 @@ fn feature_command(
     }
 }
 
-/// The same of the commands behind those on features and their ids.
+/// The same for the commands after those on features and their ids.
 fn attribute_command(
     alloc: Global,
     name: &[u8],
@@ -96,7 +96,7 @@ fn attribute_command(
     }
 }
 
-/// The same of the commands behind those on attributes.
+/// The same for the commands after those on attributes.
 fn geometry_or_pool_command(
     alloc: Global,
     name: &[u8],

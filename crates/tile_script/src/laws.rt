@@ -1,4 +1,4 @@
-//! Laws on how a line is read. That of a line's words is passed on.
+//! Laws on how a line is read. The law on a line's words is re-exported.
 
 ghost use Rattle.std.specs.Prelude.{◌≡◌, ℕ, List, [], ◌∷◌, ◌++◌, Some, Ok, codes, IsTrue};
 ghost use Rattle.std.specs.List.{AllByRecursion};

@@ -1,9 +1,9 @@
 //! The request that the words of a line make.
 //!
-//! - A line asks for what its definition says, or is refused by the first of its faults; out of
-//!   memory alone may come in place of that (`answer`). It never does for a line that is too long
-//!   or not UTF-8, a blank line, a comment or one word alone (`no_memory`): `parse_line`, and
-//!   `parse_cut` for a line as it was cut.
+//! - A line asks for what its definition says, or is refused for the first of its faults; only out
+//!   of memory may be answered instead (`answer`), and never to a line that is too long or not
+//!   UTF-8, a blank line, a comment or a single word (`no_memory`): `parse_line`, and `parse_cut`
+//!   for a line as it was cut.
 #![tactic(auto)]
 
 mod commands;

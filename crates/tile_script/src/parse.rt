@@ -20,8 +20,8 @@ use tile_words::{ParseError, after_blanks, is_utf8, lone_word, words_of};
 pub fn parse_line(alloc: Global, line: &[u8]) -> Result<Option<Request>, ParseError>
     ensures answer { Gives (option_map request_of) result (answer_to line.now) }
 
-    // For a line that is too long or no UTF-8, a blank line, a comment and a word alone memory
-    // never runs out.
+    // Memory never runs out for a line that is too long or not UTF-8, a blank line, a comment or a
+    // single word.
     ensures no_memory { IsErrOf result ParseError.NoMemory → TakesMemory line.now }
 {
     if line.len() > LINE_LIMIT {
@@ -36,7 +36,8 @@ pub fn parse_line(alloc: Global, line: &[u8]) -> Result<Option<Request>, ParseEr
     Ok(Some(request_in(alloc, line)?))
 }
 
-/// The request that a line asks for which was cut so, or nothing where it is blank or a comment.
+/// The request that a line that was cut like this asks for, or nothing where it is blank or a
+/// comment.
 #[tactic(auto, using(crate::proofs::LongLines::too_long_answered))]
 pub fn parse_cut(alloc: Global, cut: Cut<'_>) -> Result<Option<Request>, ParseError>
     ensures answer { (line : List ℕ) → cut_of line ≡ cut_seen cut.entry

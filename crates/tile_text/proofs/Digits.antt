@@ -1,4 +1,4 @@
--- Facts of each digit that a number or a byte is written in.
+-- Facts about each digit that a number or a byte is written in.
 use Rattle.std.proofs.Common.{◌≡◌, ℕ, zero, suc, ◌+◌, ◌<◌, ◌/◌, ◌%◌, ◌^◌, inl, inr, Bool, true, false, not, List, [], ◌∷◌, ap, ◌∙◌, arith, ℤ, pos, negsuc}
 use Rattle.std.specs.Prelude.{◌&&◌, slice_index, decimal, FitsSigned}
 use Rattle.std.specs.Int.{w64}
@@ -30,7 +30,7 @@ passes_at p (suc n) k h lt =
 
 -- ---- hexadecimal digits
 
--- what a test says of the sixteen digits, and of 0, which stands past them
+-- what a test says of the sixteen digits, and of 0, which comes after them
 pub hex_digit_fails : (p : ℕ → Bool) → passes_below (λ d. not (p (slice_index lower_digits d))) 16 ≡ true → p 0 ≡ false → (d : ℕ) → p (slice_index lower_digits d) ≡ false
 hex_digit_fails p digits past d =
     elim (cases_lt d 16) [

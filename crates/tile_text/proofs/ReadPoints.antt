@@ -43,7 +43,7 @@ near_lies (negsuc n) lt = omega (arith, lt)
 delta_reads : (z : ℤ) → unsigned_abs z < 2 ^ 31 → delta_of (signed_decimal z) ≡ Some z
 delta_reads z lt = signed_reads 2147483647 2147483647 z (omega arith) (omega arith) (near_lies z lt)
 
--- ---- a point: what stands before the comma, and behind it
+-- ---- a point: what comes before the comma, and after it
 
 place_of_comma : (xs ys : List ℕ) → AllByRecursion (λ b. eqb b 44 ≡ false) xs → position_or_len (λ b. eqb b 44) (xs ++ 44 ∷ ys) ≡ length xs
 place_of_comma [] ys h = refl

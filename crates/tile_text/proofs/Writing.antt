@@ -31,7 +31,7 @@ pub encode_with-nil : (t : List ℕ) → encode_with t [] ≡ []
 unfolding encode_with
 encode_with-nil t = refl
 
--- ---- a form that is written piece by piece: behind what is written, the form of what is left
+-- ---- a form that is written piece by piece: after what is written, the form of what is left
 
 pub piece_written : (form : List ℕ → List ℕ) → ((xs ys : List ℕ) → form (xs ++ ys) ≡ form xs ++ form ys) → (line new rest piece after all : List ℕ)
     → rest ≡ piece ++ after → new ≡ line ++ form piece → line ++ form rest ≡ all → new ++ form after ≡ all
@@ -44,13 +44,13 @@ all_written form none line rest all e so_far =
 
 -- ---- items
 
--- behind what is written of the first items, what is written of one more
+-- after what is written of the first items, what is written of one more
 pub one_more : {X : Type 0} (form : X → List ℕ) (line so_far new : List ℕ) (items : List X) (i : ℕ) (d : X) → i < length items
     → so_far ≡ line ++ flat_map form (take i items) → new ≡ so_far ++ form (get_or items i d) → new ≡ line ++ flat_map form (take (i + 1) items)
 one_more form line so_far new items i d low written added =
     added ∙ ap (λ (xs : List ℕ). xs ++ form (get_or items i d)) written ∙ flat_map_more form line (take i items) (get_or items i d) ∙ ap (λ xs. line ++ flat_map form xs) (sym (take_more items i d low))
 
--- the same of points, each behind a space
+-- the same for points, each after a space
 pub one_more_point : (line so_far spaced new : List ℕ) (points : List Point) (i : ℕ) (d : Point) → i < length points
     → so_far ≡ line ++ with_leading_spaces (map point_form (take i points)) → spaced ≡ so_far ++ codes " " → new ≡ spaced ++ point_form (get_or points i d)
     → new ≡ line ++ with_leading_spaces (map point_form (take (i + 1) points))
@@ -103,7 +103,7 @@ not_not : (b : Bool) → not b ≡ false → b ≡ true
 not_not true e = refl
 not_not false e = absurd cc
 
--- the first byte behind the plain ones is escaped
+-- the first byte after the plain ones is escaped
 pub first_is_escaped : (bytes behind : List ℕ) (n : ℕ) → n ≡ position_or_len is_escaped bytes → behind ≡ drop n bytes → 1 ≤ length behind → is_escaped (get_or behind 0 0) ≡ true
 first_is_escaped bytes behind n place is_behind some =
     let long : 1 ≤ length (drop n bytes) = rw (← is_behind) some in
@@ -119,7 +119,7 @@ first_written line new behind some written =
     ap (λ (xs : List ℕ). xs ++ flat_map quoted_byte rest) written ∙ append_assoc line (quoted_byte (get_or behind 0 0)) (flat_map quoted_byte rest)
     ∙ ap (λ (xs : List ℕ). line ++ flat_map quoted_byte xs) (sym (first_and_rest behind 0 some))
 
--- ---- bytes that are no value
+-- ---- bytes that are not a value
 
 pub raw_whole : (bytes : List ℕ) → raw_word bytes ++ encode_lower bytes ≡ raw_form bytes
 raw_whole [] = ap (λ (xs : List ℕ). codes "raw" ++ xs) (encode_with-nil lower_digits)

@@ -1,4 +1,4 @@
--- What becomes of a line to which text is added.
+-- What becomes of a line that text is added to.
 use Rattle.std.specs.Prelude.{◌≡◌, ℕ, List, ◌++◌}
 
 -- `old` is a prefix of `new`

@@ -19,7 +19,7 @@ ValuesReadBack = (value : Value) → IsWritable value → HoldsBytes value → I
 abbrev pub GeometriesReadBack : Type 0
 GeometriesReadBack = (g : Geometry) → IsGeometry g → AllByRecursion (AllByRecursion IsNear) g.parts → IsReadAsGeometry g
 
--- no line feed is among the bytes
+-- there is no line feed among the bytes
 abbrev pub StandsOnALine : List ℕ → Type 0
 StandsOnALine form = ¬ (Contains form 10)
 
@@ -31,7 +31,7 @@ TextsStandOnALine = (bytes : List ℕ) → StandsOnALine (text_form bytes)
 abbrev pub ValuesStandOnALine : Type 0
 ValuesStandOnALine = (value : Value) → IsWritable value → StandsOnALine (value_form value)
 
--- the form of bytes that are no value holds no line feed
+-- the form of bytes that are not a value holds no line feed
 abbrev pub RawStandsOnALine : Type 0
 RawStandsOnALine = (bytes : List ℕ) → StandsOnALine (raw_form bytes)
 

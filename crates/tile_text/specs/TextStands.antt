@@ -18,12 +18,12 @@ shown_form (shown.Sint number) = value_form (plain.OfSint number)
 shown_form (shown.Bool truth) = value_form (plain.OfBool truth)
 shown_form (shown.Raw bytes) = raw_form bytes.now
 
--- the word before bytes that are no value, and the space behind it where there are any
+-- the word before bytes that are not a value, and the space after it where there are any
 abbrev pub raw_word : List ℕ → List ℕ
 raw_word [] = codes "raw"
 raw_word (b ∷ bytes) = codes "raw "
 
--- the word of the type of a value, and the space behind it where something follows
+-- the word of the type of a value, and the space after it where something follows
 abbrev pub type_word : Value → List ℕ
 type_word (shown.Text text) = codes "string "
 type_word (shown.Float4 bytes) = codes "float "

@@ -22,8 +22,8 @@ is_mark b = b == 34 || b == 92
 abbrev pub is_escaped : ℕ → Bool
 is_escaped b = is_mark b || is_ascii_control b
 
--- a byte between quotes: a quote and a backslash behind a backslash, a byte below 20 in hexadecimal and the byte 7f as
--- `\x` and two lower-case hexadecimal digits, each other byte as it is
+-- a byte between quotes: a quote and a backslash after a backslash, a byte below 20 in hexadecimal and the byte 7f as
+-- `\x` and two lower-case hexadecimal digits, any other byte as it is
 abbrev pub quoted_byte : ℕ → List ℕ
 quoted_byte b =
     if is_mark b then 92 ∷ b ∷ []
@@ -59,7 +59,7 @@ value_words (OfBool truth) = (codes "bool", truth_form truth)
 abbrev pub value_form : Value → List ℕ
 value_form value = (value_words value).0 ++ 32 ∷ (value_words value).1
 
--- bytes that are no value: `raw` and their hexadecimal digits, or `raw` alone where there are none
+-- bytes that are not a value: `raw` and their hexadecimal digits, or `raw` alone where there are none
 abbrev pub raw_form : List ℕ → List ℕ
 raw_form [] = codes "raw"
 raw_form (b ∷ bytes) = codes "raw " ++ encode_lower (b ∷ bytes)
@@ -70,7 +70,7 @@ raw_form (b ∷ bytes) = codes "raw " ++ encode_lower (b ∷ bytes)
 abbrev pub point_form : Point → List ℕ
 point_form p = signed_decimal p.x ++ 44 ∷ signed_decimal p.y
 
--- the points of each part, with the word `/` between two parts
+-- the points of each part, with the word `/` between the parts
 abbrev pub part_words : List (List Point) → List (List ℕ)
 part_words parts = join_by (map point_form) (codes "/" ∷ []) parts
 
@@ -78,6 +78,6 @@ part_words parts = join_by (map point_form) (codes "/" ∷ []) parts
 abbrev pub geometry_words : Geometry → List (List ℕ)
 geometry_words g = kind_word g.kind ∷ part_words g.parts
 
--- a geometry as words, with a space between two of them
+-- a geometry as words, with a space between them
 abbrev pub geometry_form : Geometry → List ℕ
 geometry_form g = join_by (λ word. word) (codes " ") (geometry_words g)

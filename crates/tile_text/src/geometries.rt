@@ -12,7 +12,7 @@ use mvt_geometry::{Geometry, Part, Point};
 use std::alloc::AllocError;
 use tile_arguments::kind_word;
 
-/// Adds the word of the kind to the line, and the points behind it.
+/// Adds the word of the kind to the line, and the points after it.
 pub fn put_geometry(line: &mut Vec<u8>, geometry: &Geometry) -> Result<(), AllocError>
     ensures ok { OnOk result (line.new.items ≡ line.old.items ++ geometry_form geometry.now) }
     ensures kept { Extends line.old.items line.new.items }

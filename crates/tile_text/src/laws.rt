@@ -18,8 +18,8 @@ pub fn geometries_read_back()
     ensures { GeometriesReadBack }
 {}
 
-/// No form holds a line feed: of any bytes as a text, of a value in range, of bytes that are no
-/// value, and of a valid geometry.
+/// No form holds a line feed, be it of any bytes as a text, of a value in range, of bytes that are
+/// not a value, or of a valid geometry.
 pub fn forms_stand_on_a_line()
     ensures texts { TextsStandOnALine }
     ensures values { ValuesStandOnALine }

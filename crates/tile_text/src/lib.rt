@@ -1,10 +1,10 @@
-//! How names, values and geometries are written on a line of text, such that a script reads them
+//! How names, values and geometries are written on a line of text, so that a script reads them
 //! back.
 //!
 //! - Any bytes as a text (`put_text`, `quote`), what is shown of a value (`put_value`), and a
 //!   geometry (`put_geometry`) are added to a line in their forms (`ok`). Where memory runs out,
-//!   the line keeps what it had, and what was added behind that may be cut short (`kept`). So it is
-//!   of `put_hex`, `put_decimal` and `put_signed_decimal`.
+//!   the line keeps what it had, and what was added after that may be cut short (`kept`). The same
+//!   holds of `put_hex`, `put_decimal` and `put_signed_decimal`.
 #![tactic(auto)]
 
 mod geometries;

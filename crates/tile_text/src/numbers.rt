@@ -15,7 +15,7 @@ pub fn put_decimal(line: &mut Vec<u8>, number: u64) -> Result<(), AllocError>
     line.extend_from_slice(Buffer::new().format(number).as_bytes())
 }
 
-/// Adds the number in decimal digits, without leading zeros, behind a `-` where it is below 0.
+/// Adds the number in decimal digits, without leading zeros, after a `-` where it is below 0.
 pub fn put_signed_decimal(line: &mut Vec<u8>, integer: i64) -> Result<(), AllocError>
     ensures ok { OnOk result (line.new.items ≡ line.old.items ++ signed_decimal integer) }
     ensures kept { Extends line.old.items line.new.items }

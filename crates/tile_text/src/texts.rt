@@ -11,7 +11,7 @@ use mvt_document::Items;
 use std::alloc::{AllocError, Global};
 use tile_words::is_utf8;
 
-/// How many bytes are put into digits at a time.
+/// How many bytes are turned into digits at a time.
 const CHUNK: usize = 64;
 
 /// The bytes as a text: between quotes where they are UTF-8, else as `x:` and hexadecimal digits.

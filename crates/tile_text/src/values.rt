@@ -27,7 +27,7 @@ pub fn put_value(line: &mut Vec<u8>, value: Value<'_>) -> Result<(), AllocError>
     }
 }
 
-/// The type's word, and the space behind it where something follows.
+/// The type's word, and the space after it where something follows.
 fn type_word(value: Value<'_>) -> &'static [u8]
     ensures { result.now ≡ type_word value.entry }
 {

@@ -1,4 +1,4 @@
--- What is spelled so is read.
+-- What is spelled as words is read as them.
 use Rattle.std.proofs.Common.{◌≡◌, ◌≢◌, ◌⊎◌, inl, inr, ℕ, ◌+◌, ◌*◌, ◌<◌, Bool, true, false, cond, ltb, eqb, not, ◌||◌, List, [], ◌∷◌, ◌++◌, length, take, drop, Option, Some, None, refl, sym, ap, ◌∙◌, append_assoc, arith}
 use Rattle.std.specs.Prelude.{◌&&◌, option_map}
 use Rattle.std.specs.Char.{digit_value}
@@ -62,7 +62,7 @@ quoted_again : (inner text rest : List ℕ) → SpellsText inner text → ends_w
 quoted_again inner text rest s e =
     ap (λ (found : List ℕ × List ℕ). closed_word found.0 found.1) (text_again inner text (34 ∷ rest) s (no_byte_at_quote rest)) ∙ closed_again text rest e
 
--- the place where a test passes first, behind bytes that do not pass it
+-- the place where a test passes first, after bytes that do not pass it
 stops_at : (p : ℕ → Bool) (front rest : List ℕ) → AllByRecursion (λ b. p b ≡ false) front → position_or_len p rest ≡ 0 → position_or_len p (front ++ rest) ≡ length front
 stops_at p [] rest each e = e
 stops_at p (b ∷ front) rest each e = rw each.0 (omega (arith, stops_at p front rest each.1 e))

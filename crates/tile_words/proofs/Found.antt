@@ -1,4 +1,4 @@
--- What is read is spelled so.
+-- What is read as words is spelled as them.
 use Rattle.std.proofs.Common.{◌≡◌, ◌≢◌, ◌⊎◌, inl, inr, ℕ, zero, suc, ◌+◌, ◌*◌, ◌<◌, Bool, true, false, cond, ltb, eqb, not, ◌||◌, List, [], ◌∷◌, ◌++◌, length, take, drop, Option, Some, None, refl, sym, ap, subst, ◌∙◌, append_assoc, arith}
 use Rattle.std.specs.Prelude.{◌&&◌, option_map}
 use Rattle.std.specs.Char.{digit_value}
@@ -101,7 +101,7 @@ closed_parts text (b ∷ rest) word more read = tested (eqb b 34 && ends_word re
         (ap (λ (x : ℕ). x ∷ rest) (eqb-true b 34 t.0) ∙ ap (λ (xs : List ℕ). 34 ∷ xs) p.1, p.0, ap ends_word (sym p.1) ∙ t.1)
     tested false is got = absurd cc
 
--- the bytes begin with a word, and may go on behind it
+-- the bytes begin with a word, and may go on after it
 abbrev Begins : List ℕ → Word → List ℕ → Type 0
 Begins bytes word rest = (spelled : List ℕ) × (bytes ≡ spelled ++ rest) × SpellsWord spelled word × (ends_word rest ≡ true)
 
@@ -113,7 +113,7 @@ quoted_spelled b bytes word rest e read =
     let whole : b ∷ bytes ≡ (34 ∷ (t.0 ++ 34 ∷ [])) ++ rest = ap (λ (x : ℕ). x ∷ bytes) e ∙ ap (λ (xs : List ℕ). 34 ∷ xs) (inside ∙ sym (append_assoc t.0 (34 ∷ []) rest)) in
     (34 ∷ (t.0 ++ 34 ∷ []), whole, subst (λ (w : Word). SpellsWord (34 ∷ (t.0 ++ 34 ∷ [])) w) p.1 (t.0, refl, t.2), p.2)
 
--- what stands before the first place that passes does not pass
+-- what comes before the first place that passes does not pass
 fronts : (p : ℕ → Bool) (bytes : List ℕ) → AllByRecursion (λ b. p b ≡ false) (take (position_or_len p bytes) bytes)
 fronts p [] = tt
 fronts p (b ∷ bytes) = tested (p b) refl (fronts p bytes)

@@ -1,14 +1,14 @@
--- Lines that are one word alone.
+-- Lines of a single word.
 use Rattle.std.proofs.Common.{◌≡◌, ℕ, List, [], ◌∷◌, Some, eqb, length, true}
 use Rattle.tile_words.specs.Words.{Word, after_blanks, word_at, words_of}
 use Rattle.tile_words.proofs.Again.{words_only, next_again, blanks_end}
 use Rattle.tile_words.proofs.Found.{words_found, word_spelled, left_blank}
 
--- nothing but blanks stands behind the first word
+-- nothing but blanks follows the first word
 pub lone_found : (line : List ℕ) (word : Word) (rest : List ℕ) → word_at line ≡ Some (word, rest) → eqb (length (after_blanks rest)) 0 ≡ true → words_of line ≡ Some (word ∷ [])
 lone_found line word rest read blank = words_only line (word ∷ []) (word_spelled line word rest [] read (left_blank rest blank))
 
--- nor behind the one word of a line
+-- nor the one word of a line
 pub lone_rest : (line : List ℕ) (word : Word) → words_of line ≡ Some (word ∷ []) → (rest : List ℕ) × (word_at line ≡ Some (word, rest)) × (after_blanks rest ≡ [])
 lone_rest line word only =
     let s = words_found line (word ∷ []) only in

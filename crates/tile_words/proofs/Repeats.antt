@@ -1,4 +1,4 @@
--- A step that is repeated as long as it takes something, for steps that take at least a byte.
+-- A step that is repeated as long as it takes something, for steps that take at least one byte.
 use Rattle.std.proofs.Common.{◌≡◌, ℕ, zero, suc, ◌<◌, ◌≤◌, List, [], ◌∷◌, ◌++◌, length, Option, Some, None, refl, sym, ap, ◌∙◌, arith, append_assoc}
 use Rattle.std.specs.Prelude.{IfSome}
 use Rattle.std.specs.Option.{option_map_or}

@@ -46,7 +46,7 @@ pub if_seen : {X Y : Type 0} (view : X → Y) (o : Option X) (seen : Option Y) (
 if_seen view None seen P e h = tt
 if_seen {Y = Y} view (Some x) seen P e h = subst (λ (o : Option Y). IfSome o P) (sym e) h
 
--- the first byte behind the blanks is none
+-- the first byte after the blanks is not a blank
 twice : (b : Bool) → not (not b) ≡ false → b ≡ false
 twice true e = absurd cc
 twice false e = refl

@@ -1,4 +1,4 @@
--- What a reader answers, beside the definition that it carries out.
+-- What a reader answers, compared with the definition that it carries out.
 use Rattle.std.specs.Prelude.{◌≡◌, ◌⊎◌, Result, Ok, Err}
 use Rattle.tile_words.specs.declared.parse_error.ParseError.{ParseError}
 use Rattle.tile_words.specs.declared.parse_error.ParseError.TheVariants.{NoMemory}

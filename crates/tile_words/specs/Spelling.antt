@@ -4,7 +4,7 @@ use Rattle.std.specs.List.{AllByRecursion}
 use Rattle.std.specs.Char.{digit_value}
 use Rattle.tile_words.specs.Words.{Word, Bare, Quoted, is_blank, ends_bare, ends_word}
 
--- how a byte of a quoted text is spelled: by itself, where it is neither a quote nor a backslash; these two behind a
+-- how a byte of a quoted text is spelled: by itself, where it is neither a quote nor a backslash; these two after a
 -- backslash; a byte up to 7f also as `\x` and two hexadecimal digits of either case
 abbrev pub SpellsByte : List ℕ → ℕ → Type 0
 SpellsByte [] c = ⊥
@@ -24,11 +24,11 @@ abbrev pub SpellsWord : List ℕ → Word → Type 0
 SpellsWord bytes (Bare name) = (bytes ≡ name) × (0 < length name) × AllByRecursion (λ b. ends_bare b ≡ false) name
 SpellsWord bytes (Quoted text) = (inner : List ℕ) × (bytes ≡ 34 ∷ (inner ++ 34 ∷ [])) × SpellsText inner text
 
--- the bytes are blanks alone
+-- the bytes are only blanks
 abbrev pub AreBlanks : List ℕ → Type 0
 AreBlanks bytes = AllByRecursion (λ b. is_blank b ≡ true) bytes
 
--- how a line is spelled: its words, with blanks before and behind them, and at least one blank between two of them
+-- how a line is spelled: its words, with blanks before and after them, and at least one blank between them
 abbrev pub SpellsWords : List ℕ → List Word → Type 0
 SpellsWords line [] = AreBlanks line
 SpellsWords line (word ∷ words) = (gap : List ℕ) × (spelled : List ℕ) × (rest : List ℕ) × (line ≡ gap ++ (spelled ++ rest)) × AreBlanks gap × SpellsWord spelled word × (ends_word rest ≡ true) × SpellsWords rest words

@@ -1,4 +1,4 @@
--- The words of a line. Blanks stand between them: spaces, tabs and carriage returns.
+-- The words of a line. Blanks separate them: spaces, tabs and carriage returns.
 use Rattle.std.specs.Prelude.{◌≡◌, ℕ, zero, suc, ◌+◌, ◌*◌, Bool, true, ◌&&◌, ◌||◌, not, List, [], ◌∷◌, length, drop, Option, Some, None, option_map, ◌==◌, nat_lt, if◌then◌else◌}
 use Rattle.std.specs.Option.{option_map_or}
 use Rattle.std.specs.List.{position_or_len, before_first}
@@ -17,7 +17,7 @@ is_blank b = (b == 32 || b == 9) || b == 13
 abbrev pub ends_bare : ℕ → Bool
 ends_bare b = is_blank b || b == 34
 
--- the bytes behind the blanks at the beginning
+-- the bytes after the blanks at the beginning
 abbrev pub after_blanks : List ℕ → List ℕ
 after_blanks bytes = drop (position_or_len (λ b. not (is_blank b)) bytes) bytes
 
@@ -30,7 +30,7 @@ ends_word (b ∷ more) = is_blank b
 abbrev pub onto : {A : Type 0} → A → List A × List ℕ → List A × List ℕ
 onto x taken = (x ∷ taken.0, taken.1)
 
--- what a step takes from the beginning of the bytes, a number of times at most, and the bytes that it leaves
+-- what a step takes from the beginning of the bytes, at most a number of times, and the bytes that it leaves
 unfoldable pub repeated : {A : Type 0} → (List ℕ → Option (A × List ℕ)) → ℕ → List ℕ → List A × List ℕ
 repeated step zero bytes = ([], bytes)
 repeated step (suc n) bytes = option_map_or (λ found. onto found.0 (repeated step n found.1)) (step bytes) ([], bytes)
@@ -49,7 +49,7 @@ abbrev pub hex_at : List ℕ → Option (ℕ × List ℕ)
 hex_at (high ∷ low ∷ more) = option_map (λ b. (b, more)) (hex_byte high low)
 hex_at bytes = None
 
--- the byte behind a backslash: `x` and two digits, a quote or a backslash; and what follows
+-- the byte after a backslash: `x` and two digits, a quote or a backslash; and what follows
 abbrev pub escape_at : List ℕ → Option (ℕ × List ℕ)
 escape_at [] = None
 escape_at (b ∷ more) = if b == 120 then hex_at more else (if b == 34 || b == 92 then Some (b, more) else None)
@@ -59,16 +59,16 @@ unfoldable pub byte_at : List ℕ → Option (ℕ × List ℕ)
 byte_at [] = None
 byte_at (b ∷ more) = if b == 92 then escape_at more else (if b == 34 then None else Some (b, more))
 
--- the text behind an opening quote, and what follows it
+-- the text after an opening quote, and what follows it
 abbrev pub text_at : List ℕ → List ℕ × List ℕ
 text_at bytes = taken byte_at bytes
 
--- a quoted word of this text, where the closing quote follows and a word may end behind it; and what follows that
+-- a quoted word of this text, where the closing quote follows and a word may end after it; and what follows that
 abbrev pub closed_word : List ℕ → List ℕ → Option (Word × List ℕ)
 closed_word text [] = None
 closed_word text (b ∷ more) = if b == 34 && ends_word more then Some (Quoted text, more) else None
 
--- the quoted word behind its opening quote, and what follows it
+-- the quoted word after its opening quote, and what follows it
 abbrev pub quoted_at : List ℕ → Option (Word × List ℕ)
 quoted_at bytes = closed_word (text_at bytes).0 (text_at bytes).1
 
@@ -85,7 +85,8 @@ abbrev pub first_word : List ℕ → Option (Word × List ℕ)
 first_word [] = None
 first_word (b ∷ more) = if b == 34 then quoted_at more else bare_at (b ∷ more)
 
--- the word behind the blanks at the beginning, and what follows it; none where there is none, or it is no word
+-- the word after the blanks at the beginning, and what follows it; none where there is none, or where what is there is
+-- not a word
 unfoldable pub word_at : List ℕ → Option (Word × List ℕ)
 word_at bytes = first_word (after_blanks bytes)
 
@@ -93,10 +94,10 @@ word_at bytes = first_word (after_blanks bytes)
 abbrev pub all_found : List Word × List ℕ → Option (List Word)
 all_found found = if length (after_blanks found.1) == 0 then Some found.0 else None
 
--- the words of a line, or none where something in it is no word
+-- the words of a line, or none where something in it is not a word
 unfoldable pub words_of : List ℕ → Option (List Word)
 words_of line = all_found (taken word_at line)
 
--- the line is one word alone
+-- the line is a single word
 abbrev pub IsLoneWord : List ℕ → Type 0
 IsLoneWord line = (word : Word) × (words_of line ≡ Some (word ∷ []))

@@ -1,9 +1,9 @@
 //! The words of a line, and why a line is refused.
 //!
-//! - The words of a line are those of the definition, or one of them is no word; out of memory
-//!   alone may come in place of that: `words_of`. A line that is one word alone is read without
-//!   memory: `lone_word`. The text of a quoted word, and what stands behind blanks, are as defined:
-//!   `text`, `after_blanks`. `is_utf8` says whether bytes are UTF-8.
+//! - The words of a line are those of the definition, or one of them is not a word; only out of
+//!   memory may be answered instead: `words_of`. A line of a single word is read without memory:
+//!   `lone_word`. The text of a quoted word, and what follows blanks, are as defined: `text`,
+//!   `after_blanks`. `is_utf8` says whether bytes are UTF-8.
 #![tactic(auto)]
 
 pub mod laws;

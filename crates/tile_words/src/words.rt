@@ -1,4 +1,4 @@
-//! The words of a line, each with the bytes where it stands; the text of a quoted one.
+//! The words of a line, each with the bytes where it is; the text of a quoted one.
 
 ghost use Rattle.std.specs.Prelude.{◌≡◌, ◌<◌, ◌≤◌, [], ◌∷◌, not, length, map, option_map, ok_or, Some, IfOk, IfSome, IfNone};
 ghost use Rattle.std.specs.List.{position, position_or_len};
@@ -15,7 +15,7 @@ use std::alloc::{AllocError, Global};
 pub enum Word<'a> {
     /// The bytes of a bare word.
     Bare(&'a [u8]),
-    /// The line behind the opening quote: the text goes up to the closing one.
+    /// The line after the opening quote: the text goes up to the closing one.
     Quoted(&'a [u8]),
 }
 
@@ -43,7 +43,7 @@ fn word_end(bytes: &[u8]) -> Option<usize>
     bytes.iter().position(|byte| ends_bare(*byte))
 }
 
-/// How many blanks stand at the front.
+/// How many blanks are at the front.
 fn count_blanks(bytes: &[u8]) -> usize
     ensures place { result ≡ position_or_len (λ b. not (is_blank b)) bytes.now }
     ensures within { result ≤ length bytes.now }
@@ -59,7 +59,7 @@ fn bare_len(bytes: &[u8]) -> usize
     word_end(bytes).unwrap_or(bytes.len())
 }
 
-/// The bytes behind the blanks at the front.
+/// The bytes after the blanks at the front.
 pub fn after_blanks(bytes: &[u8]) -> &[u8]
     ensures { result.now ≡ after_blanks bytes.now }
 {
@@ -88,7 +88,7 @@ fn hex_byte(high: u8, low: u8) -> Option<u8>
     }
 }
 
-/// The byte that is spelled at the front of a text, and the bytes behind its spelling.
+/// The byte that is spelled at the front of a text, and the bytes after its spelling.
 #[tactic(auto, unfolding(crate::specs::Words::byte_at))]
 fn byte_at(bytes: &[u8]) -> Option<(u8, &[u8])>
     ensures value { option_map (λ found. (found.0, found.1.now)) result ≡ byte_at bytes.now }
@@ -102,7 +102,7 @@ fn byte_at(bytes: &[u8]) -> Option<(u8, &[u8])>
     }
 }
 
-/// What stands behind the text at the front.
+/// What follows the text at the front.
 fn after_text(bytes: &[u8]) -> &[u8]
     ensures { result.now ≡ (text_at bytes.now).1 }
 {
@@ -126,7 +126,7 @@ pub fn text(alloc: Global, bytes: &[u8]) -> Result<Vec<u8>, AllocError>
     Ok(text)
 }
 
-/// The word behind an opening quote, and what follows it.
+/// The word after an opening quote, and what follows it.
 fn quoted_at(bytes: &[u8]) -> Option<(Word<'_>, &[u8])>
     ensures { option_map (λ found. (word_of found.0, found.1.now)) result ≡ quoted_at bytes.now }
 {
@@ -161,7 +161,7 @@ fn word_at(bytes: &[u8]) -> Option<(Word<'_>, &[u8])>
     }
 }
 
-/// The word of a line that is one word alone. It takes no memory.
+/// The word of a line of a single word. It takes no memory.
 #[tactic(auto, using(crate::proofs::Lone::lone_found, crate::proofs::Lone::lone_rest))]
 pub fn lone_word(line: &[u8]) -> Option<Word<'_>>
     ensures some { IfSome result (λ word. words_of line.now ≡ Some (word_of word ∷ [])) }

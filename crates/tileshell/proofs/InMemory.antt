@@ -23,7 +23,7 @@ use Rattle.tile_course.specs.declared.limits.TheConstants.{MAX_SCRIPT}
 use Rattle.tile_course.proofs.DeviceLaws.{failed_is_named, named_for_cause}
 use Rattle.tile_course.proofs.Headlines.{headline, none_counted, refuses_tile}
 
--- a device in memory with these bytes, of which `failures` calls failed
+-- a device in memory with these bytes, `failures` calls of which failed
 abbrev pub held : List ℕ → ℕ → Seen
 held bytes failures = record { bytes = Some bytes; tells = true; interruptions = 0; failures = failures }
 
@@ -102,7 +102,7 @@ module _ (options : Options) (tile script replies out : List ℕ) where
 
 -- ---- the tile that is handed out
 
--- a run that ends so wrote the tile
+-- a run with this outcome wrote the tile
 abbrev EndsWithTile : Outcome → Type 0
 EndsWithTile outcome = (outcome ≡ outcomes.Done) ⊎ (outcome ≡ outcomes.SomeRefused)
 
@@ -169,9 +169,9 @@ module _ (options : Options) (tile script : List ℕ) (replies out : Vec ℕ Glo
   edits_tile (outcomes.Device devices.Out) r document opens within memory none_out_of_memory = absurd (memory refl)
   edits_tile outcomes.NoMemory r document opens within memory none_out_of_memory = absurd (memory refl)
 
-  -- ---- where memory runs out too
+  -- ---- even where memory runs out
 
-  -- what was read of a source that no call failed and none interrupted
+  -- what was read of a source no call of which failed or was interrupted
   read_of : (bytes left : List ℕ) (intake : Intake) → Supplies (held bytes 0) (held left 0) intake → IsReadOf bytes intake
   read_of bytes left intake supplies = record {
     left = left;
@@ -204,7 +204,7 @@ module _ (options : Options) (tile script : List ℕ) (replies out : Vec ℕ Glo
     handed = ap (λ (v : Vec ℕ Global). handed_out outcome v out) (sym (same_replies outcome));
   }
 
-  -- ---- a tile that opens as no document
+  -- ---- a tile that does not open as a document
 
   refused_for : (outcome : Outcome) (r : RunsInMemory options tile script replies.items out.items outcome) → OpensAsNothing tile
       → outcome ≢ outcomes.NoMemory → outcome ≢ outcomes.Device devices.Replies → outcome ≢ outcomes.Device devices.Out

@@ -85,7 +85,7 @@ module _ (options : Options) (tile script : List ℕ) (replies out : Vec ℕ Glo
   not_faulty A faults.FileTooLarge left intake supplies faulty =
       let no : ⊥ = omega (arith, opens.within, faulty, ap length (given tile left intake supplies), length-append intake.bytes left) in absurd no
 
-  -- so much was read of the script as may be read
+  -- as much of the script was read as may be read
   first_lines : (left : List ℕ) (intake : Intake) → Supplies (held script 0) (held left 0) intake → intake.is_whole ≡ false → (IsSome intake.trouble ⊎ (MAX_SCRIPT < length intake.bytes))
       → lines_in intake ≡ whole_lines (take MAX_SCRIPT script)
   first_lines left intake supplies cut (inl some) = let no : is_some intake.trouble ≡ false = ap is_some (no_trouble script left intake supplies) in absurd cc

@@ -42,7 +42,7 @@ pub record IsReadOf (bytes : List ℕ) (intake : Intake) : Type 0 where
   pub untroubled : intake.trouble ≡ None
 
 -- whatever growths were refused: there is a course of what was read of the tile and of the script, replied and written
--- that ends with an outcome (`Ends`), and the edit is what is handed out then (`handed_out`)
+-- that ends with an outcome (`Ends`), and the edit is what is then handed out (`handed_out`)
 pub record IsRunInMemory (options : Options) (tile script : List ℕ) (edited : Edited) : Type 0 where
   pub outcome : Outcome
   pub course : Course
@@ -79,7 +79,7 @@ pub record IsRefusal (tile : List ℕ) (edited : Edited) : Type 0 where
   pub no_replies : edited.replies.items ≡ []
   pub no_tile : edited.tile ≡ None
 
--- for every tile that opens as no document, where the outcome is not `NoMemory`: the tile is refused
+-- for every tile that does not open as a document, where the outcome is not `NoMemory`: the tile is refused
 abbrev pub RefusesFile : List ℕ → Edited → Type 0
 RefusesFile tile edited = OpensAsNothing tile → edited.outcome ≢ outcomes.NoMemory → IsRefusal tile edited
 

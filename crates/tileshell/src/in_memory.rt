@@ -11,7 +11,7 @@ use tile_run::{DeviceName, Options, Outcome, run_and_hold};
 /// What an edit of a tile in memory returns.
 #[derive(Debug, Drop)]
 pub struct Edited {
-    /// How the run ended. It is `NoMemory` too where the replies or the tile could not grow here.
+    /// How the run ended. It is also `NoMemory` where the replies or the tile could not grow here.
     pub outcome: Outcome,
     /// The replies to the lines that were carried out.
     pub replies: Vec<u8>,
@@ -22,8 +22,8 @@ pub struct Edited {
 /// Edits the tile by the lines of the script, as `run` does, with no devices, and frees what the run
 /// held. The tile and the script stay as they are.
 ///
-/// A line to which memory was refused is replied to with 60 or 54, and a run that is not strict goes
-/// on behind it. With `NoMemory` the last reply may be cut short.
+/// A line for which memory was refused is replied to with 60 or 54, and a run that is not strict
+/// goes on after it. With `NoMemory` the last reply may be cut short.
 pub fn edit(alloc: Global, tile: &[u8], script: &[u8], options: Options) -> Edited
     requires some_depth { 1 ≤ options.depth }
     requires depth { options.depth ≤ MAX_DEPTH }
@@ -31,16 +31,16 @@ pub fn edit(alloc: Global, tile: &[u8], script: &[u8], options: Options) -> Edit
     // Where no memory was refused: the script on the document.
     ensures edits { EditsTile options tile.now script.now result }
 
-    // A tile that opens as no document is refused for what is wrong with it.
+    // A tile that does not open as a document is refused for what is wrong with it.
     ensures refuses { RefusesFile tile.now result }
 
     // Of a script that is too long, the lines that end within MAX_SCRIPT bytes.
     ensures cuts_long_script { CutsLongScript options tile.now script.now result }
 
-    // Where memory was refused too: what was read, replied and written.
+    // Even where memory was refused: what was read, replied and written.
     ensures course { IsRunInMemory options tile.now script.now result }
 
-    // No device is named, but the script where it is too long.
+    // No device is named, except the script where it is too long.
     ensures names_long_script { NamesLongScript script.now result }
     ensures gives_tile { GivesTile result }
 {

@@ -3,9 +3,9 @@
 //!
 //! - `edit` is `run` over bytes in memory, and frees what the run held; docs/PROVED.md has its
 //!   clauses.
-//! - `shell` is the program, from its words to its status; it is passed on from `tile_files`.
+//! - `shell` is the program, from its words to its status; it is re-exported from `tile_files`.
 //!
-//! It passes on `run`, `run_and_hold` and the types that these take and return, `parse_line`,
+//! It re-exports `run`, `run_and_hold` and the types that these take and return, `parse_line`,
 //! `listing`, `quote`, the commands, requests and refusals with their limits, the devices of the
 //! standard library, and modules of laws of the crates below it.
 #![tactic(auto)]

@@ -31,8 +31,8 @@ pub fn options(strict: bool) -> Options
     Options { depth: 100, strict }
 }
 
-/// A run as a call, of which nothing is said but what it returns: what the contract of `run` says
-/// costs its time at each caller.
+/// A run as a call about which nothing is said but what it returns: what the contract of `run` says
+/// would cost time at each caller.
 pub fn outcome_of(
     alloc: Global,
     tile: &mut impl Source,

@@ -228,7 +228,7 @@ fn slip_of(device: DeviceName, troubled: DeviceName, kind: ErrorKind) -> Slip {
     Slip::new(calls_before, kind)
 }
 
-/// Renames over readers and writers of std, of which one answers an error at its third call.
+/// Renames over readers and writers of std, one of which returns an error at its third call.
 fn renamed_with_slip(alloc: Global, device: DeviceName, kind: ErrorKind) -> Ran {
     let tile_slip = slip_of(DeviceName::Tile, device, kind);
     let script_slip = slip_of(DeviceName::Script, device, kind);

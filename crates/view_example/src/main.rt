@@ -1,7 +1,7 @@
 //! Prints the name of each layer of a tile, and how many features it has: how a program looks at a
 //! tile by `mvt_wire` and `mvt_view` alone.
 //!
-//! Its words are the files with tiles.
+//! Its arguments are the files with tiles.
 #![tactic(auto)]
 
 use mvt_view::{LayerView, layers};

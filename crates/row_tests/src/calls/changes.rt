@@ -16,7 +16,7 @@ pub fn answer(alloc: Global, call: &str, given: Given<'_>) -> Answer {
     of_change(alloc, call, given.tile, &mut edit)
 }
 
-/// What a call answers that looks at a change.
+/// What a call that looks at a change answers.
 fn of_change(alloc: Global, call: &str, tile: &[u8], edit: &mut Edit) -> Answer {
     match call {
         "weights" => weights(alloc, edit),

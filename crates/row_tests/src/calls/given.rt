@@ -5,7 +5,7 @@ use std::alloc::Global;
 use std::fmt;
 use tile_words::{Word, words_of};
 
-/// A tile, and bytes that stand for all else.
+/// A tile, and bytes that stand for everything else.
 #[derive(Clone, Copy)]
 pub struct Given<'a> {
     pub tile: &'a [u8],
@@ -21,14 +21,14 @@ impl<'a> Given<'a> {
         number_in(self.text()?)
     }
 
-    /// A number, and what stands behind it.
+    /// A number, and what follows it.
     pub fn number_and_rest(self) -> Result<(u64, &'a str), Broken> {
         let text = self.text()?;
         let (number, rest) = text.split_once(' ').unwrap_or((text, ""));
         Ok((number_in(number)?, rest))
     }
 
-    /// An ordinal, and what stands behind it.
+    /// An ordinal, and what follows it.
     pub fn ordinal_and_rest(self) -> Result<(usize, &'a str), Broken> {
         let (number, rest) = self.number_and_rest()?;
         Ok((ordinal_of(number)?, rest))

@@ -33,8 +33,8 @@ fn tile_and_zeros(alloc: Global, tile: &[u8], count: usize) -> Result<Document, 
     Ok(document)
 }
 
-/// The size, why the document is not written, and how many zeros it has that is handed back where no
-/// session begins with it.
+/// The size, why the document is not written, and how many zeros the document has that is handed
+/// back where no session begins with it.
 fn started(alloc: Global, document: Document) -> Answer
     requires { IsDocument (document_of document) }
 {
@@ -52,8 +52,8 @@ fn zeros_refused(alloc: Global, document: Document) -> Option<usize>
     refused.as_ref().and_then(zeros_handed_back)
 }
 
-/// How many bytes the field has that stands behind the one layer of a document that is handed back
-/// as too large.
+/// How many bytes the field has that follows the one layer of a document that is handed back as too
+/// large.
 fn zeros_handed_back(error: &StartError) -> Option<usize> {
     let StartError::TooLarge(document) = error else {
         return None;

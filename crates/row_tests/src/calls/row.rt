@@ -1,4 +1,4 @@
-//! A row: read from its lines, tried, and held against what it should be.
+//! A row: read from its lines, tried, and compared with what it should be.
 
 use crate::calls::answers::answer;
 use crate::calls::broken::Broken;
@@ -68,7 +68,7 @@ impl<'a> Row<'a> {
         })
     }
 
-    /// Takes the bytes that stand behind the word.
+    /// Takes the bytes that follow the word.
     fn take(&mut self, word: &str, bytes: Vec<u8>) -> Line {
         match word {
             "tile" => self.tile = bytes,
@@ -79,7 +79,7 @@ impl<'a> Row<'a> {
         Line::Taken
     }
 
-    /// Whether the call answers as it should. Where it does not, that is printed.
+    /// Whether the call answers as it should. If it does not, that is printed.
     pub fn holds<R: Eprint + AllocGlobal>(&self, rt: &R, wanted: &[u8]) -> io::Result<bool> {
         let given = Given {
             tile: &self.tile,
@@ -91,7 +91,7 @@ impl<'a> Row<'a> {
         }
     }
 
-    /// Whether this is what the call should answer. Where it is not, that is printed.
+    /// Whether this is what the call should answer. If it is not, that is printed.
     fn is_met<R: Eprint + AllocGlobal>(
         &self,
         rt: &R,
@@ -121,7 +121,7 @@ impl<'a> Row<'a> {
     }
 }
 
-/// The bytes that stand behind the word: those of the text, or of its pieces where each is one.
+/// The bytes that follow the word: those of the text, or of its pieces where each is one.
 fn bytes_in(
     alloc: Global,
     pieces: &Pieces,
@@ -136,7 +136,7 @@ fn bytes_in(
     Ok(if is_well { Some(bytes) } else { None })
 }
 
-/// Prints bytes behind the word: as a text where they are one, else in hexadecimal digits.
+/// Prints bytes after the word: as a text where they are one, else in hexadecimal digits.
 fn print_bytes<R: Eprint + AllocGlobal>(rt: &R, word: &str, bytes: &[u8]) -> io::Result<()> {
     match str::from_utf8(bytes) {
         Ok(text) => eprintln!(rt; "{word}: {text}"),

@@ -75,7 +75,7 @@ fn listed(alloc: Global, layer: Vec<u8>, feature: &str) -> Answer {
     Ok(line)
 }
 
-/// The lines that the script completes, each with a bar behind it, and then what is held of a line
+/// The lines that the script completes, each with a bar after it, and then what is held of a line
 /// that is not complete.
 fn lines_cut(alloc: Global, script: &[u8]) -> Result<Vec<u8>, AllocError> {
     let mut cutter = LineCutter::new(alloc)?;

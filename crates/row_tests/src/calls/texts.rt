@@ -20,7 +20,7 @@ pub fn answer(alloc: Global, call: &str, given: Given<'_>) -> Answer {
     }
 }
 
-/// The line, and behind it the value.
+/// The line, and after it the value.
 fn value_put(mut line: Vec<u8>, bytes: &[u8]) -> Result<Vec<u8>, AllocError> {
     put_value(&mut line, value_of(bytes))?;
     Ok(line)

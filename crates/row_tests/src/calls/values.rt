@@ -25,7 +25,7 @@ fn encoded(alloc: Global, given: Given<'_>) -> Answer {
     }
 }
 
-/// The kind of the value, and behind it the value: a text or raw bytes as they are, the bytes of a
+/// The kind of the value, and after it the value: a text or raw bytes as they are, the bytes of a
 /// float as digits.
 pub fn value_shown(alloc: Global, value: Value<'_>) -> Result<Vec<u8>, AllocError> {
     let line = match value {

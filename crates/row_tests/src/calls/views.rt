@@ -1,6 +1,6 @@
 //! Views of layers and features, and which of them is selected.
 //!
-//! A layer of the tile is given by its ordinal, and what is looked at within it behind that.
+//! A layer of the tile is given by its ordinal, and what is looked at within it after that.
 
 use crate::calls::broken::{Answer, Broken};
 use crate::calls::given::{Given, number_in, said, shown};
@@ -19,7 +19,7 @@ pub fn answer(alloc: Global, call: &str, given: Given<'_>) -> Answer {
     within_tile(alloc, call, &document, given)
 }
 
-/// What a call answers that looks at the tile.
+/// What a call that looks at the tile answers.
 fn within_tile(alloc: Global, call: &str, document: &Document, given: Given<'_>) -> Answer {
     match call {
         "layer_count" => shown(alloc, layer_count(document)),
@@ -50,7 +50,7 @@ fn layer_selected(alloc: Global, document: &Document, word: Word<'_>) -> Answer 
     )
 }
 
-/// What a call answers that looks at a layer.
+/// What a call that looks at a layer answers.
 fn within_layer(alloc: Global, call: &str, found: FoundLayer<'_>, rest: &str) -> Answer {
     let seen = found.view();
     match call {
@@ -144,7 +144,7 @@ fn ids(alloc: Global, seen: LayerView<'_>) -> Answer {
     Ok(line)
 }
 
-/// Keys or values, each with a bar behind it.
+/// Keys or values, each with a bar after it.
 fn barred(alloc: Global, contents: Contents<'_>) -> Result<Vec<u8>, AllocError> {
     let mut all = Vec::new(alloc);
     for content in contents {

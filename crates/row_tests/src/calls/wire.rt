@@ -82,7 +82,7 @@ fn written(alloc: Global, document: &Document) -> Answer {
 }
 
 /// For each prefix of the tile that is shorter than it, and not empty: up to where the bytes and
-/// the prefix behind them are a tile.
+/// the prefix after them are a tile.
 fn cuts_read(alloc: Global, before: &[u8], tile: &[u8]) -> Answer {
     let mut places = Vec::new(alloc);
     for end in 1..tile.len() {
@@ -95,7 +95,7 @@ fn cuts_read(alloc: Global, before: &[u8], tile: &[u8]) -> Answer {
     Ok(places)
 }
 
-/// Up to where the bytes are a tile, where they are none.
+/// Up to where the bytes are a tile, if they are not one.
 fn bad_wire(alloc: Global, file: &[u8]) -> Option<usize> {
     match read_document(alloc, file) {
         Err(ReadError::BadWire { place }) => Some(place),

@@ -1,4 +1,4 @@
-//! A row: read from its lines, run, and held against what it should be.
+//! A row: read from its lines, run, and compared with what it should be.
 
 ghost use Rattle.std.specs.Prelude.{◌≤◌};
 
@@ -8,7 +8,7 @@ use std::io;
 use test_fixtures::pieces::Pieces;
 use tileshell::Options;
 
-/// What is read, and what should come of it.
+/// What is read, and what should result.
 #[derive(Drop)]
 pub struct Row<'a> {
     pub name: &'a str,
@@ -83,8 +83,8 @@ impl<'a> Row<'a> {
         Ok(true)
     }
 
-    /// Runs the row in each way. Returns whether all is as it should be, and prints where it is
-    /// not.
+    /// Runs the row in each way. Returns whether everything is as it should be, and prints where it
+    /// is not.
     pub fn holds<R: Eprint + AllocGlobal>(&self, rt: &R) -> io::Result<bool> {
         let mut holds = true;
         for strict in [self.is_strict, true] {
@@ -122,7 +122,7 @@ impl<'a> Row<'a> {
         }
     }
 
-    /// Whether the run did what it should. Where it did not, that is printed.
+    /// Whether the run did what it should. If it did not, that is printed.
     fn is_met<R: Eprint + AllocGlobal>(&self, rt: &R, way: &str, ran: &Ran) -> io::Result<bool> {
         let ended = format!(in rt.alloc(); "{:?}", ran.outcome)?;
         let tile = ran.tile.as_deref();
@@ -144,7 +144,7 @@ impl<'a> Row<'a> {
     }
 }
 
-/// Puts the text behind the bytes, with a line feed or without one.
+/// Puts the text after the bytes, with a line feed or without one.
 fn put_text(text: &str, is_line: bool, to: &mut Vec<u8>) -> Result<(), AllocError> {
     to.extend_from_slice(text.as_bytes())?;
     if is_line {

@@ -60,7 +60,7 @@ pub fn dripped(alloc: Global, tile: &[u8], script: &[u8], options: Options) -> R
     gathered(outcome, replies.into_inner(), out.into_inner())
 }
 
-/// What came of a run. Where nothing was asked of `out`, no tile was written.
+/// The result of a run. If `out` was never called, no tile was written.
 fn gathered(outcome: Outcome, replies: Taker, out: Taker) -> Ran {
     Ran {
         outcome,

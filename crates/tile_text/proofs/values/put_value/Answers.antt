@@ -7,7 +7,7 @@ use Rattle.tile_text.specs.TextStands.{shown_form, type_word, raw_word}
 use Rattle.tile_text.proofs.Writing.{extends_more, raw_whole}
 use Rattle.tile_text.proofs.values.put_value.Goals as goal
 
--- the word of a value's type, and behind it the rest of its form
+-- the word of a value's type, and after it the rest of its form
 shown : (value variant : Value) (line word front body new : List ℕ) → word ≡ type_word value → value ≡ variant → front ≡ line ++ word → type_word variant ++ body ≡ shown_form variant → new ≡ front ++ body → new ≡ line ++ shown_form value
 shown value variant line word front body new named is written whole added =
     added ∙ ap (λ (xs : List ℕ). xs ++ body) (written ∙ ap (λ (xs : List ℕ). line ++ xs) (named ∙ ap type_word is)) ∙ append_assoc line (type_word variant) body ∙ ap (λ (xs : List ℕ). line ++ xs) (whole ∙ sym (ap shown_form is))
