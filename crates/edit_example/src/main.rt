@@ -14,7 +14,7 @@ use tileshell::{Edited, Options, edit, quote};
 fn main(rt: HostRuntime) -> io::Result<ExitCode> {
     let words: Vec<String> = env::args(&rt)?.skip(1).collect(rt.alloc())?;
     let [tile, out, old, new] = words.as_slice() else {
-        eprintln!(rt; "edit_example: the words are TILE OUT OLD NEW")?;
+        eprintln!(rt; "usage: edit_example TILE OUT OLD NEW")?;
         return Ok(ExitCode::FAILURE);
     };
     let tile = fs::read(&rt, tile.as_str())?;

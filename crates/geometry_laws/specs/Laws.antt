@@ -70,7 +70,7 @@ moved dx dy geometry = record { kind = geometry.kind; parts = map (map (moved_po
 abbrev pub led_further : ℤ → Number → Number
 led_further delta number = with_number (zigzag (further delta number.value)) number
 
--- the feature has the geometry that it had, moved by dx and dy, and no other. Of the numbers in its geometry fields the
+-- the feature has the geometry that it had, moved by dx and dy, and no other; of the numbers in its geometry fields the
 -- second leads further by dx and the third by dy, and each other one is spelled as it was; each field has its tag, its
 -- stored width and as many numbers as it had, and all fields that are not geometry fields are as they were (tiles 4.2,
 -- 4.3)

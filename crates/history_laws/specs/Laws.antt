@@ -57,8 +57,8 @@ HistoryFits = (history : History) → IsDocument history.start → HasCommands h
 
 -- ---- undo, steps and marks
 
--- where no step is open, an undo right after an accepted command is accepted, and the document is the one before the
--- command
+-- in a sound history where no step is open, an undo right after an accepted command is accepted, and the document is
+-- the one before the command
 abbrev pub UndoAtOnce : Type 0
 UndoAtOnce =
     (command : Command) (history after : History) → IsSound history
@@ -66,8 +66,8 @@ UndoAtOnce =
     → edited command history ≡ Ok after
     → (back : History) × (undone after ≡ Ok back) × (standing_document back ≡ standing_document history)
 
--- ending an open step of one or more commands is accepted, and so is an undo right after it, and the document is the
--- one before all of them
+-- in a sound history, ending an open step of one or more commands is accepted, and so is an undo right after it, and
+-- the document is the one before all of them
 abbrev pub UndoAfterEnd : Type 0
 UndoAfterEnd =
     (command : Command) (commands : List Command) (history : History) → IsSound history
@@ -77,8 +77,9 @@ UndoAfterEnd =
     × (undone after ≡ Ok back)
     × (standing_document back ≡ present_document history)
 
--- a step is opened, then anything is asked except to end or cancel it, and one or more commands are accepted: ending it
--- is accepted, and so is an undo right after it, and the document is the one that stood when the step was opened
+-- in a sound history a step is opened, then anything is asked except to end or cancel it, and one or more commands are
+-- accepted: ending it is accepted, and so is an undo right after it, and the document is the one that stood when the
+-- step was opened
 abbrev pub StepUndoesWhole : Type 0
 StepUndoesWhole =
     (requests : List HistoryRequest) (history opening : History) → IsSound history
@@ -100,22 +101,24 @@ EmptyStepLeavesNoTrace =
     → (asked_all requests opening).group ≡ Some []
     → closed (asked_all requests opening) ≡ Ok history
 
--- where a number of undos are accepted, so are as many redos after them, and they lead to the very history from before
+-- where a number of undos are accepted in a sound history, so are as many redos after them, and they lead to the very
+-- history from before
 abbrev pub RedosUndoUndos : Type 0
 RedosUndoUndos =
     (count : ℕ) (history after : History) → IsSound history
     → then_times count undone history ≡ Ok after
     → then_times count redone after ≡ Ok history
 
--- where a number of redos are accepted, so are as many undos after them, and they lead to the very history from before
+-- where a number of redos are accepted in a sound history, so are as many undos after them, and they lead to the very
+-- history from before
 abbrev pub UndosUndoRedos : Type 0
 UndosUndoRedos =
     (count : ℕ) (history after : History) → IsSound history
     → then_times count redone history ≡ Ok after
     → then_times count undone after ≡ Ok history
 
--- a mark is set, then anything is asked except to set it again: where going back to it is accepted, the document is the
--- one that stood when it was set
+-- a mark is set in a sound history, then anything is asked except to set it again: where going back to it is accepted,
+-- the document is the one that stood when it was set
 abbrev pub BackToTheMark : Type 0
 BackToTheMark =
     (name : List ℕ) (requests : List HistoryRequest) (history set back : History) → IsSound history

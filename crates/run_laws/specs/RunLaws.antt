@@ -142,8 +142,9 @@ CancelInARun =
     → answer_to begin ≡ Ok (Some (OnHistory Begin)) → LeaveOpen lines → answer_to cancel ≡ Ok (Some (OnHistory Cancel))
     → (after_lines false p (begin ∷ lines ++ cancel ∷ [])).history ≡ p.history
 
--- in a run that is not strict, where no step is open: a line that opens one, any lines that neither end nor cancel a
--- step, with an accepted command among them, a line that ends it and a line that undoes it leave the tile as it was
+-- in a run that is not strict, in a sound history where no step is open: a line that opens one, any lines that neither
+-- end nor cancel a step, with an accepted command among them, a line that ends it and a line that undoes it leave the
+-- tile as it was
 abbrev pub StepUndoneInARun : Type 0
 StepUndoneInARun =
     (p : Progress) (begin end undo : List ℕ) (lines : List (List ℕ)) → IsSound p.history → p.history.group ≡ None
@@ -151,8 +152,8 @@ StepUndoneInARun =
     → answer_to end ≡ Ok (Some (OnHistory End)) → answer_to undo ≡ Ok (Some (OnHistory Undo))
     → tile_of (after_lines false p (begin ∷ lines ++ end ∷ undo ∷ [])) ≡ tile_of p
 
--- in a run that is not strict, where a line that sets a mark is accepted, and so, after any lines that do not set it
--- again, is a line that goes back to it: the tile is the one that stood when it was set
+-- in a run that is not strict, where a line that sets a mark in a sound history is accepted, and so, after any lines
+-- that do not set it again, is a line that goes back to it: the tile is the one that stood when it was set
 abbrev pub BackInARun : Type 0
 BackInARun =
     (p : Progress) (name mark back : List ℕ) (lines : List (List ℕ)) (set gone : History) → IsSound p.history

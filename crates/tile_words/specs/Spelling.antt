@@ -28,7 +28,7 @@ SpellsWord bytes (Quoted text) = (inner : List ℕ) × (bytes ≡ 34 ∷ (inner 
 abbrev pub AreBlanks : List ℕ → Type 0
 AreBlanks bytes = AllByRecursion (λ b. is_blank b ≡ true) bytes
 
--- how a line is spelled: its words, with blanks before and after them, and at least one blank between them
+-- how a line is spelled: its words, with any blanks before and after them, and at least one blank between them
 abbrev pub SpellsWords : List ℕ → List Word → Type 0
 SpellsWords line [] = AreBlanks line
 SpellsWords line (word ∷ words) = (gap : List ℕ) × (spelled : List ℕ) × (rest : List ℕ) × (line ≡ gap ++ (spelled ++ rest)) × AreBlanks gap × SpellsWord spelled word × (ends_word rest ≡ true) × SpellsWords rest words
