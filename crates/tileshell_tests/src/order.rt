@@ -114,7 +114,7 @@ fn an_accepted_line_is_replied_to_before_the_next_read(rt: HostRuntime) -> Resul
 }
 
 #[test]
-fn nothing_is_read_behind_a_strict_stop(rt: HostRuntime) {
+fn nothing_is_read_after_a_strict_stop(rt: HostRuntime) {
     for (script, steps) in [
         (
             b"undo\nrename-layer #0 \"b\"".as_slice(),
