@@ -3,7 +3,7 @@
 
 _arguments -S \
     '--script=[read the script from a file]:script:_files' \
-    '--depth=[how many steps undo goes back at most]:number from 1 to 10000: ' \
+    '--depth=[how many steps undo can go back]:number from 1 to 10000: ' \
     '--strict[stop at the first refused line]' \
     '(- :)'{-h,--help}'[print help]' \
     '(- :)'{-V,--version}'[print the version]' \
