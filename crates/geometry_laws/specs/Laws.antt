@@ -33,7 +33,7 @@ without_geometry fields = filter (λ field. not (is_geometry_field field)) field
 abbrev pub without_kind : List Field → List Field
 without_kind fields = filter (λ field. not (is_kind field)) fields
 
--- the stored width of the length of a LEN body; none of another body (guide, Message Structure)
+-- the stored width of the length of a LEN body; none for another body (guide, Message Structure)
 abbrev pub stored_width : Body → Option ℕ
 stored_width (Delimited width bytes) = Some width
 stored_width body = None
@@ -65,15 +65,15 @@ moved_point dx dy point = record { x = point.x +ℤ dx; y = point.y +ℤ dy }
 abbrev pub moved : ℤ → ℤ → Geometry → Geometry
 moved dx dy geometry = record { kind = geometry.kind; parts = map (map (moved_point dx dy)) geometry.parts }
 
--- a parameter that leads further by this delta, as it is spelled where its value stays, and in its shortest spelling where
--- it does not (tiles 4.3.2)
+-- a parameter that leads further by this delta, as it is spelled where its value stays, and in its shortest spelling
+-- where it does not (tiles 4.3.2)
 abbrev pub led_further : ℤ → Number → Number
 led_further delta number = with_number (zigzag (further delta number.value)) number
 
 -- the feature has the geometry that it had, moved by dx and dy, and no other; of the numbers in its geometry fields the
 -- second leads further by dx and the third by dy, and each other one is spelled as it was; each field has its tag, its
--- stored width and as many numbers as it had, and all fields that are not geometry fields are as they were (tiles 4.2,
--- 4.3)
+-- stored width and as many numbers as it had, and all fields that are not geometry fields are as they were
+-- (tiles 4.2, 4.3)
 pub record Shifts (dx dy : ℤ) (old new : Feature) : Type 0 where
   pub geometry : Geometry
   pub had : HasFeatureGeometry old geometry

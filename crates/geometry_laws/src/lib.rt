@@ -10,10 +10,11 @@ pub fn no_coordinate_is_far()
     ensures { NoCoordinateIsFar }
 {}
 
-/// Where a shift of a valid document is accepted, every point of every part of the selected feature
-/// moves by that much. Nothing but the second and the third number of its geometry differs: the
-/// other numbers keep their spellings and stay in their fields, each field keeps its tag and its
-/// stored width, and all other fields, the other features and the other layers are as they were.
+/// Where a shift of a valid document of at most 67,108,864 bytes is accepted, every point of every
+/// part of the selected feature moves by that much. Nothing but the second and the third number of
+/// its geometry differs: the other numbers keep their spellings and stay in their fields, each field
+/// keeps its tag and its stored width, and all other fields, the other features and the other layers
+/// are as they were.
 pub fn shift_shifts()
     ensures { ShiftShifts }
 {}
@@ -23,16 +24,16 @@ pub fn shift_by_nothing()
     ensures { ShiftByNothing }
 {}
 
-/// Where a shift of a valid document is accepted, and the numbers that it changes were in their
-/// shortest spelling, shifting back is then accepted, and leaves the document as it was before
-/// both, to the byte.
+/// Where a shift of a valid document of at most 67,108,864 bytes is accepted, and the numbers that
+/// it changes were in their shortest spelling, shifting back is then accepted, and leaves the
+/// document as it was before both, to the byte.
 pub fn shift_back()
     ensures { ShiftBack }
 {}
 
-/// Where a geometry is accepted, the selected feature has exactly that one, in one geometry field, and
-/// its kind. All its fields that are neither kind nor geometry, the other features and the other
-/// layers are as they were.
+/// Where a valid geometry is accepted, the selected feature has exactly that one, in one geometry
+/// field, and its kind. All its fields that are neither kind nor geometry, the other features and
+/// the other layers are as they were.
 pub fn set_geometry_sets()
     ensures { SetGeometrySets }
 {}
