@@ -105,8 +105,8 @@ LinesAreRequests = (p : Progress) (lines : List (List ℕ)) → (after_lines fal
 
 -- ---- undo
 
--- where no step is open and the run is not over, a line with an accepted command and a line with an undo after it are
--- both accepted, and the tile is as before
+-- where the history is sound, no step is open and the run is not over, a line with an accepted command and a line with
+-- an undo after it are both accepted, and the tile is as before
 abbrev pub UndoInARun : Type 0
 UndoInARun =
     (strict : Bool) (p : Progress) (line undo : List ℕ) (command : Command) (edited : Document) → IsSound p.history
