@@ -18,8 +18,8 @@ pub fn turned_leads_back()
     ensures twice { TurnedTwice }
 {}
 
-/// Two joined changes are carried out one after the other (`made`), and fit exactly if each of them
-/// does (`fit`).
+/// Two joined changes are carried out one after the other (`made`), and fit exactly if the first
+/// fits, and the second fits what it made (`fit`).
 #[tactic(auto, using(crate::proofs::Turning::go_joined, crate::proofs::Turning::fit_joined))]
 pub fn joined()
     ensures made { JoinedGo }
