@@ -33,7 +33,8 @@ NoneIsGreater decisions numbers = AllByRecursion (λ (p : Option ℕ × Number).
 abbrev pub ReadOfFields : Type 0
 ReadOfFields = (number : ℕ) (fields : List Field) (found : List Number) → read_numbers number fields ≡ Some found → flat_map (field_numbers number) fields ≡ found
 
--- what is read after numbers were decided on is those that are left, each with its spelling
+-- what is read after numbers were decided on, where each value is below 2 ^ 64, is those that are left, each with its
+-- spelling
 abbrev pub LeftIsRead : Type 0
 LeftIsRead = (number : ℕ) (decisions : List (Option ℕ)) (fields : List Field) (found : List Number) → AreShort decisions → read_numbers number fields ≡ Some found → read_numbers number (renumber number decisions fields) ≡ Some (renumbered decisions found)
 
@@ -64,6 +65,6 @@ OthersStay = (tag : Number) (width value : ℕ) (before behind : List Number) (o
 abbrev pub AppendedIsRead : Type 0
 AppendedIsRead = (number : ℕ) (fields others : List Field) (found more : List Number) → read_numbers number fields ≡ Some found → read_numbers number others ≡ Some more → read_numbers number (fields ++ others) ≡ Some (found ++ more)
 
--- valid fields stay valid when their numbers are decided on
+-- valid fields stay valid when their numbers are decided on, where each value is below 2 ^ 64
 abbrev pub StaysValid : Type 0
 StaysValid = (number : ℕ) (decisions : List (Option ℕ)) (fields : List Field) → AreShort decisions → AllByRecursion IsField fields → AllByRecursion IsField (renumber number decisions fields)

@@ -7,8 +7,9 @@ pub fn read_of_fields()
     ensures { ReadOfFields }
 {}
 
-/// What is read from a message after its numbers were decided on is the numbers that are left, each
-/// in its old spelling if it keeps its value, and otherwise in the shortest.
+/// If each value that is decided on is below 2^64, what is read from a message after its numbers were
+/// decided on is the numbers that are left, each in its old spelling if it keeps its value, and
+/// otherwise in the shortest.
 pub fn left_is_read()
     ensures { LeftIsRead }
 {}
