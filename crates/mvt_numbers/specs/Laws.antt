@@ -35,7 +35,7 @@ pub record EndsBadly (body : List ℕ) (found : List Placed) : Type 0 where
   pub some : rest ≢ []
   pub none : (number : Number) (more : List ℕ) → IsNumber number → rest ≡ spelling number ++ more → ⊥
 
--- a packed body with a bad chunk is the joined spellings of the numbers before it, and no number begins after them
--- (guide, Packed Repeated Fields)
+-- a packed body with a bad chunk begins with the joined spellings of the numbers before it, and no number begins after
+-- them (guide, Packed Repeated Fields)
 abbrev pub BadIsNoNumber : Type 0
 BadIsNoNumber = (field place : ℕ) (body : List ℕ) → all_good (unpacked field place (pieces body)) ≡ None → EndsBadly body (before_bad (unpacked field place (pieces body)))
