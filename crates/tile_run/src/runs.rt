@@ -58,7 +58,7 @@ pub fn run<R1: Source, R2: Source, W1: Sink, W2: Sink>(
         (devices_at R1.Source R2.Source W1.Sink W2.Sink tile.new script.new replies.new out.new)
         result }
 
-    // What is written then opens again, as the document that stands.
+    // What is written then opens again, as the standing document with the widths that were written.
     ensures writes_a_tile { WritesATile options
         (devices_at R1.Source R2.Source W1.Sink W2.Sink tile.old script.old replies.old out.old)
         (devices_at R1.Source R2.Source W1.Sink W2.Sink tile.new script.new replies.new out.new)
