@@ -1,4 +1,4 @@
--- Laws over whole runs on which its contract rests.
+-- Laws of whole runs, on which the contract of `run` rests.
 use Rattle.std.specs.Prelude.{◌≡◌, ℕ, Bool, List, ◌++◌}
 use Rattle.mvt_document.specs.Plain.{Document}
 use Rattle.tile_lines.specs.Lines.{lines_of, EndsWithALine}
