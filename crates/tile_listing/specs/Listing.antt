@@ -70,7 +70,7 @@ value_line ordinal value = spaced (codes "value" ∷ decimal ordinal ∷ value_s
 abbrev pub id_word : Option ℕ → List ℕ
 id_word id = option_map_or decimal id absent
 
--- the word of the kind with this number; `unknown` for 0, and any other number as it is (tiles 4.3.4)
+-- the word of the kind with this number; `unknown` for 0, and `kind` and the number for any other (tiles 4.3.4)
 abbrev pub kind_form : ℕ → List ℕ
 kind_form number =
     if number == 0 then codes "unknown"
