@@ -45,7 +45,7 @@ number_in (Quoted text) = Err BadNumber
 unfoldable pub number_up_to : ℕ → List ℕ → Option ℕ
 number_up_to most bytes = if are_digits bytes && nat_le (digits_value 10 bytes) most then Some (digits_value 10 bytes) else None
 
--- the number below 0 of the digits after a minus sign, or the number of all bytes where there is no sign
+-- the negated number of the digits after a minus sign, or the number of all bytes where there is no sign
 abbrev pub signed_by : ℕ → ℕ → Option (List ℕ) → List ℕ → Option ℤ
 signed_by least greatest (Some digits) bytes = option_map (λ n. neg_ℤ (pos n)) (number_up_to least digits)
 signed_by least greatest None bytes = option_map pos (number_up_to greatest bytes)
@@ -189,7 +189,7 @@ abbrev pub is_bar : Word → Bool
 is_bar (Bare bytes) = bytes_eq bytes (codes "/")
 is_bar (Quoted text) = false
 
--- the parts that words denote, with a bar between each two, or the first refusal
+-- the parts that words denote, with a bar between them, or the first refusal
 unfoldable pub parts_of : List Word → Result (List (List Point)) ParseError
 parts_of words = each part_of (slice_split is_bar words)
 

@@ -68,7 +68,7 @@ fn kind_of(name: &[u8]) -> Result<Kind, ParseError>
     }
 }
 
-/// Parts with a bar between each two.
+/// Parts, with a bar between them.
 #[tactic(auto, using(crate::proofs::Judged::parts_said))]
 fn parts(alloc: Global, words: &[Word<'_>]) -> Result<Items<Part>, ParseError>
     ensures answer { Gives (λ parts. map points_of parts.items) result (parts_of (map word_of words.now)) }
