@@ -22,6 +22,6 @@ renumbered_fields number decisions fields = filter (is_renumbered number) (decid
 abbrev pub as_before : List (List (Option ℕ) × Field) → List Field
 as_before decided = map (λ at. at.1) decided
 
--- what is left of these fields
+-- what becomes of these fields
 abbrev pub as_renumbered : ℕ → List (List (Option ℕ) × Field) → List Field
 as_renumbered number decided = flat_map (λ at. renumbered_field number at.0 at.1) decided

@@ -35,7 +35,7 @@ geometry_among fields = option_and_then (geometry_in (unwrap_or (last_value 3 fi
 
 -- ---- a geometry that moves
 
--- a delta, and the one that this parameter holds (tiles 4.3.2)
+-- the sum of a delta and the one that this parameter holds (tiles 4.3.2)
 abbrev pub further : ℤ → ℕ → ℤ
 further delta parameter = unzigzag parameter +ℤ delta
 

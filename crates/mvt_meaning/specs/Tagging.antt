@@ -72,7 +72,7 @@ without_attribute key items fields = renumber 2 (removals key items fields) fiel
 abbrev pub excluded : List ℕ → List LayerItem → List LayerItem
 excluded key items = map (in_feature (without_attribute key items)) items
 
--- among the features of some layers those whose tags make no pairs, in order, each by the ordinal of its layer and its
+-- among the features of some layers, those whose tags make no pairs, in order, each by the ordinal of its layer and its
 -- own (tiles 4.4)
 abbrev pub unreadable : List (ℕ × (ℕ × Layer)) → List (ℕ × ℕ)
 unreadable found = flat_map (λ at. map (λ feature. (at.0, feature)) (ordinals_of (λ feature. not (is_some (pairs_of at.1.1 feature))) (features at.1.1))) found

@@ -50,7 +50,7 @@ key_weight key choice document seen = of_selected (selected choice document) (λ
 
 -- ---- fields in which numbers go or get other values
 
--- what is left of these tags fields
+-- what becomes of these tags fields
 abbrev pub as_after : List (List (Option ℕ) × Field) → List Field
 as_after decided = as_renumbered 2 decided
 
