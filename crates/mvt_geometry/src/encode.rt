@@ -19,7 +19,7 @@ use std::alloc::{AllocError, Global};
 /// How often a command may be carried out.
 const MAX_COUNT: usize = 0x1fff_ffff;
 
-/// The greatest delta, and the greatest below zero.
+/// How far from zero a delta may be.
 const MAX_DELTA: u64 = 0x7fff_ffff;
 
 /// The bytes of the geometry: its integers packed, each in its shortest spelling.
@@ -129,8 +129,8 @@ fn put_delta(bytes: &mut Vec<u8>, from: i64, to: i64) -> Result<(), EncodeError>
     Ok(())
 }
 
-/// Whether an integer of 32 bits can hold the delta from one coordinate to another: it is -(2^31 - 1)
-/// to 2^31 - 1.
+/// Whether an integer of 32 bits can hold the delta from one coordinate to another: it is from
+/// -(2^31 - 1) to 2^31 - 1.
 pub fn is_delta(delta: i64) -> bool
     ensures { result ≡ is_delta delta }
 {
