@@ -21,7 +21,7 @@ pub enum Kind {
 }
 
 /// Of the items before `until`, those of one kind: `count` items from `first`. Nothing is known of
-/// those after them.
+/// the items from `until` on.
 #[derive(Clone, Copy, Debug)]
 pub struct Run {
     pub first: usize,

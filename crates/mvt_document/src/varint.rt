@@ -71,9 +71,9 @@ pub fn least_width(value: u64) -> u8
     width
 }
 
-/// The number at the front, whose spelling is as many bytes as its width. There is none if each of
-/// the first ten bytes has its top bit set, or if the number takes more than 64 bits. Most numbers
-/// are one byte or two.
+/// The number at the front, whose spelling is as many bytes as its width. There is none if no byte
+/// without the top bit is among the first ten, or if the number takes more than 64 bits. Most
+/// numbers are one byte or two.
 #[inline(always)]
 pub fn read_varint(bytes: &[u8]) -> Option<Varint>
     ensures within { IfSome result (λ n. n.width ≤ length bytes.now) }
