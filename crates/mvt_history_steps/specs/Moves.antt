@@ -14,7 +14,7 @@ pub record Track : Type 0 where
   pub ahead : List Change
   pub behind : List Change
 
--- the walk after the next change ahead, where there is one: it is carried out, and turned it leads back
+-- the walk after the next change ahead, where there is one: it is carried out, and once turned it leads back
 abbrev pub step_over : List Change → Track → Track
 step_over [] walk = walk
 step_over (change ∷ ahead) walk = record { document = go change walk.document; ahead = ahead; behind = turn change walk.document ∷ walk.behind }
