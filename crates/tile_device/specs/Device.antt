@@ -39,6 +39,6 @@ pub record Counted (D : Type 0) : Type 0 where
   pub interruptions : ℕ
   pub failures : ℕ
 
--- the device was neither interrupted nor failed
+-- the device was not interrupted and did not fail
 abbrev pub is_untroubled : {D : Type 0} → Counted D → Bool
 is_untroubled d = (d.interruptions == 0) && (d.failures == 0)
