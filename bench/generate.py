@@ -120,7 +120,7 @@ def empty_tags_tile(size):
 
 
 def groups_tile(deep, size):
-    """Groups that stand in one another, so deep, again and again; behind them a small layer."""
+    """Groups that stand in one another, so deep, again and again; after them a small layer."""
     groups = deep * GROUP + deep * GROUP_END
     small = layer("groups", b"", b"")
     return (size - len(small)) // len(groups) * groups + small

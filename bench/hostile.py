@@ -59,7 +59,7 @@ def repeated(unit, size):
     return size // len(unit) * unit
 
 
-def behind(unit, size, last):
+def ending_in(unit, size, last):
     """What comes last is met when all the rest was read."""
     return repeated(unit, size - len(last)) + last
 
@@ -106,17 +106,17 @@ HOSTILE = [
     Hostile("ends of no group", lambda size: repeated(GROUP_END, size), 0),
     Hostile("groups with other groups' ends", lambda size: repeated(GROUP + OTHER_END, size), 0),
     Hostile("groups 101 deep", lambda size: repeated(TOO_DEEP, size), 0),
-    Hostile("groups 100 deep, then 101", lambda size: behind(groups(MOST_OPEN), size, TOO_DEEP), -len(TOO_DEEP)),
+    Hostile("groups 100 deep, then 101", lambda size: ending_in(groups(MOST_OPEN), size, TOO_DEEP), -len(TOO_DEEP)),
     # A group keeps its end tag.
     Hostile("empty groups", lambda size: repeated(groups(1), size), None, keeps_bytes=True),
     Hostile("empty layers", lambda size: repeated(LAYER, size), None),
     Hostile("empty features", lambda size: bytes_field(3, repeated(FEATURE, size - HEAD)), None),
     Hostile("layers past the end", lambda size: repeated(LAYER_PAST_END, size), 0),
     Hostile("fields, then a layer past the end",
-            lambda size: behind(NUMBER, size, LAYER_PAST_END), -len(LAYER_PAST_END)),
+            lambda size: ending_in(NUMBER, size, LAYER_PAST_END), -len(LAYER_PAST_END)),
     Hostile("LEN fields past their layer's end", lambda size: repeated(PAST_LAYER, size), 0),
     Hostile("features, then one past their layer's end",
-            lambda size: bytes_field(3, behind(FEATURE, size - HEAD, FEATURE_PAST_END)), 0),
+            lambda size: bytes_field(3, ending_in(FEATURE, size - HEAD, FEATURE_PAST_END)), 0),
     Hostile("a layer that wants one byte", lambda size: bytes_field(3, bytes(size - HEAD))[:-1], 0),
     Hostile("LEN fields in LEN fields", lambda size: repeated(nested_bytes(LEVELS), size), None),
     Hostile("layers, and many names to keep", lambda size: repeated(NAMED_LAYER, size), None, script=many_names),

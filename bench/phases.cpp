@@ -14,7 +14,7 @@
 
 namespace {
 
-// What stands behind each phase: the first file is opened, the tile is read, the first line is answered, the first bytes of the
+// What has happened after each phase: the first file is opened, the tile is read, the first line is answered, the first bytes of the
 // edited tile are there to be written, and the last are written.
 enum Mark { STARTED, READ, ANSWERED, ENCODED, WRITTEN, MARKS };
 

@@ -10,7 +10,7 @@ from report import Phase, shown, table
 
 NOTES = BUILD / "phases"
 
-# In the order of phases.cpp, and what is left behind its last note.
+# In the order of phases.cpp, and what is left after its last note.
 NAMES = ["start", "read the file", "open the document, and answer the line", "encode the document", "write the file", "end"]
 
 

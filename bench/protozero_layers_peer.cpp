@@ -32,7 +32,7 @@ public:
             if (is_bytes(reader, layer_name)) {
                 read_name_ = reader.get_view();
                 name_ = read_name_;
-                behind_ = reader.data();
+                after_ = reader.data();
                 return;
             }
             reader.skip();
@@ -84,15 +84,15 @@ public:
         pbf_writer(name).add_string(layer_name, name_);
         std::string head;
         protozero::add_varint_to_buffer(&head, protozero::tag_and_type(tile_layer, pbf_wire_type::length_delimited));
-        protozero::add_varint_to_buffer(&head, before_.size() + name.size() + behind_.size());
-        file << head << before_ << name << behind_;
+        protozero::add_varint_to_buffer(&head, before_.size() + name.size() + after_.size());
+        file << head << before_ << name << after_;
     }
 
 private:
     std::string_view bytes_;
-    // The content before the name's field, and behind it.
+    // The content before the name's field, and after it.
     std::string_view before_;
-    std::string_view behind_;
+    std::string_view after_;
     std::string_view read_name_;
     std::string name_;
     bool is_dropped_ = false;

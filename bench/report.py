@@ -77,7 +77,7 @@ class Stepped:
     tile: Tile
     # How many steps undo goes back at most.
     depth: int
-    # How many renames there were, and how many undos and redos behind them.
+    # How many renames there were, and how many undos and redos after them.
     renames: int
     moves: int
     # The figures of each; none where a run did not do its job.

@@ -44,10 +44,10 @@ static long none[DEVICES][CALLS], (*counts)[CALLS];
 static int is_tile_open;
 
 static void read_numbers(const char *name, long *numbers, int room) {
-    char *text = getenv(name), *behind = text;
-    for (; text && room; text = behind, room--, numbers++) {
-        long number = strtol(text, &behind, 10);
-        if (behind == text) {
+    char *text = getenv(name), *end = text;
+    for (; text && room; text = end, room--, numbers++) {
+        long number = strtol(text, &end, 10);
+        if (end == text) {
             return;
         }
         *numbers = number;
@@ -67,8 +67,8 @@ static void begin(void) {
 static long counted(int device, int call) {
     long made = ++counts[device][call];
     for (int place = 0; place < TROUBLES; place++) {
-        long *trouble = troubles[place], behind = made - trouble[2];
-        if (trouble[0] == device && trouble[1] == call && 0 <= behind && behind < trouble[3]) {
+        long *trouble = troubles[place], since = made - trouble[2];
+        if (trouble[0] == device && trouble[1] == call && 0 <= since && since < trouble[3]) {
             return trouble[4];
         }
     }

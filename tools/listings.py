@@ -89,10 +89,10 @@ def geometry_of(fields):
         return "unreadable"
     x, y, at, parts = 0, 0, 0, []
     while at < len(numbers):
-        command, behind = tiles.command_at(numbers, at)
+        command, after = tiles.command_at(numbers, at)
         parts += [[]] if command == 1 else []
-        for dx, dy in zip(numbers[at + 1:behind:2], numbers[at + 2:behind:2]):
+        for dx, dy in zip(numbers[at + 1:after:2], numbers[at + 2:after:2]):
             x, y = x + unzigzag(dx), y + unzigzag(dy)
             parts[-1].append(f"{x},{y}")
-        at = behind
+        at = after
     return " ".join([KINDS[last(fields, KIND)], " / ".join(map(" ".join, parts))])

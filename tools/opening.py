@@ -26,8 +26,8 @@ def fault_place(data, inner=TILE):
 
 def item_end(data, at, inner):
     """Where the item that begins there ends."""
-    key, behind = whole_tag(data, at)
-    begin, end = whole_body(data, behind, key, 0)
+    key, after = whole_tag(data, at)
+    begin, end = whole_body(data, after, key, 0)
     if key in inner and fault_place(data[begin:end], inner[key]) is not None:
         raise Broken
     return end
@@ -70,7 +70,7 @@ def whole_group(data, at, key, opened):
     one."""
     if opened > MOST_OPEN:
         raise Broken
-    inner, behind = whole_tag(data, at)
+    inner, after = whole_tag(data, at)
     while inner & 7 != END:
-        inner, behind = whole_tag(data, whole_body(data, behind, inner, opened)[1])
-    return behind if inner >> 3 == key >> 3 else broken()
+        inner, after = whole_tag(data, whole_body(data, after, inner, opened)[1])
+    return after if inner >> 3 == key >> 3 else broken()

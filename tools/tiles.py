@@ -23,11 +23,11 @@ PATHS = {1: [(1, 1, MAX_COUNT)], 2: [(1, 1, 1), (2, 1, MAX_COUNT)], 3: [(1, 1, 1
 class Refused(Exception):
     """Why a line is refused: the number of the refusal."""
 
-    def __init__(self, number, behind=""):
+    def __init__(self, number, after_name=""):
         super().__init__(number)
         self.number = number
         # What a reply prints after the name of the refusal.
-        self.behind = behind
+        self.after_name = after_name
 
 
 @dataclass(frozen=True)
@@ -77,12 +77,12 @@ def read_items(data, inner):
     """The items of these bytes. Those with the tags of `inner` are read into."""
     items, at = [], 0
     while at < len(data):
-        key, behind_tag = number_at(data, at)
-        begin, end = bounds(data, behind_tag, key & 7)
+        key, after_tag = number_at(data, at)
+        begin, end = bounds(data, after_tag, key & 7)
         content = data[begin:end]
         if key in inner:
             content = read_items(content, inner[key])
-        items.append(Item(data[at:behind_tag], begin - behind_tag, content))
+        items.append(Item(data[at:after_tag], begin - after_tag, content))
         at = end
     return tuple(items)
 
@@ -99,10 +99,10 @@ def bounds(data, at, wire_type):
 
 def group_end(data, at):
     """Where the end tag of the group whose first field begins there ends."""
-    key, behind = number_at(data, at)
+    key, after = number_at(data, at)
     while key & 7 != END:
-        key, behind = number_at(data, bounds(data, behind, key & 7)[1])
-    return behind
+        key, after = number_at(data, bounds(data, after, key & 7)[1])
+    return after
 
 
 def places(items, key):
@@ -161,8 +161,8 @@ def one_of(found, none, several):
     return found[0] if len(found) == 1 else refuse(several if found else none)
 
 
-def refuse(number, behind=""):
-    raise Refused(number, behind)
+def refuse(number, after_name=""):
+    raise Refused(number, after_name)
 
 
 def in_layer(tile, place, items):

@@ -312,9 +312,9 @@ def carried_out(state, words):
     return edit(state, command_of(request, rest) or refuse(12)), []
 
 
-def refusal(line, state, reason, taken=None, behind=""):
-    behind = behind if taken is None else f" taken {taken}"
-    return Answer(f"line {line} refused {reason} {NAMES[reason]}{behind}\n", state, reason, taken)
+def refusal(line, state, reason, taken=None, after_name=""):
+    after_name = after_name if taken is None else f" taken {taken}"
+    return Answer(f"line {line} refused {reason} {NAMES[reason]}{after_name}\n", state, reason, taken)
 
 
 def plain(state, line, words):
@@ -322,7 +322,7 @@ def plain(state, line, words):
     try:
         after, printed = carried_out(state, words)
     except Refused as refused:
-        return refusal(line, state, refused.number, behind=refused.behind)
+        return refusal(line, state, refused.number, after_name=refused.after_name)
     return Answer("".join(f"{each}\n" for each in [*printed, "ok"]), after)
 
 
@@ -386,5 +386,5 @@ def walk(state, script, replies):
         found.append((taken, taken is allowed[0]))
         rest, state = rest[len(taken.reply):], taken.state
     if rest:
-        raise ValueError(f"behind the last line stands {rest!r}")
+        raise ValueError(f"{rest!r} comes after the last line")
     return found, state

@@ -10,7 +10,7 @@ from out_of_memory import PLAIN, RUN, Printed, Wrong, judged_script
 ELSEWHERE = "elsewhere"
 
 # A run as a call ends out of memory: this, and after how many lines of replies.
-CUT = "cut behind"
+CUT = "cut after"
 
 # What the program prints of a run that is not as its row has it.
 DIFFERS = re.compile(r"is (.*), with the replies\n(.*)\nand (?:no tile|the tile ([0-9a-f]*))\nshould be .*"

@@ -330,7 +330,7 @@ module _ (key value : List ℕ) (index : ℕ) (layer : Layer) (within : weigh la
         (minimal_spelling key_place (omega (arith, low)), (minimal_spelling value_place (value_short key value index layer.items within), tt))
 
     pair_bytes : new_pair key value layer.items ≡ flat_map spelling new_numbers
-    pair_bytes = ap (λ (behind : List ℕ). shortest key_place ++ behind) (sym (append-nil (shortest value_place)))
+    pair_bytes = ap (λ (following : List ℕ). shortest key_place ++ following) (sym (append-nil (shortest value_place)))
 
     abbrev is_set_pair : ℕ × ℕ → Bool
     is_set_pair = is_pair (length (keys set_layer)) (length (values set_layer))

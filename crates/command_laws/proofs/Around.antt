@@ -6,7 +6,7 @@ use Rattle.std.proofs.lemmas.List.{append-nil, length_push}
 use Rattle.std.proofs.lemmas.List.Elements.{filter_map-append, filter-append}
 use Rattle.std.proofs.lemmas.List.Edits.{length-remove}
 use Rattle.std.specs.List.{filter_map, cons_option, list_any, remove}
-use Rattle.mvt_meaning.specs.Ordinals.{positions_of, count, from_nth, change_nth, without, before, behind, change_first, move_nth, insert_nth}
+use Rattle.mvt_meaning.specs.Ordinals.{positions_of, count, from_nth, change_nth, without, before, after, change_first, move_nth, insert_nth}
 use Rattle.mvt_meaning.proofs.Positions.{positions_from, positions_pass, positions_skip}
 use Rattle.mvt_meaning.proofs.Between.{get_between}
 
@@ -230,8 +230,8 @@ module _ {A B : Type 0} (part : A → Option B) where
   put_before ordinal new items a =
       record { front = a.front; back = a.item ∷ a.back; whole = a.whole; made_so = from_around part (λ rest. new ∷ rest) ordinal items a; counted = a.counted }
 
-  put_behind : (ordinal next : ℕ) (new : A) (items : List A) → next ≡ suc ordinal → Around part ordinal items → Put part next new items (behind (has_part part) ordinal new items)
-  put_behind ordinal next new items e a =
+  put_after : (ordinal next : ℕ) (new : A) (items : List A) → next ≡ suc ordinal → Around part ordinal items → Put part next new items (after (has_part part) ordinal new items)
+  put_after ordinal next new items e a =
       let one_more = ap length (parts_between part a.front a.item a.value [] a.has) ∙ length_push (filter_map part a.front) a.value in
       let counted = a.counted in
       record {
@@ -265,8 +265,8 @@ module _ {A B : Type 0} (part : A → Option B) where
         | inl some ↦ (
             let many = some_parts items some in
             let last : count (has_part part) items - 1 < length (filter_map part items) = omega arith in
-            let made : insert_nth (has_part part) index new items ≡ behind (has_part part) (count (has_part part) items - 1) new items = rw (past, some) refl in
-            subst (Put part index new items) (sym made) (put_behind (count (has_part part) items - 1) index new items (omega arith) (around part items (count (has_part part) items - 1) last))
+            let made : insert_nth (has_part part) index new items ≡ after (has_part part) (count (has_part part) items - 1) new items = rw (past, some) refl in
+            subst (Put part index new items) (sym made) (put_after (count (has_part part) items - 1) index new items (omega arith) (around part items (count (has_part part) items - 1) last))
             )
         | inr none ↦ (
             let empty = no_parts items none in
@@ -320,8 +320,8 @@ module _ {A B C : Type 0} (part : A → Option B) (rest : A → Option C) (apart
             })
             )
         | inr (inl up) ↦ (
-            let made : move_nth (has_part part) from to items ≡ behind (has_part part) (to - 1) a.item left = rw (item, lt-ltb from to up) refl in
-            subst (OneMoved part rest from to items) (sym made) (put_back from to items (behind (has_part part) (to - 1) a.item left) a (put_behind part (to - 1) to a.item left (omega arith) (around part left (to - 1) (omega arith))))
+            let made : move_nth (has_part part) from to items ≡ after (has_part part) (to - 1) a.item left = rw (item, lt-ltb from to up) refl in
+            subst (OneMoved part rest from to items) (sym made) (put_back from to items (after (has_part part) (to - 1) a.item left) a (put_after part (to - 1) to a.item left (omega arith) (around part left (to - 1) (omega arith))))
             )
         | inr (inr down) ↦ (
             let made : move_nth (has_part part) from to items ≡ before (has_part part) to a.item left = rw (item, le-ltb from to (omega arith), lt-ltb to from down) refl in

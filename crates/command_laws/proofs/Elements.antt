@@ -5,7 +5,7 @@ use Rattle.std.specs.Option.{option_map_or}
 use Rattle.std.proofs.lemmas.Bool.{cases_Bool, cond_both, ne_eqb}
 use Rattle.mvt_document.proofs.EachItem.{all_joined}
 use Rattle.mvt_meaning.specs.Compaction.{staying}
-use Rattle.mvt_meaning.specs.Ordinals.{from_nth, change_first, change_nth, change_last, put_last, put_once, count, without, before, behind, move_nth, insert_nth}
+use Rattle.mvt_meaning.specs.Ordinals.{from_nth, change_first, change_nth, change_last, put_last, put_once, count, without, before, after, move_nth, insert_nth}
 use Rattle.mvt_meaning.proofs.Elements.{all_filtered}
 
 module _ {A : Type 0} (P : A → Type 0) where
@@ -67,18 +67,18 @@ module _ {A : Type 0} (P : A → Type 0) where
   all_before : (passes : A → Bool) (ordinal : ℕ) (new : A) (xs : List A) → P new → AllByRecursion P xs → AllByRecursion P (before passes ordinal new xs)
   all_before passes ordinal new xs valid all = all_from_nth passes (λ rest. new ∷ rest) (λ rest holds. (valid, holds)) ordinal xs all
 
-  all_behind : (passes : A → Bool) (ordinal : ℕ) (new : A) (xs : List A) → P new → AllByRecursion P xs → AllByRecursion P (behind passes ordinal new xs)
-  all_behind passes ordinal new xs valid all = all_from_nth passes (λ rest. take 1 rest ++ new ∷ drop 1 rest) (all_second new valid) ordinal xs all
+  all_after : (passes : A → Bool) (ordinal : ℕ) (new : A) (xs : List A) → P new → AllByRecursion P xs → AllByRecursion P (after passes ordinal new xs)
+  all_after passes ordinal new xs valid all = all_from_nth passes (λ rest. take 1 rest ++ new ∷ drop 1 rest) (all_second new valid) ordinal xs all
 
   moved_by : (passes : A → Bool) (from to : ℕ) (xs : List A) (found : Option A) → slice_get (filter passes xs) from ≡ found → AllByRecursion P xs
-      → AllByRecursion P (option_map_or (λ item. cond (ltb from to) (behind passes (to - 1) item (without passes from xs)) (cond (ltb to from) (before passes to item (without passes from xs)) xs)) found xs)
+      → AllByRecursion P (option_map_or (λ item. cond (ltb from to) (after passes (to - 1) item (without passes from xs)) (cond (ltb to from) (before passes to item (without passes from xs)) xs)) found xs)
   moved_by passes from to xs None is all = all
   moved_by passes from to xs (Some item) is all =
       let out = without passes from xs in
       let rest = all_without passes from xs all in
       let valid = got_holds (filter passes xs) from item is (all_filtered P passes xs all) in
-      cond_both (ltb from to) (behind passes (to - 1) item out) (cond (ltb to from) (before passes to item out) xs) (AllByRecursion P)
-      (λ _. all_behind passes (to - 1) item out valid rest)
+      cond_both (ltb from to) (after passes (to - 1) item out) (cond (ltb to from) (before passes to item out) xs) (AllByRecursion P)
+      (λ _. all_after passes (to - 1) item out valid rest)
       (λ _. cond_both (ltb to from) (before passes to item out) xs (AllByRecursion P) (λ _. all_before passes to item out valid rest) (λ _. all))
 
   pub all_moved : (passes : A → Bool) (from to : ℕ) (xs : List A) → AllByRecursion P xs → AllByRecursion P (move_nth passes from to xs)
@@ -86,10 +86,10 @@ module _ {A : Type 0} (P : A → Type 0) where
 
   pub all_inserted : (passes : A → Bool) (ordinal : ℕ) (new : A) (xs : List A) → P new → AllByRecursion P xs → AllByRecursion P (insert_nth passes ordinal new xs)
   all_inserted passes ordinal new xs valid all =
-      let last = behind passes (count passes xs - 1) new xs in
+      let last = after passes (count passes xs - 1) new xs in
       cond_both (ltb ordinal (count passes xs)) (before passes ordinal new xs) (cond (list_any passes xs) last (xs ++ new ∷ [])) (AllByRecursion P)
       (λ _. all_before passes ordinal new xs valid all)
-      (λ _. cond_both (list_any passes xs) last (xs ++ new ∷ []) (AllByRecursion P) (λ _. all_behind passes (count passes xs - 1) new xs valid all) (λ _. all_pushed new valid xs all))
+      (λ _. cond_both (list_any passes xs) last (xs ++ new ∷ []) (AllByRecursion P) (λ _. all_after passes (count passes xs - 1) new xs valid all) (λ _. all_pushed new valid xs all))
 
   pub all_last : (passes : A → Bool) (change : A → A) → ((x : A) → P x → P (change x)) → (xs : List A) → AllByRecursion P xs → AllByRecursion P (change_last passes change xs)
   all_last passes change keeps [] all = tt
@@ -108,9 +108,9 @@ module _ {A : Type 0} (P : A → Type 0) where
   all_staying passes stays ordinal [] all = tt
   all_staying passes stays ordinal (x ∷ xs) all =
       let later = all_staying passes stays (ordinal + 1) xs all.1 in
-      let behind = staying passes stays (ordinal + 1) xs in
-      cond_both (passes x) (cond (stays ordinal) (x ∷ behind) behind) (x ∷ staying passes stays ordinal xs) (AllByRecursion P)
-      (λ _. cond_both (stays ordinal) (x ∷ behind) behind (AllByRecursion P) (λ _. (all.0, later)) (λ _. later))
+      let following = staying passes stays (ordinal + 1) xs in
+      cond_both (passes x) (cond (stays ordinal) (x ∷ following) following) (x ∷ staying passes stays ordinal xs) (AllByRecursion P)
+      (λ _. cond_both (stays ordinal) (x ∷ following) following (AllByRecursion P) (λ _. (all.0, later)) (λ _. later))
       (λ _. (all.0, all_staying passes stays ordinal xs all.1))
 
   pub all_put_once : (passes : A → Bool) (new : A) → P new → (xs : List A) → AllByRecursion P xs → AllByRecursion P (put_once passes new xs)

@@ -12,7 +12,7 @@ use Rattle.mvt_document.specs.Wire.{field_bytes, layer_item_bytes, tile_item_byt
 use Rattle.mvt_document.proofs.Sizes.{length-message_grows}
 use Rattle.mvt_document.specs.Places.{in_layer, in_feature}
 use Rattle.mvt_command.specs.Command.{LayersChoice, TheLayer, EachLayer, Command, RenameLayer, MoveLayer, DropLayer, KeepLayers, InsertFeature, MoveFeature, DropFeature, SetId, ClearId, SetAttribute, UnsetAttribute, RenameKey, Exclude, ExcludeAll, Shift, SetGeometry, CompactKeys, CompactValues, Compact}
-use Rattle.mvt_meaning.specs.Ordinals.{from_nth, change_first, change_nth, without, before, behind, move_nth, insert_nth}
+use Rattle.mvt_meaning.specs.Ordinals.{from_nth, change_first, change_nth, without, before, after, move_nth, insert_nth}
 use Rattle.mvt_meaning.specs.Selection.{is_feature, is_layer, selected, selected_in, selected_layers}
 use Rattle.mvt_messages.specs.Views.{key_field, layers, value_field}
 use Rattle.mvt_value.specs.Messages.{encoded_value}
@@ -91,12 +91,12 @@ module _ {A : Type 0} (bytes : A → List ℕ) where
   staying_no_longer : (passes : A → Bool) (stays : ℕ → Bool) (ordinal : ℕ) (xs : List A) → weigh bytes (staying passes stays ordinal xs) ≤ weigh bytes xs
   staying_no_longer passes stays ordinal [] = omega arith
   staying_no_longer passes stays ordinal (x ∷ xs) =
-      let behind = staying passes stays (ordinal + 1) xs in
+      let following = staying passes stays (ordinal + 1) xs in
       let rest = staying passes stays ordinal xs in
       let all = length-append (bytes x) (flat_map bytes xs) in
-      cond_both (passes x) (cond (stays ordinal) (x ∷ behind) behind) (x ∷ rest) (λ ys. weigh bytes ys ≤ weigh bytes (x ∷ xs))
-      (λ _. cond_both (stays ordinal) (x ∷ behind) behind (λ ys. weigh bytes ys ≤ weigh bytes (x ∷ xs))
-      (λ _. omega (arith, staying_no_longer passes stays (ordinal + 1) xs, length-append (bytes x) (flat_map bytes behind), all))
+      cond_both (passes x) (cond (stays ordinal) (x ∷ following) following) (x ∷ rest) (λ ys. weigh bytes ys ≤ weigh bytes (x ∷ xs))
+      (λ _. cond_both (stays ordinal) (x ∷ following) following (λ ys. weigh bytes ys ≤ weigh bytes (x ∷ xs))
+      (λ _. omega (arith, staying_no_longer passes stays (ordinal + 1) xs, length-append (bytes x) (flat_map bytes following), all))
       (λ _. omega (arith, staying_no_longer passes stays (ordinal + 1) xs, all)))
       (λ _. omega (arith, staying_no_longer passes stays ordinal xs, length-append (bytes x) (flat_map bytes rest), all))
 
@@ -128,14 +128,14 @@ module _ {A : Type 0} (bytes : A → List ℕ) where
 
   -- an item that moves
   move_by : (passes : A → Bool) (from to : ℕ) (xs : List A) (found : Option A) → slice_get (filter passes xs) from ≡ found
-      → weigh bytes (option_map_or (λ item. cond (ltb from to) (behind passes (to - 1) item (without passes from xs)) (cond (ltb to from) (before passes to item (without passes from xs)) xs)) found xs) ≤ weigh bytes xs
+      → weigh bytes (option_map_or (λ item. cond (ltb from to) (after passes (to - 1) item (without passes from xs)) (cond (ltb to from) (before passes to item (without passes from xs)) xs)) found xs) ≤ weigh bytes xs
   move_by passes from to xs None is = omega arith
   move_by passes from to xs (Some item) is =
       let out = without passes from xs in
       let rest = without_weighs passes from xs item is in
       let on = from_nth_weighs passes (λ rest. take 1 rest ++ item ∷ drop 1 rest) (length (bytes item)) (second_with item) (to - 1) out in
       let up = from_nth_weighs passes (λ rest. item ∷ rest) (length (bytes item)) (front_with item) to out in
-      cond_both (ltb from to) (behind passes (to - 1) item out) (cond (ltb to from) (before passes to item out) xs) (λ ys. weigh bytes ys ≤ weigh bytes xs)
+      cond_both (ltb from to) (after passes (to - 1) item out) (cond (ltb to from) (before passes to item out) xs) (λ ys. weigh bytes ys ≤ weigh bytes xs)
       (λ _. omega (arith, rest, on))
       (λ _. cond_both (ltb to from) (before passes to item out) xs (λ ys. weigh bytes ys ≤ weigh bytes xs) (λ _. omega (arith, rest, up)) (λ _. omega arith))
 

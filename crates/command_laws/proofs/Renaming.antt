@@ -93,14 +93,14 @@ is_renamed name ordinal old within free =
     let d = layer_differs (named_items name) ordinal old a in
     let renamed = with_items (named_items name) a.value in
     let before = filter_map layer_in a.front in
-    let behind = filter_map layer_in a.back in
-    let were : layers old ≡ before ++ a.value ∷ behind = ap layers a.whole ∙ parts_between layer_in a.front a.item a.value a.back a.has in
-    let are : layers new ≡ before ++ renamed ∷ behind = layers_between (named_items name) ordinal old a in
+    let following = filter_map layer_in a.back in
+    let were : layers old ≡ before ++ a.value ∷ following = ap layers a.whole ∙ parts_between layer_in a.front a.item a.value a.back a.has in
+    let are : layers new ≡ before ++ renamed ∷ following = layers_between (named_items name) ordinal old a in
     let counted = a.counted in
-    let others : list_any (λ other. not (other == ordinal)) (positions_from (is_named name) 0 (before ++ a.value ∷ behind)) ≡ false = subst (λ (ls : List Layer). list_any (λ other. not (other == ordinal)) (positions_from (is_named name) 0 ls) ≡ false) were free in
+    let others : list_any (λ other. not (other == ordinal)) (positions_from (is_named name) 0 (before ++ a.value ∷ following)) ≡ false = subst (λ (ls : List Layer). list_any (λ other. not (other == ordinal)) (positions_from (is_named name) 0 ls) ≡ false) were free in
     record {
       named = ap (option_map name_of) d.is ∙ ap (λ text. Some text) (name_of_renamed name a.value);
-      alone = ap (λ ls. one_layer (positions_from (is_named name) 0 ls)) are ∙ ap one_layer (alone_at (is_named name) 0 ordinal before a.value renamed behind (named_so name a.value) (omega arith) others);
+      alone = ap (λ ls. one_layer (positions_from (is_named name) 0 ls)) are ∙ ap one_layer (alone_at (is_named name) 0 ordinal before a.value renamed following (named_so name a.value) (omega arith) others);
       rest = ap (option_map without_names) d.is ∙ ap (λ layer. Some layer) (rest_of_renamed name a.value) ∙ sym (ap (option_map without_names) d.was);
       others = d.others;
       fields = d.fields;

@@ -88,11 +88,11 @@ all_stay number decisions [] all e = refl
 all_stay number decisions (field ∷ fields) all e =
     let own = field_numbers number field in
     let others = flat_map (field_numbers number) fields in
-    let behind = drop (length own) decisions in
-    let apart = same_fronts (renumbered decisions own) own (renumbered behind others) others (sym (renumbered-append decisions own others) ∙ e) (same_count decisions own all) in
-    ap (λ (list : List Number). with_left field own list ++ renumber number behind fields) apart.0
-    ∙ ap (λ (first : List Field). first ++ renumber number behind fields) (own_left number field)
-    ∙ ap (λ (rest : List Field). field ∷ rest) (all_stay number behind fields (some_dropped (length own) decisions all) apart.1)
+    let following = drop (length own) decisions in
+    let apart = same_fronts (renumbered decisions own) own (renumbered following others) others (sym (renumbered-append decisions own others) ∙ e) (same_count decisions own all) in
+    ap (λ (list : List Number). with_left field own list ++ renumber number following fields) apart.0
+    ∙ ap (λ (first : List Field). first ++ renumber number following fields) (own_left number field)
+    ∙ ap (λ (rest : List Field). field ∷ rest) (all_stay number following fields (some_dropped (length own) decisions all) apart.1)
 
 -- ---- numbers that get other values, and their own again
 
@@ -148,11 +148,11 @@ counts_stay number decisions (field ∷ fields) all short =
     let own = field_numbers number field in
     let counted = same_count decisions own all in
     let b = back_by number decisions field own (renumbered decisions own) short refl refl counted in
-    let behind = drop (length own) decisions in
-    let rest : List Field = renumber number behind fields in
+    let following = drop (length own) decisions in
+    let rest : List Field = renumber number following fields in
     ap (λ (first : List Field). map (λ (f : Field). length (field_numbers number f)) (first ++ rest)) b.left
     ∙ ap (λ (n : ℕ). n ∷ map (λ (f : Field). length (field_numbers number f)) rest) (ap length b.numbers ∙ counted)
-    ∙ ap (λ (more : List ℕ). length own ∷ more) (counts_stay number behind fields (some_dropped (length own) decisions all) (short_dropped (length own) decisions short))
+    ∙ ap (λ (more : List ℕ). length own ∷ more) (counts_stay number following fields (some_dropped (length own) decisions all) (short_dropped (length own) decisions short))
 
 pub both_back : (number : ℕ) (there back : List (Option ℕ)) (fields : List Field) → AllSome there → AllSome back → AreShort there → renumbered back (renumbered there (flat_map (field_numbers number) fields)) ≡ flat_map (field_numbers number) fields → renumber number back (renumber number there fields) ≡ fields
 both_back number there back [] all all_back short e = refl

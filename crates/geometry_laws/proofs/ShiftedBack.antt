@@ -30,7 +30,7 @@ use Rattle.mvt_meaning.specs.Selection.{is_feature, is_layer, selected, selected
 use Rattle.mvt_meaning.specs.declared.refusal.Refusal.{Refusal}
 use Rattle.mvt_meaning.specs.declared.refusal.Refusal.TheVariants.{NoLayer}
 use Rattle.mvt_meaning.proofs.Given.{number_given}
-use Rattle.mvt_meaning.proofs.Found.{fields_of_nth, from_behind, from_here, from_later, items_of_nth, still_feature, still_layer}
+use Rattle.mvt_meaning.proofs.Found.{fields_of_nth, from_after, from_here, from_later, items_of_nth, still_feature, still_layer}
 use Rattle.mvt_meaning.proofs.Moving.{moves_short}
 use Rattle.command_laws.proofs.OtherFields.{values_stay}
 use Rattle.command_laws.proofs.Parts.{fields_found}
@@ -95,12 +95,12 @@ module _ {A : Type 0} (passes : A → Bool) (there back : A → A) (keeps : (x :
   item_back zero (x ∷ xs) same =
       elim (cases_Bool (passes x)) [
         | inl pass ↦ ap (change_nth passes back 0) (from_here passes (change_first there) x xs pass) ∙ from_here passes (change_first back) (there x) xs (keeps x ∙ pass) ∙ ap (λ y. y ∷ xs) (same x (rw pass refl))
-        | inr skip ↦ ap (change_nth passes back 0) (from_behind passes (change_first there) 0 x xs skip) ∙ from_behind passes (change_first back) 0 x (change_nth passes there 0 xs) skip ∙ ap (λ ys. x ∷ ys) (item_back zero xs (λ y is. same y (rw skip is)))
+        | inr skip ↦ ap (change_nth passes back 0) (from_after passes (change_first there) 0 x xs skip) ∙ from_after passes (change_first back) 0 x (change_nth passes there 0 xs) skip ∙ ap (λ ys. x ∷ ys) (item_back zero xs (λ y is. same y (rw skip is)))
       ]
   item_back (suc ordinal) (x ∷ xs) same =
       elim (cases_Bool (passes x)) [
         | inl pass ↦ ap (change_nth passes back (suc ordinal)) (from_later passes (change_first there) ordinal x xs pass) ∙ from_later passes (change_first back) ordinal x (change_nth passes there ordinal xs) pass ∙ ap (λ ys. x ∷ ys) (item_back ordinal xs (λ y is. same y (rw pass is)))
-        | inr skip ↦ ap (change_nth passes back (suc ordinal)) (from_behind passes (change_first there) (suc ordinal) x xs skip) ∙ from_behind passes (change_first back) (suc ordinal) x (change_nth passes there (suc ordinal) xs) skip ∙ ap (λ ys. x ∷ ys) (item_back (suc ordinal) xs (λ y is. same y (rw skip is)))
+        | inr skip ↦ ap (change_nth passes back (suc ordinal)) (from_after passes (change_first there) (suc ordinal) x xs skip) ∙ from_after passes (change_first back) (suc ordinal) x (change_nth passes there (suc ordinal) xs) skip ∙ ap (λ ys. x ∷ ys) (item_back (suc ordinal) xs (λ y is. same y (rw skip is)))
       ]
 
 module _ (there back : List Field → List Field) (ordinal index : ℕ) (document : Document) (same : (fields : List Field) → fields_of ordinal index document ≡ fields → back (there fields) ≡ fields) where

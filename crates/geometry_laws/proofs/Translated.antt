@@ -79,8 +79,8 @@ module _ (dx dy : ℤ) where
   moved_last from (to ∷ points) = moved_last to points
 
   -- what follows the first parameters of a path
-  abbrev behind : List ℕ → ℕ → List ℕ → List ℕ → List ℕ
-  behind closing count numbers rest = (command 2 count ∷ (numbers ++ closing)) ++ rest
+  abbrev following : List ℕ → ℕ → List ℕ → List ℕ → List ℕ
+  following closing count numbers rest = (command 2 count ∷ (numbers ++ closing)) ++ rest
 
   moved_path : (closing : List ℕ) (from : Point) (points : List Point) → path closing (further_on from) (map further_on points) ≡ path closing from points
   moved_path closing from [] = refl
@@ -140,21 +140,21 @@ module _ (dx dy : ℤ) where
         short = λ along down. (along, (down, short_again first points [] range.short.1.1));
       }
 
-  behind_again : (closing : List ℕ) (first : Point) (points : List Point) (parts : List (List Point)) → behind closing (length (map further_on points)) (parameters (further_on first) (map further_on points)) (paths closing (last_from (further_on first) (map further_on points)) (map (map further_on) parts)) ≡ behind closing (length points) (parameters first points) (paths closing (last_from first points) parts)
-  behind_again closing first points parts =
+  following_again : (closing : List ℕ) (first : Point) (points : List Point) (parts : List (List Point)) → following closing (length (map further_on points)) (parameters (further_on first) (map further_on points)) (paths closing (last_from (further_on first) (map further_on points)) (map (map further_on) parts)) ≡ following closing (length points) (parameters first points) (paths closing (last_from first points) parts)
+  following_again closing first points parts =
       let rest : List ℕ = paths closing (last_from (further_on first) (map further_on points)) (map (map further_on) parts) in
-      ap (λ (count : ℕ). behind closing count (parameters (further_on first) (map further_on points)) rest) (length-map points further_on)
-      ∙ ap (λ (numbers : List ℕ). behind closing (length points) numbers rest) (moved_parameters first points)
-      ∙ ap (λ (last : Point). behind closing (length points) (parameters first points) (paths closing last (map (map further_on) parts))) (moved_last first points)
-      ∙ ap (behind closing (length points) (parameters first points)) (moved_paths closing (last_from first points) parts)
+      ap (λ (count : ℕ). following closing count (parameters (further_on first) (map further_on points)) rest) (length-map points further_on)
+      ∙ ap (λ (numbers : List ℕ). following closing (length points) numbers rest) (moved_parameters first points)
+      ∙ ap (λ (last : Point). following closing (length points) (parameters first points) (paths closing last (map (map further_on) parts))) (moved_last first points)
+      ∙ ap (following closing (length points) (parameters first points)) (moved_paths closing (last_from first points) parts)
 
   lines_begin : (first : Point) (points : List Point) (parts : List (List Point)) → IsInRange (with Lines ((first ∷ points) ∷ parts)) → Begins (with Lines ((first ∷ points) ∷ parts))
   lines_begin first points parts range = record {
     number = command 1 1;
     first = first;
-    more = behind [] (length points) (parameters first points) (paths [] (last_from first points) parts);
+    more = following [] (length points) (parameters first points) (paths [] (last_from first points) parts);
     spelled = refl;
-    again = ap (λ (rest : List ℕ). command 1 1 ∷ zigzag ((first.x +ℤ dx) -ℤ pos 0) ∷ zigzag ((first.y +ℤ dy) -ℤ pos 0) ∷ rest) (behind_again [] first points parts);
+    again = ap (λ (rest : List ℕ). command 1 1 ∷ zigzag ((first.x +ℤ dx) -ℤ pos 0) ∷ zigzag ((first.y +ℤ dy) -ℤ pos 0) ∷ rest) (following_again [] first points parts);
     along = range.short.0;
     down = range.short.1.0;
     short = λ along down. (along, (down, short_again first points parts range.short.1.1));
@@ -164,9 +164,9 @@ module _ (dx dy : ℤ) where
   areas_begin first points parts range = record {
     number = command 1 1;
     first = first;
-    more = behind (closing_of Areas) (length points) (parameters first points) (paths (closing_of Areas) (last_from first points) parts);
+    more = following (closing_of Areas) (length points) (parameters first points) (paths (closing_of Areas) (last_from first points) parts);
     spelled = refl;
-    again = ap (λ (rest : List ℕ). command 1 1 ∷ zigzag ((first.x +ℤ dx) -ℤ pos 0) ∷ zigzag ((first.y +ℤ dy) -ℤ pos 0) ∷ rest) (behind_again (closing_of Areas) first points parts);
+    again = ap (λ (rest : List ℕ). command 1 1 ∷ zigzag ((first.x +ℤ dx) -ℤ pos 0) ∷ zigzag ((first.y +ℤ dy) -ℤ pos 0) ∷ rest) (following_again (closing_of Areas) first points parts);
     along = range.short.0;
     down = range.short.1.0;
     short = λ along down. (along, (down, short_again first points parts range.short.1.1));

@@ -227,10 +227,10 @@ impl Front {
 fn first_lines(text: &str, count: usize) -> &str {
     let mut rest = text;
     for _ in 0..count {
-        let Some((_, behind)) = rest.split_once('\n') else {
+        let Some((_, following)) = rest.split_once('\n') else {
             return text;
         };
-        rest = behind;
+        rest = following;
     }
     text.strip_suffix(rest).unwrap_or(text)
 }

@@ -14,7 +14,7 @@ use Rattle.mvt_command.specs.Command.{Command}
 use Rattle.mvt_meaning.specs.Meaning.{applied}
 use Rattle.mvt_meaning.specs.declared.refusal.Refusal.{Refusal}
 use Rattle.mvt_document.proofs.EachItem.{all_joined}
-use Rattle.mvt_history_steps.specs.Marks.{Mark, compared, has_name, is_before, is_behind, point_of, bound, unbound}
+use Rattle.mvt_history_steps.specs.Marks.{Mark, compared, has_name, is_before, is_after, point_of, bound, unbound}
 use Rattle.mvt_history_steps.specs.History.{History, IsSound, after_all, after_steps, document_at, standing_document, commands_in, at_point, with_marks, with_group, with_step, with_command, edited_to, edited, unless_open, undone, redone, marked, unmarked, gone_to, gone_back, opened, ended, closed, cancelled}
 use Rattle.mvt_command.specs.Requests.{HistoryRequest, Edit, Undo, Redo, SetMark, TakeMark, GoBack, Begin, End, Cancel}
 use Rattle.mvt_history_steps.specs.Requests.{SetsOther, or_before, asked, asked_all}
@@ -70,9 +70,9 @@ only_bound : (P : Mark → Type 0) (name : List ℕ) (point : ℕ) (marks : List
 only_bound P name point marks new =
     let Q : Mark → Type 0 = λ mark. mark.name ≡ name → P mark in
     let same = same_name name in
-    all_joined Q (filter (is_before name) marks) (record { name = name; point = point } ∷ filter (is_behind name) marks)
+    all_joined Q (filter (is_before name) marks) (record { name = name; point = point } ∷ filter (is_after name) marks)
     (all_passed Q (is_before name) (λ mark before e. absurd (let self = rw e at before in let no = rw same at self in cc)) marks)
-    (λ e. new, all_passed Q (is_behind name) (λ mark behind e. absurd (let self = rw e at behind in let no = rw same at self in cc)) marks)
+    (λ e. new, all_passed Q (is_after name) (λ mark following e. absurd (let self = rw e at following in let no = rw same at self in cc)) marks)
 
 -- ---- with a further step
 

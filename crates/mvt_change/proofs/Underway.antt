@@ -100,11 +100,11 @@ module _ (change : Change) (start : plain.Document) (from n : ℕ) (steps part :
   abbrev whole : List Step
   whole = put_mid from count steps part
 
-  pub behind_fits : Fits (map step_of (take count (drop from steps))) (document_of document)
-  behind_fits = front_fits count (drop from steps) document (rest_fits change start (reverse (take from steps)) (drop from steps) document under)
+  pub after_fits : Fits (map step_of (take count (drop from steps))) (document_of document)
+  after_fits = front_fits count (drop from steps) document (rest_fits change start (reverse (take from steps)) (drop from steps) document under)
 
-  pub goes_behind : Advances n (take count (drop from steps)) part document after → IsUnderway change start (reverse (take (from + n) whole)) (drop (from + n) whole) after
-  goes_behind advances =
+  pub goes_after : Advances n (take count (drop from steps)) part document after → IsUnderway change start (reverse (take (from + n) whole)) (drop (from + n) whole) after
+  goes_after advances =
       let front = take from steps in
       let rest = drop from steps in
       let left : length rest ≡ count = length-drop from steps in
@@ -118,11 +118,11 @@ module _ (change : Change) (start : plain.Document) (from n : ℕ) (steps part :
 -- ---- steps in a list, one after the other
 
 module _ (change : Change) (start : plain.Document) (made steps : List Step) (at : ℕ) (step next : Step) (document after : Document) (within : at < length steps) (is : step ≡ get_or steps at step) (under : IsUnderway change start (reverse (take at steps) ++ made) (drop at steps) document) where
-  behind : drop at steps ≡ step ∷ drop (at + 1) steps
-  behind = drop_more steps at step within ∙ ap (λ s. s ∷ drop (at + 1) steps) (sym is)
+  following : drop at steps ≡ step ∷ drop (at + 1) steps
+  following = drop_more steps at step within ∙ ap (λ s. s ∷ drop (at + 1) steps) (sym is)
 
   there : IsUnderway change start (reverse (take at steps) ++ made) (step ∷ drop (at + 1) steps) document
-  there = subst (λ left. IsUnderway change start (reverse (take at steps) ++ made) left document) behind under
+  there = subst (λ left. IsUnderway change start (reverse (take at steps) ++ made) left document) following under
 
   pub next_fits : FitsStep (step_of step) (document_of document)
   next_fits = let fits = rest_fits change start (reverse (take at steps) ++ made) (step ∷ drop (at + 1) steps) document there in fits.0
@@ -175,6 +175,6 @@ module _ (steps : Change) (start : plain.Document) (items : List Step) (n i : �
   pub takes_on_at : (turned : Step) (after : Document) → KeepsDocument (go_held_step step document) after → IsTurned step document turned → TakesBack steps start (reverse (take i (set items i turned))) (drop i (set items i turned)) after
   takes_on_at turned after keeps is =
       let before = subst (λ left. TakesBack steps start left (drop n items) document) last_before takes in
-      let behind = takes_on steps start (reverse (take i items)) (drop n items) step turned document after before (kept_goes step document after keeps) (turned_stands (action_of step) document (action_of turned) is) keeps in
+      let following = takes_on steps start (reverse (take i items)) (drop n items) step turned document after before (kept_goes step document after keeps) (turned_stands (action_of step) document (action_of turned) is) keeps in
       let first : drop i (set items i turned) ≡ turned ∷ drop n items = drop-set items i turned within ∙ ap (λ k. turned ∷ drop k items) (sym next) in
-      rw (take-set items i turned, first) behind
+      rw (take-set items i turned, first) following

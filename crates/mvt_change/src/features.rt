@@ -78,7 +78,7 @@ fn flip_each(
             return Ok(at);
         }
         item = next;
-        forget_size_behind(items, few, at);
+        forget_size_after(items, few, at);
     }
 }
 
@@ -106,7 +106,7 @@ fn few_of(steps: &[Step], layer: usize, items: usize) -> usize {
 }
 
 /// Gives up the size of the items once `few` steps are made, and at no other count.
-fn forget_size_behind(items: &mut Message<LayerItem>, few: usize, made: usize)
+fn forget_size_after(items: &mut Message<LayerItem>, few: usize, made: usize)
     ensures { items.new ≡ items.old }
 {
     if made == few {

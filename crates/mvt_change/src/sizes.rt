@@ -48,14 +48,14 @@ pub fn size_with_fields(
     layer: &Layer,
     item: usize,
     fields: Option<usize>,
-    behind: Option<usize>,
+    following: Option<usize>,
 ) -> Option<usize>
     requires { IsSome (fields_in_at item (layer_of layer.now).items) }
     ensures { (change : List plain.Field → List plain.Field) (more : List plain.LayerItem) →
-        IfSome (fields_in_at item (layer_of layer.now).items) (λ old. IsFileSize fields (length (flat_map field_bytes (change old)))) → IsFileSize behind (length (flat_map layer_item_bytes more)) →
+        IfSome (fields_in_at item (layer_of layer.now).items) (λ old. IsFileSize fields (length (flat_map field_bytes (change old)))) → IsFileSize following (length (flat_map layer_item_bytes more)) →
         IsFileSize result (length (flat_map layer_item_bytes (change_at (in_feature change) item (layer_of layer.now).items ++ more))) }
 {
-    sum_within(items_size(layer, item, fields)?, behind?, MAX_FILE)
+    sum_within(items_size(layer, item, fields)?, following?, MAX_FILE)
 }
 
 /// How many bytes the tile takes once the step is carried out on it, if that is within the limit of

@@ -26,9 +26,9 @@ spliced_size f index taken put items =
     let joined = ap length (flat_map-append f (take index items ++ put) (drop (index + taken) items)) ∙ length-append (flat_map f (take index items ++ put)) (flat_map f (drop (index + taken) items)) in
     let front = ap length (flat_map-append f (take index items) put) ∙ length-append (flat_map f (take index items)) (flat_map f put) in
     let whole = front_and_back f index items in
-    let behind = front_and_back f taken (drop index items) in
+    let following = front_and_back f taken (drop index items) in
     let rest = ap (λ xs. length (flat_map f xs)) (drop-drop taken index items) in
-    omega (arith, joined, front, whole, behind, rest)
+    omega (arith, joined, front, whole, following, rest)
 
 pub part_size : {T : Type 0} (f : T → List ℕ) (index count : ℕ) (items : List T) → length (flat_map f (part index count items)) ≤ length (flat_map f items)
 part_size f index count items = omega (arith, front_and_back f index items, front_and_back f count (drop index items))

@@ -5,8 +5,8 @@ use borrow.Rule.Slice.PartMut.{put_mid}
 use Rattle.mvt_document.specs.Splicing.{moved, part, splice}
 
 -- a part that was moved to the end is what is there
-pub part_behind : {A : Type 0} (index count left : ℕ) (items turned : List A) → turned ≡ take index items ++ (drop (index + count) items ++ part index count items) → index + count ≤ length items → left + count ≡ length items → drop left turned ≡ part index count items
-part_behind index count left items turned is within rest =
+pub part_after : {A : Type 0} (index count left : ℕ) (items turned : List A) → turned ≡ take index items ++ (drop (index + count) items ++ part index count items) → index + count ≤ length items → left + count ≡ length items → drop left turned ≡ part index count items
+part_after index count left items turned is within rest =
     let front : length (take index items ++ drop (index + count) items) ≡ left =
     omega (arith, length-append (take index items) (drop (index + count) items), length-take-le index items (omega arith), length-drop (index + count) items) in
     ap (drop left) (is ∙ sym (append_assoc (take index items) (drop (index + count) items) (part index count items)))
@@ -45,10 +45,10 @@ fewer_list index taken given list put swapped all fewer within is =
     let long : length (take index list ++ put) ≡ index + given = omega (arith, length-append (take index list) put, length-take-le index list (omega arith)) in
     let same : swapped ≡ take index list ++ put ++ drop (index + given) list = is ∙ ap (λ front. take index list ++ front ++ drop (index + given) list) whole in
     let front : take (index + given) swapped ≡ take index list ++ put = ap (take (index + given)) same ∙ take_at (take index list ++ put) (drop (index + given) list) (index + given) long in
-    let behind : drop (index + given) swapped ≡ drop (index + given) list = ap (drop (index + given)) same ∙ drop_at (take index list ++ put) (drop (index + given) list) (index + given) long in
+    let following : drop (index + given) swapped ≡ drop (index + given) list = ap (drop (index + given)) same ∙ drop_at (take index list ++ put) (drop (index + given) list) (index + given) long in
     let sum : index + given + (taken - given) ≡ index + taken = omega arith in
     let rest : drop (index + given + (taken - given)) swapped ≡ drop (index + taken) list =
-    sym (drop-drop (taken - given) (index + given) swapped) ∙ ap (drop (taken - given)) behind ∙ drop-drop (taken - given) (index + given) list ∙ ap (λ n. drop n list) sum in
+    sym (drop-drop (taken - given) (index + given) swapped) ∙ ap (drop (taken - given)) following ∙ drop-drop (taken - given) (index + given) list ∙ ap (λ n. drop n list) sum in
     ap (λ x. x ++ drop (index + given + (taken - given)) swapped) front ∙ ap (λ x. take index list ++ put ++ x) rest
 
 pub fewer_put : {A : Type 0} (index taken given : ℕ) (list put swapped got : List A) → given ≡ length put → given ≤ taken → index + taken ≤ length list → swapped ≡ splice index given (take given put) list → got ≡ part index given list ++ drop given put → got ++ part (index + given) (taken - given) swapped ≡ part index taken list
@@ -56,12 +56,12 @@ fewer_put index taken given list put swapped got all fewer within is got_is =
     let whole : take given put ≡ put = take_all given put (omega arith) in
     let long : length (take index list ++ put) ≡ index + given = omega (arith, length-append (take index list) put, length-take-le index list (omega arith)) in
     let same : swapped ≡ take index list ++ put ++ drop (index + given) list = is ∙ ap (λ front. take index list ++ front ++ drop (index + given) list) whole in
-    let behind : drop (index + given) swapped ≡ drop given (drop index list) = ap (drop (index + given)) same ∙ drop_at (take index list ++ put) (drop (index + given) list) (index + given) long ∙ sym (drop-drop given index list) in
+    let following : drop (index + given) swapped ≡ drop given (drop index list) = ap (drop (index + given)) same ∙ drop_at (take index list ++ put) (drop (index + given) list) (index + given) long ∙ sym (drop-drop given index list) in
     let none : drop given put ≡ [] = drop_all given put (omega arith) in
     let first : got ≡ part index given list = got_is ∙ ap (λ x. part index given list ++ x) none ∙ append-nil (part index given list) in
     let sum : given + (taken - given) ≡ taken = omega arith in
     ap (λ x. x ++ part (index + given) (taken - given) swapped) first
-    ∙ ap (λ x. part index given list ++ take (taken - given) x) behind
+    ∙ ap (λ x. part index given list ++ take (taken - given) x) following
     ∙ take_more_items given (taken - given) (drop index list)
     ∙ ap (λ n. take n (drop index list)) sum
 
@@ -120,7 +120,7 @@ turned_left from to items low within =
     let rest = drop from items in
     let more : to + 1 - from ≡ 1 + n = omega arith in
     let long : length rest ≡ length items - from = length-drop from items in
-    let behind : length (drop 1 rest) ≡ length items - from - 1 = length-drop 1 rest ∙ ap (λ k. k - 1) long in
+    let following : length (drop 1 rest) ≡ length items - from - 1 = length-drop 1 rest ∙ ap (λ k. k - 1) long in
     let one : length (take 1 rest) ≡ 1 = length-take-le 1 rest (omega arith) in
     let start : length (take from items) ≡ from = length-take-le from items (omega arith) in
     let past : length (take n (drop 1 rest)) ≡ n = length-take-le n (drop 1 rest) (omega arith) in
@@ -140,7 +140,7 @@ turned_right from to items low within =
     let rest = drop to items in
     let more : from + 1 - to ≡ n + 1 = omega arith in
     let long : length rest ≡ length items - to = length-drop to items in
-    let behind : length (drop n rest) ≡ length items - to - n = length-drop n rest ∙ ap (λ k. k - n) long in
+    let following : length (drop n rest) ≡ length items - to - n = length-drop n rest ∙ ap (λ k. k - n) long in
     let one : length (take 1 (drop n rest)) ≡ 1 = length-take-le 1 (drop n rest) (omega arith) in
     let start : length (take to items) ≡ to = length-take-le to items (omega arith) in
     let past : length (take n rest) ≡ n = length-take-le n rest (omega arith) in

@@ -78,8 +78,8 @@ module _ {T : Type 0} (f : T → ℕ) where
       spliced_so index taken put (take index hashes) items (omega (arith, length-take index hashes)) (cut_so index hashes items is)
 
   -- an item moves to a position after those that have hashes
-  pub moved_behind : (from to : ℕ) (hashes : List ℕ) (items : List T) → length hashes ≤ from → length hashes ≤ to → AreHashes f hashes items → AreHashes f hashes (moved from to items)
-  moved_behind from to hashes items out back is = spliced_so to 0 (part from 1 items) hashes (splice from 1 [] items) back (spliced_so from 1 [] hashes items out is)
+  pub moved_after : (from to : ℕ) (hashes : List ℕ) (items : List T) → length hashes ≤ from → length hashes ≤ to → AreHashes f hashes items → AreHashes f hashes (moved from to items)
+  moved_after from to hashes items out back is = spliced_so to 0 (part from 1 items) hashes (splice from 1 [] items) back (spliced_so from 1 [] hashes items out is)
 
   whole_so : (items : List T) → AreHashes f (map f items) items
   whole_so [] = refl
@@ -112,25 +112,25 @@ moved_mapped f from to items =
 pub moved_within : {T : Type 0} (f : T → ℕ) (from to : ℕ) (hashes : List ℕ) (items : List T) → from < length hashes → to < length hashes → AreHashes f hashes items → AreHashes f (moved from to hashes) (moved from to items)
 moved_within f from to hashes items out back is =
     let front = take (length hashes) items in
-    let behind = drop (length hashes) items in
+    let following = drop (length hashes) items in
     let many = ap length is ∙ length-map front f in
     let now = moved from to front in
     let mapped = ap (moved from to) is ∙ moved_mapped f from to front in
-    let parts = ap (moved from to) (sym (take-append-drop (length hashes) items)) ∙ moved_front from to front behind (omega (arith, out, many)) (omega (arith, back, many)) in
+    let parts = ap (moved from to) (sym (take-append-drop (length hashes) items)) ∙ moved_front from to front following (omega (arith, out, many)) (omega (arith, back, many)) in
     subst (λ all. AreHashes f all (moved from to items)) (sym mapped)
-    (subst (AreHashes f (map f now)) (sym parts) (joined_so f (map f now) now behind (whole_so f now)))
+    (subst (AreHashes f (map f now)) (sym parts) (joined_so f (map f now) now following (whole_so f now)))
 
 -- items that have hashes change places with others
 pub spliced_within : {T : Type 0} (f : T → ℕ) (index taken : ℕ) (put : List T) (come hashes : List ℕ) (items : List T) → index + taken ≤ length hashes → come ≡ map f put → AreHashes f hashes items → AreHashes f (splice index taken come hashes) (splice index taken put items)
 spliced_within f index taken put come hashes items within all is =
     let front = take (length hashes) items in
-    let behind = drop (length hashes) items in
+    let following = drop (length hashes) items in
     let many = ap length is ∙ length-map front f in
     let now = splice index taken put front in
     let mapped = ap (λ c. splice index taken c hashes) all ∙ ap (splice index taken (map f put)) is ∙ spliced_values f index taken put front in
-    let parts = ap (splice index taken put) (sym (take-append-drop (length hashes) items)) ∙ spliced_front index taken put front behind (omega (arith, within, many)) in
+    let parts = ap (splice index taken put) (sym (take-append-drop (length hashes) items)) ∙ spliced_front index taken put front following (omega (arith, within, many)) in
     subst (λ whole. AreHashes f whole (splice index taken put items)) (sym mapped)
-    (subst (AreHashes f (map f now)) (sym parts) (joined_so f (map f now) now behind (whole_so f now)))
+    (subst (AreHashes f (map f now)) (sym parts) (joined_so f (map f now) now following (whole_so f now)))
 
 -- if there are as many hashes as items, they are those of all of them
 pub all_hashes : {T : Type 0} (f : T → ℕ) (hashes : List ℕ) (items : List T) → length items ≤ length hashes → AreHashes f hashes items → hashes ≡ map f items

@@ -78,30 +78,30 @@ drop_run k f c b =
 
 pub front_of : (run made : Run) (k : ℕ) (items : List Bool) → made.first ≡ min run.first k → made.count ≡ min run.count (k - run.first) → made.until ≡ min run.until k → IsRun run items → IsRun made (take k items)
 front_of run made k items first count until h =
-    let known = one_run run.first run.count h.behind in
-    let b = min h.behind (k - run.first - run.count) in
+    let known = one_run run.first run.count h.following in
+    let b = min h.following (k - run.first - run.count) in
     record {
-      behind = b;
+      following = b;
       rest = take (k - length known) h.rest;
       until = omega (arith, first, count, until, h.until);
       is = ap (take k) h.is ∙ take_joined k known h.rest
-          ∙ ap (λ t. t ++ take (k - length known) h.rest) (take_run k run.first run.count h.behind
+          ∙ ap (λ t. t ++ take (k - length known) h.rest) (take_run k run.first run.count h.following
           ∙ ap (λ f. one_run f (min run.count (k - run.first)) b) (sym first)
           ∙ ap (λ c. one_run made.first c b) (sym count));
     }
 
 pub back_of : (run made : Run) (k : ℕ) (items : List Bool) → made.first ≡ run.first - k → made.count ≡ run.count - (k - run.first) → made.until ≡ run.until - k → k ≤ run.until → IsRun run items → IsRun made (drop k items)
 back_of run made k items first count until within h =
-    let known = one_run run.first run.count h.behind in
-    let b = h.behind - (k - run.first - run.count) in
-    let all : k - length known ≡ 0 = omega (arith, run_length run.first run.count h.behind, h.until) in
+    let known = one_run run.first run.count h.following in
+    let b = h.following - (k - run.first - run.count) in
+    let all : k - length known ≡ 0 = omega (arith, run_length run.first run.count h.following, h.until) in
     record {
-      behind = b;
+      following = b;
       rest = h.rest;
       until = omega (arith, first, count, until, h.until);
       is = ap (drop k) h.is ∙ drop_joined k known h.rest
           ∙ ap (λ n. drop k known ++ drop n h.rest) all
-          ∙ ap (λ t. t ++ h.rest) (drop_run k run.first run.count h.behind
+          ∙ ap (λ t. t ++ h.rest) (drop_run k run.first run.count h.following
           ∙ ap (λ f. one_run f (run.count - (k - run.first)) b) (sym first)
           ∙ ap (λ c. one_run made.first c b) (sym count));
     }
@@ -109,15 +109,15 @@ back_of run made k items first count until within h =
 -- what is known of the list holds of each list that begins with it
 pub run_more : (run : Run) (items more : List Bool) → IsRun run items → IsRun run (items ++ more)
 run_more run items more h = record {
-  behind = h.behind;
+  following = h.following;
   rest = h.rest ++ more;
   until = h.until;
-  is = ap (λ t. t ++ more) h.is ∙ append_assoc (one_run run.first run.count h.behind) h.rest more;
+  is = ap (λ t. t ++ more) h.is ∙ append_assoc (one_run run.first run.count h.following) h.rest more;
 }
 
 pub nothing_known : (run : Run) (items : List Bool) → run.first ≡ 0 → run.count ≡ 0 → run.until ≡ 0 → IsRun run items
 nothing_known run items first count until = record {
-  behind = 0;
+  following = 0;
   rest = items;
   until = omega (arith, first, count, until);
   is = sym (ap (λ f. one_run f run.count 0 ++ items) first ∙ ap (λ c. one_run 0 c 0 ++ items) count);
@@ -130,36 +130,36 @@ nothing_left [] none = refl
 nothing_left (x ∷ items) none = absurd (omega arith)
 
 -- of a list of which everything is known nothing is left
-all_known : (run : Run) (items : List Bool) (h : IsRun run items) → run.until ≡ length items → items ≡ one_run run.first run.count h.behind
+all_known : (run : Run) (items : List Bool) (h : IsRun run items) → run.until ≡ length items → items ≡ one_run run.first run.count h.following
 all_known run items h all =
-    let known = one_run run.first run.count h.behind in
-    let none = nothing_left h.rest (omega (arith, all, ap length h.is, length-append known h.rest, run_length run.first run.count h.behind, h.until)) in
+    let known = one_run run.first run.count h.following in
+    let none = nothing_left h.rest (omega (arith, all, ap length h.is, length-append known h.rest, run_length run.first run.count h.following, h.until)) in
     h.is ∙ ap (λ t. known ++ t) none ∙ append-nil known
 
 -- the same, joined with a list
-joined_known : (run : Run) (items more : List Bool) (h : IsRun run items) → run.until ≡ length items → items ++ more ≡ replicate run.first false ++ (replicate run.count true ++ (replicate h.behind false ++ more))
+joined_known : (run : Run) (items more : List Bool) (h : IsRun run items) → run.until ≡ length items → items ++ more ≡ replicate run.first false ++ (replicate run.count true ++ (replicate h.following false ++ more))
 joined_known run items more h all =
     let F = replicate run.first false in
     let C = replicate run.count true in
-    let B = replicate h.behind false in
+    let B = replicate h.following false in
     ap (λ t. t ++ more) (all_known run items h all) ∙ append_assoc F (C ++ B) more ∙ ap (λ t. F ++ t) (append_assoc C B more)
 
 -- what is known of the second list, in parts
-parts_known : (run : Run) (items : List Bool) (h : IsRun run items) → items ≡ replicate run.first false ++ (replicate run.count true ++ (replicate h.behind false ++ h.rest))
+parts_known : (run : Run) (items : List Bool) (h : IsRun run items) → items ≡ replicate run.first false ++ (replicate run.count true ++ (replicate h.following false ++ h.rest))
 parts_known run items h =
     let F = replicate run.first false in
     let C = replicate run.count true in
-    let B = replicate h.behind false in
+    let B = replicate h.following false in
     h.is ∙ append_assoc F (C ++ B) h.rest ∙ ap (λ t. F ++ t) (append_assoc C B h.rest)
 
 -- from parts to a run
-known_parts : (run : Run) (behind : ℕ) (rest items : List Bool) → run.until ≡ run.first + (run.count + behind) → items ≡ replicate run.first false ++ (replicate run.count true ++ (replicate behind false ++ rest)) → IsRun run items
-known_parts run behind rest items until is =
+known_parts : (run : Run) (following : ℕ) (rest items : List Bool) → run.until ≡ run.first + (run.count + following) → items ≡ replicate run.first false ++ (replicate run.count true ++ (replicate following false ++ rest)) → IsRun run items
+known_parts run following rest items until is =
     let F = replicate run.first false in
     let C = replicate run.count true in
-    let B = replicate behind false in
+    let B = replicate following false in
     record {
-      behind = behind;
+      following = following;
       rest = rest;
       until = until;
       is = is ∙ sym (append_assoc F (C ++ B) rest ∙ ap (λ t. F ++ t) (append_assoc C B rest));
@@ -170,59 +170,59 @@ same_joined : (n m : ℕ) (y : Bool) (rest : List Bool) → replicate n y ++ (re
 same_joined n m y rest = sym (append_assoc (replicate n y) (replicate m y) rest) ∙ ap (λ t. t ++ rest) (replicate-append-replicate n m y)
 
 -- preceded by a list of which nothing is true
-pub after_none : (run behind made : Run) (items more : List Bool) → run.count ≡ 0 → made.first ≡ run.until + behind.first → made.count ≡ behind.count → made.until ≡ run.until + behind.until → IsRun run items → run.until ≡ length items → IsRun behind more → IsRun made (items ++ more)
-after_none run behind made items more none first count until h all m =
-    let tail = replicate behind.count true ++ (replicate m.behind false ++ m.rest) in
-    let sum : run.first + h.behind + behind.first ≡ made.first = omega (arith, none, h.until, first) in
-    known_parts made m.behind m.rest (items ++ more) (omega (arith, until, first, count, m.until))
+pub after_none : (run following made : Run) (items more : List Bool) → run.count ≡ 0 → made.first ≡ run.until + following.first → made.count ≡ following.count → made.until ≡ run.until + following.until → IsRun run items → run.until ≡ length items → IsRun following more → IsRun made (items ++ more)
+after_none run following made items more none first count until h all m =
+    let tail = replicate following.count true ++ (replicate m.following false ++ m.rest) in
+    let sum : run.first + h.following + following.first ≡ made.first = omega (arith, none, h.until, first) in
+    known_parts made m.following m.rest (items ++ more) (omega (arith, until, first, count, m.until))
     (joined_known run items more h all
-    ∙ ap (λ c. replicate run.first false ++ (replicate c true ++ (replicate h.behind false ++ more))) none
-    ∙ same_joined run.first h.behind false more
-    ∙ ap (λ t. replicate (run.first + h.behind) false ++ t) (parts_known behind more m)
-    ∙ same_joined (run.first + h.behind) behind.first false tail
+    ∙ ap (λ c. replicate run.first false ++ (replicate c true ++ (replicate h.following false ++ more))) none
+    ∙ same_joined run.first h.following false more
+    ∙ ap (λ t. replicate (run.first + h.following) false ++ t) (parts_known following more m)
+    ∙ same_joined (run.first + h.following) following.first false tail
     ∙ ap (λ f. replicate f false ++ tail) sum
-    ∙ ap (λ c. replicate made.first false ++ (replicate c true ++ (replicate m.behind false ++ m.rest))) (sym count))
+    ∙ ap (λ c. replicate made.first false ++ (replicate c true ++ (replicate m.following false ++ m.rest))) (sym count))
 
 -- what is true at the end of a list continues at the front of the next one
-pub runs_meet : (run behind made : Run) (items more : List Bool) → run.first + run.count ≡ run.until → behind.first ≡ 0 → made.first ≡ run.first → made.count ≡ run.count + behind.count → made.until ≡ run.until + behind.until → IsRun run items → run.until ≡ length items → IsRun behind more → IsRun made (items ++ more)
-runs_meet run behind made items more last start first count until h all m =
+pub runs_meet : (run following made : Run) (items more : List Bool) → run.first + run.count ≡ run.until → following.first ≡ 0 → made.first ≡ run.first → made.count ≡ run.count + following.count → made.until ≡ run.until + following.until → IsRun run items → run.until ≡ length items → IsRun following more → IsRun made (items ++ more)
+runs_meet run following made items more last start first count until h all m =
     let F = replicate run.first false in
     let C = replicate run.count true in
-    let tail = replicate m.behind false ++ m.rest in
-    let none : h.behind ≡ 0 = omega (arith, last, h.until) in
-    known_parts made m.behind m.rest (items ++ more) (omega (arith, until, first, count, start, last, m.until))
+    let tail = replicate m.following false ++ m.rest in
+    let none : h.following ≡ 0 = omega (arith, last, h.until) in
+    known_parts made m.following m.rest (items ++ more) (omega (arith, until, first, count, start, last, m.until))
     (joined_known run items more h all
     ∙ ap (λ n. F ++ (C ++ (replicate n false ++ more))) none
-    ∙ ap (λ t. F ++ (C ++ t)) (parts_known behind more m ∙ ap (λ n. replicate n false ++ (replicate behind.count true ++ tail)) start)
-    ∙ ap (λ t. F ++ t) (same_joined run.count behind.count true tail)
-    ∙ ap (λ f. replicate f false ++ (replicate (run.count + behind.count) true ++ tail)) (sym first)
+    ∙ ap (λ t. F ++ (C ++ t)) (parts_known following more m ∙ ap (λ n. replicate n false ++ (replicate following.count true ++ tail)) start)
+    ∙ ap (λ t. F ++ t) (same_joined run.count following.count true tail)
+    ∙ ap (λ f. replicate f false ++ (replicate (run.count + following.count) true ++ tail)) (sym first)
     ∙ ap (λ c. replicate made.first false ++ (replicate c true ++ tail)) (sym count))
 
 -- followed by a list of which nothing that is known is true
-pub with_none : (run behind made : Run) (items more : List Bool) → behind.count ≡ 0 → made.first ≡ run.first → made.count ≡ run.count → made.until ≡ run.until + behind.until → IsRun run items → run.until ≡ length items → IsRun behind more → IsRun made (items ++ more)
-with_none run behind made items more none first count until h all m =
+pub with_none : (run following made : Run) (items more : List Bool) → following.count ≡ 0 → made.first ≡ run.first → made.count ≡ run.count → made.until ≡ run.until + following.until → IsRun run items → run.until ≡ length items → IsRun following more → IsRun made (items ++ more)
+with_none run following made items more none first count until h all m =
     let F = replicate run.first false in
     let C = replicate run.count true in
-    let b = h.behind + (behind.first + m.behind) in
+    let b = h.following + (following.first + m.following) in
     known_parts made b m.rest (items ++ more) (omega (arith, until, first, count, none, h.until, m.until))
     (joined_known run items more h all
-    ∙ ap (λ t. F ++ (C ++ t)) (ap (λ t. replicate h.behind false ++ t) (parts_known behind more m
-    ∙ ap (λ c. replicate behind.first false ++ (replicate c true ++ (replicate m.behind false ++ m.rest))) none
-    ∙ same_joined behind.first m.behind false m.rest)
-    ∙ same_joined h.behind (behind.first + m.behind) false m.rest)
+    ∙ ap (λ t. F ++ (C ++ t)) (ap (λ t. replicate h.following false ++ t) (parts_known following more m
+    ∙ ap (λ c. replicate following.first false ++ (replicate c true ++ (replicate m.following false ++ m.rest))) none
+    ∙ same_joined following.first m.following false m.rest)
+    ∙ same_joined h.following (following.first + m.following) false m.rest)
     ∙ ap (λ f. replicate f false ++ (C ++ (replicate b false ++ m.rest))) (sym first)
     ∙ ap (λ c. replicate made.first false ++ (replicate c true ++ (replicate b false ++ m.rest))) (sym count))
 
 -- followed by a list of which some is true, with others before: up to there it is known
-pub with_others : (run behind made : Run) (items more : List Bool) → made.first ≡ run.first → made.count ≡ run.count → made.until ≡ run.until + behind.first → IsRun run items → run.until ≡ length items → IsRun behind more → IsRun made (items ++ more)
-with_others run behind made items more first count until h all m =
+pub with_others : (run following made : Run) (items more : List Bool) → made.first ≡ run.first → made.count ≡ run.count → made.until ≡ run.until + following.first → IsRun run items → run.until ≡ length items → IsRun following more → IsRun made (items ++ more)
+with_others run following made items more first count until h all m =
     let F = replicate run.first false in
     let C = replicate run.count true in
-    let b = h.behind + behind.first in
-    let tail = replicate behind.count true ++ (replicate m.behind false ++ m.rest) in
+    let b = h.following + following.first in
+    let tail = replicate following.count true ++ (replicate m.following false ++ m.rest) in
     known_parts made b tail (items ++ more) (omega (arith, until, first, count, h.until))
     (joined_known run items more h all
-    ∙ ap (λ t. F ++ (C ++ t)) (ap (λ t. replicate h.behind false ++ t) (parts_known behind more m) ∙ same_joined h.behind behind.first false tail)
+    ∙ ap (λ t. F ++ (C ++ t)) (ap (λ t. replicate h.following false ++ t) (parts_known following more m) ∙ same_joined h.following following.first false tail)
     ∙ ap (λ f. replicate f false ++ (C ++ (replicate b false ++ tail))) (sym first)
     ∙ ap (λ c. replicate made.first false ++ (replicate c true ++ (replicate b false ++ tail))) (sym count))
 
@@ -290,15 +290,15 @@ left_length from items inside =
 -- ---- the run that is found
 
 pub found_run : {T : Type 0} (f : T → Bool) (items rest last : List T) (run : Run) → rest ≡ drop run.first items → last ≡ drop run.count rest → map f (take run.first items) ≡ replicate run.first false → map f (take run.count rest) ≡ replicate run.count true
-    → (behind : ℕ) → run.until ≡ run.first + (run.count + behind) → map f (take behind last) ≡ replicate behind false → IsRunOf f run items
-found_run f items rest last run rest_is last_is front middle behind until back =
-    known_parts run behind (map f (drop behind last)) (map f items) until
-    (ap (map f) (sym (take-append-drop run.first items) ∙ ap (λ t. take run.first items ++ t) (sym rest_is ∙ sym (take-append-drop run.count rest) ∙ ap (λ t. take run.count rest ++ t) (sym last_is ∙ sym (take-append-drop behind last))))
-    ∙ map-append f (take run.first items) (take run.count rest ++ (take behind last ++ drop behind last))
-    ∙ ap (λ t. map f (take run.first items) ++ t) (map-append f (take run.count rest) (take behind last ++ drop behind last) ∙ ap (λ t. map f (take run.count rest) ++ t) (map-append f (take behind last) (drop behind last)))
-    ∙ ap (λ t. t ++ (map f (take run.count rest) ++ (map f (take behind last) ++ map f (drop behind last)))) front
-    ∙ ap (λ t. replicate run.first false ++ (t ++ (map f (take behind last) ++ map f (drop behind last)))) middle
-    ∙ ap (λ t. replicate run.first false ++ (replicate run.count true ++ (t ++ map f (drop behind last)))) back)
+    → (following : ℕ) → run.until ≡ run.first + (run.count + following) → map f (take following last) ≡ replicate following false → IsRunOf f run items
+found_run f items rest last run rest_is last_is front middle following until back =
+    known_parts run following (map f (drop following last)) (map f items) until
+    (ap (map f) (sym (take-append-drop run.first items) ∙ ap (λ t. take run.first items ++ t) (sym rest_is ∙ sym (take-append-drop run.count rest) ∙ ap (λ t. take run.count rest ++ t) (sym last_is ∙ sym (take-append-drop following last))))
+    ∙ map-append f (take run.first items) (take run.count rest ++ (take following last ++ drop following last))
+    ∙ ap (λ t. map f (take run.first items) ++ t) (map-append f (take run.count rest) (take following last ++ drop following last) ∙ ap (λ t. map f (take run.count rest) ++ t) (map-append f (take following last) (drop following last)))
+    ∙ ap (λ t. t ++ (map f (take run.count rest) ++ (map f (take following last) ++ map f (drop following last)))) front
+    ∙ ap (λ t. replicate run.first false ++ (t ++ (map f (take following last) ++ map f (drop following last)))) middle
+    ∙ ap (λ t. replicate run.first false ++ (replicate run.count true ++ (t ++ map f (drop following last)))) back)
 
 -- ---- items that are all of one kind
 
@@ -328,15 +328,15 @@ none_of_others of_kind one is other differ items run all known = subst (IsRun ru
 
 pub spliced_at_end : {A : Type 0} (items put : List A) (n : ℕ) → n ≡ length items → splice n 0 put items ≡ items ++ put
 spliced_at_end items put n all =
-    let behind : n + 0 ≡ n = omega arith in
+    let following : n + 0 ≡ n = omega arith in
     ap (λ t. (t ++ put) ++ drop (n + 0) items) (take_all n items (omega (arith, all)))
-    ∙ ap (λ k. (items ++ put) ++ drop k items) behind
+    ∙ ap (λ k. (items ++ put) ++ drop k items) following
     ∙ ap (λ t. (items ++ put) ++ t) (drop_all n items (omega (arith, all)))
     ∙ append-nil (items ++ put)
 
 -- the run of a list and of a part after it, which is spliced in at its end
-pub run_with_part : {T : Type 0} (f : T → Bool) (items put : List T) (seen : ℕ) {run behind made : Run} → seen ≡ length items → IsRunOf f run items → IsRunOf f behind put
-    → ((values come : List Bool) → IsRun run values → seen ≤ length values → IsRun behind come → length put ≡ length come → IsRun made (splice seen 0 come values)) → IsRunOf f made (items ++ put)
+pub run_with_part : {T : Type 0} (f : T → Bool) (items put : List T) (seen : ℕ) {run following made : Run} → seen ≡ length items → IsRunOf f run items → IsRunOf f following put
+    → ((values come : List Bool) → IsRun run values → seen ≤ length values → IsRun following come → length put ≡ length come → IsRun made (splice seen 0 come values)) → IsRunOf f made (items ++ put)
 run_with_part f items put seen all known found spliced =
     let long = length-map items f in
     let here : seen ≡ length (map f items) = omega (arith, all, long) in

@@ -5,16 +5,16 @@ use Rattle.mvt_document.specs.declared.run.Kind.TheVariants as kind
 use Rattle.mvt_document.specs.declared.run.Run.{Run}
 use Rattle.mvt_document.specs.declared.run.Runs.{Runs}
 
--- `before` false values, then `count` true ones, then `behind` false ones
+-- `before` false values, then `count` true ones, then `following` false ones
 abbrev pub one_run : ℕ → ℕ → ℕ → List Bool
-one_run before count behind = replicate before false ++ (replicate count true ++ replicate behind false)
+one_run before count following = replicate before false ++ (replicate count true ++ replicate following false)
 
 -- of the values before the end of what is known, exactly those of the run are true
 pub record IsRun (run : Run) (values : List Bool) : Type 0 where
-  pub behind : ℕ
+  pub following : ℕ
   pub rest : List Bool
-  pub until : run.until ≡ run.first + (run.count + behind)
-  pub is : values ≡ one_run run.first run.count behind ++ rest
+  pub until : run.until ≡ run.first + (run.count + following)
+  pub is : values ≡ one_run run.first run.count following ++ rest
 
 -- of the items before the end of what is known, exactly those of the run are of the kind
 abbrev pub IsRunOf : {T : Type 0} → (T → Bool) → Run → List T → Type 0

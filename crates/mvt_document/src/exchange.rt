@@ -45,7 +45,7 @@ fn insert_tail<T>(list: &mut Vec<T>, index: usize, put: &mut Vec<T>, kept: usize
 {
     let rest = list.len() - index;
     move_tail(put, list, kept);
-    turn_behind(list.as_mut_slice(), index, rest);
+    turn_rest(list.as_mut_slice(), index, rest);
 }
 
 /// `count` items of the list from `index` go after those of `to`, which has room for them.
@@ -57,7 +57,7 @@ fn remove_part<T>(list: &mut Vec<T>, index: usize, count: usize, to: &mut Vec<T>
     ensures list_room { vec_capacity list.new ≡ vec_capacity list.old }
     ensures to_room { vec_capacity to.new ≡ vec_capacity to.old }
 {
-    turn_behind(list.as_mut_slice(), index, count);
+    turn_rest(list.as_mut_slice(), index, count);
     let left = list.len() - count;
     move_tail(list, to, left);
 }
@@ -75,18 +75,18 @@ fn move_tail<T>(from: &mut Vec<T>, to: &mut Vec<T>, left: usize)
     while left < from.len() {
         to.push_reserved(from.take_last());
     }
-    reverse_behind(to.as_mut_slice(), start);
+    reverse_rest(to.as_mut_slice(), start);
 }
 
 /// `count` items from `index` move after all others.
-fn turn_behind<T>(items: &mut [T], index: usize, count: usize)
+fn turn_rest<T>(items: &mut [T], index: usize, count: usize)
     requires { index + count ≤ length items.old }
     ensures { items.new ≡ take index items.old ++ (drop (index + count) items.old ++ part index count items.old) }
 {
     items[index..].rotate_left(count);
 }
 
-fn reverse_behind<T>(items: &mut [T], index: usize)
+fn reverse_rest<T>(items: &mut [T], index: usize)
     requires { index ≤ length items.old }
     ensures { items.new ≡ take index items.old ++ reverse (drop index items.old) }
 {

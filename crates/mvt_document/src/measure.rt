@@ -83,8 +83,8 @@ pub fn size_beside_part<T: Measured>(
     ensures { let size = length (flat_map T.bytes (splice index count [] items.now)) in SomeIff result (size ≤ limit) size }
 {
     let front = size_of_all(&items[..index], limit)?;
-    let behind = size_of_all(&items[index + count..], limit)?;
-    sum_within(front, behind, limit)
+    let following = size_of_all(&items[index + count..], limit)?;
+    sum_within(front, following, limit)
 }
 
 /// The size of `length` bytes after their length, if it is within the limit.

@@ -79,29 +79,29 @@ impl Run {
     /// That of a list of which everything is known, and of another one after it.
     #[inline(always)]
     #[tactic(auto, using(crate::proofs::Running::after_none, crate::proofs::Running::runs_meet, crate::proofs::Running::with_none, crate::proofs::Running::with_others))]
-    pub(crate) fn joined(self, behind: Run) -> Option<Run>
-        ensures { (items more : List Bool) → IsRun self items → self.until ≡ length items → IsRun behind more → IfSome result (λ run. IsRun run (items ++ more)) }
+    pub(crate) fn joined(self, following: Run) -> Option<Run>
+        ensures { (items more : List Bool) → IsRun self items → self.until ≡ length items → IsRun following more → IfSome result (λ run. IsRun run (items ++ more)) }
     {
-        let until = self.until.checked_add(behind.until)?;
+        let until = self.until.checked_add(following.until)?;
         if self.count == 0 {
             return Some(Run {
-                first: self.until.checked_add(behind.first)?,
-                count: behind.count,
+                first: self.until.checked_add(following.first)?,
+                count: following.count,
                 until,
             });
         }
-        if behind.first == 0 && self.first.checked_add(self.count)? == self.until {
+        if following.first == 0 && self.first.checked_add(self.count)? == self.until {
             return Some(Run {
                 first: self.first,
-                count: self.count.checked_add(behind.count)?,
+                count: self.count.checked_add(following.count)?,
                 until,
             });
         }
-        if behind.count == 0 {
+        if following.count == 0 {
             return Some(Run { until, ..self });
         }
         Some(Run {
-            until: self.until.checked_add(behind.first)?,
+            until: self.until.checked_add(following.first)?,
             ..self
         })
     }
@@ -181,9 +181,9 @@ fn run_of<T: Measured>(items: &[T], kind: Kind) -> Run
     ensures { IsRunOf (T.of_kind kind) result items.now }
 {
     let first = leading(items, kind, false);
-    let behind = &items[first..];
-    let count = leading(behind, kind, true);
-    let rest = &behind[count..];
+    let following = &items[first..];
+    let count = leading(following, kind, true);
+    let rest = &following[count..];
     let others = leading(rest, kind, false);
     Run {
         first,
@@ -247,13 +247,13 @@ fn runs_of_whole<T: Measured>(part: &[T], kind: Kind) -> Runs
 fn runs_with_part<T: Measured>(runs: Runs, seen: usize, part: &[T]) -> Runs
     ensures { (items : List T) → AreRunsOf T.of_kind runs items → seen ≡ length items → AreRunsOf T.of_kind result (items ++ part.now) }
 {
-    let behind = runs_of_part(part);
+    let following = runs_of_part(part);
     let count = part.len();
     Runs {
-        names: runs.names.spliced(seen, 0, behind.names, count),
-        messages: runs.messages.spliced(seen, 0, behind.messages, count),
-        keys: runs.keys.spliced(seen, 0, behind.keys, count),
-        values: runs.values.spliced(seen, 0, behind.values, count),
+        names: runs.names.spliced(seen, 0, following.names, count),
+        messages: runs.messages.spliced(seen, 0, following.messages, count),
+        keys: runs.keys.spliced(seen, 0, following.keys, count),
+        values: runs.values.spliced(seen, 0, following.values, count),
     }
 }
 

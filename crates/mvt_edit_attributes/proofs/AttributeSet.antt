@@ -35,7 +35,7 @@ use Rattle.mvt_fates.proofs.Carrying.{carried, in_feature_at, in_layer_at, in_th
 use Rattle.mvt_fates.proofs.Heavy.{tag_and_content}
 use Rattle.mvt_edit_pairs.proofs.Leading.{Leads, both_lead}
 use Rattle.mvt_fates.proofs.ListPlaces.{of_the_layer}
-use Rattle.mvt_edit_attributes.specs.Attribute.{AreFound, GivesAttribute, attribute_checked, behind_all, bytes_put, entries_for, entry_unless}
+use Rattle.mvt_edit_attributes.specs.Attribute.{AreFound, GivesAttribute, attribute_checked, appended, bytes_put, entries_for, entry_unless}
 use Rattle.mvt_edit_attributes.specs.declared.pools.Ordinals.{Ordinals}
 
 -- ---- the entries that a layer lacks
@@ -78,20 +78,20 @@ entries_heavy key value items =
 -- ---- items after all others of a list
 
 -- their splice, if there are any
-abbrev behind : List LayerItem → ℕ → List (Splice LayerItem)
-behind [] n = []
-behind (item ∷ more) n = record { index = n; taken = 0; put = item ∷ more } ∷ []
+abbrev following : List LayerItem → ℕ → List (Splice LayerItem)
+following [] n = []
+following (item ∷ more) n = record { index = n; taken = 0; put = item ∷ more } ∷ []
 
 record Behind (entries : List LayerItem) (n : ℕ) (items : List LayerItem) : Type 0 where
-  there : AreThere (behind entries n) items
-  puts : put_all (behind entries n) ≡ entries
-  takes : taken_all (behind entries n) items ≡ []
-  leaves : spliced_all (behind entries n) items ≡ items ++ entries
-  few : length (behind entries n) ≤ length entries
+  there : AreThere (following entries n) items
+  puts : put_all (following entries n) ≡ entries
+  takes : taken_all (following entries n) items ≡ []
+  leaves : spliced_all (following entries n) items ≡ items ++ entries
+  few : length (following entries n) ≤ length entries
 
-behind_spliced : (entries : List LayerItem) (n : ℕ) (items : List LayerItem) → length items ≡ n → Behind entries n items
-behind_spliced [] n items long = record { there = tt; puts = refl; takes = refl; leaves = sym (append-nil items); few = omega arith }
-behind_spliced (item ∷ more) n items long =
+after_spliced : (entries : List LayerItem) (n : ℕ) (items : List LayerItem) → length items ≡ n → Behind entries n items
+after_spliced [] n items long = record { there = tt; puts = refl; takes = refl; leaves = sym (append-nil items); few = omega arith }
+after_spliced (item ∷ more) n items long =
     let front : take n items ≡ items = take_all n items (omega arith) in
     let rest : drop (n + 0) items ≡ [] = drop_all (n + 0) items (omega arith) in
     let put : List LayerItem = item ∷ more in
@@ -103,9 +103,9 @@ behind_spliced (item ∷ more) n items long =
       few = omega arith;
     }
 
-behind_steps : (position : ℕ) (items entries : List LayerItem) → behind_all position items entries ≡ map (in_layer_at position) (behind entries (length items))
-behind_steps position items [] = refl
-behind_steps position items (item ∷ more) = refl
+following_steps : (position : ℕ) (items entries : List LayerItem) → appended position items entries ≡ map (in_layer_at position) (following entries (length items))
+following_steps position items [] = refl
+following_steps position items (item ∷ more) = refl
 
 changed_long : {A : Type 0} (change : A → A) (at : ℕ) (items : List A) → length (change_at change at items) ≡ length items
 changed_long change at [] = refl
@@ -218,11 +218,11 @@ module _ (choice : LayerChoice) (key : List ℕ) (value : Value) (document : Doc
           ∙ ap (weight_of layer.items) fields_here
 
       -- the steps, if one can
-      pub attribute_set : nat_lt MAX_FILE (length (bytes_of (change_items whole position document))) ≡ false → (run : Option (Splice Field)) → GivesAttribute key (encoded_value value) layer.items found.fields run → (change : Change) → change ≡ map (in_feature_at position item) (cons_option run []) ++ behind_all position layer.items entries → IsPrepared (SetAttribute choice feature key value) document change
+      pub attribute_set : nat_lt MAX_FILE (length (bytes_of (change_items whole position document))) ≡ false → (run : Option (Splice Field)) → GivesAttribute key (encoded_value value) layer.items found.fields run → (change : Change) → change ≡ map (in_feature_at position item) (cons_option run []) ++ appended position layer.items entries → IsPrepared (SetAttribute choice feature key value) document change
       attribute_set fits run gives change steps =
           let v = encoded_value value in
           let first = map (in_feature_at position item) (cons_option run []) in
-          let splices = behind entries (length layer.items) in
+          let splices = following entries (length layer.items) in
           let second = map (in_layer_at position) splices in
           let half = change_fields given position item document in
           let changed = change_at (in_feature given) item layer.items in
@@ -238,7 +238,7 @@ module _ (choice : LayerChoice) (key : List ℕ) (value : Value) (document : Doc
           } in
           let of_items = in_the_layer position in
           let changed_there : items_at position half ≡ Some changed = of_items.found (change_at (in_feature given) item) document ∙ ap (option_map (change_at (in_feature given) item)) (items_at_found document ordinal position layer placed there) in
-          let of_entries = behind_spliced entries (length layer.items) changed (changed_long (in_feature given) item layer.items) in
+          let of_entries = after_spliced entries (length layer.items) changed (changed_long (in_feature given) item layer.items) in
           let b = carried of_items half changed changed_there splices of_entries.there (subst (AllByRecursion IsLayerItem) (sym of_entries.puts) (entries_valid key v layer.items)) in
           let to_made : Leads second half (change_items whole position document) (weigh layer_item_bytes entries) 0 = record {
             fits = b.fits;
@@ -247,7 +247,7 @@ module _ (choice : LayerChoice) (key : List ℕ) (value : Value) (document : Doc
             takes_so = b.takes ∙ ap (λ list. length (flat_map layer_item_bytes list)) of_entries.takes;
           } in
           let both = both_lead first second document half (change_items whole position document) _ _ _ _ to_half to_made in
-          let joined : change ≡ first ++ second = steps ∙ ap (λ more. first ++ more) (behind_steps position layer.items entries) in
+          let joined : change ≡ first ++ second = steps ∙ ap (λ more. first ++ more) (following_steps position layer.items entries) in
           let takes = weight_here (set_takes key v) in
           let puts = weight_here (set_puts key v) in
           let given_puts = gives.puts in

@@ -74,10 +74,10 @@ few_fields decisions [] = omega arith
 few_fields decisions (field ∷ more) =
     let own = field_numbers 2 field in
     let others = flat_map (field_numbers 2) more in
-    let behind = drop (length own) decisions in
-    let rest = few_fields behind more in
+    let following = drop (length own) decisions in
+    let rest = few_fields following more in
     let here = changes_one 2 decisions field in
-    let split = ap (λ list. length (filter is_changed list)) (zip_both own others decisions) ∙ ap length (filter-append is_changed (zip own decisions) (zip others behind)) ∙ length-append (filter is_changed (zip own decisions)) (filter is_changed (zip others behind)) in
+    let split = ap (λ list. length (filter is_changed list)) (zip_both own others decisions) ∙ ap length (filter-append is_changed (zip own decisions) (zip others following)) ∙ length-append (filter is_changed (zip own decisions)) (filter is_changed (zip others following)) in
     elim (cases_Bool (changes (field_fate 2 decisions field))) [
       | inl out ↦ (let counted = any_counted is_changed (zip own decisions) (sym here ∙ out) in rw out (omega (arith, split, rest, counted)))
       | inr stays ↦ rw stays (omega (arith, split, rest))

@@ -89,8 +89,8 @@ module _ (more : List ℕ) (fields : List plain.Field) where
         puts = is.put ∙ ap (weigh_last field_bytes is_tags) made;
       }
 
-  pair_behind : is_packed_last fields ≡ false → IsField (put_of (with_more_content more) new None fields) → puts_at None
-  pair_behind other valid =
+  pair_after : is_packed_last fields ≡ false → IsField (put_of (with_more_content more) new None fields) → puts_at None
+  pair_after other valid =
       let past : slice_get fields (length fields) ≡ None = slice_get_past fields (length fields) (omega arith) in
       let made : with_more_tags more fields ≡ fields ++ new ∷ [] = rw other refl in
       rw past (record {
@@ -106,7 +106,7 @@ module _ (more : List ℕ) (fields : List plain.Field) where
         | inl packed ↦ pair_in_place last packed (e ∙ ap (λ b. cond b (last_of is_tags fields) None) packed) valid
         | inr other ↦ (
             let none : last ≡ None = e ∙ ap (λ b. cond b (last_of is_tags fields) None) other in
-            subst puts_at (sym none) (pair_behind other (subst (λ at. IsField (put_of (with_more_content more) new at fields)) none valid))
+            subst puts_at (sym none) (pair_after other (subst (λ at. IsField (put_of (with_more_content more) new at fields)) none valid))
             )
       ]
 

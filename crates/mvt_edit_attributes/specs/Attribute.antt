@@ -92,6 +92,6 @@ abbrev pub entries_for : List ℕ → List ℕ → Ordinals → List LayerItem
 entries_for key value ordinals = entry_unless ordinals.key.is_there 26 key ++ entry_unless ordinals.value.is_there 34 value
 
 -- the step that puts these items, where there are any, after all items of the layer at this position of the tile
-abbrev pub behind_all : ℕ → List LayerItem → List LayerItem → Change
-behind_all layer items [] = []
-behind_all layer items (item ∷ more) = LayerStep layer (length items) 0 (item ∷ more) ∷ []
+abbrev pub appended : ℕ → List LayerItem → List LayerItem → Change
+appended layer items [] = []
+appended layer items (item ∷ more) = LayerStep layer (length items) 0 (item ∷ more) ∷ []

@@ -24,7 +24,7 @@ ghost use Rattle.mvt_meaning.specs.Ordinals.{count};
 ghost use Rattle.mvt_meaning.specs.Tagging.{revalued};
 ghost use Rattle.mvt_fates.specs.Fates.{seen, splice_of};
 ghost use Rattle.mvt_edit_steps.specs.Prepared.{Prepares};
-ghost use Rattle.mvt_edit_attributes.specs.Attribute.{AreFound, GivesAttribute, IsSought, attribute_checked, behind_all, fields_with};
+ghost use Rattle.mvt_edit_attributes.specs.Attribute.{AreFound, GivesAttribute, IsSought, attribute_checked, appended, fields_with};
 
 use crate::pools::{Ordinals, keys_that_are, look_for, missing_entries};
 use crate::tags_run::{and_pair, first_renumbered, size_with};
@@ -79,8 +79,8 @@ fn fits_with(
         result ≡ not (nat_lt MAX_FILE (length (bytes_of (change_items (λ items. change_at (in_feature given) found.entry.position items ++ map layer_item_of entries.now) holder.entry.position (document_of document.now))))) }
 {
     let fields = size_with(found.feature.fields(), run);
-    let behind = size_of_all(entries, MAX_FILE);
-    let items = size_with_fields(holder.layer, found.position, fields, behind);
+    let following = size_of_all(entries, MAX_FILE);
+    let items = size_with_fields(holder.layer, found.position, fields, following);
     fits_with_items(document, holder.position, items)
 }
 
@@ -155,7 +155,7 @@ fn steps_of(
 ) -> Result<Change, AllocError>
     ensures { IfOk result (λ change. change_of change ≡
         map (λ s. FeatureStep holder.entry.position item s.index s.taken s.put) (cons_option (option_map (λ run. seen field_of (splice_of run)) run) [])
-        ++ behind_all holder.entry.position (layer_of holder.entry.layer.now).items (map layer_item_of entries.items)) }
+        ++ appended holder.entry.position (layer_of holder.entry.layer.now).items (map layer_item_of entries.items)) }
 {
     let layer = holder.position;
     let mut steps = Vec::new(alloc);
@@ -163,13 +163,13 @@ fn steps_of(
         steps.push(run.in_feature(layer, item))?;
     }
     if !entries.is_empty() {
-        steps.push(behind_all(holder, entries))?;
+        steps.push(appended(holder, entries))?;
     }
     Ok(Change::new(steps))
 }
 
 /// The step that puts the entries after all items of the layer.
-fn behind_all(holder: FoundLayer<'_>, entries: Vec<LayerItem>) -> Step
+fn appended(holder: FoundLayer<'_>, entries: Vec<LayerItem>) -> Step
     ensures { step_of result ≡ LayerStep holder.entry.position (length (layer_of holder.entry.layer.now).items) 0 (map layer_item_of entries.items) }
 {
     Step::InLayer {

@@ -140,12 +140,12 @@ pub(crate) fn first_renumbered(
 {
     let mut left = decisions;
     for index in 0..fields.len() {
-        let (fate, behind) = renumber_field(alloc, &fields[index], TAGS, left)?;
+        let (fate, following) = renumber_field(alloc, &fields[index], TAGS, left)?;
         let run = run_for(alloc, index, fate)?;
         if run.is_some() {
             return Ok(run);
         }
-        left = behind;
+        left = following;
     }
     Ok(None)
 }

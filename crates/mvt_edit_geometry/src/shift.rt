@@ -117,7 +117,7 @@ fn moved(command: u64, x: u64, y: u64, dx: i64, dy: i64) -> Option<[Option<u64>;
 /// The value of the next number, if there is one.
 fn next_value(numbers: &mut Numbers<'_>) -> Option<u64>
     ensures value { result ≡ option_map (λ p. p.number.value) (option_and_then result_ok (slice_get numbers.old 0)) }
-    ensures behind { numbers.new ≡ drop 1 numbers.old }
+    ensures following { numbers.new ≡ drop 1 numbers.old }
 {
     match numbers.next()? {
         Ok(number) => Some(number.varint.value),

@@ -60,23 +60,23 @@ place_last passes n ordinal last (x ∷ xs) none start =
     ]
 
 -- right after the last that passes
-place_behind : {A : Type 0} (passes : A → Bool) (n ordinal last : ℕ) (front : List A) (item : A) (back : List A) → suc (count passes front) ≡ ordinal → passes item ≡ true → count passes back ≡ 0 → place_from passes n ordinal last (front ++ item ∷ back) ≡ Some (n + suc (length front))
-place_behind passes n ordinal last [] item back counted pass none =
+place_after : {A : Type 0} (passes : A → Bool) (n ordinal last : ℕ) (front : List A) (item : A) (back : List A) → suc (count passes front) ≡ ordinal → passes item ≡ true → count passes back ≡ 0 → place_from passes n ordinal last (front ++ item ∷ back) ≡ Some (n + suc (length front))
+place_after passes n ordinal last [] item back counted pass none =
     let next : n + 1 ≡ n + suc 0 = omega arith in
     place_pass passes n ordinal last item back pass (omega arith) ∙ place_last passes (n + 1) (ordinal - 1) (n + 1) back none (omega arith) ∙ ap (λ k. Some k) next
-place_behind passes n ordinal last (x ∷ front) item back counted pass none =
+place_after passes n ordinal last (x ∷ front) item back counted pass none =
     let place : n + 1 + suc (length front) ≡ n + suc (suc (length front)) = omega arith in
     elim (cases_Bool (passes x)) [
       | inl counts ↦ (
           let more = count_pass passes x front counts in
           place_pass passes n ordinal last x (front ++ item ∷ back) counts (omega (arith, counted, more))
-          ∙ place_behind passes (n + 1) (ordinal - 1) (n + 1) front item back (omega (arith, counted, more)) pass none
+          ∙ place_after passes (n + 1) (ordinal - 1) (n + 1) front item back (omega (arith, counted, more)) pass none
           ∙ ap (λ k. Some k) place
           )
       | inr skips ↦ (
           let same = count_skip passes x front skips in
           place_skip passes n ordinal last x (front ++ item ∷ back) skips
-          ∙ place_behind passes (n + 1) ordinal last front item back (omega (arith, counted, same)) pass none
+          ∙ place_after passes (n + 1) ordinal last front item back (omega (arith, counted, same)) pass none
           ∙ ap (λ k. Some k) place
           )
     ]
@@ -156,8 +156,8 @@ found_inside passes ordinal last front item back counted pass =
     )
 
 -- after the last that passes
-found_behind : {A : Type 0} (passes : A → Bool) (ordinal last : ℕ) (front : List A) (item : A) (back : List A) → suc (count passes front) ≡ ordinal → passes item ≡ true → count passes back ≡ 0 → Found passes ordinal last (front ++ item ∷ back)
-found_behind passes ordinal last front item back counted pass none =
+found_after : {A : Type 0} (passes : A → Bool) (ordinal last : ℕ) (front : List A) (item : A) (back : List A) → suc (count passes front) ≡ ordinal → passes item ≡ true → count passes back ≡ 0 → Found passes ordinal last (front ++ item ∷ back)
+found_after passes ordinal last front item back counted pass none =
     let all = count_append passes front (item ∷ back) in
     let one = count_pass passes item back pass in
     let same : count passes (front ++ item ∷ back) ≡ ordinal = omega (arith, all, one, counted, none) in
@@ -167,7 +167,7 @@ found_behind passes ordinal last front item back counted pass none =
     let long : length (front ++ item ∷ []) ≡ suc (length front) = omega (arith, length-append front (item ∷ [])) in
     let start : 0 + suc (length front) ≡ suc (length front) = omega arith in (
       suc (length front),
-      place_behind passes 0 ordinal last front item back counted pass none ∙ ap (λ k. Some k) start,
+      place_after passes 0 ordinal last front item back counted pass none ∙ ap (λ k. Some k) start,
       record {
         few = omega (arith, same);
         within = omega (arith, length-append front (item ∷ back));
@@ -202,7 +202,7 @@ found_last passes (suc before) items all =
     let a = apart_of passes before items (omega arith) in
     let whole = ap (count passes) a.joined in
     let none : count passes a.back ≡ 0 = omega (arith, whole, count_append passes a.front (a.item ∷ a.back), count_pass passes a.item a.back a.counts, a.ordinal_is) in
-    subst (λ xs. Found passes (suc before) (length items) xs) (sym a.joined) (found_behind passes (suc before) (length items) a.front a.item a.back (ap suc a.ordinal_is) a.counts none)
+    subst (λ xs. Found passes (suc before) (length items) xs) (sym a.joined) (found_after passes (suc before) (length items) a.front a.item a.back (ap suc a.ordinal_is) a.counts none)
 
 place_found : {A : Type 0} (passes : A → Bool) (ordinal : ℕ) (items : List A) → ordinal ≤ count passes items → Found passes ordinal (length items) items
 place_found passes ordinal items few =

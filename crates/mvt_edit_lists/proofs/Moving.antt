@@ -4,7 +4,7 @@ use Rattle.std.proofs.lemmas.Bool.{cases_order}
 use Rattle.std.proofs.lemmas.Bool.Decides.{nat_tests}
 use Rattle.std.proofs.lemmas.List.{append-nil, length-append, take_at, drop_at}
 use Rattle.mvt_document.specs.Splicing.{splice, moved}
-use Rattle.mvt_meaning.specs.Ordinals.{before, behind, count, move_nth, positions_of, without}
+use Rattle.mvt_meaning.specs.Ordinals.{before, after, count, move_nth, positions_of, without}
 use Rattle.mvt_edit_lists.proofs.Nth.{apart_from, count_append, count_pass, from_nth_at, nth_is, two_apart}
 
 -- ---- items inserted and moved
@@ -36,17 +36,17 @@ stays passes ordinal p front x back pass counted placed =
     rw (found, same) (sym (moved_at p p front x back placed ∙ splice_in p front x back placed))
 
 goes_up : {A : Type 0} (passes : A → Bool) (low high p q : ℕ) (front : List A) (x : A) (middle : List A) (y : A) (back : List A) → passes x ≡ true → passes y ≡ true → count passes front ≡ low → count passes front + suc (count passes middle) ≡ high → length front ≡ p → length front + suc (length middle) ≡ q → move_nth passes low high (front ++ x ∷ (middle ++ y ∷ back)) ≡ moved p q (front ++ x ∷ (middle ++ y ∷ back))
-goes_up passes low high p q front x middle y back first second counted counted_behind placed placed_behind =
+goes_up passes low high p q front x middle y back first second counted counted_after placed placed_after =
     let found = nth_is passes low front x (middle ++ y ∷ back) counted first in
     let less : nat_lt low high ≡ true = grind (arith, nat_tests) in
-    let start : move_nth passes low high (front ++ x ∷ (middle ++ y ∷ back)) ≡ behind passes (high - 1) x (without passes low (front ++ x ∷ (middle ++ y ∷ back))) = rw (found, less) refl in
+    let start : move_nth passes low high (front ++ x ∷ (middle ++ y ∷ back)) ≡ after passes (high - 1) x (without passes low (front ++ x ∷ (middle ++ y ∷ back))) = rw (found, less) refl in
     let between : count passes (front ++ middle) ≡ high - 1 = omega (arith, count_append passes front middle) in
     let gone = from_nth_at passes (λ rest. drop 1 rest) low front x (middle ++ y ∷ back) counted first in
     let there = from_nth_at passes (λ rest. take 1 rest ++ x ∷ drop 1 rest) (high - 1) (front ++ middle) y back between second in
     let long : length ((front ++ middle) ++ y ∷ []) ≡ q = omega (arith, length-append (front ++ middle) (y ∷ []), length-append front middle) in
     let regrouped : (front ++ middle) ++ y ∷ [] ++ back ≡ front ++ (middle ++ y ∷ back) = append_assoc (front ++ middle) (y ∷ []) back ∙ append_assoc front middle (y ∷ back) in
     start
-    ∙ ap (behind passes (high - 1) x) (gone ∙ sym (append_assoc front middle (y ∷ back)))
+    ∙ ap (after passes (high - 1) x) (gone ∙ sym (append_assoc front middle (y ∷ back)))
     ∙ there
     ∙ sym (append_assoc (front ++ middle) (y ∷ []) (x ∷ back))
     ∙ sym (splice_in q ((front ++ middle) ++ y ∷ []) x back long)
@@ -54,16 +54,16 @@ goes_up passes low high p q front x middle y back first second counted counted_b
     ∙ sym (moved_at p q front x (middle ++ y ∷ back) placed)
 
 goes_down : {A : Type 0} (passes : A → Bool) (low high p q : ℕ) (front : List A) (y : A) (middle : List A) (x : A) (back : List A) → passes y ≡ true → passes x ≡ true → count passes front ≡ low → count passes front + suc (count passes middle) ≡ high → length front ≡ p → length front + suc (length middle) ≡ q → move_nth passes high low (front ++ y ∷ (middle ++ x ∷ back)) ≡ moved q p (front ++ y ∷ (middle ++ x ∷ back))
-goes_down passes low high p q front y middle x back first second counted counted_behind placed placed_behind =
+goes_down passes low high p q front y middle x back first second counted counted_after placed placed_after =
     let regrouped : front ++ y ∷ middle ++ x ∷ back ≡ front ++ y ∷ (middle ++ x ∷ back) = append_assoc front (y ∷ middle) (x ∷ back) in
-    let counted_before : count passes (front ++ y ∷ middle) ≡ high = count_append passes front (y ∷ middle) ∙ ap (λ n. count passes front + n) (count_pass passes y middle first) ∙ counted_behind in
+    let counted_before : count passes (front ++ y ∷ middle) ≡ high = count_append passes front (y ∷ middle) ∙ ap (λ n. count passes front + n) (count_pass passes y middle first) ∙ counted_after in
     let found = nth_is passes high (front ++ y ∷ middle) x back counted_before second in
     let more : nat_lt high low ≡ false = grind (arith, nat_tests) in
     let less : nat_lt low high ≡ true = grind (arith, nat_tests) in
     let start : move_nth passes high low (front ++ y ∷ middle ++ x ∷ back) ≡ before passes low x (without passes high (front ++ y ∷ middle ++ x ∷ back)) = rw (found, more, less) refl in
     let gone = from_nth_at passes (λ rest. drop 1 rest) high (front ++ y ∷ middle) x back counted_before second in
     let there = from_nth_at passes (λ rest. x ∷ rest) low front y (middle ++ back) counted first in
-    let long : length (front ++ y ∷ middle) ≡ q = length-append front (y ∷ middle) ∙ placed_behind in
+    let long : length (front ++ y ∷ middle) ≡ q = length-append front (y ∷ middle) ∙ placed_after in
     ap (move_nth passes high low) (sym regrouped)
     ∙ start
     ∙ ap (before passes low x) (gone ∙ append_assoc front (y ∷ middle) back)

@@ -56,20 +56,20 @@ apart_from passes n (x ∷ xs) ordinal p e =
 
 -- ---- a change from that item on
 
-from_nth_behind : {A : Type 0} (passes : A → Bool) (change : List A → List A) (k i : ℕ) (front rest : List A) → k ≡ count passes front + i → from_nth passes change k (front ++ rest) ≡ front ++ from_nth passes change i rest
-from_nth_behind passes change k i [] rest e = let same : k ≡ i = omega arith in ap (λ j. from_nth passes change j rest) same
-from_nth_behind passes change k i (x ∷ front) rest e =
+from_nth_after : {A : Type 0} (passes : A → Bool) (change : List A → List A) (k i : ℕ) (front rest : List A) → k ≡ count passes front + i → from_nth passes change k (front ++ rest) ≡ front ++ from_nth passes change i rest
+from_nth_after passes change k i [] rest e = let same : k ≡ i = omega arith in ap (λ j. from_nth passes change j rest) same
+from_nth_after passes change k i (x ∷ front) rest e =
     elim (cases_Bool (passes x)) [
       | inl pass ↦ (
           let counted = count_pass passes x front pass in
           let later : k ≡ suc (count passes front + i) = omega (arith, counted, e) in
           let some : (k == 0) ≡ false = grind (arith, nat_tests) in
-          rw (pass, some) (ap (λ ys. x ∷ ys) (from_nth_behind passes change (k - 1) i front rest (omega arith)))
+          rw (pass, some) (ap (λ ys. x ∷ ys) (from_nth_after passes change (k - 1) i front rest (omega arith)))
           )
       | inr skip ↦ (
           let counted = count_skip passes x front skip in
           let later : k ≡ count passes front + i = omega (arith, counted, e) in
-          rw skip (ap (λ ys. x ∷ ys) (from_nth_behind passes change k i front rest later))
+          rw skip (ap (λ ys. x ∷ ys) (from_nth_after passes change k i front rest later))
           )
     ]
 
@@ -78,14 +78,14 @@ from_nth_first passes change x rest pass = rw pass refl
 
 pub from_nth_at : {A : Type 0} (passes : A → Bool) (change : List A → List A) (ordinal : ℕ) (front : List A) (item : A) (back : List A) → count passes front ≡ ordinal → passes item ≡ true → from_nth passes change ordinal (front ++ item ∷ back) ≡ front ++ change (item ∷ back)
 from_nth_at passes change ordinal front item back counted pass =
-    from_nth_behind passes change ordinal 0 front (item ∷ back) (omega arith)
+    from_nth_after passes change ordinal 0 front (item ∷ back) (omega arith)
     ∙ ap (λ rest. front ++ rest) (from_nth_first passes change item back pass)
 
 -- ---- the item itself
 
-pub get_behind : {A : Type 0} (front : List A) (x : A) (back : List A) (n : ℕ) → length front ≡ n → slice_get (front ++ x ∷ back) n ≡ Some x
-get_behind [] x back n e = ap (slice_get (x ∷ back)) (sym e)
-get_behind (y ∷ front) x back n e = ap (slice_get (y ∷ front ++ x ∷ back)) (sym e) ∙ get_behind front x back (length front) refl
+pub get_following : {A : Type 0} (front : List A) (x : A) (back : List A) (n : ℕ) → length front ≡ n → slice_get (front ++ x ∷ back) n ≡ Some x
+get_following [] x back n e = ap (slice_get (x ∷ back)) (sym e)
+get_following (y ∷ front) x back n e = ap (slice_get (y ∷ front ++ x ∷ back)) (sym e) ∙ get_following front x back (length front) refl
 
 filter_pass : {A : Type 0} (passes : A → Bool) (x : A) (xs : List A) → passes x ≡ true → filter passes (x ∷ xs) ≡ x ∷ filter passes xs
 filter_pass passes x xs e = rw e refl
@@ -93,7 +93,7 @@ filter_pass passes x xs e = rw e refl
 pub nth_is : {A : Type 0} (passes : A → Bool) (ordinal : ℕ) (front : List A) (item : A) (back : List A) → count passes front ≡ ordinal → passes item ≡ true → slice_get (filter passes (front ++ item ∷ back)) ordinal ≡ Some item
 nth_is passes ordinal front item back counted pass =
     ap (λ xs. slice_get xs ordinal) (filter-append passes front (item ∷ back) ∙ ap (λ xs. filter passes front ++ xs) (filter_pass passes item back pass))
-    ∙ get_behind (filter passes front) item (filter passes back) ordinal counted
+    ∙ get_following (filter passes front) item (filter passes back) ordinal counted
 
 -- ---- two items
 
@@ -113,12 +113,12 @@ pub record TwoApart {A : Type 0} (passes : A → Bool) (low high p q : ℕ) (ite
   pub p_is : length front ≡ p
   pub q_is : length front + suc (length middle) ≡ q
 
-positions_behind : {A : Type 0} (passes : A → Bool) (n m k i : ℕ) (front rest : List A) → k ≡ count passes front + i → m ≡ n + length front → slice_get (positions_from passes n (front ++ rest)) k ≡ slice_get (positions_from passes m rest) i
-positions_behind passes n m k i [] rest e f =
+positions_after : {A : Type 0} (passes : A → Bool) (n m k i : ℕ) (front rest : List A) → k ≡ count passes front + i → m ≡ n + length front → slice_get (positions_from passes n (front ++ rest)) k ≡ slice_get (positions_from passes m rest) i
+positions_after passes n m k i [] rest e f =
     let here : k ≡ i = omega arith in
     let start : n ≡ m = omega arith in
     ap (slice_get (positions_from passes n rest)) here ∙ ap (λ j. slice_get (positions_from passes j rest) i) start
-positions_behind passes n m k i (x ∷ front) rest e f =
+positions_after passes n m k i (x ∷ front) rest e f =
     let place : m ≡ n + 1 + length front = omega arith in
     elim (cases_Bool (passes x)) [
       | inl pass ↦ (
@@ -126,22 +126,22 @@ positions_behind passes n m k i (x ∷ front) rest e f =
           let later : k ≡ suc (count passes front + i) = omega (arith, counted, e) in
           ap (λ ps. slice_get ps k) (positions_pass passes n x (front ++ rest) pass)
           ∙ ap (slice_get (n ∷ positions_from passes (n + 1) (front ++ rest))) later
-          ∙ positions_behind passes (n + 1) m (count passes front + i) i front rest refl place
+          ∙ positions_after passes (n + 1) m (count passes front + i) i front rest refl place
           )
       | inr skip ↦ (
           let counted = count_skip passes x front skip in
           let later : k ≡ count passes front + i = omega (arith, counted, e) in
           ap (λ ps. slice_get ps k) (positions_skip passes n x (front ++ rest) skip)
-          ∙ positions_behind passes (n + 1) m k i front rest later place
+          ∙ positions_after passes (n + 1) m k i front rest later place
           )
     ]
 
-next_behind : {A : Type 0} (passes : A → Bool) (p steps q : ℕ) (x : A) (xs : List A) → passes x ≡ true → slice_get (positions_from passes p (x ∷ xs)) (suc steps) ≡ Some q → slice_get (positions_from passes (p + 1) xs) steps ≡ Some q
-next_behind passes p steps q x xs pass e = sym (ap (λ ps. slice_get ps (suc steps)) (positions_pass passes p x xs pass)) ∙ e
+next_after : {A : Type 0} (passes : A → Bool) (p steps q : ℕ) (x : A) (xs : List A) → passes x ≡ true → slice_get (positions_from passes p (x ∷ xs)) (suc steps) ≡ Some q → slice_get (positions_from passes (p + 1) xs) steps ≡ Some q
+next_after passes p steps q x xs pass e = sym (ap (λ ps. slice_get ps (suc steps)) (positions_pass passes p x xs pass)) ∙ e
 
 -- an item, and another among those after it
 two_of : {A : Type 0} (passes : A → Bool) (low steps high p q : ℕ) (items : List A) (a : Apart passes low items) (b : Apart passes steps a.back) → p ≡ 0 + length a.front → q ≡ p + 1 + length b.front → high ≡ suc (low + steps) → TwoApart passes low high p q items
-two_of passes low steps high p q items a b place place_behind apart = record {
+two_of passes low steps high p q items a b place place_after apart = record {
   front = a.front;
   first = a.item;
   middle = b.front;
@@ -157,10 +157,10 @@ two_of passes low steps high p q items a b place place_behind apart = record {
 }
 
 -- the positions of the items after one of an ordinal
-behind_one : {A : Type 0} (passes : A → Bool) (low steps high p q : ℕ) (items : List A) (a : Apart passes low items) → p ≡ 0 + length a.front → high ≡ suc (low + steps) → slice_get (positions_of passes items) high ≡ Some q → slice_get (positions_from passes (p + 1) a.back) steps ≡ Some q
-behind_one passes low steps high p q items a place apart e =
-    next_behind passes p steps q a.item a.back a.counts (
-    sym (positions_behind passes 0 p high (suc steps) a.front (a.item ∷ a.back) (omega (arith, a.ordinal_is)) place)
+following_one : {A : Type 0} (passes : A → Bool) (low steps high p q : ℕ) (items : List A) (a : Apart passes low items) → p ≡ 0 + length a.front → high ≡ suc (low + steps) → slice_get (positions_of passes items) high ≡ Some q → slice_get (positions_from passes (p + 1) a.back) steps ≡ Some q
+following_one passes low steps high p q items a place apart e =
+    next_after passes p steps q a.item a.back a.counts (
+    sym (positions_after passes 0 p high (suc steps) a.front (a.item ∷ a.back) (omega (arith, a.ordinal_is)) place)
     ∙ ap (λ xs. slice_get (positions_from passes 0 xs) high) (sym a.joined)
     ∙ e
     )
@@ -169,5 +169,5 @@ pub two_apart : {A : Type 0} (passes : A → Bool) (low high p q : ℕ) (items :
 two_apart passes low high p q items first second less =
     let a = apart_from passes 0 items low p first in
     let apart : high ≡ suc (low + (high - suc low)) = omega arith in
-    let b = apart_from passes (p + 1) a.0.back (high - suc low) q (behind_one passes low (high - suc low) high p q items a.0 a.1 apart second) in
+    let b = apart_from passes (p + 1) a.0.back (high - suc low) q (following_one passes low (high - suc low) high p q items a.0 a.1 apart second) in
     two_of passes low (high - suc low) high p q items a.0 b.0 a.1 b.1 apart

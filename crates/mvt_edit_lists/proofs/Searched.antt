@@ -32,6 +32,6 @@ module _ {X : Type 0} (text_of : X → List ℕ) (text : List ℕ) where
       let ties = texts_ties (text_of (get_or xs k other)) text in
       elim (cases_lt k place) [
         | inl before ↦ ties ∙ ap is_eq (sides.0 k other (omega arith) before)
-        | inr behind ↦ ties ∙ ap is_eq (sides.1 k other behind inside)
+        | inr following ↦ ties ∙ ap is_eq (sides.1 k other following inside)
       ]) in
       sym none ∙ any_map text_of (λ name. bytes_eq name text) xs

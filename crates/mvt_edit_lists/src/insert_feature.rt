@@ -52,18 +52,18 @@ fn place_of_new(items: &[LayerItem], ordinal: u64) -> Option<usize>
     ensures none { IfNone result (length (features_in (map layer_item_of items.now)) < ordinal) }
 {
     let mut before = 0;
-    let mut behind = items.len();
+    let mut following = items.len();
     for (position, item) in items.iter().enumerate() {
         if is_feature(item) {
             if before == ordinal {
                 return Some(position);
             }
             before += 1;
-            behind = position + 1;
+            following = position + 1;
         }
     }
     if before == ordinal {
-        Some(behind)
+        Some(following)
     } else {
         None
     }

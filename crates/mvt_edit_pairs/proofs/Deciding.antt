@@ -17,35 +17,35 @@ counted_first test x xs = elim (cases_Bool (test x)) [ inl pass ↦ rw pass (ome
 
 module _ (said : ℕ × ℕ → Option ℕ × Option ℕ × Bool) where
   -- these pairs after what is decided so far, of which `n` pairs count
-  abbrev pub decided_behind : List (Option ℕ) → List (ℕ × ℕ) → List (Option ℕ)
-  decided_behind front pairs = front ++ decided_by said pairs
+  abbrev pub decided_after : List (Option ℕ) → List (ℕ × ℕ) → List (Option ℕ)
+  decided_after front pairs = front ++ decided_by said pairs
 
-  abbrev pub counted_behind : ℕ → List (ℕ × ℕ) → ℕ
-  counted_behind n pairs = n + counted_by said pairs
+  abbrev pub counted_after : ℕ → List (ℕ × ℕ) → ℕ
+  counted_after n pairs = n + counted_by said pairs
 
-  pub decided_more : (front : List (Option ℕ)) (pair : ℕ × ℕ) (rest : Option (List (ℕ × ℕ))) → option_map (decided_behind front) (and_more pair rest) ≡ option_map (decided_behind (front ++ (said pair).0 ∷ (said pair).1 ∷ [])) rest
+  pub decided_more : (front : List (Option ℕ)) (pair : ℕ × ℕ) (rest : Option (List (ℕ × ℕ))) → option_map (decided_after front) (and_more pair rest) ≡ option_map (decided_after (front ++ (said pair).0 ∷ (said pair).1 ∷ [])) rest
   decided_more front pair None = refl
   decided_more front pair (Some more) = ap Some (sym (append_assoc front ((said pair).0 ∷ (said pair).1 ∷ []) (decided_by said more)))
 
-  pub decided_none : (rest : Option (List (ℕ × ℕ))) → option_map (decided_behind []) rest ≡ option_map (decided_by said) rest
+  pub decided_none : (rest : Option (List (ℕ × ℕ))) → option_map (decided_after []) rest ≡ option_map (decided_by said) rest
   decided_none None = refl
   decided_none (Some more) = refl
 
-  pub counted_more : (n : ℕ) (pair : ℕ × ℕ) (rest : Option (List (ℕ × ℕ))) → option_map (counted_behind n) (and_more pair rest) ≡ option_map (counted_behind (n + cond (said pair).2 1 0)) rest
+  pub counted_more : (n : ℕ) (pair : ℕ × ℕ) (rest : Option (List (ℕ × ℕ))) → option_map (counted_after n) (and_more pair rest) ≡ option_map (counted_after (n + cond (said pair).2 1 0)) rest
   counted_more n pair None = refl
   counted_more n pair (Some more) =
       let first = counted_first (λ (pair : ℕ × ℕ). (said pair).2) pair more in
       let same : n + counted_by said (pair ∷ more) ≡ n + cond (said pair).2 1 0 + counted_by said more = omega (arith, first) in
       ap Some same
 
-  pub counted_none : (rest : Option (List (ℕ × ℕ))) → option_map (counted_behind 0) rest ≡ option_map (counted_by said) rest
+  pub counted_none : (rest : Option (List (ℕ × ℕ))) → option_map (counted_after 0) rest ≡ option_map (counted_by said) rest
   counted_none None = refl
   counted_none (Some more) = let same : 0 + counted_by said more ≡ counted_by said more = omega arith in ap Some same
 
   -- what is decided and counted, once what is left of the pairs follows, is that of all
   pub record SoFarDecided (left all : Option (List (ℕ × ℕ))) (decisions : List (Option ℕ)) (n : ℕ) : Type 0 where
-    pub decided : option_map (decided_behind decisions) left ≡ option_map (decided_by said) all
-    pub counted : option_map (counted_behind n) left ≡ option_map (counted_by said) all
+    pub decided : option_map (decided_after decisions) left ≡ option_map (decided_by said) all
+    pub counted : option_map (counted_after n) left ≡ option_map (counted_by said) all
 
 -- ---- tags that make pairs
 

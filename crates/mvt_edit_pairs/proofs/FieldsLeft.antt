@@ -178,16 +178,16 @@ module _ (number : ℕ) where
   fates_same : (decisions : List (Option ℕ)) (fields : List plain.Field) → map fate (decided_fields number decisions fields) ≡ field_fates number decisions fields
   fates_same decisions [] = refl
   fates_same decisions (field ∷ more) =
-      let behind = drop (length (field_numbers number field)) decisions in
-      ap (λ first. first ∷ map fate (decided_fields number behind more)) (taken_one decisions field) ∙ ap (λ fates. field_fate number decisions field ∷ fates) (fates_same behind more)
+      let following = drop (length (field_numbers number field)) decisions in
+      ap (λ first. first ∷ map fate (decided_fields number following more)) (taken_one decisions field) ∙ ap (λ fates. field_fate number decisions field ∷ fates) (fates_same following more)
 
   left_same : (decisions : List (Option ℕ)) (fields : List plain.Field) → flat_map (λ at. left_of_fate (λ y. y) (field_at at) (fate at)) (decided_fields number decisions fields) ≡ renumber number decisions fields
   left_same decisions [] = refl
   left_same decisions (field ∷ more) =
       let first = take (length (field_numbers number field)) decisions in
-      let behind = drop (length (field_numbers number field)) decisions in
-      ap (λ left. left ++ flat_map (λ at. left_of_fate (λ y. y) (field_at at) (fate at)) (decided_fields number behind more)) (left_one first field ∙ left_taken decisions field)
-      ∙ ap (λ rest. renumbered_field number decisions field ++ rest) (left_same behind more)
+      let following = drop (length (field_numbers number field)) decisions in
+      ap (λ left. left ++ flat_map (λ at. left_of_fate (λ y. y) (field_at at) (fate at)) (decided_fields number following more)) (left_one first field ∙ left_taken decisions field)
+      ∙ ap (λ rest. renumbered_field number decisions field ++ rest) (left_same following more)
 
   taken_same : (list : List (List (Option ℕ) × plain.Field)) → filter (λ at. changes (fate at)) list ≡ filter (is_renumbered number) list
   taken_same [] = refl

@@ -141,5 +141,5 @@ layer_refused pools choice document found at rest refusal selects left is =
     selected_by pools choice document (Err refusal) (rw (selects, all) refl)
 
 -- after a layer of which no feature is refused
-pub readable_behind : (at : ℕ × (ℕ × plain.Layer)) (rest : List (ℕ × (ℕ × plain.Layer))) → unreadable (at ∷ []) ≡ [] → unreadable (at ∷ rest) ≡ unreadable rest
-readable_behind at rest none = ap (λ bad. bad ++ unreadable rest) (sym (append-nil (bad_of at)) ∙ none)
+pub readable_after : (at : ℕ × (ℕ × plain.Layer)) (rest : List (ℕ × (ℕ × plain.Layer))) → unreadable (at ∷ []) ≡ [] → unreadable (at ∷ rest) ≡ unreadable rest
+readable_after at rest none = ap (λ bad. bad ++ unreadable rest) (sym (append-nil (bad_of at)) ∙ none)

@@ -30,22 +30,22 @@ past_same (suc n) (suc k) x rest past =
     let less : k - n ≡ suc k - suc n = omega arith in
     past_same n k x rest (omega arith) ∙ ap (slice_get rest) less
 
-true_before : (count behind k : ℕ) (rest : List Bool) → k < count + behind → slice_get (replicate count true ++ (replicate behind false ++ rest)) k ≡ Some (nat_lt k count)
-true_before count behind k rest inside =
+true_before : (count following k : ℕ) (rest : List Bool) → k < count + following → slice_get (replicate count true ++ (replicate following false ++ rest)) k ≡ Some (nat_lt k count)
+true_before count following k rest inside =
     elim (leb_tells (suc k) count) [
-      | inl one ↦ same_at count k true (replicate behind false ++ rest) (omega (arith, one.1)) ∙ ap Some (sym one.0)
+      | inl one ↦ same_at count k true (replicate following false ++ rest) (omega (arith, one.1)) ∙ ap Some (sym one.0)
       | inr none ↦ (
-          past_same count k true (replicate behind false ++ rest) (omega (arith, none.1))
-          ∙ same_at behind (k - count) false rest (omega (arith, none.1, inside))
+          past_same count k true (replicate following false ++ rest) (omega (arith, none.1))
+          ∙ same_at following (k - count) false rest (omega (arith, none.1, inside))
           ∙ ap Some (sym none.0)
           )
     ]
 
-parts : (run : Run) (values : List Bool) (h : IsRun run values) → values ≡ replicate run.first false ++ (replicate run.count true ++ (replicate h.behind false ++ h.rest))
+parts : (run : Run) (values : List Bool) (h : IsRun run values) → values ≡ replicate run.first false ++ (replicate run.count true ++ (replicate h.following false ++ h.rest))
 parts run values h =
     let F = replicate run.first false in
     let C = replicate run.count true in
-    let B = replicate h.behind false in
+    let B = replicate h.following false in
     h.is ∙ append_assoc F (C ++ B) h.rest ∙ ap (λ t. F ++ t) (append_assoc C B h.rest)
 
 -- ---- an item at an index of a layer
@@ -68,15 +68,15 @@ pub none_before : (number : ℕ) (run : Run) (items : List LayerItem) (index : �
 none_before number run items index h before =
     entry_at number items index false
     (ap (λ values. slice_get values index) (parts run (map (is_entry_of number) items) h)
-    ∙ same_at run.first index false (replicate run.count true ++ (replicate h.behind false ++ h.rest)) before)
+    ∙ same_at run.first index false (replicate run.count true ++ (replicate h.following false ++ h.rest)) before)
 
 -- from its first on each is one up to its last, and none after that
 pub ones_from : (number : ℕ) (run : Run) (items : List LayerItem) (index : ℕ) → IsRunOf (is_entry_of number) run items → run.first ≤ index → index < run.until → IsEntryAt number items index (nat_lt (index - run.first) run.count)
 ones_from number run items index h from known =
     entry_at number items index (nat_lt (index - run.first) run.count)
     (ap (λ values. slice_get values index) (parts run (map (is_entry_of number) items) h)
-    ∙ past_same run.first index false (replicate run.count true ++ (replicate h.behind false ++ h.rest)) from
-    ∙ true_before run.count h.behind (index - run.first) h.rest (omega (arith, h.until)))
+    ∙ past_same run.first index false (replicate run.count true ++ (replicate h.following false ++ h.rest)) from
+    ∙ true_before run.count h.following (index - run.first) h.rest (omega (arith, h.until)))
 
 -- the item at an index: whether it is an entry, and what the marks make of the items from it on
 pub record ItemAt (items : List LayerItem) (index : ℕ) : Type 0 where

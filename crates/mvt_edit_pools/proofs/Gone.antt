@@ -50,12 +50,12 @@ kind_of (PlainInLayer field) = kind_by field (content_in key_field field) (conte
 
 -- ---- one more item, by marks
 
-pub goes_key : (keys values : List Bool) (item : LayerItem) (items : List LayerItem) (first : Bool) (behind : List Bool) → is_entry key_field item ≡ true → first ≡ first_goes keys → behind ≡ drop 1 keys → gone_by keys values (item ∷ items) ≡ first ∷ gone_by behind values items
-goes_key keys values item items first behind is goes left =
+pub goes_key : (keys values : List Bool) (item : LayerItem) (items : List LayerItem) (first : Bool) (following : List Bool) → is_entry key_field item ≡ true → first ≡ first_goes keys → following ≡ drop 1 keys → gone_by keys values (item ∷ items) ≡ first ∷ gone_by following values items
+goes_key keys values item items first following is goes left =
     rw is (ap (λ one. one ∷ gone_by (drop 1 keys) values items) (sym goes) ∙ ap (λ marks. first ∷ gone_by marks values items) (sym left))
 
-pub goes_value : (keys values : List Bool) (item : LayerItem) (items : List LayerItem) (first : Bool) (behind : List Bool) → is_entry key_field item ≡ false → is_entry value_field item ≡ true → first ≡ first_goes values → behind ≡ drop 1 values → gone_by keys values (item ∷ items) ≡ first ∷ gone_by keys behind items
-goes_value keys values item items first behind other is goes left =
+pub goes_value : (keys values : List Bool) (item : LayerItem) (items : List LayerItem) (first : Bool) (following : List Bool) → is_entry key_field item ≡ false → is_entry value_field item ≡ true → first ≡ first_goes values → following ≡ drop 1 values → gone_by keys values (item ∷ items) ≡ first ∷ gone_by keys following items
+goes_value keys values item items first following other is goes left =
     rw (other, is) (ap (λ one. one ∷ gone_by keys (drop 1 values) items) (sym goes) ∙ ap (λ marks. first ∷ gone_by keys marks items) (sym left))
 
 pub goes_neither : (keys values : List Bool) (item : LayerItem) (items : List LayerItem) → is_entry key_field item ≡ false → is_entry value_field item ≡ false → gone_by keys values (item ∷ items) ≡ false ∷ gone_by keys values items

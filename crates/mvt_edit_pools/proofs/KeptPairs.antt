@@ -9,14 +9,14 @@ use Rattle.mvt_edit_pools.specs.Marks.{pair_counts, pairs_at}
 use Rattle.mvt_edit_pools.proofs.Marking.{pairs_left}
 
 -- the first feature's own pairs, and what is kept of the features after it
-pub record FirstAndRest (items : List LayerItem) (at : ℕ × (ℕ × Feature)) (rest : List (ℕ × (ℕ × Feature))) (front back : List Pair) (behind : List ℕ) : Type 0 where
+pub record FirstAndRest (items : List LayerItem) (at : ℕ × (ℕ × Feature)) (rest : List (ℕ × (ℕ × Feature))) (front back : List Pair) (following : List ℕ) : Type 0 where
   pub own : map pair_seen front ≡ pairs_at items at
   pub pairs : map pair_seen back ≡ pairs_left items rest
-  pub counts : behind ≡ pair_counts items rest
+  pub counts : following ≡ pair_counts items rest
 
-module _ (items : List LayerItem) (at : ℕ × (ℕ × Feature)) (left rest : List (ℕ × (ℕ × Feature))) (pairs : List Pair) (counts behind : List ℕ) (count : ℕ)
-    (first : left ≡ at ∷ rest) (kept : map pair_seen pairs ≡ pairs_left items left) (counted : counts ≡ pair_counts items left) (split : counts ≡ count ∷ behind) where
-  counts_split : count ∷ behind ≡ length (pairs_at items at) ∷ pair_counts items rest
+module _ (items : List LayerItem) (at : ℕ × (ℕ × Feature)) (left rest : List (ℕ × (ℕ × Feature))) (pairs : List Pair) (counts following : List ℕ) (count : ℕ)
+    (first : left ≡ at ∷ rest) (kept : map pair_seen pairs ≡ pairs_left items left) (counted : counts ≡ pair_counts items left) (split : counts ≡ count ∷ following) where
+  counts_split : count ∷ following ≡ length (pairs_at items at) ∷ pair_counts items rest
   counts_split = sym split ∙ counted ∙ ap (pair_counts items) first
 
   own_count : count ≡ length (pairs_at items at)
@@ -33,7 +33,7 @@ module _ (items : List LayerItem) (at : ℕ × (ℕ × Feature)) (left rest : Li
   cut : (part : ℕ → List (ℕ × ℕ) → List (ℕ × ℕ)) → part count (map pair_seen pairs) ≡ part (length (pairs_at items at)) (pairs_at items at ++ pairs_left items rest)
   cut part = ap (part count) pairs_split ∙ ap (λ n. part n (pairs_at items at ++ pairs_left items rest)) own_count
 
-  pub first_and_rest : (front back : List Pair) → front ≡ take count pairs → back ≡ drop count pairs → FirstAndRest items at rest front back behind
+  pub first_and_rest : (front back : List Pair) → front ≡ take count pairs → back ≡ drop count pairs → FirstAndRest items at rest front back following
   first_and_rest front back is_front is_back = record {
     own = ap (map pair_seen) is_front ∙ sym (take-map pair_seen count pairs) ∙ cut take ∙ take-append_seam (pairs_at items at) (pairs_left items rest);
     pairs = ap (map pair_seen) is_back ∙ sym (drop-map pair_seen count pairs) ∙ cut drop ∙ drop-append_seam (pairs_at items at) (pairs_left items rest);

@@ -53,7 +53,7 @@ fn gone(
     let mut keys_left = keys;
     let mut values_left = values;
     for index in 0..items.len() {
-        let (goes, keys_behind, values_behind) = item_goes(
+        let (goes, keys_following, values_following) = item_goes(
             items,
             index,
             &runs,
@@ -61,8 +61,8 @@ fn gone(
             values_left,
         );
         gone.push_reserved(goes);
-        keys_left = keys_behind;
-        values_left = values_behind;
+        keys_left = keys_following;
+        values_left = values_following;
     }
     Ok(gone)
 }
@@ -81,10 +81,10 @@ fn item_goes<'a>(
     ensures { gone_by keys.now values.now (map layer_item_of (drop index items.now)) ≡ result.0 ∷ gone_by result.1.now result.2.now (map layer_item_of (drop (index + 1) items.now)) }
 {
     if is_entry_at(items, index, runs.keys, KEYS) {
-        return (first_goes(keys), behind_first(keys), values);
+        return (first_goes(keys), after_first(keys), values);
     }
     if is_entry_at(items, index, runs.values, VALUES) {
-        return (first_goes(values), keys, behind_first(values));
+        return (first_goes(values), keys, after_first(values));
     }
     (false, keys, values)
 }
@@ -128,11 +128,11 @@ fn first_goes(marks: &[bool]) -> bool
 }
 
 /// The marks after the first.
-fn behind_first(marks: &[bool]) -> &[bool]
+fn after_first(marks: &[bool]) -> &[bool]
     ensures { result.now ≡ drop 1 marks.now }
 {
     match marks.split_first() {
-        Some((_, behind)) => behind,
+        Some((_, following)) => following,
         None => marks,
     }
 }

@@ -38,14 +38,14 @@ pub(crate) fn repoint(
     let mut pairs_left = marks.pairs.as_slice();
     let mut counts_left = marks.counts.as_slice();
     for feature in found.view().features() {
-        let Some((count, counts_behind)) = counts_left.split_first() else {
+        let Some((count, counts_following)) = counts_left.split_first() else {
             unreachable!()
         };
-        let (own, pairs_behind) = pairs_left.split_at(*count);
+        let (own, pairs_following) = pairs_left.split_at(*count);
         let changed = decide(own, key_ordinals, value_ordinals, decisions)?;
         renumber_changed(alloc, found, feature, changed, decisions.as_slice(), steps)?;
-        pairs_left = pairs_behind;
-        counts_left = counts_behind;
+        pairs_left = pairs_following;
+        counts_left = counts_following;
     }
     Ok(())
 }

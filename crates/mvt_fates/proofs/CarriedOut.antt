@@ -34,15 +34,15 @@ AreThere (s ∷ splices) items = HasPart s.index s.taken items × AreThere splic
 
 -- ---- a splice after a prefix of a list
 
-drop_behind : {A : Type 0} (front ys : List A) (n t : ℕ) → length front ≡ n → drop (n + t) (front ++ ys) ≡ drop t ys
-drop_behind front ys n t e = sym (drop-drop t n (front ++ ys)) ∙ ap (drop t) (drop_at front ys n e)
+drop_after : {A : Type 0} (front ys : List A) (n t : ℕ) → length front ≡ n → drop (n + t) (front ++ ys) ≡ drop t ys
+drop_after front ys n t e = sym (drop-drop t n (front ++ ys)) ∙ ap (drop t) (drop_at front ys n e)
 
-spliced_behind : {A : Type 0} (front ys put : List A) (n t : ℕ) → length front ≡ n → splice n t put (front ++ ys) ≡ front ++ put ++ drop t ys
-spliced_behind front ys put n t e =
-    ap (λ y. y ++ put ++ drop (n + t) (front ++ ys)) (take_at front ys n e) ∙ ap (λ y. front ++ put ++ y) (drop_behind front ys n t e)
+spliced_after : {A : Type 0} (front ys put : List A) (n t : ℕ) → length front ≡ n → splice n t put (front ++ ys) ≡ front ++ put ++ drop t ys
+spliced_after front ys put n t e =
+    ap (λ y. y ++ put ++ drop (n + t) (front ++ ys)) (take_at front ys n e) ∙ ap (λ y. front ++ put ++ y) (drop_after front ys n t e)
 
-part_behind : {A : Type 0} (front ys : List A) (n t : ℕ) → length front ≡ n → part n t (front ++ ys) ≡ take t ys
-part_behind front ys n t e = ap (take t) (drop_at front ys n e)
+part_after : {A : Type 0} (front ys : List A) (n t : ℕ) → length front ≡ n → part n t (front ++ ys) ≡ take t ys
+part_after front ys n t e = ap (take t) (drop_at front ys n e)
 
 module _ {A : Type 0} (n : ℕ) (front : List A) (x : A) (xs left : List A) (e : length front ≡ n) where
   -- the splice of one item
@@ -53,20 +53,20 @@ module _ {A : Type 0} (n : ℕ) (front : List A) (x : A) (xs left : List A) (e :
   long = length-append front left ∙ ap (λ m. m + length left) e
 
   alone_makes : splice n 1 left (front ++ x ∷ xs) ≡ (front ++ left) ++ xs
-  alone_makes = spliced_behind front (x ∷ xs) left n 1 e
+  alone_makes = spliced_after front (x ∷ xs) left n 1 e
 
   joined_makes : (t : ℕ) (put : List A) → splice n (1 + t) (left ++ put) (front ++ x ∷ xs) ≡ splice (n + length left) t put ((front ++ left) ++ xs)
   joined_makes t put =
       let more : 1 + t ≡ suc t = omega arith in
-      spliced_behind front (x ∷ xs) (left ++ put) n (1 + t) e
+      spliced_after front (x ∷ xs) (left ++ put) n (1 + t) e
       ∙ ap (λ m. front ++ (left ++ put) ++ drop m (x ∷ xs)) more
       ∙ ap (λ y. y ++ drop t xs) (sym (append_assoc front left put))
-      ∙ sym (spliced_behind (front ++ left) xs put (n + length left) t long)
+      ∙ sym (spliced_after (front ++ left) xs put (n + length left) t long)
 
   joined_takes : (t : ℕ) → part n (1 + t) (front ++ x ∷ xs) ≡ x ∷ part (n + length left) t ((front ++ left) ++ xs)
   joined_takes t =
       let more : 1 + t ≡ suc t = omega arith in
-      part_behind front (x ∷ xs) n (1 + t) e ∙ ap (λ m. take m (x ∷ xs)) more ∙ ap (λ y. x ∷ y) (sym (part_behind (front ++ left) xs (n + length left) t long))
+      part_after front (x ∷ xs) n (1 + t) e ∙ ap (λ m. take m (x ∷ xs)) more ∙ ap (λ y. x ∷ y) (sym (part_after (front ++ left) xs (n + length left) t long))
 
   whole_long : length (front ++ x ∷ xs) ≡ n + suc (length xs)
   whole_long = length-append front (x ∷ xs) ∙ ap (λ m. m + suc (length xs)) e
@@ -83,7 +83,7 @@ module _ {A : Type 0} (n : ℕ) (front : List A) (x : A) (xs left : List A) (e :
       ]
 
   and_takes : (splices : List (Splice A)) → taken_all (and_splices alone splices) (front ++ x ∷ xs) ≡ x ∷ taken_all splices ((front ++ left) ++ xs)
-  and_takes [] = ap (λ y. y ++ []) (part_behind front (x ∷ xs) n 1 e)
+  and_takes [] = ap (λ y. y ++ []) (part_after front (x ∷ xs) n 1 e)
   and_takes (next ∷ splices) =
       let at = eqb-true next.index (n + length left) in
       elim (cases_Bool (next.index == n + length left)) [
@@ -92,7 +92,7 @@ module _ {A : Type 0} (n : ℕ) (front : List A) (x : A) (xs left : List A) (e :
             ∙ ap (λ y. x ∷ part next.index next.taken ((front ++ left) ++ xs) ++ taken_all splices y) (joined_makes next.taken next.put ∙ ap (λ m. splice m next.taken next.put ((front ++ left) ++ xs)) (sym (at joins)))
             )
         | inr apart ↦ rw apart (
-            ap (λ y. y ++ taken_all (next ∷ splices) (splice n 1 left (front ++ x ∷ xs))) (part_behind front (x ∷ xs) n 1 e)
+            ap (λ y. y ++ taken_all (next ∷ splices) (splice n 1 left (front ++ x ∷ xs))) (part_after front (x ∷ xs) n 1 e)
             ∙ ap (λ y. x ∷ taken_all (next ∷ splices) y) alone_makes
             )
       ]

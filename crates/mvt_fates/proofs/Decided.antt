@@ -17,16 +17,16 @@ use Rattle.mvt_fates.specs.Decided.{IsSizeBeside, field_fates}
 abbrev pub Decided : ℕ → List (Option ℕ) → List (Option ℕ) → List Field → List (Fate Field) → Type 0
 Decided number decisions left fields fates = (more : List plain.Field) → map (fate_seen field_of) fates ++ field_fates number left more ≡ field_fates number decisions (map field_of fields ++ more)
 
-pub decided_more : (number : ℕ) (decisions left behind : List (Option ℕ)) (fields : List Field) (index : ℕ) (field : Field) (fates : List (Fate Field)) (fate : Fate Field) → index < length fields → field ≡ get_or fields index field
-    → Decided number decisions left (take index fields) fates → fate_seen field_of fate ≡ field_fate number left (field_of field) → behind ≡ drop (length (field_numbers number (field_of field))) left
-    → Decided number decisions behind (take (index + 1) fields) (fates ++ fate ∷ [])
-decided_more number decisions left behind fields index field fates fate within is so_far becomes rest = λ more.
+pub decided_more : (number : ℕ) (decisions left following : List (Option ℕ)) (fields : List Field) (index : ℕ) (field : Field) (fates : List (Fate Field)) (fate : Fate Field) → index < length fields → field ≡ get_or fields index field
+    → Decided number decisions left (take index fields) fates → fate_seen field_of fate ≡ field_fate number left (field_of field) → following ≡ drop (length (field_numbers number (field_of field))) left
+    → Decided number decisions following (take (index + 1) fields) (fates ++ fate ∷ [])
+decided_more number decisions left following fields index field fates fate within is so_far becomes rest = λ more.
     let plain_field = field_of field in
     let first = take index fields in
     let fields_then = take_more fields index field within ∙ ap (λ x. first ++ x ∷ []) (sym is) in
-    ap (λ all. all ++ field_fates number behind more) (map-append (fate_seen field_of) fates (fate ∷ []))
-    ∙ append_assoc (map (fate_seen field_of) fates) (fate_seen field_of fate ∷ []) (field_fates number behind more)
-    ∙ ap (λ next. map (fate_seen field_of) fates ++ next ∷ field_fates number behind more) becomes
+    ap (λ all. all ++ field_fates number following more) (map-append (fate_seen field_of) fates (fate ∷ []))
+    ∙ append_assoc (map (fate_seen field_of) fates) (fate_seen field_of fate ∷ []) (field_fates number following more)
+    ∙ ap (λ next. map (fate_seen field_of) fates ++ next ∷ field_fates number following more) becomes
     ∙ ap (λ d. map (fate_seen field_of) fates ++ field_fate number left plain_field ∷ field_fates number d more) rest
     ∙ so_far (plain_field ∷ more)
     ∙ ap (field_fates number decisions) (sym (append_assoc (map field_of first) (plain_field ∷ []) more) ∙ ap (λ all. all ++ more) (sym (map-append field_of first (field ∷ []))))
@@ -42,19 +42,19 @@ all_decided number decisions left fields fates decided =
 pub record Sized (number : ℕ) (decisions left : List (Option ℕ)) (fields : List Field) (beside size : Option ℕ) : Type 0 where
   pub bytes : ℕ
   pub answered : IsSizeBeside beside bytes size
-  pub behind : (more : List plain.Field) → bytes + length (flat_map field_bytes (renumber number left more)) ≡ length (flat_map field_bytes (renumber number decisions (map field_of fields ++ more)))
+  pub following : (more : List plain.Field) → bytes + length (flat_map field_bytes (renumber number left more)) ≡ length (flat_map field_bytes (renumber number decisions (map field_of fields ++ more)))
 
 pub sized_none : (number : ℕ) (decisions : List (Option ℕ)) (beside : Option ℕ) → Sized number decisions decisions [] beside beside
 sized_none number decisions beside = record {
   bytes = 0;
   answered = λ before fits. (let same : before ≡ before + 0 = omega arith in subst (IsFileSize beside) same fits);
-  behind = λ more. omega arith;
+  following = λ more. omega arith;
 }
 
-pub sized_more : (number : ℕ) (decisions left behind : List (Option ℕ)) (fields : List Field) (index : ℕ) (field : Field) (beside size next : Option ℕ) (made : List plain.Field) → index < length fields → field ≡ get_or fields index field
-    → Sized number decisions left (take index fields) beside size → made ≡ renumbered_field number left (field_of field) → IsSizeBeside size (length (flat_map field_bytes made)) next → behind ≡ drop (length (field_numbers number (field_of field))) left
-    → Sized number decisions behind (take (index + 1) fields) beside next
-sized_more number decisions left behind fields index field beside size next made within is so_far leaves answered rest =
+pub sized_more : (number : ℕ) (decisions left following : List (Option ℕ)) (fields : List Field) (index : ℕ) (field : Field) (beside size next : Option ℕ) (made : List plain.Field) → index < length fields → field ≡ get_or fields index field
+    → Sized number decisions left (take index fields) beside size → made ≡ renumbered_field number left (field_of field) → IsSizeBeside size (length (flat_map field_bytes made)) next → following ≡ drop (length (field_numbers number (field_of field))) left
+    → Sized number decisions following (take (index + 1) fields) beside next
+sized_more number decisions left following fields index field beside size next made within is so_far leaves answered rest =
     let first = take index fields in
     let here = field_of field in
     let fields_then = take_more fields index field within ∙ ap (λ x. first ++ x ∷ []) (sym is) in
@@ -62,13 +62,13 @@ sized_more number decisions left behind fields index field beside size next made
     record {
       bytes = so_far.bytes + weigh made;
       answered = λ before fits. (let same : before + so_far.bytes + weigh made ≡ before + (so_far.bytes + weigh made) = omega arith in subst (IsFileSize next) same (answered (before + so_far.bytes) (so_far.answered before fits)));
-      behind = λ more. (
-          let joined : weigh (renumber number left (here ∷ more)) ≡ weigh made + weigh (renumber number behind more) =
+      following = λ more. (
+          let joined : weigh (renumber number left (here ∷ more)) ≡ weigh made + weigh (renumber number following more) =
           ap (λ d. weigh (renumbered_field number left here ++ renumber number d more)) (sym rest)
-          ∙ ap (λ list. weigh (list ++ renumber number behind more)) (sym leaves)
-          ∙ ap length (flat_map-append field_bytes made (renumber number behind more))
-          ∙ length-append (flat_map field_bytes made) (flat_map field_bytes (renumber number behind more)) in
-          let all = so_far.behind (here ∷ more) in
+          ∙ ap (λ list. weigh (list ++ renumber number following more)) (sym leaves)
+          ∙ ap length (flat_map-append field_bytes made (renumber number following more))
+          ∙ length-append (flat_map field_bytes made) (flat_map field_bytes (renumber number following more)) in
+          let all = so_far.following (here ∷ more) in
           let whole : map field_of first ++ here ∷ more ≡ map field_of (take (index + 1) fields) ++ more =
           sym (append_assoc (map field_of first) (here ∷ []) more) ∙ ap (λ list. list ++ more) (sym (map-append field_of first (field ∷ []))) ∙ ap (λ list. map field_of list ++ more) (sym fields_then) in
           omega (arith, joined, all, ap (λ list. weigh (renumber number decisions list)) whole)
@@ -79,5 +79,5 @@ sized_more number decisions left behind fields index field beside size next made
 pub all_sized : (number : ℕ) (decisions left : List (Option ℕ)) (fields : List Field) (beside size : Option ℕ) → Sized number decisions left fields beside size → IsSizeBeside beside (length (flat_map field_bytes (renumber number decisions (map field_of fields)))) size
 all_sized number decisions left fields beside size sized =
     let all : sized.bytes ≡ length (flat_map field_bytes (renumber number decisions (map field_of fields))) =
-    (let none = sized.behind [] in omega (arith, none, ap (λ list. length (flat_map field_bytes (renumber number decisions list))) (append-nil (map field_of fields)))) in
+    (let none = sized.following [] in omega (arith, none, ap (λ list. length (flat_map field_bytes (renumber number decisions list))) (append-nil (map field_of fields)))) in
     subst (λ n. IsSizeBeside beside n size) all sized.answered

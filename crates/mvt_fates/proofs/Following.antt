@@ -123,4 +123,4 @@ all_steps {given = given} kept steps_next step_with means_so ended =
 
 -- where no steps were given
 pub alone : {A B : Type 0} (f : A → B) (given : List A) (rest steps : List B) → given ≡ [] → steps ≡ map f given ++ rest → steps ≡ rest
-alone f given rest steps none behind = behind ∙ ap (λ xs. map f xs ++ rest) none
+alone f given rest steps none following = following ∙ ap (λ xs. map f xs ++ rest) none

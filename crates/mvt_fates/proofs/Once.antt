@@ -31,8 +31,8 @@ left_more : {T : Type 0} (picked : List Bool) (is : Bool) (new : Option T) → l
 left_more [] is new = refl
 left_more (first ∷ picked) is new = left_more picked is (cond first None new)
 
-pub once_more : {T : Type 0} (answers : T → Bool → Type 0) (items : List T) (index : ℕ) (x : T) (is : Bool) (new left behind : Option T) (fates : List (Fate T)) (fate : Fate T) → index < length items → x ≡ get_or items index x → Once answers (take index items) new left fates → answers x is → fate ≡ once_fate is left → behind ≡ cond is None left → Once answers (take (index + 1) items) new behind (fates ++ fate ∷ [])
-once_more answers items index x is new left behind fates fate within at so_far says becomes rest = record {
+pub once_more : {T : Type 0} (answers : T → Bool → Type 0) (items : List T) (index : ℕ) (x : T) (is : Bool) (new left following : Option T) (fates : List (Fate T)) (fate : Fate T) → index < length items → x ≡ get_or items index x → Once answers (take index items) new left fates → answers x is → fate ≡ once_fate is left → following ≡ cond is None left → Once answers (take (index + 1) items) new following (fates ++ fate ∷ [])
+once_more answers items index x is new left following fates fate within at so_far says becomes rest = record {
   picked = so_far.picked ++ is ∷ [];
   answered = one_more_answered answers items index x so_far.picked is within at so_far.answered says;
   fates_so =
@@ -137,9 +137,9 @@ module _ {A : Type 0} (passes : A → Bool) where
   none_put [] = refl
   none_put (x ∷ xs) = elim (cases_Bool (passes x)) [ inl pass ↦ rw pass (none_put xs) | inr skip ↦ rw skip (none_put xs) ]
 
-  none_behind : (xs : List A) → left_once {A = A} (map passes xs) None ≡ None
-  none_behind [] = refl
-  none_behind (x ∷ xs) = elim (cases_Bool (passes x)) [ inl pass ↦ rw pass (none_behind xs) | inr skip ↦ rw skip (none_behind xs) ]
+  none_after : (xs : List A) → left_once {A = A} (map passes xs) None ≡ None
+  none_after [] = refl
+  none_after (x ∷ xs) = elim (cases_Bool (passes x)) [ inl pass ↦ rw pass (none_after xs) | inr skip ↦ rw skip (none_after xs) ]
 
   module _ (new : A) where
     -- where one passes
@@ -155,18 +155,18 @@ module _ {A : Type 0} (passes : A → Bool) where
     one_put [] some = absurd cc
     one_put (x ∷ xs) some = elim (cases_Bool (passes x)) [ inl pass ↦ rw pass (ap (λ ys. new ∷ ys) (none_put xs)) | inr skip ↦ rw skip (one_put xs (rw skip at some)) ]
 
-    one_behind : (xs : List A) → list_any passes xs ≡ true → left_once (map passes xs) (Some new) ≡ None
-    one_behind [] some = absurd cc
-    one_behind (x ∷ xs) some = elim (cases_Bool (passes x)) [ inl pass ↦ rw pass (none_behind xs) | inr skip ↦ rw skip (one_behind xs (rw skip at some)) ]
+    one_after : (xs : List A) → list_any passes xs ≡ true → left_once (map passes xs) (Some new) ≡ None
+    one_after [] some = absurd cc
+    one_after (x ∷ xs) some = elim (cases_Bool (passes x)) [ inl pass ↦ rw pass (none_after xs) | inr skip ↦ rw skip (one_after xs (rw skip at some)) ]
 
     -- where none does
     all_stay : (n : ℕ) (xs : List A) → list_any passes xs ≡ false → splices_from n (once_fates (map passes xs) (Some new)) ≡ []
     all_stay n [] none = refl
     all_stay n (x ∷ xs) none = elim (cases_Bool (passes x)) [ inl pass ↦ absurd (let some = rw pass at none in cc) | inr skip ↦ rw skip (all_stay (n + 1) xs (rw skip at none)) ]
 
-    new_behind : (xs : List A) → list_any passes xs ≡ false → left_once (map passes xs) (Some new) ≡ Some new
-    new_behind [] none = refl
-    new_behind (x ∷ xs) none = elim (cases_Bool (passes x)) [ inl pass ↦ absurd (let some = rw pass at none in cc) | inr skip ↦ rw skip (new_behind xs (rw skip at none)) ]
+    new_after : (xs : List A) → list_any passes xs ≡ false → left_once (map passes xs) (Some new) ≡ Some new
+    new_after [] none = refl
+    new_after (x ∷ xs) none = elim (cases_Bool (passes x)) [ inl pass ↦ absurd (let some = rw pass at none in cc) | inr skip ↦ rw skip (new_after xs (rw skip at none)) ]
 
     new_last : (xs : List A) → list_any passes xs ≡ false → put_once passes new xs ≡ xs ++ new ∷ []
     new_last [] none = refl
@@ -203,12 +203,12 @@ puts_once passes new items =
     let fates = once_fates (map passes items) (Some new) in
     elim (cases_Bool (list_any passes items)) [
       | inl some ↦ (
-          let none = one_behind passes new items some in
+          let none = one_after passes new items some in
           subst (PutsOnce passes new items) (sym (ap (λ left. splices_of fates ++ at_end left (length items)) none ∙ append-nil (splices_of fates))) (puts_in_place passes new items some)
           )
       | inr none ↦ (
           let stay = all_stay passes new 0 items none in
-          let left = new_behind passes new items none in
+          let left = new_after passes new items none in
           let gone = none_filtered passes items none in
           let alone : List (Splice _) = record { index = length items; taken = 0; put = new ∷ [] } ∷ [] in
           subst (PutsOnce passes new items) (sym (ap (λ splices. splices ++ at_end (left_once (map passes items) (Some new)) (length items)) stay ∙ ap (λ left. at_end left (length items)) left)) (record {

@@ -57,14 +57,14 @@ none_filtered passes (x ∷ xs) none =
       | inr skip ↦ rw skip (none_filtered passes xs (rw skip at none))
     ]
 
-last_behind : {A : Type 0} (o : Option A) (xs : List A) (x : A) → last_or o (xs ++ x ∷ []) ≡ Some x
-last_behind o [] x = refl
-last_behind o (y ∷ xs) x = last_behind (Some y) xs x
+last_after : {A : Type 0} (o : Option A) (xs : List A) (x : A) → last_or o (xs ++ x ∷ []) ≡ Some x
+last_after o [] x = refl
+last_after o (y ∷ xs) x = last_after (Some y) xs x
 
 pub last_filtered : {A : Type 0} (passes : A → Bool) (front : List A) (item : A) (rest : List A) → passes item ≡ true → list_any passes rest ≡ false → last_or None (filter passes (front ++ item ∷ rest)) ≡ Some item
 last_filtered passes front item rest pass none =
     let here : filter passes (item ∷ rest) ≡ item ∷ [] = rw pass (ap (λ ys. item ∷ ys) (none_filtered passes rest none)) in
-    ap (last_or None) (filter-append passes front (item ∷ rest) ∙ ap (λ ys. filter passes front ++ ys) here) ∙ last_behind None (filter passes front) item
+    ap (last_or None) (filter-append passes front (item ∷ rest) ∙ ap (λ ys. filter passes front ++ ys) here) ∙ last_after None (filter passes front) item
 
 -- ---- one item replaced
 

@@ -61,7 +61,7 @@ steps_then step_with steps walk rest = steps ++ map step_with (and_last (option_
 
 -- after the steps that were given come those of the splices, and `changed` items change
 pub record IsCarriedOut {A : Type 0} (step_with : Splice A → plain.Step) (fates : List (Fate A)) (given steps : plain.Change) (changed : ℕ) : Type 0 where
-  pub behind : steps ≡ given ++ map step_with (splices_of fates)
+  pub following : steps ≡ given ++ map step_with (splices_of fates)
   pub counted : changed ≡ length (filter changes fates)
 
 -- each answer of the code means what `said` gives for the item

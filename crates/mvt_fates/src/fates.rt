@@ -149,10 +149,10 @@ pub fn renumber_fields<S: Fn(Run<Field>) -> Result<Step, AllocError>>(
     let mut size = beside;
     for index in 0..fields.len() {
         let field = &fields[index];
-        let (fate, behind) = renumber_field(alloc, field, number, left)?;
+        let (fate, following) = renumber_field(alloc, field, number, left)?;
         size = and_left(size, field, &fate);
         walk = walk.pass(alloc, fate, &step, steps)?;
-        left = behind;
+        left = following;
     }
     walk.end(&step, steps)?;
     Ok(size)
@@ -227,7 +227,7 @@ fn end_run<T: Drop>(
         return Ok(None);
     };
     let mut put = Vec::new(alloc);
-    put_behind(&mut put, item)?;
+    put_after(&mut put, item)?;
     Ok(Some(Run {
         index: end,
         take: 0,
@@ -335,7 +335,7 @@ fn joined<T: Drop>(
         Fate::Goes => Ok((None, Some(one_more(alloc, last, at)), at)),
         Fate::Becomes(item) => {
             let mut run = one_more(alloc, last, at);
-            put_behind(&mut run.put, item)?;
+            put_after(&mut run.put, item)?;
             Ok((None, Some(run), at + 1))
         }
     }
@@ -364,7 +364,7 @@ fn one_more<T>(alloc: Global, last: Option<Run<T>>, at: usize) -> Run<T>
 
 /// Puts the item after the others of a run. Most runs put one item, so the first takes no more room
 /// than it needs.
-fn put_behind<T: Drop>(put: &mut Vec<T>, item: T) -> Result<(), AllocError>
+fn put_after<T: Drop>(put: &mut Vec<T>, item: T) -> Result<(), AllocError>
     ensures { OnOk result (put.new.items ≡ put.old.items ++ item ∷ []) }
 {
     if put.is_empty() {

@@ -54,12 +54,12 @@ part-path : (closing : List ℕ) (most : ℕ) (from first : Point) (points : Lis
 part-path closing most from first points rest =
     let numbers : List ℕ = parameters first points in
     let count : ℕ = 2 * (command 2 (length points) / 8) in
-    let behind : List ℕ = (numbers ++ closing) ++ rest in
+    let following : List ℕ = (numbers ++ closing) ++ rest in
     let begin : List ℕ = parameters from (first ∷ []) in
     let more = parts_in (length closing) most in
     let counted : length numbers ≡ count = omega (arith, length-parameters first points) in
     let whole : length (numbers ++ closing) ≡ count + length closing = omega (arith, counted, length-append numbers closing) in
-    ap (λ (t : List ℕ). part_and more from (begin ++ t) (drop (count + length closing) behind)) (ap (take count) (append_assoc numbers closing rest) ∙ take_at numbers (closing ++ rest) count counted)
+    ap (λ (t : List ℕ). part_and more from (begin ++ t) (drop (count + length closing) following)) (ap (take count) (append_assoc numbers closing rest) ∙ take_at numbers (closing ++ rest) count counted)
     ∙ ap (λ (d : List ℕ). part_and more from (begin ++ numbers) d) (drop_at (numbers ++ closing) rest (count + length closing) whole)
     ∙ ap (λ (part : List Point). part ∷ more (last_from from part) rest) (points_in-parameters from (first ∷ points))
 

@@ -24,9 +24,9 @@ one_way from (p ∷ a) (q ∷ b) x y same e =
     let tail : a ≡ b = others.0 in
     ((cc), others.1)
 
-same_behind : (closing x y : List ℕ) → closing ++ x ≡ closing ++ y → x ≡ y
-same_behind [] x y e = e
-same_behind (n ∷ closing) x y e = same_behind closing x y (cc)
+same_after : (closing x y : List ℕ) → closing ++ x ≡ closing ++ y → x ≡ y
+same_after [] x y e = e
+same_after (n ∷ closing) x y e = same_after closing x y (cc)
 
 -- ---- the numbers of a path
 
@@ -47,7 +47,7 @@ one_path closing from (p ∷ a) (q ∷ b) x y some some' e =
     let rest : parameters p a ++ (closing ++ x) ≡ parameters q b ++ (closing ++ y) = cc in
     let others = one_way p a b (closing ++ x) (closing ++ y) (omega arith) (rest ∙ ap (λ (r : Point). parameters r b ++ (closing ++ y)) (sym first)) in
     let tail : a ≡ b = others.0 in
-    ((cc), same_behind closing x y others.1)
+    ((cc), same_after closing x y others.1)
 
 -- ---- numbers that begin with a path
 
@@ -64,7 +64,7 @@ begins_open least closing from numbers points rest some p = record {
 -- ---- and what the first of them say
 
 -- numbers of which these are the first four
-pub record Opens (least : ℕ) (from : Point) (a x y c : ℕ) (behind : List ℕ) (points : List Point) (rest : List ℕ) : Type 0 where
+pub record Opens (least : ℕ) (from : Point) (a x y c : ℕ) (following : List ℕ) (points : List Point) (rest : List ℕ) : Type 0 where
   pub first : Point
   pub others : List Point
   pub is : points ≡ first ∷ others
@@ -72,12 +72,12 @@ pub record Opens (least : ℕ) (from : Point) (a x y c : ℕ) (behind : List ℕ
   pub line_to : c ≡ 2 + 8 * length others
   pub moves : IsMove from x y first
   pub leads : LeadsThrough first (parameters first others) others
-  pub spelled : behind ≡ parameters first others ++ rest
+  pub spelled : following ≡ parameters first others ++ rest
   pub enough : least ≤ suc (length others)
 
-pub opens_from : (least : ℕ) (from : Point) (a x y c : ℕ) (behind : List ℕ) (points : List Point) (rest : List ℕ) → 1 ≤ least → BeginsWithPart least [] from (a ∷ x ∷ y ∷ c ∷ behind) points rest → Opens least from a x y c behind points rest
-opens_from least from a x y c behind [] rest some p = let e = p.valid.enough in absurd (omega arith)
-opens_from least from a x y c behind (first ∷ others) rest some p =
+pub opens_from : (least : ℕ) (from : Point) (a x y c : ℕ) (following : List ℕ) (points : List Point) (rest : List ℕ) → 1 ≤ least → BeginsWithPart least [] from (a ∷ x ∷ y ∷ c ∷ following) points rest → Opens least from a x y c following points rest
+opens_from least from a x y c following [] rest some p = let e = p.valid.enough in absurd (omega arith)
+opens_from least from a x y c following (first ∷ others) rest some p =
     let flat = p.spelled ∙ path-append [] from first others rest in
     record {
       first = first;
@@ -94,16 +94,16 @@ opens_from least from a x y c behind (first ∷ others) rest some p =
       enough = p.valid.enough;
     }
 
-pub begins_from : (least : ℕ) (from : Point) (x y n : ℕ) (numbers behind rest : List ℕ) (first : Point) (points : List Point) → IsMove from x y first → GoesOn first numbers points → length numbers ≡ 2 * n → least ≤ 1 + n → n < 2 ^ 29 → behind ≡ numbers ++ rest → BeginsWithPart least [] from (9 ∷ x ∷ y ∷ (2 + 8 * n) ∷ behind) points rest
-begins_from least from x y n numbers behind rest first [] m g count enough few is = absurd g
-begins_from least from x y n numbers behind rest first (p ∷ points) m g count enough few is =
+pub begins_from : (least : ℕ) (from : Point) (x y n : ℕ) (numbers following rest : List ℕ) (first : Point) (points : List Point) → IsMove from x y first → GoesOn first numbers points → length numbers ≡ 2 * n → least ≤ 1 + n → n < 2 ^ 29 → following ≡ numbers ++ rest → BeginsWithPart least [] from (9 ∷ x ∷ y ∷ (2 + 8 * n) ∷ following) points rest
+begins_from least from x y n numbers following rest first [] m g count enough few is = absurd g
+begins_from least from x y n numbers following rest first (p ∷ points) m g count enough few is =
     let same : p ≡ first = g.0 in
     let l = subst (λ (q : Point). LeadsThrough q numbers points) (sym same) g.1 in
     let move = subst (λ (q : Point). IsMove from x y q) (sym same) m in
     let counts : length points ≡ n = omega (arith, length-parameters p points, ap length l.spelled) in
     let along = move.along.spelled in
     let down = move.down.spelled in
-    let flat : behind ≡ parameters p points ++ rest = is ∙ ap (λ (s : List ℕ). s ++ rest) l.spelled in
+    let flat : following ≡ parameters p points ++ rest = is ∙ ap (λ (s : List ℕ). s ++ rest) l.spelled in
     let line : 2 + 8 * n ≡ 2 + 8 * length points = omega arith in
     record {
       valid = record {

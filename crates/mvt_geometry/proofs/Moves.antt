@@ -75,27 +75,27 @@ pub last-push : (from : Point) (points : List Point) (p : Point) → last_from f
 last-push from [] p = refl
 last-push from (q ∷ points) p = last-push q points p
 
-pub read_more : (first : Point) (all : List ℕ) (last : Point) (x y : ℕ) (behind : List ℕ) (read : List Point) (p : Point) → IsMove last x y p → ReadOn first all last (x ∷ y ∷ behind) read → ReadOn first all p behind (read ++ p ∷ [])
-read_more first all last x y behind read p m r = record {
+pub read_more : (first : Point) (all : List ℕ) (last : Point) (x y : ℕ) (following : List ℕ) (read : List Point) (p : Point) → IsMove last x y p → ReadOn first all last (x ∷ y ∷ following) read → ReadOn first all p following (read ++ p ∷ [])
+read_more first all last x y following read p m r = record {
   placed = record { x = m.along.placed; y = m.down.placed };
   ends = sym (last-push first read p);
   goes_on = λ more l.
-      subst (λ (points : List Point). GoesOn first all points) (sym (append_assoc read (p ∷ []) more)) (r.goes_on (p ∷ more) (leads_more last x y p behind more m l));
+      subst (λ (points : List Point). GoesOn first all points) (sym (append_assoc read (p ∷ []) more)) (r.goes_on (p ∷ more) (leads_more last x y p following more m l));
   only = λ points g.
       let left = r.only points g in
-      let next = leads_less last x y behind left.0 left.2 in
+      let next = leads_less last x y following left.0 left.2 in
       let same : next.0 ≡ p = one_move last x y next.0 p next.3 m in
-      (next.1, left.1 ∙ ap (λ (more : List Point). read ++ more) next.2 ∙ ap (λ (q : Point). read ++ (q ∷ next.1)) same ∙ sym (append_assoc read (p ∷ []) next.1), subst (λ (q : Point). LeadsThrough q behind next.1) same next.4);
+      (next.1, left.1 ∙ ap (λ (more : List Point). read ++ more) next.2 ∙ ap (λ (q : Point). read ++ (q ∷ next.1)) same ∙ sym (append_assoc read (p ∷ []) next.1), subst (λ (q : Point). LeadsThrough q following next.1) same next.4);
 }
 
 pub read_end : (first : Point) (all : List ℕ) (last : Point) (read : List Point) → ReadOn first all last [] read → GoesOn first all read
 read_end first all last read r =
     subst (λ (points : List Point). GoesOn first all points) (append-nil read) (r.goes_on [] (leads_none last))
 
-pub read_no_more : (first : Point) (all : List ℕ) (last : Point) (x y : ℕ) (behind : List ℕ) (read : List Point) → ReadOn first all last (x ∷ y ∷ behind) read → ((p : Point) → IsMove last x y p → ⊥) → (points : List Point) → GoesOn first all points → ⊥
-read_no_more first all last x y behind read r none points g =
+pub read_no_more : (first : Point) (all : List ℕ) (last : Point) (x y : ℕ) (following : List ℕ) (read : List Point) → ReadOn first all last (x ∷ y ∷ following) read → ((p : Point) → IsMove last x y p → ⊥) → (points : List Point) → GoesOn first all points → ⊥
+read_no_more first all last x y following read r none points g =
     let left = r.only points g in
-    let next = leads_less last x y behind left.0 left.2 in
+    let next = leads_less last x y following left.0 left.2 in
     none next.0 next.3
 
 pub read_odd : (first : Point) (all : List ℕ) (last : Point) (rest : List ℕ) (read : List Point) → ReadOn first all last rest read → 1 ≤ length rest → length rest < 2 → (points : List Point) → GoesOn first all points → ⊥

@@ -53,20 +53,20 @@ pub record PartsRead (least : ℕ) (closing : List ℕ) (start : Point) (all : L
   pub goes_on : (more : List (List Point)) → Goes least closing from rest more → Goes least closing start all (read ++ more)
   pub only : (parts : List (List Point)) → Goes least closing start all parts → (more : List (List Point)) × (parts ≡ read ++ more) × Goes least closing from rest more
 
-pub parts_more : (least : ℕ) (closing : List ℕ) (start : Point) (all : List ℕ) (from : Point) (rest : List ℕ) (read : List (List Point)) (part : List Point) (behind : List ℕ) → 1 ≤ least → BeginsWithPart least closing from rest part behind → PartsRead least closing start all from rest read → PartsRead least closing start all (last_from from part) behind (read ++ part ∷ [])
-parts_more least closing start all from rest read part behind some b r = record {
+pub parts_more : (least : ℕ) (closing : List ℕ) (start : Point) (all : List ℕ) (from : Point) (rest : List ℕ) (read : List (List Point)) (part : List Point) (following : List ℕ) → 1 ≤ least → BeginsWithPart least closing from rest part following → PartsRead least closing start all from rest read → PartsRead least closing start all (last_from from part) following (read ++ part ∷ [])
+parts_more least closing start all from rest read part following some b r = record {
   placed = last_placed from part r.placed b.valid.placed;
   goes_on = λ more g.
-      subst (λ (parts : List (List Point)). Goes least closing start all parts) (sym (append_assoc read (part ∷ []) more)) (r.goes_on (part ∷ more) (goes_more least closing from rest part behind more b g));
+      subst (λ (parts : List (List Point)). Goes least closing start all parts) (sym (append_assoc read (part ∷ []) more)) (r.goes_on (part ∷ more) (goes_more least closing from rest part following more b g));
   only = λ parts g.
       let left = r.only parts g in
-      let next = goes_less least closing from rest left.0 (begins_some least closing from rest part behind some b) left.2 in
-      let one = begins_once least closing from rest next.part part next.rest behind some next.begins b in
+      let next = goes_less least closing from rest left.0 (begins_some least closing from rest part following some b) left.2 in
+      let one = begins_once least closing from rest next.part part next.rest following some next.begins b in
       let there : Goes least closing (last_from from part) next.rest next.more = subst (λ (p : List Point). Goes least closing (last_from from p) next.rest next.more) one.0 next.goes in
       (next.more, left.1 ∙ ap (λ (more : List (List Point)). read ++ more) next.is ∙ ap (λ (p : List Point). read ++ (p ∷ next.more)) one.0 ∙ sym (append_assoc read (part ∷ []) next.more), subst (λ (s : List ℕ). Goes least closing (last_from from part) s next.more) one.1 there);
 }
 
-pub parts_no_more : (least : ℕ) (closing : List ℕ) (start : Point) (all : List ℕ) (from : Point) (rest : List ℕ) (read : List (List Point)) → 1 ≤ length rest → PartsRead least closing start all from rest read → ((points : List Point) (behind : List ℕ) → BeginsWithPart least closing from rest points behind → ⊥) → (parts : List (List Point)) → Goes least closing start all parts → ⊥
+pub parts_no_more : (least : ℕ) (closing : List ℕ) (start : Point) (all : List ℕ) (from : Point) (rest : List ℕ) (read : List (List Point)) → 1 ≤ length rest → PartsRead least closing start all from rest read → ((points : List Point) (following : List ℕ) → BeginsWithPart least closing from rest points following → ⊥) → (parts : List (List Point)) → Goes least closing start all parts → ⊥
 parts_no_more least closing start all from rest read some r none parts g =
     let left = r.only parts g in
     let next = goes_less least closing from rest left.0 some left.2 in

@@ -51,18 +51,18 @@ first_three (a ∷ b ∷ []) h = absurd (omega arith)
 first_three (a ∷ b ∷ c ∷ s) h = refl
 
 -- what the first three numbers of dots say
-pub record DotsOpen (c x y : ℕ) (behind : List ℕ) : Type 0 where
+pub record DotsOpen (c x y : ℕ) (following : List ℕ) : Type 0 where
   pub first : Point
   pub others : List Point
   pub counts : c ≡ 1 + 8 * suc (length others)
-  pub long : length behind ≡ 2 * length others
+  pub long : length following ≡ 2 * length others
   pub moves : IsMove origin x y first
-  pub leads : LeadsThrough first behind others
+  pub leads : LeadsThrough first following others
 
-open_dots : (c x y : ℕ) (behind : List ℕ) (parts : List (List Point)) → AreDots (c ∷ x ∷ y ∷ behind) parts → DotsOpen c x y behind
-open_dots c x y behind parts d =
+open_dots : (c x y : ℕ) (following : List ℕ) (parts : List (List Point)) → AreDots (c ∷ x ∷ y ∷ following) parts → DotsOpen c x y following
+open_dots c x y following parts d =
     let e = d.spelled in
-    let rest : behind ≡ parameters d.first d.others = cc in
+    let rest : following ≡ parameters d.first d.others = cc in
     record {
       first = d.first;
       others = d.others;
@@ -80,10 +80,10 @@ dots_open numbers g h =
     let front = first_three numbers (three_at_least numbers g h) in
     open_dots _ _ _ _ g.parts (subst (λ (s : List ℕ). AreDots s g.parts) front (dots_of numbers g h))
 
-pub dots_have : (x y n : ℕ) (behind : List ℕ) (first : Point) (points : List Point) → IsMove origin x y first → GoesOn first behind points → 2 + length behind ≡ 2 * n → n < 2 ^ 29 → HasGeometry 1 ((1 + 8 * n) ∷ x ∷ y ∷ behind) (record { kind = Dots; parts = points ∷ [] })
-dots_have x y n behind first [] m g count few = absurd g
-dots_have x y n behind first (p ∷ points) m g count few =
-    let l = subst (λ (q : Point). LeadsThrough q behind points) (sym g.0) g.1 in
+pub dots_have : (x y n : ℕ) (following : List ℕ) (first : Point) (points : List Point) → IsMove origin x y first → GoesOn first following points → 2 + length following ≡ 2 * n → n < 2 ^ 29 → HasGeometry 1 ((1 + 8 * n) ∷ x ∷ y ∷ following) (record { kind = Dots; parts = points ∷ [] })
+dots_have x y n following first [] m g count few = absurd g
+dots_have x y n following first (p ∷ points) m g count few =
+    let l = subst (λ (q : Point). LeadsThrough q following points) (sym g.0) g.1 in
     let move = subst (λ (q : Point). IsMove origin x y q) (sym g.0) m in
     let along = move.along.spelled in
     let down = move.down.spelled in
@@ -91,7 +91,7 @@ dots_have x y n behind first (p ∷ points) m g count few =
     let counts : length points + 1 ≡ n = omega (arith, length-parameters p points, ap length l.spelled) in
     let same : p ∷ points ≡ p ∷ (points ++ []) = ap (λ (s : List Point). p ∷ s) (sym (append-nil points)) in
     let line : 1 + 8 * n ≡ 1 + 8 * suc (length points) = omega arith in
-    let spelled : (1 + 8 * n) ∷ x ∷ y ∷ behind ≡ (1 + 8 * suc (length points)) ∷ parameters origin (p ∷ points) = cc in
+    let spelled : (1 + 8 * n) ∷ x ∷ y ∷ following ≡ (1 + 8 * suc (length points)) ∷ parameters origin (p ∷ points) = cc in
     let short : AllByRecursion IsDelta (deltas origin (p ∷ points)) = (move.along.short, (move.down.short, l.short)) in
     record {
       of_kind = refl;

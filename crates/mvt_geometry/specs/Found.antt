@@ -23,10 +23,10 @@ points_in from numbers = []
 -- the parts that numbers would have, if each part were MoveTo, x, y, LineTo, its parameters and then `closing` more
 -- numbers; each part goes on from where the one before it ended (tiles 4.3.1)
 abbrev pub parts_in : ℕ → ℕ → Point → List ℕ → List (List Point)
-parts_in closing (suc most) from (move ∷ x ∷ y ∷ line ∷ behind) =
+parts_in closing (suc most) from (move ∷ x ∷ y ∷ line ∷ following) =
     let count = 2 * (line / 8) in
-    let part = points_in from (x ∷ y ∷ take count behind) in
-    part ∷ parts_in closing most (last_from from part) (drop (count + closing) behind)
+    let part = points_in from (x ∷ y ∷ take count following) in
+    part ∷ parts_in closing most (last_from from part) (drop (count + closing) following)
 parts_in closing most from numbers = []
 
 -- the parts of this kind that numbers would have, if their commands were as they should be (tiles 4.3.1)

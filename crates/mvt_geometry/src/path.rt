@@ -38,17 +38,17 @@ pub(crate) fn path_at_front(
     ensures last { IfOk result (λ front. front.last ≡ last_from from front.points.items) }
     ensures bad { IsErrOf result GeometryError.BadGeometry → (points : List PlainPoint) (rest : List ℕ) → BeginsWithPart least [] from numbers.now points rest → ⊥ }
 {
-    let [MOVE_TO_ONE, x, y, command, behind @ ..] = numbers else {
+    let [MOVE_TO_ONE, x, y, command, following @ ..] = numbers else {
         return Err(GeometryError::BadGeometry);
     };
     let count = (*command / 8) as usize;
-    if *command % 8 != LINE_TO || 1 + count < least || behind.len() < 2 * count {
+    if *command % 8 != LINE_TO || 1 + count < least || following.len() < 2 * count {
         return Err(GeometryError::BadGeometry);
     }
     let Some(first) = moved(from, *x, *y) else {
         return Err(GeometryError::BadGeometry);
     };
-    let (parameters, rest) = behind.split_at(2 * count);
+    let (parameters, rest) = following.split_at(2 * count);
     let (points, last) = points_from(alloc, first, parameters)?;
     Ok(Front { points, last, rest })
 }

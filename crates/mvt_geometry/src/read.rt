@@ -40,17 +40,17 @@ fn dots(alloc: Global, numbers: &[u32]) -> Result<Vec<Part>, GeometryError>
     ensures found { IfOk result (λ parts. HasGeometry 1 numbers.now (geometry_with Kind.Dots parts.items)) }
     ensures bad { IsErrOf result GeometryError.BadGeometry → (g : PlainGeometry) → HasGeometry 1 numbers.now g → ⊥ }
 {
-    let [command, x, y, behind @ ..] = numbers else {
+    let [command, x, y, following @ ..] = numbers else {
         return Err(GeometryError::BadGeometry);
     };
     let count = (*command / 8) as usize;
-    if *command % 8 != MOVE_TO || 2 + behind.len() != 2 * count {
+    if *command % 8 != MOVE_TO || 2 + following.len() != 2 * count {
         return Err(GeometryError::BadGeometry);
     }
     let Some(first) = moved(ORIGIN, *x, *y) else {
         return Err(GeometryError::BadGeometry);
     };
-    let (points, _) = points_from(alloc, first, behind)?;
+    let (points, _) = points_from(alloc, first, following)?;
     let mut parts = Vec::with_capacity(alloc, 1)?;
     parts.push(Part {
         points: Items::from_vec(points),
@@ -74,13 +74,13 @@ fn paths(alloc: Global, kind: Kind, numbers: &[u32]) -> Result<Vec<Part>, Geomet
         let Front {
             points,
             last,
-            rest: behind,
+            rest: following,
         } = part_at_front(alloc, kind, from, rest)?;
         parts.push(Part {
             points: Items::from_vec(points),
         })?;
         from = last;
-        rest = behind;
+        rest = following;
     }
     Ok(parts)
 }

@@ -56,13 +56,13 @@ pub(crate) fn points_from(
     points.push(first)?;
     let mut last = first;
     let mut rest = parameters;
-    while let [x, y, behind @ ..] = rest {
+    while let [x, y, following @ ..] = rest {
         let Some(next) = moved(last, *x, *y) else {
             return Err(GeometryError::BadGeometry);
         };
         points.push(next)?;
         last = next;
-        rest = behind;
+        rest = following;
     }
     if !rest.is_empty() {
         return Err(GeometryError::BadGeometry);

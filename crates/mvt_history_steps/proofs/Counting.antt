@@ -6,7 +6,7 @@ use Rattle.std.proofs.lemmas.Bool.{cases_Bool}
 use Rattle.std.proofs.lemmas.List.{map-append, length-map}
 use Rattle.std.proofs.lemmas.List.Elements.{filter_agree}
 use Rattle.std.proofs.lemmas.Bool.Decides.{nat_tests}
-use Rattle.mvt_history_steps.specs.Marks.{Mark, compared, has_name, is_before, is_behind, InOrder, point_of, bound, unbound, between, counted_from}
+use Rattle.mvt_history_steps.specs.Marks.{Mark, compared, has_name, is_before, is_after, InOrder, point_of, bound, unbound, between, counted_from}
 
 -- what a filter keeps of a list that was mapped
 pub filter_mapped : {A B : Type 0} (f : A → B) (test : B → Bool) (xs : List A) → filter test (map f xs) ≡ map f (filter (λ x. test (f x)) xs)
@@ -34,8 +34,8 @@ counted_point_of floor name marks =
 
 pub counted_bound : (floor : ℕ) (name : List ℕ) (point : ℕ) (marks : List Mark) → bound name (floor + point) (map (counted_from floor) marks) ≡ map (counted_from floor) (bound name point marks)
 counted_bound floor name point marks =
-    ap₂ (λ before behind. before ++ record { name = name; point = floor + point } ∷ behind) (filter_mapped (counted_from floor) (is_before name) marks) (filter_mapped (counted_from floor) (is_behind name) marks)
-    ∙ sym (map-append (counted_from floor) (filter (is_before name) marks) (record { name = name; point = point } ∷ filter (is_behind name) marks))
+    ap₂ (λ before following. before ++ record { name = name; point = floor + point } ∷ following) (filter_mapped (counted_from floor) (is_before name) marks) (filter_mapped (counted_from floor) (is_after name) marks)
+    ∙ sym (map-append (counted_from floor) (filter (is_before name) marks) (record { name = name; point = point } ∷ filter (is_after name) marks))
 
 pub counted_unbound : (floor : ℕ) (name : List ℕ) (marks : List Mark) → unbound name (map (counted_from floor) marks) ≡ map (counted_from floor) (unbound name marks)
 counted_unbound floor name marks = filter_mapped (counted_from floor) (λ mark. not (has_name name mark)) marks

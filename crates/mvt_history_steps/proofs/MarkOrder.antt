@@ -10,7 +10,7 @@ use Rattle.std.proofs.lemmas.Bool.Decides.{nat_tests}
 use Rattle.std.proofs.lemmas.Cmp.{nat_list_cmp_total}
 use Rattle.mvt_document.proofs.EachItem.{all_joined}
 use Rattle.mvt_meaning.proofs.Elements.{all_filtered}
-use Rattle.mvt_history_steps.specs.Marks.{Mark, compared, has_name, is_before, is_behind, InOrder, point_of, bound, unbound}
+use Rattle.mvt_history_steps.specs.Marks.{Mark, compared, has_name, is_before, is_after, InOrder, point_of, bound, unbound}
 use Rattle.mvt_history_steps.specs.declared.TheConstants.{MAX_MARKS}
 
 -- ---- what holds for each
@@ -23,7 +23,7 @@ all_passed P test says (x ∷ xs) =
 
 pub all_bound : (P : Mark → Type 0) (name : List ℕ) (point : ℕ) (marks : List Mark) → P (record { name = name; point = point }) → AllByRecursion P marks → AllByRecursion P (bound name point marks)
 all_bound P name point marks new all =
-    all_joined P (filter (is_before name) marks) (record { name = name; point = point } ∷ filter (is_behind name) marks) (all_filtered P (is_before name) marks all) (new, all_filtered P (is_behind name) marks all)
+    all_joined P (filter (is_before name) marks) (record { name = name; point = point } ∷ filter (is_after name) marks) (all_filtered P (is_before name) marks all) (new, all_filtered P (is_after name) marks all)
 
 -- ---- in order
 
@@ -59,32 +59,32 @@ all_before name [] = tt
 all_before name (mark ∷ marks) =
     elim (cases_Bool (is_before name mark)) [ inl kept ↦ rw kept (less (compared mark.name name) kept, all_before name marks) | inr gone ↦ rw gone (all_before name marks) ]
 
-all_behind : (name : List ℕ) (marks : List Mark) → AllByRecursion (λ other. compared name other ≡ Less) (names (filter (is_behind name) marks))
-all_behind name [] = tt
-all_behind name (mark ∷ marks) =
-    elim (cases_Bool (is_behind name mark)) [
-      | inl kept ↦ rw kept (nat_list_cmp_total.antisymm name mark.name ∙ ap ordering_reverse (greater (compared mark.name name) kept), all_behind name marks)
-      | inr gone ↦ rw gone (all_behind name marks)
+all_following : (name : List ℕ) (marks : List Mark) → AllByRecursion (λ other. compared name other ≡ Less) (names (filter (is_after name) marks))
+all_following name [] = tt
+all_following name (mark ∷ marks) =
+    elim (cases_Bool (is_after name mark)) [
+      | inl kept ↦ rw kept (nat_list_cmp_total.antisymm name mark.name ∙ ap ordering_reverse (greater (compared mark.name name) kept), all_following name marks)
+      | inr gone ↦ rw gone (all_following name marks)
     ]
 
 all_after : (first second : List ℕ) (others : List (List ℕ)) → compared first second ≡ Less → AllByRecursion (λ other. compared second other ≡ Less) others → AllByRecursion (λ other. compared first other ≡ Less) others
 all_after first second [] e all = tt
 all_after first second (other ∷ others) e all = (nat_list_cmp_total.trans first second other e all.0, all_after first second others e all.1)
 
-names_joined : (P : List ℕ → Type 0) (before : List Mark) (middle : Mark) (behind : List Mark) → AllByRecursion P (names before) → P middle.name → AllByRecursion P (names behind) → AllByRecursion P (names (before ++ middle ∷ behind))
-names_joined P [] middle behind low here high = (here, high)
-names_joined P (mark ∷ before) middle behind low here high = (low.0, names_joined P before middle behind low.1 here high)
+names_joined : (P : List ℕ → Type 0) (before : List Mark) (middle : Mark) (following : List Mark) → AllByRecursion P (names before) → P middle.name → AllByRecursion P (names following) → AllByRecursion P (names (before ++ middle ∷ following))
+names_joined P [] middle following low here high = (here, high)
+names_joined P (mark ∷ before) middle following low here high = (low.0, names_joined P before middle following low.1 here high)
 
 -- two lists in order, one before a name and the other after it
-joined_in_order : (before : List Mark) (middle : Mark) (behind : List Mark) → InOrder before → AllByRecursion (λ other. compared other middle.name ≡ Less) (names before) → AllByRecursion (λ other. compared middle.name other ≡ Less) (names behind) → InOrder behind → InOrder (before ++ middle ∷ behind)
+joined_in_order : (before : List Mark) (middle : Mark) (following : List Mark) → InOrder before → AllByRecursion (λ other. compared other middle.name ≡ Less) (names before) → AllByRecursion (λ other. compared middle.name other ≡ Less) (names following) → InOrder following → InOrder (before ++ middle ∷ following)
 unfolding IsStrictlySortedBy
-joined_in_order [] middle behind order low high more = (high, more)
-joined_in_order (mark ∷ before) middle behind order low high more =
-    (names_joined (λ other. compared mark.name other ≡ Less) before middle behind order.0 low.0 (all_after mark.name middle.name (names behind) low.0 high), joined_in_order before middle behind order.1 low.1 high more)
+joined_in_order [] middle following order low high more = (high, more)
+joined_in_order (mark ∷ before) middle following order low high more =
+    (names_joined (λ other. compared mark.name other ≡ Less) before middle following order.0 low.0 (all_after mark.name middle.name (names following) low.0 high), joined_in_order before middle following order.1 low.1 high more)
 
 pub order_bound : (name : List ℕ) (point : ℕ) (marks : List Mark) → InOrder marks → InOrder (bound name point marks)
 order_bound name point marks order =
-    joined_in_order (filter (is_before name) marks) (record { name = name; point = point }) (filter (is_behind name) marks) (order_filtered (is_before name) marks order) (all_before name marks) (all_behind name marks) (order_filtered (is_behind name) marks order)
+    joined_in_order (filter (is_before name) marks) (record { name = name; point = point }) (filter (is_after name) marks) (order_filtered (is_before name) marks order) (all_before name marks) (all_following name marks) (order_filtered (is_after name) marks order)
 
 pub order_unbound : (name : List ℕ) (marks : List Mark) → InOrder marks → InOrder (unbound name marks)
 order_unbound name marks order = order_filtered (λ mark. not (has_name name mark)) marks order
@@ -98,23 +98,23 @@ length_filtered test (x ∷ xs) =
     elim (cases_Bool (test x)) [ inl kept ↦ rw kept (omega arith) | inr gone ↦ rw gone (omega arith) ]
 
 -- each mark is before the name, has it, or is after it
-by_order : (order : Ordering) (before same behind : List Mark) (mark : Mark) (all : ℕ) → length before + length same + length behind ≡ all → length (cond (is_lt order) (mark ∷ before) before) + length (cond (is_eq order) (mark ∷ same) same) + length (cond (is_gt order) (mark ∷ behind) behind) ≡ suc all
-by_order Less before same behind mark all e = omega (arith, e)
-by_order Equal before same behind mark all e = omega (arith, e)
-by_order Greater before same behind mark all e = omega (arith, e)
+by_order : (order : Ordering) (before same following : List Mark) (mark : Mark) (all : ℕ) → length before + length same + length following ≡ all → length (cond (is_lt order) (mark ∷ before) before) + length (cond (is_eq order) (mark ∷ same) same) + length (cond (is_gt order) (mark ∷ following) following) ≡ suc all
+by_order Less before same following mark all e = omega (arith, e)
+by_order Equal before same following mark all e = omega (arith, e)
+by_order Greater before same following mark all e = omega (arith, e)
 
-length_by_name : (name : List ℕ) (marks : List Mark) → length (filter (is_before name) marks) + length (filter (has_name name) marks) + length (filter (is_behind name) marks) ≡ length marks
+length_by_name : (name : List ℕ) (marks : List Mark) → length (filter (is_before name) marks) + length (filter (has_name name) marks) + length (filter (is_after name) marks) ≡ length marks
 length_by_name name [] = refl
 length_by_name name (mark ∷ marks) =
-    let rest = length_by_name name marks in by_order (compared mark.name name) (filter (is_before name) marks) (filter (has_name name) marks) (filter (is_behind name) marks) mark (length marks) rest
+    let rest = length_by_name name marks in by_order (compared mark.name name) (filter (is_before name) marks) (filter (has_name name) marks) (filter (is_after name) marks) mark (length marks) rest
 
 -- a name that marks a point is there
 length_named : {A : Type 0} (f : A → ℕ) (xs : List A) → is_some (option_map f (slice_get xs 0)) ≡ true → 1 ≤ length xs
 length_named f [] e = absurd cc
 length_named f (x ∷ xs) e = omega arith
 
-pub length_bound : (name : List ℕ) (point : ℕ) (marks : List Mark) → length (bound name point marks) ≡ length (filter (is_before name) marks) + suc (length (filter (is_behind name) marks))
-length_bound name point marks = length-append (filter (is_before name) marks) (record { name = name; point = point } ∷ filter (is_behind name) marks)
+pub length_bound : (name : List ℕ) (point : ℕ) (marks : List Mark) → length (bound name point marks) ≡ length (filter (is_before name) marks) + suc (length (filter (is_after name) marks))
+length_bound name point marks = length-append (filter (is_before name) marks) (record { name = name; point = point } ∷ filter (is_after name) marks)
 
 pub few_bound : (name : List ℕ) (point : ℕ) (marks : List Mark) → (is_some (point_of name marks) || nat_lt (length marks) MAX_MARKS) ≡ true → length marks ≤ MAX_MARKS → length (bound name point marks) ≤ MAX_MARKS
 few_bound name point marks room few =

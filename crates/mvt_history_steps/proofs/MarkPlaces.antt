@@ -12,7 +12,7 @@ use Rattle.std.specs.Result.{result_ok}
 use Rattle.std.proofs.lemmas.Option.{slice_get_within, slice_get-map, slice_get-get_or, same_Some}
 use Rattle.std.proofs.lemmas.List.{map-append, take-map, drop-map, set_split, length-map}
 use Rattle.std.proofs.lemmas.List.Elements.{filter-append}
-use Rattle.mvt_history_steps.specs.Marks.{Mark, compared, has_name, is_before, is_behind, InOrder, IsPlaceOf, point_of, bound, unbound}
+use Rattle.mvt_history_steps.specs.Marks.{Mark, compared, has_name, is_before, is_after, InOrder, IsPlaceOf, point_of, bound, unbound}
 use Rattle.mvt_history_steps.specs.declared.marks.Mark as held
 use Rattle.mvt_history_steps.specs.Held.{mark_of}
 
@@ -36,12 +36,12 @@ rises_by first second name less Greater e = at_most_greater (compared first name
 
 -- ---- what is found
 
--- all marks that come after a name pass `is_behind`
-all_behind : (name : List ℕ) (marks : List Mark) → AllByRecursion (λ other. compared name other ≡ Less) (map (λ mark. mark.name) marks) → (filter (is_before name) marks ≡ []) × (filter (is_behind name) marks ≡ marks)
-all_behind name [] all = (refl, refl)
-all_behind name (mark ∷ marks) all =
+-- all marks that come after a name pass `is_after`
+all_following : (name : List ℕ) (marks : List Mark) → AllByRecursion (λ other. compared name other ≡ Less) (map (λ mark. mark.name) marks) → (filter (is_before name) marks ≡ []) × (filter (is_after name) marks ≡ marks)
+all_following name [] all = (refl, refl)
+all_following name (mark ∷ marks) all =
     let greater : compared mark.name name ≡ Greater = nat_list_cmp_total.antisymm mark.name name ∙ ap ordering_reverse all.0 in
-    let rest = all_behind name marks all.1 in
+    let rest = all_following name marks all.1 in
     rw greater (rest.0, ap (λ others. mark ∷ others) rest.1)
 
 later_at : (first : List ℕ) (marks : List held.Mark) (place : ℕ) (other : held.Mark) → place < length marks → AllByRecursion (λ other. compared first other ≡ Less) (map (λ mark. mark.name) (map mark_of marks)) → compared first (get_or marks place other).name.items ≡ Less
@@ -65,15 +65,15 @@ found name [] place order within at = absurd (omega arith)
 found name (mark ∷ marks) zero order within at =
     let equal : compared mark.name.items name ≡ Equal = at mark in
     let same = same_name mark.name.items name equal in
-    let behind = all_behind name (map mark_of marks) (subst (λ own. AllByRecursion (λ other. compared own other ≡ Less) (map (λ mark. mark.name) (map mark_of marks))) same order.0) in
-    rw equal (sym behind.0, sym behind.1, same)
+    let following = all_following name (map mark_of marks) (subst (λ own. AllByRecursion (λ other. compared own other ≡ Less) (map (λ mark. mark.name) (map mark_of marks))) same order.0) in
+    rw equal (sym following.0, sym following.1, same)
 found name (mark ∷ marks) (suc place) order within at =
     let rest = found name marks place order.1 (omega arith) at in
     let there = get_or marks place mark in
     let less : compared mark.name.items name ≡ Less = sym (alike_right nat_list_cmp_total there.name.items name mark.name.items (at mark)) ∙ later_at mark.name.items marks place mark (omega arith) order.0 in
     rw less (ap (λ others. mark_of mark ∷ others) rest.0, rest.1, rest.2)
 
-parted : (name : List ℕ) (marks : List held.Mark) (place : ℕ) → AllWithin (λ mark. compared mark.name.items name ≡ Less) marks 0 place → AllWithin (λ mark. compared mark.name.items name ≡ Greater) marks place (length marks) → place ≤ length marks → (take place (map mark_of marks) ≡ filter (is_before name) (map mark_of marks)) × (drop place (map mark_of marks) ≡ filter (is_behind name) (map mark_of marks))
+parted : (name : List ℕ) (marks : List held.Mark) (place : ℕ) → AllWithin (λ mark. compared mark.name.items name ≡ Less) marks 0 place → AllWithin (λ mark. compared mark.name.items name ≡ Greater) marks place (length marks) → place ≤ length marks → (take place (map mark_of marks) ≡ filter (is_before name) (map mark_of marks)) × (drop place (map mark_of marks) ≡ filter (is_after name) (map mark_of marks))
 parted name [] zero low high within = (refl, refl)
 parted name [] (suc place) low high within = (refl, refl)
 parted name (mark ∷ marks) zero low high within =
@@ -119,14 +119,14 @@ module _ (name : List ℕ) (marks : List Mark) where
   named_before : filter (has_name name) (filter (is_before name) marks) ≡ []
   named_before = none_pass (is_before name) (has_name name) (λ mark. less_differs (compared mark.name name)) marks
 
-  named_behind : filter (has_name name) (filter (is_behind name) marks) ≡ []
-  named_behind = none_pass (is_behind name) (has_name name) (λ mark. greater_differs (compared mark.name name)) marks
+  named_after : filter (has_name name) (filter (is_after name) marks) ≡ []
+  named_after = none_pass (is_after name) (has_name name) (λ mark. greater_differs (compared mark.name name)) marks
 
   others_before : unbound name (filter (is_before name) marks) ≡ filter (is_before name) marks
   others_before = all_pass (is_before name) (λ mark. not (has_name name mark)) (λ mark less. ap not (less_differs (compared mark.name name) less)) marks
 
-  others_behind : unbound name (filter (is_behind name) marks) ≡ filter (is_behind name) marks
-  others_behind = all_pass (is_behind name) (λ mark. not (has_name name mark)) (λ mark greater. ap not (greater_differs (compared mark.name name) greater)) marks
+  others_after : unbound name (filter (is_after name) marks) ≡ filter (is_after name) marks
+  others_after = all_pass (is_after name) (λ mark. not (has_name name mark)) (λ mark greater. ap not (greater_differs (compared mark.name name) greater)) marks
 
 -- ---- where the name is found
 
@@ -141,51 +141,51 @@ pub place_within : (name : List ℕ) (marks : List Mark) (place : ℕ) → IsPla
 place_within name marks place is =
     let cut = cut_at (λ mark. mark.name ≡ name) marks place is.2 in slice_get_within marks place cut.0 cut.2
 
-split_there : (name : List ℕ) (marks : List Mark) (place : ℕ) → IsPlaceOf name marks (Ok place) → (mark : Mark) × (mark.name ≡ name) × (slice_get marks place ≡ Some mark) × (marks ≡ filter (is_before name) marks ++ mark ∷ filter (is_behind name) marks)
+split_there : (name : List ℕ) (marks : List Mark) (place : ℕ) → IsPlaceOf name marks (Ok place) → (mark : Mark) × (mark.name ≡ name) × (slice_get marks place ≡ Some mark) × (marks ≡ filter (is_before name) marks ++ mark ∷ filter (is_after name) marks)
 split_there name marks place is =
     let cut = cut_at (λ mark. mark.name ≡ name) marks place is.2 in
-    (cut.0, cut.1, cut.2, cut.3 ∙ ap₂ (λ before behind. before ++ cut.0 ∷ behind) is.0 is.1)
+    (cut.0, cut.1, cut.2, cut.3 ∙ ap₂ (λ before following. before ++ cut.0 ∷ following) is.0 is.1)
 
 pub point_there : (name : List ℕ) (marks : List Mark) (place : ℕ) → IsPlaceOf name marks (Ok place) → point_of name marks ≡ option_map (λ mark. mark.point) (slice_get marks place)
 point_there name marks place is =
     let split = split_there name marks place is in
     let mark = split.0 in
-    let behind : filter (has_name name) (mark ∷ filter (is_behind name) marks) ≡ mark ∷ [] = rw (has_own_name name mark split.1) (ap (λ others. mark ∷ others) (named_behind name marks)) in
+    let following : filter (has_name name) (mark ∷ filter (is_after name) marks) ≡ mark ∷ [] = rw (has_own_name name mark split.1) (ap (λ others. mark ∷ others) (named_after name marks)) in
     let only : filter (has_name name) marks ≡ mark ∷ [] =
-    ap (filter (has_name name)) split.3 ∙ filter-append (has_name name) (filter (is_before name) marks) (mark ∷ filter (is_behind name) marks) ∙ ap₂ (λ xs ys. xs ++ ys) (named_before name marks) behind in
+    ap (filter (has_name name)) split.3 ∙ filter-append (has_name name) (filter (is_before name) marks) (mark ∷ filter (is_after name) marks) ∙ ap₂ (λ xs ys. xs ++ ys) (named_before name marks) following in
     ap (λ kept. option_map (λ mark. mark.point) (slice_get kept 0)) only ∙ sym (ap (option_map (λ mark. mark.point)) split.2)
 
 pub bound_there : (name : List ℕ) (point : ℕ) (marks : List Mark) (place : ℕ) → IsPlaceOf name marks (Ok place) → set marks place (record { name = name; point = point }) ≡ bound name point marks
 bound_there name point marks place is =
-    set_split marks place (record { name = name; point = point }) (place_within name marks place is) ∙ ap₂ (λ before behind. before ++ record { name = name; point = point } ∷ behind) is.0 is.1
+    set_split marks place (record { name = name; point = point }) (place_within name marks place is) ∙ ap₂ (λ before following. before ++ record { name = name; point = point } ∷ following) is.0 is.1
 
 pub unbound_there : (name : List ℕ) (marks : List Mark) (place : ℕ) → IsPlaceOf name marks (Ok place) → remove marks place ≡ unbound name marks
 unbound_there name marks place is =
     let split = split_there name marks place is in
     let mark = split.0 in
-    let behind : unbound name (mark ∷ filter (is_behind name) marks) ≡ filter (is_behind name) marks = rw (has_own_name name mark split.1) (others_behind name marks) in
-    let left : unbound name marks ≡ filter (is_before name) marks ++ filter (is_behind name) marks =
-    ap (unbound name) split.3 ∙ filter-append (λ mark. not (has_name name mark)) (filter (is_before name) marks) (mark ∷ filter (is_behind name) marks) ∙ ap₂ (λ xs ys. xs ++ ys) (others_before name marks) behind in
+    let following : unbound name (mark ∷ filter (is_after name) marks) ≡ filter (is_after name) marks = rw (has_own_name name mark split.1) (others_after name marks) in
+    let left : unbound name marks ≡ filter (is_before name) marks ++ filter (is_after name) marks =
+    ap (unbound name) split.3 ∙ filter-append (λ mark. not (has_name name mark)) (filter (is_before name) marks) (mark ∷ filter (is_after name) marks) ∙ ap₂ (λ xs ys. xs ++ ys) (others_before name marks) following in
     ap₂ (λ xs ys. xs ++ ys) is.0 is.1 ∙ sym left
 
 -- ---- where it is not found
 
-split_not_there : (name : List ℕ) (marks : List Mark) (place : ℕ) → IsPlaceOf name marks (Err place) → marks ≡ filter (is_before name) marks ++ filter (is_behind name) marks
+split_not_there : (name : List ℕ) (marks : List Mark) (place : ℕ) → IsPlaceOf name marks (Err place) → marks ≡ filter (is_before name) marks ++ filter (is_after name) marks
 split_not_there name marks place is = sym (take-append-drop place marks) ∙ ap₂ (λ xs ys. xs ++ ys) is.0 is.1
 
 pub point_not_there : (name : List ℕ) (marks : List Mark) (place : ℕ) → IsPlaceOf name marks (Err place) → point_of name marks ≡ None
 point_not_there name marks place is =
     let none : filter (has_name name) marks ≡ [] =
-    ap (filter (has_name name)) (split_not_there name marks place is) ∙ filter-append (has_name name) (filter (is_before name) marks) (filter (is_behind name) marks) ∙ ap₂ (λ xs ys. xs ++ ys) (named_before name marks) (named_behind name marks) in
+    ap (filter (has_name name)) (split_not_there name marks place is) ∙ filter-append (has_name name) (filter (is_before name) marks) (filter (is_after name) marks) ∙ ap₂ (λ xs ys. xs ++ ys) (named_before name marks) (named_after name marks) in
     ap (λ kept. option_map (λ mark. mark.point) (slice_get kept 0)) none
 
 pub bound_not_there : (name : List ℕ) (point : ℕ) (marks : List Mark) (place : ℕ) → IsPlaceOf name marks (Err place) → insert marks place (record { name = name; point = point }) ≡ bound name point marks
-bound_not_there name point marks place is = ap₂ (λ before behind. before ++ record { name = name; point = point } ∷ behind) is.0 is.1
+bound_not_there name point marks place is = ap₂ (λ before following. before ++ record { name = name; point = point } ∷ following) is.0 is.1
 
 pub unbound_not_there : (name : List ℕ) (marks : List Mark) (place : ℕ) → IsPlaceOf name marks (Err place) → unbound name marks ≡ marks
 unbound_not_there name marks place is =
     let split = split_not_there name marks place is in
-    ap (unbound name) split ∙ filter-append (λ mark. not (has_name name mark)) (filter (is_before name) marks) (filter (is_behind name) marks) ∙ ap₂ (λ xs ys. xs ++ ys) (others_before name marks) (others_behind name marks) ∙ sym split
+    ap (unbound name) split ∙ filter-append (λ mark. not (has_name name mark)) (filter (is_before name) marks) (filter (is_after name) marks) ∙ ap₂ (λ xs ys. xs ++ ys) (others_before name marks) (others_after name marks) ∙ sym split
 
 -- ---- what was answered
 

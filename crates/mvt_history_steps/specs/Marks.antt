@@ -25,8 +25,8 @@ abbrev pub is_before : List ℕ → Mark → Bool
 is_before name mark = is_lt (compared mark.name name)
 
 -- the mark comes after this name
-abbrev pub is_behind : List ℕ → Mark → Bool
-is_behind name mark = is_gt (compared mark.name name)
+abbrev pub is_after : List ℕ → Mark → Bool
+is_after name mark = is_gt (compared mark.name name)
 
 -- each name comes before those after it, so no name occurs twice
 abbrev pub InOrder : List Mark → Type 0
@@ -40,7 +40,7 @@ point_of name marks = option_map (λ mark. mark.point) (slice_get (filter (has_n
 
 -- the marks, where the name marks this point and no other
 abbrev pub bound : List ℕ → ℕ → List Mark → List Mark
-bound name point marks = filter (is_before name) marks ++ record { name = name; point = point } ∷ filter (is_behind name) marks
+bound name point marks = filter (is_before name) marks ++ record { name = name; point = point } ∷ filter (is_after name) marks
 
 -- the marks, where the name marks nothing
 abbrev pub unbound : List ℕ → List Mark → List Mark
@@ -60,5 +60,5 @@ counted_from floor mark = record mark { point = floor + mark.point }
 
 -- the position of the mark with the name, or, where there is none, the one where it belongs
 abbrev pub IsPlaceOf : List ℕ → List Mark → Result ℕ ℕ → Type 0
-IsPlaceOf name marks (Ok place) = (take place marks ≡ filter (is_before name) marks) × (drop (suc place) marks ≡ filter (is_behind name) marks) × IsSomeAnd (slice_get marks place) (λ mark. mark.name ≡ name)
-IsPlaceOf name marks (Err place) = (take place marks ≡ filter (is_before name) marks) × (drop place marks ≡ filter (is_behind name) marks) × (place ≤ length marks)
+IsPlaceOf name marks (Ok place) = (take place marks ≡ filter (is_before name) marks) × (drop (suc place) marks ≡ filter (is_after name) marks) × IsSomeAnd (slice_get marks place) (λ mark. mark.name ≡ name)
+IsPlaceOf name marks (Err place) = (take place marks ≡ filter (is_before name) marks) × (drop place marks ≡ filter (is_after name) marks) × (place ≤ length marks)

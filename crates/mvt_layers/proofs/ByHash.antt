@@ -32,7 +32,7 @@ pub feature_there : (run : Run) (items : List LayerItem) (at : ℕ) (x : LayerIt
 feature_there run items at x h from before is =
     let F = replicate run.first false in
     let C = replicate run.count true in
-    let B = replicate h.behind false in
+    let B = replicate h.following false in
     in_run is_feature run.first run.count at (B ++ h.rest) items x (h.is ∙ append_assoc F (C ++ B) h.rest ∙ ap (λ t. F ++ t) (append_assoc C B h.rest)) from before is
 
 one_kept : {A : Type 0} (is : Bool) (ordinal position : ℕ) (x : A) (rest : List (ℕ × (ℕ × A))) → (if is then (ordinal, (position, x)) ∷ rest else rest) ≡ cons_option (option_map (λ f. (ordinal, (position, f))) (if is then Some x else None)) rest

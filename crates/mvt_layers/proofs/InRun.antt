@@ -45,14 +45,14 @@ numbered_length : {B : Type 0} (n : ℕ) (xs : List B) → length (enumerate_fro
 numbered_length n [] = refl
 numbered_length n (x ∷ xs) = ap suc (numbered_length (n + 1) xs)
 
-behind_all : {B : Type 0} (xs ys : List B) (k : ℕ) → length xs ≤ k → slice_get (xs ++ ys) k ≡ slice_get ys (k - length xs)
-behind_all [] ys k past =
+appended : {B : Type 0} (xs ys : List B) (k : ℕ) → length xs ≤ k → slice_get (xs ++ ys) k ≡ slice_get ys (k - length xs)
+appended [] ys k past =
     let same : k ≡ k - 0 = omega arith in
     ap (slice_get ys) same
-behind_all (x ∷ xs) ys zero past = absurd (omega arith)
-behind_all (x ∷ xs) ys (suc k) past =
+appended (x ∷ xs) ys zero past = absurd (omega arith)
+appended (x ∷ xs) ys (suc k) past =
     let less : k - length xs ≡ suc k - suc (length xs) = omega arith in
-    behind_all xs ys k (omega arith) ∙ ap (slice_get ys) less
+    appended xs ys k (omega arith) ∙ ap (slice_get ys) less
 
 pub got_mapped : {A B : Type 0} (g : A → B) (xs : List A) (k : ℕ) → slice_get (map g xs) k ≡ option_map g (slice_get xs k)
 got_mapped g [] k = refl
@@ -85,10 +85,10 @@ none_left (x ∷ xs) none = absurd (omega (arith, none))
 -- ---- the bounds of a run
 
 pub run_within : {X : Type 0} (f : X → Bool) (run : Run) (items : List X) → IsRunOf f run items → run.first + run.count ≤ length items
-run_within f run items h = omega (arith, length-map items f, ap length h.is, length-append (one_run run.first run.count h.behind) h.rest, run_length run.first run.count h.behind)
+run_within f run items h = omega (arith, length-map items f, ap length h.is, length-append (one_run run.first run.count h.following) h.rest, run_length run.first run.count h.following)
 
 pub until_within : {X : Type 0} (f : X → Bool) (run : Run) (items : List X) → IsRunOf f run items → run.until ≤ length items
-until_within f run items h = omega (arith, h.until, length-map items f, ap length h.is, length-append (one_run run.first run.count h.behind) h.rest, run_length run.first run.count h.behind)
+until_within f run items h = omega (arith, h.until, length-map items f, ap length h.is, length-append (one_run run.first run.count h.following) h.rest, run_length run.first run.count h.following)
 
 pub count_before : {X : Type 0} (f : X → Bool) (run : Run) (items : List X) → IsRunOf f run items → run.count ≤ run.until
 count_before f run items h = omega (arith, h.until)
@@ -141,18 +141,18 @@ module _ {X A B : Type 0} (view : X → A) (pick : A → Option B) (f : X → Bo
       ∙ ap (λ p. there (ordinal + suc k) p (slice_get items (0 + k))) at
       ∙ sym (ap (λ n. there (ordinal + suc k) (position + (0 + suc k)) (slice_get (x ∷ items) n)) next)
 
-  count_in : (first count behind : ℕ) (items : List X) → map f items ≡ one_run first count behind → length (filter_map pick (map view items)) ≡ count
-  count_in first count behind [] e = omega (arith, ap length e, run_length first count behind)
-  count_in (suc first) count behind (x ∷ items) e =
+  count_in : (first count following : ℕ) (items : List X) → map f items ≡ one_run first count following → length (filter_map pick (map view items)) ≡ count
+  count_in first count following [] e = omega (arith, ap length e, run_length first count following)
+  count_in (suc first) count following (x ∷ items) e =
       let other : f x ≡ false = cc in
-      ap (λ o. length (cons_option o (filter_map pick (map view items)))) (picked_none (pick (view x)) (agrees x ∙ other)) ∙ count_in first count behind items (ap (drop 1) e)
-  count_in zero (suc count) behind (x ∷ items) e =
+      ap (λ o. length (cons_option o (filter_map pick (map view items)))) (picked_none (pick (view x)) (agrees x ∙ other)) ∙ count_in first count following items (ap (drop 1) e)
+  count_in zero (suc count) following (x ∷ items) e =
       let one : f x ≡ true = cc in
-      ap (λ o. length (cons_option o (filter_map pick (map view items)))) (picked_some (pick (view x)) (agrees x ∙ one)).1 ∙ ap suc (count_in zero count behind items (ap (drop 1) e))
+      ap (λ o. length (cons_option o (filter_map pick (map view items)))) (picked_some (pick (view x)) (agrees x ∙ one)).1 ∙ ap suc (count_in zero count following items (ap (drop 1) e))
   count_in zero zero zero (x ∷ items) e = absurd (cc)
-  count_in zero zero (suc behind) (x ∷ items) e =
+  count_in zero zero (suc following) (x ∷ items) e =
       let other : f x ≡ false = cc in
-      ap (λ o. length (cons_option o (filter_map pick (map view items)))) (picked_none (pick (view x)) (agrees x ∙ other)) ∙ count_in zero zero behind items (ap (drop 1) e)
+      ap (λ o. length (cons_option o (filter_map pick (map view items)))) (picked_none (pick (view x)) (agrees x ∙ other)) ∙ count_in zero zero following items (ap (drop 1) e)
 
   -- what is found is what is found in the part that is known, and then what is found after that
   split : (run : Run) (items : List X) → IsRunOf f run items
@@ -162,10 +162,10 @@ module _ {X A B : Type 0} (view : X → A) (pick : A → Option B) (f : X → Bo
       let rest = drop run.until items in
       let within = until_within f run items h in
       let long : length (map view known) ≡ run.until = length-map known view ∙ length-take-le run.until items within in
-      let values : map f known ≡ one_run run.first run.count h.behind =
-      sym (take-map f run.until items) ∙ ap (take run.until) h.is ∙ take_at (one_run run.first run.count h.behind) h.rest run.until (run_length run.first run.count h.behind ∙ sym h.until) in
+      let values : map f known ≡ one_run run.first run.count h.following =
+      sym (take-map f run.until items) ∙ ap (take run.until) h.is ∙ take_at (one_run run.first run.count h.following) h.rest run.until (run_length run.first run.count h.following ∙ sym h.until) in
       let front = filter_map (with_position pick) (enumerate_from 0 (map view known)) in
-      let count : length front ≡ run.count = sym (length-map front (λ (p : ℕ × B). p.1)) ∙ ap length (placed_items pick 0 (map view known)) ∙ count_in run.first run.count h.behind known values in
+      let count : length front ≡ run.count = sym (length-map front (λ (p : ℕ × B). p.1)) ∙ ap length (placed_items pick 0 (map view known)) ∙ count_in run.first run.count h.following known values in
       let at : 0 + length (map view known) ≡ run.until = omega (arith, long) in
       let ordinal : 0 + length front ≡ run.count = omega (arith, count) in
       let back = filter_map (with_position pick) (enumerate_from run.until (drop run.until (map view items))) in (
@@ -216,27 +216,27 @@ module _ {X A B : Type 0} (view : X → A) (pick : A → Option B) (f : X → Bo
   none_before run items h =
       let F = replicate run.first false in
       let C = replicate run.count true in
-      let B' = replicate h.behind false in
+      let B' = replicate h.following false in
       let same : 0 + run.first ≡ run.first = omega arith in
       let values : map f (take run.first items) ≡ F =
       sym (take-map f run.first items) ∙ ap (take run.first) (h.is ∙ append_assoc F (C ++ B') h.rest) ∙ take_at F ((C ++ B') ++ h.rest) run.first (length-replicate run.first false) in
       none_passed 0 run.first items values ∙ ap (λ n. placed_from pick n (map view items)) same
 
   -- nor between its end and the end of what is known
-  pub none_behind : (run : Run) (items : List X) → IsRunOf f run items → placed_from pick (run.first + run.count) (map view items) ≡ placed_from pick run.until (map view items)
-  none_behind run items h =
+  pub none_after : (run : Run) (items : List X) → IsRunOf f run items → placed_from pick (run.first + run.count) (map view items) ≡ placed_from pick run.until (map view items)
+  none_after run items h =
       let end = run.first + run.count in
       let F = replicate run.first false in
       let C = replicate run.count true in
-      let B' = replicate h.behind false in
+      let B' = replicate h.following false in
       let long : length (F ++ C) ≡ end = omega (arith, length-append F C, length-replicate run.first false, length-replicate run.count true) in
-      let until : end + h.behind ≡ run.until = omega (arith, h.until) in
+      let until : end + h.following ≡ run.until = omega (arith, h.until) in
       let parted : map f items ≡ (F ++ C) ++ (B' ++ h.rest) = h.is ∙ ap (λ t. t ++ h.rest) (sym (append_assoc F C B')) ∙ append_assoc (F ++ C) B' h.rest in
-      let values : map f (take h.behind (drop end items)) ≡ B' =
-      sym (take-map f h.behind (drop end items))
-      ∙ ap (take h.behind) (sym (drop-map f end items) ∙ ap (drop end) parted ∙ drop_at (F ++ C) (B' ++ h.rest) end long)
-      ∙ take_at B' h.rest h.behind (length-replicate h.behind false) in
-      none_passed end h.behind items values ∙ ap (λ n. placed_from pick n (map view items)) until
+      let values : map f (take h.following (drop end items)) ≡ B' =
+      sym (take-map f h.following (drop end items))
+      ∙ ap (take h.following) (sym (drop-map f end items) ∙ ap (drop end) parted ∙ drop_at (F ++ C) (B' ++ h.rest) end long)
+      ∙ take_at B' h.rest h.following (length-replicate h.following false) in
+      none_passed end h.following items values ∙ ap (λ n. placed_from pick n (map view items)) until
 
   -- where everything is known, everything is found up to the end of the run
   pub run_to_end : (run : Run) (items : List X) → IsRunOf f run items → run.until ≡ length items → found_in pick (map view (take (run.first + run.count) items)) ≡ found_in pick (map view items)
@@ -246,9 +246,9 @@ module _ {X A B : Type 0} (view : X → A) (pick : A → Option B) (f : X → Bo
       let back = drop end items in
       let F = replicate run.first false in
       let C = replicate run.count true in
-      let B' = replicate h.behind false in
-      let known = one_run run.first run.count h.behind in
-      let nothing : h.rest ≡ [] = none_left h.rest (omega (arith, length-map items f, ap length h.is, length-append known h.rest, run_length run.first run.count h.behind, h.until, all)) in
+      let B' = replicate h.following false in
+      let known = one_run run.first run.count h.following in
+      let nothing : h.rest ≡ [] = none_left h.rest (omega (arith, length-map items f, ap length h.is, length-append known h.rest, run_length run.first run.count h.following, h.until, all)) in
       let long : length (F ++ C) ≡ end = omega (arith, length-append F C, length-replicate run.first false, length-replicate run.count true) in
       let values : map f back ≡ B' =
       sym (drop-map f end items) ∙ ap (drop end) (h.is ∙ ap (λ rest. known ++ rest) nothing ∙ append-nil known ∙ sym (append_assoc F C B')) ∙ drop_at (F ++ C) B' end long in
@@ -258,7 +258,7 @@ module _ {X A B : Type 0} (view : X → A) (pick : A → Option B) (f : X → Bo
       ∙ ap (found_in pick) (map-append view front back)
       ∙ ap (λ xs. enumerate_from 0 (filter_map (with_position pick) xs)) (numbered_joined 0 (map view front) (map view back))
       ∙ ap (enumerate_from 0) (filter_map-append (with_position pick) (enumerate_from 0 (map view front)) (enumerate_from at (map view back))
-      ∙ ap (λ xs. first ++ xs) (none_picked h.behind at back values)
+      ∙ ap (λ xs. first ++ xs) (none_picked h.following at back values)
       ∙ append-nil first))
 
   -- the item with an ordinal is that far after the first
@@ -266,7 +266,7 @@ module _ {X A B : Type 0} (view : X → A) (pick : A → Option B) (f : X → Bo
   run_there run items k h inside =
       let F = replicate run.first false in
       let C = replicate run.count true in
-      let B' = replicate h.behind false in
+      let B' = replicate h.following false in
       let same : 0 + k ≡ k = omega arith in
       let at : 0 + (run.first + k) ≡ run.first + k = omega arith in
       in_run 0 0 run.first run.count k (B' ++ h.rest) items (h.is ∙ append_assoc F (C ++ B') h.rest ∙ ap (λ t. F ++ t) (append_assoc C B' h.rest)) inside
@@ -278,7 +278,7 @@ module _ {X A B : Type 0} (view : X → A) (pick : A → Option B) (f : X → Bo
   run_past run items k h past =
       let parts = split run items h in
       ap (λ xs. slice_get xs k) parts.1
-      ∙ behind_all parts.0 (found_from pick run.count run.until (map view items)) k (omega (arith, parts.2))
+      ∙ appended parts.0 (found_from pick run.count run.until (map view items)) k (omega (arith, parts.2))
       ∙ ap (λ n. slice_get (found_from pick run.count run.until (map view items)) (k - n)) parts.2
 
   pub run_total : (run : Run) (items : List X) → IsRunOf f run items → length (found_in pick (map view items)) ≡ run.count + length (found_from pick run.count run.until (map view items))
@@ -287,23 +287,23 @@ module _ {X A B : Type 0} (view : X → A) (pick : A → Option B) (f : X → Bo
       ap length parts.1 ∙ length-append parts.0 (found_from pick run.count run.until (map view items)) ∙ ap (λ n. n + length (found_from pick run.count run.until (map view items))) parts.2
 
   -- the last that is found is the last after what is known
-  pub run_last_behind : (run : Run) (items : List X) (last : ℕ × (ℕ × B)) → IsRunOf f run items → last_or None (found_from pick run.count run.until (map view items)) ≡ Some last → last_or None (found_in pick (map view items)) ≡ Some last
-  run_last_behind run items last h is =
+  pub run_last_after : (run : Run) (items : List X) (last : ℕ × (ℕ × B)) → IsRunOf f run items → last_or None (found_from pick run.count run.until (map view items)) ≡ Some last → last_or None (found_in pick (map view items)) ≡ Some last
+  run_last_after run items last h is =
       let parts = split run items h in
-      let behind = found_from pick run.count run.until (map view items) in
-      ap (last_or None) parts.1 ∙ last_joined None parts.0 behind ∙ last_over (last_or None parts.0) behind last is
+      let following = found_from pick run.count run.until (map view items) in
+      ap (last_or None) parts.1 ∙ last_joined None parts.0 following ∙ last_over (last_or None parts.0) following last is
 
   -- or else the last of the run
   pub run_last_in : (run : Run) (items : List X) (k : ℕ) → IsRunOf f run items → last_or None (found_from pick run.count run.until (map view items)) ≡ None → run.count ≡ suc k → last_or None (found_in pick (map view items)) ≡ slice_get (found_in pick (map view items)) k
   run_last_in run items k h none count =
-      let behind = ap length (last_none (found_from pick run.count run.until (map view items)) none) in
-      last_got None (found_in pick (map view items)) k (omega (arith, run_total run items h, behind, count))
+      let following = ap length (last_none (found_from pick run.count run.until (map view items)) none) in
+      last_got None (found_in pick (map view items)) k (omega (arith, run_total run items h, following, count))
 
   -- or there is none
   pub run_no_last : (run : Run) (items : List X) → IsRunOf f run items → last_or None (found_from pick run.count run.until (map view items)) ≡ None → run.count ≡ 0 → last_or None (found_in pick (map view items)) ≡ None
   run_no_last run items h none count =
-      let behind = ap length (last_none (found_from pick run.count run.until (map view items)) none) in
-      ap (last_or None) (none_left (found_in pick (map view items)) (omega (arith, run_total run items h, behind, count)))
+      let following = ap length (last_none (found_from pick run.count run.until (map view items)) none) in
+      ap (last_or None) (none_left (found_in pick (map view items)) (omega (arith, run_total run items h, following, count)))
 
 -- ---- features, and entries
 
@@ -374,7 +374,7 @@ pub run_parts : (run : Run) (items : List LayerItem) → IsRunOf (in_layer_of_ki
 run_parts run items h =
     let F = replicate run.first false in
     let C = replicate run.count true in
-    let B = replicate h.behind false in
+    let B = replicate h.following false in
     let rest = drop run.first items in (
       sym (take-append-drop run.first items) ∙ ap (λ xs. take run.first items ++ xs) (sym (take-append-drop run.count rest) ∙ ap (λ xs. take run.count rest ++ xs) (drop-drop run.count run.first items)),
       sym (take-map is_feature run.count rest)

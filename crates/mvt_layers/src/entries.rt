@@ -74,7 +74,7 @@ impl<'a> Entries<'a> {
     }
 
     /// Those that are not in the run of the first of them.
-    pub(crate) fn behind(items: &'a [LayerItem], entries: Run, number: u64) -> Entries<'a>
+    pub(crate) fn following(items: &'a [LayerItem], entries: Run, number: u64) -> Entries<'a>
         requires { IsRunOf (is_entry number) entries items.now }
         ensures items { result ≡ found_from (entry_in number) entries.count entries.until (map layer_item_of items.now) }
         ensures bound { entries.count + length result < 2 ^ 64 }
@@ -123,7 +123,7 @@ pub(crate) fn entry(items: &[LayerItem], entries: Run, number: u64, ordinal: usi
     if ordinal < entries.count {
         return entry_in(&items[entries.first + ordinal], number);
     }
-    let found = Entries::behind(items, entries, number).nth(ordinal - entries.count)?;
+    let found = Entries::following(items, entries, number).nth(ordinal - entries.count)?;
     Some(found.bytes)
 }
 
@@ -152,7 +152,7 @@ fn last_entry(items: &[LayerItem], entries: Run, number: u64) -> Option<FoundEnt
     requires { IsRunOf (is_entry number) entries items.now }
     ensures { option_map found_entry_seen result ≡ last_or None (found_entries number (map layer_item_of items.now)) }
 {
-    if let Some(found) = Entries::behind(items, entries, number).last() {
+    if let Some(found) = Entries::following(items, entries, number).last() {
         return Some(found);
     }
     if entries.count == 0 {
@@ -231,8 +231,8 @@ fn equal_beside<'a>(
     match equal_before(items, number, bytes, start, first, features.first) {
         Ok(found) => Ok(found),
         Err(next) => {
-            let behind = features.first + features.count;
-            equal_before(items, number, bytes, behind, next, items.len())
+            let following = features.first + features.count;
+            equal_before(items, number, bytes, following, next, items.len())
         }
     }
 }

@@ -229,13 +229,13 @@ pub(crate) fn first_content(items: &[LayerItem], number: u64) -> Option<(&[u8], 
     ensures { MatchOption result (contents number (plain_fields (map layer_item_of items.now)) ≡ []) (λ found. contents number (plain_fields (map layer_item_of items.now)) ≡ found.0.now ∷ contents number (plain_fields (map layer_item_of found.1.now))) }
 {
     let mut rest = items;
-    while let Some((item, behind)) = rest.split_first() {
+    while let Some((item, following)) = rest.split_first() {
         if let LayerItem::Plain(field) = item {
             if let Some(content) = content_in(field, number) {
-                return Some((content, behind));
+                return Some((content, following));
             }
         }
-        rest = behind;
+        rest = following;
     }
     None
 }

@@ -115,7 +115,7 @@ impl<'a> FeatureViews<'a> {
     }
 
     /// Those that are not in the run of the first of them.
-    pub(crate) fn behind(items: &'a [LayerItem], features: Run) -> FeatureViews<'a>
+    pub(crate) fn following(items: &'a [LayerItem], features: Run) -> FeatureViews<'a>
         requires { IsRunOf (in_layer_of_kind Message) features items.now }
         ensures items { result ≡ found_from feature_in features.count features.until (map layer_item_of items.now) }
         ensures bound { features.count + length result < 2 ^ 64 }
@@ -195,12 +195,12 @@ impl<'a> Iterator for Contents<'a> {
     ghost remaining = { item_count (λ left. left) };
 
     fn next(&mut self) -> Option<&'a [u8]> {
-        if let Some((content, behind)) = first_content(self.rest, self.number) {
-            self.rest = behind;
+        if let Some((content, following)) = first_content(self.rest, self.number) {
+            self.rest = following;
             return Some(content);
         }
-        let (content, behind) = first_content(self.back, self.number)?;
-        self.rest = behind;
+        let (content, following) = first_content(self.back, self.number)?;
+        self.rest = following;
         self.back = &[];
         Some(content)
     }

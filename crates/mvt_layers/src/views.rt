@@ -149,7 +149,7 @@ impl<'a> LayerView<'a> {
         ensures { result ≡ length (features (layer_seen self.entry)) }
     {
         let features = self.layer.items.runs().messages;
-        features.count + FeatureViews::behind(self.layer.items.as_slice(), features).count()
+        features.count + FeatureViews::following(self.layer.items.as_slice(), features).count()
     }
 
     pub fn key_count(self) -> usize
@@ -186,7 +186,7 @@ impl<'a> LayerView<'a> {
         if ordinal < features.count {
             return feature_in_run(items, features, ordinal);
         }
-        FeatureViews::behind(items, features).nth(ordinal - features.count)
+        FeatureViews::following(items, features).nth(ordinal - features.count)
     }
 
     /// The key with this ordinal.

@@ -26,8 +26,8 @@ from_later passes change ordinal x xs pass =
     let other : (suc ordinal == 0) ≡ false = grind (arith, nat_tests) in
     rw (pass, less, other) refl
 
-pub from_behind : {A : Type 0} (passes : A → Bool) (change : List A → List A) (ordinal : ℕ) (x : A) (xs : List A) → passes x ≡ false → from_nth passes change ordinal (x ∷ xs) ≡ x ∷ from_nth passes change ordinal xs
-from_behind passes change ordinal x xs skip = rw skip refl
+pub from_after : {A : Type 0} (passes : A → Bool) (change : List A → List A) (ordinal : ℕ) (x : A) (xs : List A) → passes x ≡ false → from_nth passes change ordinal (x ∷ xs) ≡ x ∷ from_nth passes change ordinal xs
+from_after passes change ordinal x xs skip = rw skip refl
 
 -- one more item in front, where the place is after it
 one_before : {A : Type 0} (change : List A → List A) (x : A) (xs rest : List A) (n j k : ℕ) → n + 1 ≤ k → k ≡ n + j → ((i : ℕ) → k ≡ n + 1 + i → rest ≡ take i xs ++ change (drop i xs)) → x ∷ rest ≡ take j (x ∷ xs) ++ change (drop j (x ∷ xs))
@@ -51,7 +51,7 @@ from_nth_at passes change n (x ∷ xs) ordinal k j e at =
       | inl pass ↦ from_first passes change n x xs ordinal k j pass (rw (positions_pass passes n x xs pass) at e) at (λ m i e at. from_nth_at passes change (n + 1) xs m k i e at)
       | inr skip ↦ (
           let there = rw (positions_skip passes n x xs skip) at e in
-          from_behind passes change ordinal x xs skip
+          from_after passes change ordinal x xs skip
           ∙ one_before change x xs (from_nth passes change ordinal xs) n j k (positions_within passes (n + 1) xs ordinal k there).0 at (λ i at. from_nth_at passes change (n + 1) xs ordinal k i there at)
           )
     ]
@@ -77,9 +77,9 @@ get_first n x xs ys positions zero k (suc i) e at low more = let here : n ≡ k 
 get_first n x xs ys positions (suc m) k zero e at low more = let bound = low m e in absurd (omega arith)
 get_first n x xs ys positions (suc m) k (suc i) e at low more = more m i e (omega arith)
 
-get_behind : {A : Type 0} (n : ℕ) (x : A) (xs ys : List A) (ordinal k j : ℕ) → n + 1 ≤ k → k ≡ n + j → ((i : ℕ) → k ≡ n + 1 + i → slice_get ys ordinal ≡ slice_get xs i) → slice_get ys ordinal ≡ slice_get (x ∷ xs) j
-get_behind n x xs ys ordinal k zero low at more = absurd (omega arith)
-get_behind n x xs ys ordinal k (suc i) low at more = more i (omega arith)
+get_following : {A : Type 0} (n : ℕ) (x : A) (xs ys : List A) (ordinal k j : ℕ) → n + 1 ≤ k → k ≡ n + j → ((i : ℕ) → k ≡ n + 1 + i → slice_get ys ordinal ≡ slice_get xs i) → slice_get ys ordinal ≡ slice_get (x ∷ xs) j
+get_following n x xs ys ordinal k zero low at more = absurd (omega arith)
+get_following n x xs ys ordinal k (suc i) low at more = more i (omega arith)
 
 filtered_pass : {A : Type 0} (passes : A → Bool) (x : A) (xs : List A) → passes x ≡ true → filter passes (x ∷ xs) ≡ x ∷ filter passes xs
 filtered_pass passes x xs pass = rw pass refl
@@ -94,7 +94,7 @@ filtered_at passes n (x ∷ xs) ordinal k j e at =
       | inl pass ↦ rw (filtered_pass passes x xs pass) (get_first n x xs (filter passes xs) (positions_from passes (n + 1) xs) ordinal k j (rw (positions_pass passes n x xs pass) at e) at (λ m e. (positions_within passes (n + 1) xs m k e).0) (λ m i e at. filtered_at passes (n + 1) xs m k i e at))
       | inr skip ↦ (
           let there = rw (positions_skip passes n x xs skip) at e in
-          rw (filtered_skip passes x xs skip) (get_behind n x xs (filter passes xs) ordinal k j (positions_within passes (n + 1) xs ordinal k there).0 at (λ i at. filtered_at passes (n + 1) xs ordinal k i there at))
+          rw (filtered_skip passes x xs skip) (get_following n x xs (filter passes xs) ordinal k j (positions_within passes (n + 1) xs ordinal k there).0 at (λ i at. filtered_at passes (n + 1) xs ordinal k i there at))
           )
     ]
 

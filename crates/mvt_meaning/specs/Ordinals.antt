@@ -39,8 +39,8 @@ abbrev pub before : {A : Type 0} → (A → Bool) → ℕ → A → List A → L
 before passes ordinal new items = from_nth passes (λ rest. new ∷ rest) ordinal items
 
 -- the list with a new item right after the item of this ordinal among those that pass
-abbrev pub behind : {A : Type 0} → (A → Bool) → ℕ → A → List A → List A
-behind passes ordinal new items = from_nth passes (λ rest. take 1 rest ++ new ∷ drop 1 rest) ordinal items
+abbrev pub after : {A : Type 0} → (A → Bool) → ℕ → A → List A → List A
+after passes ordinal new items = from_nth passes (λ rest. take 1 rest ++ new ∷ drop 1 rest) ordinal items
 
 -- ---- moves and insertions
 
@@ -48,7 +48,7 @@ behind passes ordinal new items = from_nth passes (λ rest. take 1 rest ++ new �
 -- that ordinal now, where `to` is greater, and right before it, where `to` is smaller
 abbrev pub move_nth : {A : Type 0} → (A → Bool) → ℕ → ℕ → List A → List A
 move_nth passes from to items = option_map_or (λ item.
-    if nat_lt from to then behind passes (to - 1) item (without passes from items)
+    if nat_lt from to then after passes (to - 1) item (without passes from items)
     else if nat_lt to from then before passes to item (without passes from items)
     else items) (slice_get (filter passes items) from) items
 
@@ -57,7 +57,7 @@ move_nth passes from to items = option_map_or (λ item.
 abbrev pub insert_nth : {A : Type 0} → (A → Bool) → ℕ → A → List A → List A
 insert_nth passes ordinal new items =
     if nat_lt ordinal (count passes items) then before passes ordinal new items
-    else if list_any passes items then behind passes (count passes items - 1) new items
+    else if list_any passes items then after passes (count passes items - 1) new items
     else items ++ new ∷ []
 
 -- ---- one item for all that pass

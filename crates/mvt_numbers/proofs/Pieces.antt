@@ -160,7 +160,7 @@ found_more field place piece more found others (Some n) is e =
     let s = spelling_of_piece piece n is in
     let o = others r.0 r.1 in
     let front : piece ≡ spelling n = sym s.1 in
-    let behind : flat_map (λ (p : List ℕ). p) more ≡ spellings r.0 = o.0 in
+    let following : flat_map (λ (p : List ℕ). p) more ≡ spellings r.0 = o.0 in
     let both : IsFound (piece ∷ more) (placed ∷ r.0) = (cc, (s.0, o.1)) in
     subst (IsFound (piece ∷ more)) r.2 both
 

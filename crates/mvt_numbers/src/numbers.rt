@@ -82,8 +82,8 @@ impl<'a> Iterator for Numbers<'a> {
             }
         }
         match self.packed.first() {
-            Ok((number, behind)) => {
-                self.packed = behind;
+            Ok((number, following)) => {
+                self.packed = following;
                 Some(Ok(number))
             }
             Err(bad) => {

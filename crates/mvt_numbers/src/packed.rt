@@ -57,11 +57,11 @@ impl<'a> Packed<'a> {
             field,
             place,
         };
-        let behind = Packed {
+        let following = Packed {
             bytes,
             field,
             place: place + usize::from(varint.width),
         };
-        Ok((number, behind))
+        Ok((number, following))
     }
 }

@@ -113,8 +113,8 @@ field_before number numbers bytes f p c =
     (field_bytes f ++ c.0, c.1, add_field (MAX_GROUPS - length numbers) number numbers c.0 f refl p c.2, c.3, ap (λ (b : List ℕ). field_bytes f ++ b) c.4 ∙ sym (append_assoc (field_bytes f) c.0 c.1))
 
 -- what follows the piece, where bytes that begin with it are cut in another way
-behind : (piece after bytes first more rest : List ℕ) → piece ++ after ≡ bytes ++ rest → bytes ≡ first ++ more → piece ++ after ≡ first ++ (more ++ rest)
-behind piece after bytes first more rest e is = e ∙ ap (λ (b : List ℕ). b ++ rest) is ∙ append_assoc first more rest
+following : (piece after bytes first more rest : List ℕ) → piece ++ after ≡ bytes ++ rest → bytes ≡ first ++ more → piece ++ after ≡ first ++ (more ++ rest)
+following piece after bytes first more rest e is = e ∙ ap (λ (b : List ℕ). b ++ rest) is ∙ append_assoc first more rest
 
 pub field_leads : (number : ℕ) (numbers : List ℕ) (f : Field) → ((is_group : ℕ → List ℕ → Type 0) → IsWholeFieldWith is_group f) → LeadsTo (field_bytes f) (number ∷ numbers) (number ∷ numbers)
 field_leads number numbers f p =
@@ -122,9 +122,9 @@ field_leads number numbers f p =
       closes = λ left c. field_before number numbers left f (p (inside numbers)) c;
       goes_on = λ bytes after rest c e.
           elim (begins number numbers bytes c) [
-            | inl h ↦ absurd (field_no_end (inside numbers) number h.last f (h.more ++ rest) after h.ends (p (inside numbers)) (sym (behind (field_bytes f) after bytes (spelling h.last) h.more rest e h.spelled)))
+            | inl h ↦ absurd (field_no_end (inside numbers) number h.last f (h.more ++ rest) after h.ends (p (inside numbers)) (sym (following (field_bytes f) after bytes (spelling h.last) h.more rest e h.spelled)))
             | inr h ↦
-                let one = one_field_with (inside numbers) (separates_within (MAX_GROUPS - suc (length numbers))) f h.field after (h.more ++ rest) (p (inside numbers)) h.whole (behind (field_bytes f) after bytes (field_bytes h.field) h.more rest e h.spelled) in
+                let one = one_field_with (inside numbers) (separates_within (MAX_GROUPS - suc (length numbers))) f h.field after (h.more ++ rest) (p (inside numbers)) h.whole (following (field_bytes f) after bytes (field_bytes h.field) h.more rest e h.spelled) in
                 (h.more, h.closes, one.1)
           ];
     }
@@ -156,11 +156,11 @@ starts : (tag : Number) (number : ℕ) (numbers bytes after rest : List ℕ) →
 starts tag number numbers bytes after rest p t c e =
     elim (begins number numbers bytes c) [
       | inl h ↦
-          let one = one_number tag h.last after (h.more ++ rest) p h.ends.spelled (behind (spelling tag) after bytes (spelling h.last) h.more rest e h.spelled) in
+          let one = one_number tag h.last after (h.more ++ rest) p h.ends.spelled (following (spelling tag) after bytes (spelling h.last) h.more rest e h.spelled) in
           let kinds : tag.value % 8 ≡ h.last.value % 8 = ap (λ (n : Number). n.value % 8) one.0 in
           absurd (omega (arith, kinds, t.typed, h.ends.tag.typed))
       | inr h ↦
-          let cut = behind (spelling tag) after bytes (field_bytes h.field) h.more rest e h.spelled ∙ field-bytes h.field (h.more ++ rest) in
+          let cut = following (spelling tag) after bytes (field_bytes h.field) h.more rest e h.spelled ∙ field-bytes h.field (h.more ++ rest) in
           let one = one_number tag h.field.tag after (body_bytes h.field.body ++ (h.more ++ rest)) p h.whole.valid.number cut in
           let group = group_there tag numbers h.field t h.whole one.0 in
           let is : body_bytes h.field.body ≡ group.0 = ap body_bytes group.1 in
@@ -192,9 +192,9 @@ end_leads last number numbers ends some =
       goes_on = λ bytes after rest c e.
           elim (begins number numbers bytes c) [
             | inl h ↦
-                let one = one_number last h.last after (h.more ++ rest) ends.spelled h.ends.spelled (behind (spelling last) after bytes (spelling h.last) h.more rest e h.spelled) in
+                let one = one_number last h.last after (h.more ++ rest) ends.spelled h.ends.spelled (following (spelling last) after bytes (spelling h.last) h.more rest e h.spelled) in
                 (h.more, h.closes, one.1)
-            | inr h ↦ absurd (field_no_end (inside numbers) number last h.field after (h.more ++ rest) ends h.whole (behind (spelling last) after bytes (field_bytes h.field) h.more rest e h.spelled))
+            | inr h ↦ absurd (field_no_end (inside numbers) number last h.field after (h.more ++ rest) ends h.whole (following (spelling last) after bytes (field_bytes h.field) h.more rest e h.spelled))
           ];
     }
 
@@ -247,11 +247,11 @@ pub no_body : (tag : Number) (number : ℕ) (numbers bytes after : List ℕ) →
 no_body tag number numbers bytes after t not_start not_end none = λ b.
     elim (begins number numbers b.thing b.holds) [
       | inl h ↦
-          let one = one_number tag h.last after (h.more ++ b.rest) t.number h.ends.spelled (behind (spelling tag) after b.thing (spelling h.last) h.more b.rest (sym t.spelled ∙ b.spelled) h.spelled) in
+          let one = one_number tag h.last after (h.more ++ b.rest) t.number h.ends.spelled (following (spelling tag) after b.thing (spelling h.last) h.more b.rest (sym t.spelled ∙ b.spelled) h.spelled) in
           let kinds : tag.value % 8 ≡ h.last.value % 8 = ap (λ (n : Number). n.value % 8) one.0 in
           not_end (kinds ∙ h.ends.tag.typed)
       | inr h ↦
-          let cut = behind (spelling tag) after b.thing (field_bytes h.field) h.more b.rest (sym t.spelled ∙ b.spelled) h.spelled ∙ field-bytes h.field (h.more ++ b.rest) in
+          let cut = following (spelling tag) after b.thing (field_bytes h.field) h.more b.rest (sym t.spelled ∙ b.spelled) h.spelled ∙ field-bytes h.field (h.more ++ b.rest) in
           let one = one_number tag h.field.tag after (body_bytes h.field.body ++ (h.more ++ b.rest)) t.number h.whole.valid.number cut in
           let kinds : h.field.tag.value % 8 ≡ tag.value % 8 = ap (λ (n : Number). n.value % 8) (sym one.0) in
           let whole = whole_body (inside numbers) h.field h.whole in
@@ -273,12 +273,12 @@ pub other_end : (tag : Number) (number : ℕ) (numbers bytes after : List ℕ) �
 other_end tag number numbers bytes after t kind other = λ b.
     elim (begins number numbers b.thing b.holds) [
       | inl h ↦
-          let one = one_number tag h.last after (h.more ++ b.rest) t.number h.ends.spelled (behind (spelling tag) after b.thing (spelling h.last) h.more b.rest (sym t.spelled ∙ b.spelled) h.spelled) in
+          let one = one_number tag h.last after (h.more ++ b.rest) t.number h.ends.spelled (following (spelling tag) after b.thing (spelling h.last) h.more b.rest (sym t.spelled ∙ b.spelled) h.spelled) in
           let same : tag.value / 8 ≡ h.last.value / 8 = ap (λ (n : Number). n.value / 8) one.0 in
           other (same ∙ h.ends.same)
       | inr h ↦
           let ends : IsEnd (tag.value / 8) tag = record { spelled = t.number; tag = record { numbered = t.low; short = t.high; typed = kind }; same = refl } in
-          field_no_end (inside numbers) (tag.value / 8) tag h.field after (h.more ++ b.rest) ends h.whole (behind (spelling tag) after b.thing (field_bytes h.field) h.more b.rest (sym t.spelled ∙ b.spelled) h.spelled)
+          field_no_end (inside numbers) (tag.value / 8) tag h.field after (h.more ++ b.rest) ends h.whole (following (spelling tag) after b.thing (field_bytes h.field) h.more b.rest (sym t.spelled ∙ b.spelled) h.spelled)
     ]
 
 -- ---- piece by piece

@@ -90,8 +90,8 @@ turned number first second once field old short read own (and_more a b c n f s o
 
 -- ---- a message
 
-short_behind : (n : ℕ) (decisions : List (Option ℕ)) → AreShort decisions → AreShort (drop n decisions)
-short_behind n decisions short = all_dropped (λ decision. IfSome decision (λ value. value < 2 ^ 64)) n decisions short
+short_after : (n : ℕ) (decisions : List (Option ℕ)) → AreShort decisions → AreShort (drop n decisions)
+short_after n decisions short = all_dropped (λ decision. IfSome decision (λ value. value < 2 ^ 64)) n decisions short
 
 -- what is read from the first field of some
 alone_read : (number : ℕ) (field : Field) (more : List Field) (found : List Number) (read : fields_read number (field ∷ more) ≡ Some found) → read_numbers number (field ∷ []) ≡ Some (both_some (field_read number field) (fields_read number more) found read).first
@@ -109,13 +109,13 @@ fields_twice number first second once (field ∷ more) found short read turn =
     let t = turned number first second once field b.first short (alone_read number field more found read) own parts.0 in
     let n = length (field_numbers number field) in
     let rest = renumber number (drop n first) more in
-    let behind : renumber number (drop n second) rest ≡ renumber number (drop n once) more =
+    let following : renumber number (drop n second) rest ≡ renumber number (drop n once) more =
     subst (λ m. renumber number (drop m second) (renumber number (drop m first) more) ≡ renumber number (drop m once) more) (sym size)
-    (fields_twice number (drop (length b.first) first) (drop (length b.first) second) (drop (length b.first) once) more b.second (short_behind (length b.first) first short) b.second_is parts.1) in
+    (fields_twice number (drop (length b.first) first) (drop (length b.first) second) (drop (length b.first) once) more b.second (short_after (length b.first) first short) b.second_is parts.1) in
     ap (λ (list : List Field). renumber number second (list ++ rest)) t.alone
     ∙ ap (λ (list : List Field). list ++ renumber number (drop (length (field_numbers number t.left)) second) rest) t.again
     ∙ ap (λ m. renumbered_field number once field ++ renumber number (drop m second) rest) t.numbers
-    ∙ ap (λ (list : List Field). renumbered_field number once field ++ list) behind
+    ∙ ap (λ (list : List Field). renumbered_field number once field ++ list) following
 
 pub renumbered_twice : (number : ℕ) (first second once : List (Option ℕ)) (fields : List Field) (found : List Number) → AreShort first → read_numbers number fields ≡ Some found → InTurn first second once found → renumber number second (renumber number first fields) ≡ renumber number once fields
 renumbered_twice number first second once fields found short read turn = fields_twice number first second once fields found short (sym (read_is number fields) ∙ read) turn
@@ -137,12 +137,12 @@ tags_stay number first second once (field ∷ more) found short read turn =
     let parts = turn_apart first second once b.first b.second (subst (InTurn first second once) (sym b.joined) turn) in
     let t = turned number first second once field b.first short (alone_read number field more found read) own parts.0 in
     let rest = renumber number (drop (length (field_numbers number field)) first) more in
-    let behind : map (λ (field : Field). field.tag) rest ≡ map (λ (field : Field). field.tag) more =
+    let following : map (λ (field : Field). field.tag) rest ≡ map (λ (field : Field). field.tag) more =
     subst (λ m. map (λ (field : Field). field.tag) (renumber number (drop m first) more) ≡ map (λ (field : Field). field.tag) more) (sym (ap length own))
-    (tags_stay number (drop (length b.first) first) (drop (length b.first) second) (drop (length b.first) once) more b.second (short_behind (length b.first) first short) b.second_is parts.1) in
+    (tags_stay number (drop (length b.first) first) (drop (length b.first) second) (drop (length b.first) once) more b.second (short_after (length b.first) first short) b.second_is parts.1) in
     ap (λ (list : List Field). map (λ (field : Field). field.tag) (list ++ rest)) t.alone
     ∙ ap (λ (tag : Number). tag ∷ map (λ (field : Field). field.tag) rest) t.tag
-    ∙ ap (λ (list : List Number). field.tag ∷ list) behind
+    ∙ ap (λ (list : List Number). field.tag ∷ list) following
 
 -- no field goes, and each has its tag
 pub renumbered_tags : (number : ℕ) (first second once : List (Option ℕ)) (fields : List Field) (found : List Number) → AreShort first → read_numbers number fields ≡ Some found → InTurn first second once found → map (λ (field : Field). field.tag) (renumber number first fields) ≡ map (λ (field : Field). field.tag) fields

@@ -85,7 +85,7 @@ packed-first number bytes s e =
     ap packed_numbers (sym (take-append-drop number.width bytes) ∙ ap (λ (b : List ℕ). b ++ drop number.width bytes) e)
     ∙ packed-more number (drop number.width bytes) s
 
-and_number : (number : Number) (behind : Option (List Number)) (numbers : List Number) → option_map (λ (more : List Number). number ∷ more) behind ≡ Some numbers → (more : List Number) × (numbers ≡ number ∷ more)
+and_number : (number : Number) (following : Option (List Number)) (numbers : List Number) → option_map (λ (more : List Number). number ∷ more) following ≡ Some numbers → (more : List Number) × (numbers ≡ number ∷ more)
 and_number number None numbers e = absurd (cc)
 and_number number (Some more) numbers e = (more, cc)
 

@@ -43,16 +43,16 @@ stays_none bytes decisions = record {
   spelled = refl;
   valid = tt;
   stay = λ more. refl;
-  behind = λ more. ap (λ n. drop n decisions) (omega arith);
+  following = λ more. ap (λ n. drop n decisions) (omega arith);
   same = λ more. refl;
 }
 
 -- one more number that stays
-pub stays_more : (bytes : List ℕ) (decisions : List (Option ℕ)) (place : ℕ) (left behind : List (Option ℕ)) (number : Number)
+pub stays_more : (bytes : List ℕ) (decisions : List (Option ℕ)) (place : ℕ) (left following : List (Option ℕ)) (number : Number)
     → StaysBefore bytes decisions place left → IsNumber number → take number.width (drop place bytes) ≡ spelling number
-    → ((more : List Number) → renumbered left (number ∷ more) ≡ number ∷ renumbered behind more) → ((more : ℕ) → drop (more + 1) left ≡ drop more behind)
-    → ((more : List Number) → some_changed left (number ∷ more) ≡ some_changed behind more) → StaysBefore bytes decisions (place + number.width) behind
-stays_more bytes decisions place left behind number s valid at same dropped unchanged =
+    → ((more : List Number) → renumbered left (number ∷ more) ≡ number ∷ renumbered following more) → ((more : ℕ) → drop (more + 1) left ≡ drop more following)
+    → ((more : List Number) → some_changed left (number ∷ more) ≡ some_changed following more) → StaysBefore bytes decisions (place + number.width) following
+stays_more bytes decisions place left following number s valid at same dropped unchanged =
     let rest = drop place bytes in
     let first : packed_numbers rest ≡ option_map (λ (more : List Number). number ∷ more) (packed_numbers (drop (place + number.width) bytes)) =
     packed-first number rest valid at ∙ ap (λ (b : List ℕ). option_map (λ (more : List Number). number ∷ more) (packed_numbers b)) (drop-drop number.width place bytes) in
@@ -72,10 +72,10 @@ stays_more bytes decisions place left behind number s valid at same dropped unch
           ap (renumbered decisions) (append_assoc s.read (number ∷ []) more)
           ∙ s.stay (number ∷ more)
           ∙ ap (λ (list : List Number). s.read ++ list) (same more)
-          ∙ sym (append_assoc s.read (number ∷ []) (renumbered behind more));
-      behind = λ more.
+          ∙ sym (append_assoc s.read (number ∷ []) (renumbered following more));
+      following = λ more.
           ap (λ n. drop n decisions) (omega (arith, length-append s.read (number ∷ [])))
-          ∙ s.behind (more + 1)
+          ∙ s.following (more + 1)
           ∙ dropped more;
       same = λ more. ap (some_changed decisions) (append_assoc s.read (number ∷ []) more) ∙ s.same (number ∷ more) ∙ unchanged more;
     }
@@ -90,29 +90,29 @@ pub record Makes (front bytes : List ℕ) (decisions : List (Option ℕ)) (rest 
 
 pub makes_none : (front bytes : List ℕ) (decisions : List (Option ℕ)) → Makes front bytes decisions bytes decisions front
 makes_none front bytes decisions = record {
-  good = λ more e valid. record { numbers = more; good = e; valid = valid; spelled = refl; behind = refl };
+  good = λ more e valid. record { numbers = more; good = e; valid = valid; spelled = refl; following = refl };
   bad = λ e. e;
 }
 
 -- one more number, of which these are left
-pub makes_more : (front bytes : List ℕ) (decisions : List (Option ℕ)) (rest : List ℕ) (left behind : List (Option ℕ)) (made made' : List ℕ) (number : Number) (kept : List Number)
+pub makes_more : (front bytes : List ℕ) (decisions : List (Option ℕ)) (rest : List ℕ) (left following : List (Option ℕ)) (made made' : List ℕ) (number : Number) (kept : List Number)
     → Makes front bytes decisions rest left made → IsNumber number → take number.width rest ≡ spelling number → AllByRecursion IsNumber kept
-    → ((more : List Number) → renumbered left (number ∷ more) ≡ kept ++ renumbered behind more) → ((more : ℕ) → drop (more + 1) left ≡ drop more behind)
-    → made' ≡ made ++ flat_map spelling kept → Makes front bytes decisions (drop number.width rest) behind made'
-makes_more front bytes decisions rest left behind made made' number kept m valid at valid_kept decided dropped is =
+    → ((more : List Number) → renumbered left (number ∷ more) ≡ kept ++ renumbered following more) → ((more : ℕ) → drop (more + 1) left ≡ drop more following)
+    → made' ≡ made ++ flat_map spelling kept → Makes front bytes decisions (drop number.width rest) following made'
+makes_more front bytes decisions rest left following made made' number kept m valid at valid_kept decided dropped is =
     let first = packed-first number rest valid at in
     record {
       good = λ more e valid_more.
           let whole = m.good (number ∷ more) (first ∙ ap (option_map (λ (list : List Number). number ∷ list)) e)
-          (subst (AllByRecursion IsNumber) (sym (decided more)) (all_joined IsNumber kept (renumbered behind more) valid_kept valid_more)) in
-          let spelled : made ++ flat_map spelling (renumbered left (number ∷ more)) ≡ made' ++ flat_map spelling (renumbered behind more) =
+          (subst (AllByRecursion IsNumber) (sym (decided more)) (all_joined IsNumber kept (renumbered following more) valid_kept valid_more)) in
+          let spelled : made ++ flat_map spelling (renumbered left (number ∷ more)) ≡ made' ++ flat_map spelling (renumbered following more) =
           ap (λ (list : List Number). made ++ flat_map spelling list) (decided more)
-          ∙ ap (λ (b : List ℕ). made ++ b) (flat_map-append spelling kept (renumbered behind more))
-          ∙ sym (append_assoc made (flat_map spelling kept) (flat_map spelling (renumbered behind more)))
-          ∙ ap (λ (b : List ℕ). b ++ flat_map spelling (renumbered behind more)) (sym is) in
-          let gone : drop (length (number ∷ more)) left ≡ drop (length more) behind =
+          ∙ ap (λ (b : List ℕ). made ++ b) (flat_map-append spelling kept (renumbered following more))
+          ∙ sym (append_assoc made (flat_map spelling kept) (flat_map spelling (renumbered following more)))
+          ∙ ap (λ (b : List ℕ). b ++ flat_map spelling (renumbered following more)) (sym is) in
+          let gone : drop (length (number ∷ more)) left ≡ drop (length more) following =
           ap (λ (n : ℕ). drop n left) {x = suc (length more)} (omega arith) ∙ dropped (length more) in
-          subst (λ (b : List ℕ). IsLeft front bytes decisions b (drop (length more) behind)) spelled
+          subst (λ (b : List ℕ). IsLeft front bytes decisions b (drop (length more) following)) spelled
           (subst (IsLeft front bytes decisions (made ++ flat_map spelling (renumbered left (number ∷ more)))) gone whole);
       bad = λ e. m.bad (first ∙ ap (option_map (λ (list : List Number). number ∷ list)) e);
     }

@@ -36,8 +36,8 @@ all_stay-end bytes decisions place left whole s =
     let found : packed_numbers bytes ≡ Some (s.read ++ []) = s.good [] (ap packed_numbers (drop_all place bytes whole)) in
     let stay : renumbered decisions (s.read ++ []) ≡ s.read ++ [] = s.stay [] ∙ ap (λ (list : List Number). s.read ++ list) (renumbered-none left) in
     let spelled : flat_map spelling (s.read ++ []) ≡ bytes = ap (flat_map spelling) (append-nil s.read) ∙ sym s.spelled ∙ take_all place bytes whole in
-    let behind : drop (length (s.read ++ [])) decisions ≡ left = ap (λ (n : ℕ). drop n decisions) (length-append s.read []) ∙ s.behind 0 in (
-      sym (ap (λ (o : Option (List Number)). drop (length (unwrap_or o [])) decisions) found ∙ behind),
+    let following : drop (length (s.read ++ [])) decisions ≡ left = ap (λ (n : ℕ). drop n decisions) (length-append s.read []) ∙ s.following 0 in (
+      sym (ap (λ (o : Option (List Number)). drop (length (unwrap_or o [])) decisions) found ∙ following),
       ap (λ (o : Option (List Number)). some_changed decisions (unwrap_or o [])) found ∙ s.same [],
       λ numbers e.
           let same : s.read ++ [] ≡ numbers = cc in
@@ -46,14 +46,14 @@ all_stay-end bytes decisions place left whole s =
 
 -- ---- the first that does not stay
 
-differs_by : (left behind : List (Option ℕ)) (number : Varint) (fate : Fate Varint) → (fate ≡ Stays → ⊥) → IsChange number_of (number_of number) fate
-    → (more : List Number) → renumbered left (number_of number ∷ more) ≡ left_of_fate number_of (number_of number) fate ++ renumbered behind more
+differs_by : (left following : List (Option ℕ)) (number : Varint) (fate : Fate Varint) → (fate ≡ Stays → ⊥) → IsChange number_of (number_of number) fate
+    → (more : List Number) → renumbered left (number_of number ∷ more) ≡ left_of_fate number_of (number_of number) fate ++ renumbered following more
     → renumbered left (number_of number ∷ more) ≢ number_of number ∷ more
-differs_by left behind number Stays not_stays change more e same = not_stays refl
-differs_by left behind number Goes not_stays change more e same =
-    absurd (omega (arith, renumbered-no_more behind more, ap length (sym e ∙ same)))
-differs_by left behind number (Becomes other) not_stays change more e same =
-    let both : number_of other ∷ renumbered behind more ≡ number_of number ∷ more = sym e ∙ same in
+differs_by left following number Stays not_stays change more e same = not_stays refl
+differs_by left following number Goes not_stays change more e same =
+    absurd (omega (arith, renumbered-no_more following more, ap length (sym e ∙ same)))
+differs_by left following number (Becomes other) not_stays change more e same =
+    let both : number_of other ∷ renumbered following more ≡ number_of number ∷ more = sym e ∙ same in
     let head : number_of other ≡ number_of number = cc in
     change head
 
@@ -62,15 +62,15 @@ changed_by Stays others not_stays = absurd (not_stays refl)
 changed_by Goes others not_stays = refl
 changed_by (Becomes other) others not_stays = refl
 
-pub first_differs : (rest : List ℕ) (left behind : List (Option ℕ)) (number : Varint) (fate : Fate Varint) → (fate ≡ Stays → ⊥) → IsChange number_of (number_of number) fate
-    → ((more : List Number) → renumbered left (number_of number ∷ more) ≡ left_of_fate number_of (number_of number) fate ++ renumbered behind more)
-    → ((more : List Number) → some_changed left (number_of number ∷ more) ≡ changes fate || some_changed behind more)
+pub first_differs : (rest : List ℕ) (left following : List (Option ℕ)) (number : Varint) (fate : Fate Varint) → (fate ≡ Stays → ⊥) → IsChange number_of (number_of number) fate
+    → ((more : List Number) → renumbered left (number_of number ∷ more) ≡ left_of_fate number_of (number_of number) fate ++ renumbered following more)
+    → ((more : List Number) → some_changed left (number_of number ∷ more) ≡ changes fate || some_changed following more)
     → ((numbers : List Number) → packed_numbers rest ≡ Some numbers → (more : List Number) × (numbers ≡ number_of number ∷ more))
     → FirstDiffers rest left
-first_differs rest left behind number fate not_stays change decided changed begins numbers e =
+first_differs rest left following number fate not_stays change decided changed begins numbers e =
     let more = begins numbers e in
     subst (λ (list : List Number). (renumbered left list ≢ list) × (some_changed left list ≡ true)) (sym more.1)
-    (differs_by left behind number fate not_stays change more.0 (decided more.0), changed more.0 ∙ changed_by fate (some_changed behind more.0) not_stays)
+    (differs_by left following number fate not_stays change more.0 (decided more.0), changed more.0 ∙ changed_by fate (some_changed following more.0) not_stays)
 
 -- ---- the whole body
 
@@ -81,7 +81,7 @@ pub record IsChanged (bytes : List ℕ) (decisions : List (Option ℕ)) (made : 
   pub valid : AllByRecursion IsNumber (renumbered decisions numbers)
   pub spelled : made ≡ flat_map spelling (renumbered decisions numbers)
   pub differs : renumbered decisions numbers ≢ numbers
-  pub behind : left ≡ drop (length numbers) decisions
+  pub following : left ≡ drop (length numbers) decisions
   pub some : some_changed decisions numbers ≡ true
 
 pub whole_changed : (bytes : List ℕ) (decisions : List (Option ℕ)) (place : ℕ) (from : List (Option ℕ)) (made : List ℕ) (left : List (Option ℕ))
@@ -98,7 +98,7 @@ whole_changed bytes decisions place from made left s differs m =
           ∙ sym (flat_map-append spelling s.read (renumbered from m.numbers))
           ∙ ap (flat_map spelling) (sym new);
       differs = λ same. (differs m.numbers m.good).0 (append_cancel_left s.read (renumbered from m.numbers) m.numbers (sym new ∙ same));
-      behind = m.behind ∙ sym (ap (λ (n : ℕ). drop n decisions) (length-append s.read m.numbers) ∙ s.behind (length m.numbers));
+      following = m.following ∙ sym (ap (λ (n : ℕ). drop n decisions) (length-append s.read m.numbers) ∙ s.following (length m.numbers));
       some = s.same m.numbers ∙ (differs m.numbers m.good).1;
     }
 
@@ -123,8 +123,8 @@ changed_left tag width bytes decisions made left m =
     left_packed tag width bytes decisions m.numbers (renumbered decisions m.numbers) made (some_numbers decisions m.numbers m.differs) m.valid m.spelled
     ∙ ap (λ (o : Option (List Number)). with_left (packed_field tag width bytes) (unwrap_or o []) (renumbered decisions (unwrap_or o []))) (sym m.good)
 
-pub changed_behind : (bytes : List ℕ) (decisions : List (Option ℕ)) (made : List ℕ) (left : List (Option ℕ)) → IsChanged bytes decisions made left → left ≡ drop (length (unwrap_or (packed_numbers bytes) [])) decisions
-changed_behind bytes decisions made left m = m.behind ∙ ap (λ (o : Option (List Number)). drop (length (unwrap_or o [])) decisions) (sym m.good)
+pub changed_after : (bytes : List ℕ) (decisions : List (Option ℕ)) (made : List ℕ) (left : List (Option ℕ)) → IsChanged bytes decisions made left → left ≡ drop (length (unwrap_or (packed_numbers bytes) [])) decisions
+changed_after bytes decisions made left m = m.following ∙ ap (λ (o : Option (List Number)). drop (length (unwrap_or o [])) decisions) (sym m.good)
 
 pub changed_some : (bytes : List ℕ) (decisions : List (Option ℕ)) (made : List ℕ) (left : List (Option ℕ)) → IsChanged bytes decisions made left → some_changed decisions (unwrap_or (packed_numbers bytes) []) ≡ true
 changed_some bytes decisions made left m = ap (λ (o : Option (List Number)). some_changed decisions (unwrap_or o [])) m.good ∙ m.some

@@ -138,15 +138,15 @@ all_reread number decisions [] found short e =
 all_reread number decisions (field ∷ more) found short e =
     let b = both_some (field_read number field) (fields_read number more) found e in
     let own : field_numbers number field ≡ b.first = ap (λ (o : Option (List Number)). unwrap_or o []) b.first_is in
-    let behind = drop (length (field_numbers number field)) decisions in
+    let following = drop (length (field_numbers number field)) decisions in
     let left = with_left field (field_numbers number field) (renumbered decisions (field_numbers number field)) in
     let first : fields_read number left ≡ Some (renumbered decisions b.first) =
     ap (λ (old : List Number). fields_read number (with_left field old (renumbered decisions old))) own
     ∙ reread number field decisions b.first (renumbered decisions b.first) short b.first_is refl in
-    let second : fields_read number (renumber number behind more) ≡ Some (renumbered behind b.second) =
-    all_reread number behind more b.second (all_dropped (λ decision. IfSome decision (λ value. value < 2 ^ 64)) (length (field_numbers number field)) decisions short) b.second_is in
-    fields_read-append number left (renumber number behind more)
-    ∙ ap (λ (o : Option (List Number)). both_found o (fields_read number (renumber number behind more))) first
+    let second : fields_read number (renumber number following more) ≡ Some (renumbered following b.second) =
+    all_reread number following more b.second (all_dropped (λ decision. IfSome decision (λ value. value < 2 ^ 64)) (length (field_numbers number field)) decisions short) b.second_is in
+    fields_read-append number left (renumber number following more)
+    ∙ ap (λ (o : Option (List Number)). both_found o (fields_read number (renumber number following more))) first
     ∙ ap (both_found (Some (renumbered decisions b.first))) second
     ∙ ap (λ (n : ℕ). Some (renumbered decisions b.first ++ renumbered (drop n decisions) b.second)) (ap length own)
     ∙ ap Some (sym (renumbered-append decisions b.first b.second) ∙ ap (renumbered decisions) b.joined)
@@ -281,20 +281,20 @@ narrow_fields number decisions (field ∷ more) narrow =
     let old = field_numbers number field in
     let apart = narrow_apart decisions old (flat_map (field_numbers number) more) narrow in
     let left = renumbered_field number decisions field in
-    let behind = renumber number (drop (length old) decisions) more in
-    omega (arith, narrow_field number decisions field apart.0, narrow_fields number (drop (length old) decisions) more apart.1, ap length (flat_map-append field_bytes left behind), length-append (flat_map field_bytes left) (flat_map field_bytes behind), length-append (field_bytes field) (flat_map field_bytes more))
+    let following = renumber number (drop (length old) decisions) more in
+    omega (arith, narrow_field number decisions field apart.0, narrow_fields number (drop (length old) decisions) more apart.1, ap length (flat_map-append field_bytes left following), length-append (flat_map field_bytes left) (flat_map field_bytes following), length-append (field_bytes field) (flat_map field_bytes more))
 
 pub no_longer : NoLonger
 no_longer number decisions fields kept = narrow_fields number decisions fields (kept_widths decisions (flat_map (field_numbers number) fields) kept)
 
 -- ---- one number of a packed body
 
-others_kept : (before behind : List Number) (old : Number) (value : ℕ) → renumbered (keeping before ++ Some value ∷ []) (before ++ old ∷ behind) ≡ before ++ with_number value old ∷ behind
-others_kept [] behind old value = refl
-others_kept (first ∷ before) behind old value =
-    renumbered_more (Some first.value) (keeping before ++ Some value ∷ []) first (before ++ old ∷ behind)
-    ∙ ap (λ (n : Number). n ∷ renumbered (keeping before ++ Some value ∷ []) (before ++ old ∷ behind)) (with_number-same first.value first refl)
-    ∙ ap (λ (list : List Number). first ∷ list) (others_kept before behind old value)
+others_kept : (before following : List Number) (old : Number) (value : ℕ) → renumbered (keeping before ++ Some value ∷ []) (before ++ old ∷ following) ≡ before ++ with_number value old ∷ following
+others_kept [] following old value = refl
+others_kept (first ∷ before) following old value =
+    renumbered_more (Some first.value) (keeping before ++ Some value ∷ []) first (before ++ old ∷ following)
+    ∙ ap (λ (n : Number). n ∷ renumbered (keeping before ++ Some value ∷ []) (before ++ old ∷ following)) (with_number-same first.value first refl)
+    ∙ ap (λ (list : List Number). first ∷ list) (others_kept before following old value)
 
 left_with : (tag : Number) (width : ℕ) (bytes : List ℕ) (xs ys zs us : List Number) (x y : Number) → with_left (packed_field tag width bytes) (xs ++ x ∷ ys) (zs ++ y ∷ us) ≡ packed_field tag width (flat_map spelling (zs ++ y ∷ us)) ∷ []
 left_with tag width bytes [] ys [] us x y = refl
@@ -303,21 +303,21 @@ left_with tag width bytes (first ∷ xs) ys [] us x y = refl
 left_with tag width bytes (first ∷ xs) ys (z ∷ zs) us x y = refl
 
 pub others_stay : OthersStay
-others_stay tag width value before behind old valid =
+others_stay tag width value before following old valid =
     let number = tag.value / 8 in
     let decisions = keeping before ++ Some value ∷ [] in
-    let list = before ++ old ∷ behind in
-    let bytes : List ℕ = flat_map spelling before ++ (spelling old ++ flat_map spelling behind) in
-    let spelled : flat_map spelling list ≡ bytes = flat_map-append spelling before (old ∷ behind) in
+    let list = before ++ old ∷ following in
+    let bytes : List ℕ = flat_map spelling before ++ (spelling old ++ flat_map spelling following) in
+    let spelled : flat_map spelling list ≡ bytes = flat_map-append spelling before (old ∷ following) in
     let found : packed_numbers bytes ≡ Some list = ap packed_numbers (sym spelled) ∙ packed-spellings list valid in
     let own : field_numbers number (packed_field tag width bytes) ≡ list =
     ap (λ (chunks : List (Result Placed ℕ)). unwrap_or (found_in chunks) []) (cond-true (eqb number number) (numbers_of 0 (Delimited width bytes)) [] (eq-eqb number number refl))
     ∙ ap (λ (o : Option (List Number)). unwrap_or o []) found in
     append-nil (renumbered_field number decisions (packed_field tag width bytes))
     ∙ ap (λ (numbers : List Number). with_left (packed_field tag width bytes) numbers (renumbered decisions numbers)) own
-    ∙ ap (with_left (packed_field tag width bytes) list) (others_kept before behind old value)
-    ∙ left_with tag width bytes before behind before behind old (with_number value old)
-    ∙ ap (λ (b : List ℕ). packed_field tag width b ∷ []) (flat_map-append spelling before (with_number value old ∷ behind))
+    ∙ ap (with_left (packed_field tag width bytes) list) (others_kept before following old value)
+    ∙ left_with tag width bytes before following before following old (with_number value old)
+    ∙ ap (λ (b : List ℕ). packed_field tag width b ∷ []) (flat_map-append spelling before (with_number value old ∷ following))
 
 -- ---- valid fields
 

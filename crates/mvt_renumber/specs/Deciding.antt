@@ -32,7 +32,7 @@ pub record StaysBefore (bytes : List ℕ) (decisions : List (Option ℕ)) (place
   pub spelled : take place bytes ≡ flat_map spelling read
   pub valid : AllByRecursion IsNumber read
   pub stay : (more : List Number) → renumbered decisions (read ++ more) ≡ read ++ renumbered left more
-  pub behind : (more : ℕ) → drop (length read + more) decisions ≡ drop more left
+  pub following : (more : ℕ) → drop (length read + more) decisions ≡ drop more left
   pub same : (more : List Number) → some_changed decisions (read ++ more) ≡ some_changed left more
 
 -- these decisions change some of the numbers of this body, where it packs numbers and nothing else
@@ -60,4 +60,4 @@ pub record IsLeft (front bytes : List ℕ) (decisions : List (Option ℕ)) (made
   pub good : packed_numbers bytes ≡ Some numbers
   pub valid : AllByRecursion IsNumber (renumbered decisions numbers)
   pub spelled : made ≡ front ++ flat_map spelling (renumbered decisions numbers)
-  pub behind : left ≡ drop (length numbers) decisions
+  pub following : left ≡ drop (length numbers) decisions

@@ -57,9 +57,9 @@ LowerNoLonger = (number : ℕ) (decisions : List (Option ℕ)) (fields : List Fi
 -- where one number of a packed body gets another value, the bytes before and after it stay
 -- (guide, Packed Repeated Fields)
 abbrev pub OthersStay : Type 0
-OthersStay = (tag : Number) (width value : ℕ) (before behind : List Number) (old : Number) → AllByRecursion IsNumber (before ++ old ∷ behind)
-    → renumber (tag.value / 8) (keeping before ++ Some value ∷ []) (packed_field tag width (flat_map spelling before ++ (spelling old ++ flat_map spelling behind)) ∷ [])
-    ≡ packed_field tag width (flat_map spelling before ++ (spelling (with_number value old) ++ flat_map spelling behind)) ∷ []
+OthersStay = (tag : Number) (width value : ℕ) (before following : List Number) (old : Number) → AllByRecursion IsNumber (before ++ old ∷ following)
+    → renumber (tag.value / 8) (keeping before ++ Some value ∷ []) (packed_field tag width (flat_map spelling before ++ (spelling old ++ flat_map spelling following)) ∷ [])
+    ≡ packed_field tag width (flat_map spelling before ++ (spelling (with_number value old) ++ flat_map spelling following)) ∷ []
 
 -- the numbers of fields that come after others are read after theirs (guide, Repeated Elements)
 abbrev pub AppendedIsRead : Type 0

@@ -135,7 +135,7 @@ fn first_change<'a>(bytes: &[u8], decisions: &'a [Option<u64>]) -> Scan<'a>
         let Some(number) = read_varint(&bytes[place..]) else {
             return Scan::AllStay(decisions);
         };
-        let (fate, behind) = first_fate(number, left);
+        let (fate, following) = first_fate(number, left);
         let Fate::Stays = fate else {
             return Scan::Changes {
                 place,
@@ -143,7 +143,7 @@ fn first_change<'a>(bytes: &[u8], decisions: &'a [Option<u64>]) -> Scan<'a>
             };
         };
         place += usize::from(number.width);
-        left = behind;
+        left = following;
     }
     Scan::AllStay(left)
 }
@@ -171,10 +171,10 @@ fn changed_from<'a>(
         let Some(number) = read_varint(&bytes[place..]) else {
             return Ok(None);
         };
-        let (fate, behind) = first_fate(number, left);
+        let (fate, following) = first_fate(number, left);
         making.pass(bytes, place, number, fate)?;
         place += usize::from(number.width);
-        left = behind;
+        left = following;
     }
     let Making { mut made, copied } = making;
     made.extend_from_slice(&bytes[copied..])?;

@@ -130,11 +130,11 @@ module _ {S T : Type 0} (splice_of : S → Splice T) (turned : S → List T → 
 
     pub one_less : (made : Held T) (next : S) → made.items ≡ spliced (splice_of (get_or steps i d)) list.items → length made.items + made.room ≡ length list.items + list.room → next ≡ turned (get_or steps i d) list.items → drop n steps ≡ drop n first
         → LeadsBack (take i (set steps i next)) made front items × (drop i (set steps i next) ≡ drop i first)
-    one_less made next makes room turns behind =
+    one_less made next makes room turns following =
         let index : (splice_of last).index ≤ length before = omega (arith, has.there) in
         let undone : made.items ≡ before = makes ∙ ap (λ s. spliced s list.items) leads ∙ ap (spliced (splice_back (splice_of last) before)) now ∙ splice-back (splice_of last).index (splice_of last).taken (splice_of last).put.items before index in
         let same : next ≡ last = turns ∙ ap (λ s. turned s list.items) were.1 ∙ ap (turned (turned last before)) now ∙ twice last before has.there finds.1 in
-        let rest : drop (i + 1) steps ≡ drop (i + 1) first = ap (λ k. drop k steps) (sym more) ∙ behind ∙ ap (λ k. drop k first) more in (
+        let rest : drop (i + 1) steps ≡ drop (i + 1) first = ap (λ k. drop k steps) (sym more) ∙ following ∙ ap (λ k. drop k first) more in (
           record { fit = has.fit; find_room = finds.0; are_turned = take-set steps i next ∙ were.0; made = undone; greatest = omega (arith, room, has.greatest) },
           drop-set steps i next inside ∙ ap (λ s. s ∷ drop (i + 1) steps) same ∙ ap (λ xs. last ∷ xs) rest ∙ sym (drop_more first i d there),
         )

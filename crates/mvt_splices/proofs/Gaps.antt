@@ -5,9 +5,9 @@ use Rattle.mvt_document.specs.Splicing.{splice}
 
 -- ---- the gap goes to an index
 
--- the list of a ring whose first `behind` items are after the gap
+-- the list of a ring whose first `following` items are after the gap
 abbrev pub unrolled : {A : Type 0} → ℕ → List A → List A
-unrolled behind ring = drop behind ring ++ take behind ring
+unrolled following ring = drop following ring ++ take following ring
 
 take_sum : {A : Type 0} (n m : ℕ) (xs : List A) → take (n + m) xs ≡ take n xs ++ take m (drop n xs)
 take_sum zero m xs = ap (λ k. take k xs) (omega arith)
@@ -28,41 +28,41 @@ drop_past : {A : Type 0} (n : ℕ) (xs ys : List A) → drop (length xs + n) (xs
 drop_past n xs ys = sym (drop-drop n (length xs) (xs ++ ys)) ∙ ap (drop n) (drop_at xs ys (length xs) refl)
 
 -- .. that is before it
-pub turned_back : {A : Type 0} (behind index : ℕ) (ring : List A) → behind + index ≤ length ring → drop (behind + index) ring ++ take (behind + index) ring ≡ drop index (unrolled behind ring) ++ take index (unrolled behind ring)
-turned_back behind index ring within =
-    let front = drop behind ring in
-    let back = take behind ring in
-    let there : index ≤ length front = omega (arith, length-drop behind ring) in
-    ap (λ rest. drop (behind + index) ring ++ rest) (take_sum behind index ring)
-    ∙ sym (append_assoc (drop (behind + index) ring) back (take index front))
-    ∙ ap (λ rest. (rest ++ back) ++ take index front) (sym (drop-drop index behind ring))
+pub turned_back : {A : Type 0} (following index : ℕ) (ring : List A) → following + index ≤ length ring → drop (following + index) ring ++ take (following + index) ring ≡ drop index (unrolled following ring) ++ take index (unrolled following ring)
+turned_back following index ring within =
+    let front = drop following ring in
+    let back = take following ring in
+    let there : index ≤ length front = omega (arith, length-drop following ring) in
+    ap (λ rest. drop (following + index) ring ++ rest) (take_sum following index ring)
+    ∙ sym (append_assoc (drop (following + index) ring) back (take index front))
+    ∙ ap (λ rest. (rest ++ back) ++ take index front) (sym (drop-drop index following ring))
     ∙ ap (λ rest. rest ++ take index front) (sym (drop-append-le index front back there))
     ∙ ap (λ rest. drop index (front ++ back) ++ rest) (sym (take-append-le index front back there))
 
 -- .. that is after it
-pub turned_on : {A : Type 0} (behind count index : ℕ) (ring : List A) → behind ≤ length ring → count ≤ behind → index + behind ≡ length ring + count → drop count ring ++ take count ring ≡ drop index (unrolled behind ring) ++ take index (unrolled behind ring)
-turned_on behind count index ring within few is =
-    let front = drop behind ring in
-    let back = take behind ring in
-    let sum : length front + count ≡ index = omega (arith, length-drop behind ring) in
-    let there : count ≤ length back = omega (arith, length-take-le behind ring within) in
-    ap (λ items. drop count items ++ take count ring) (sym (take-append-drop behind ring))
+pub turned_on : {A : Type 0} (following count index : ℕ) (ring : List A) → following ≤ length ring → count ≤ following → index + following ≡ length ring + count → drop count ring ++ take count ring ≡ drop index (unrolled following ring) ++ take index (unrolled following ring)
+turned_on following count index ring within few is =
+    let front = drop following ring in
+    let back = take following ring in
+    let sum : length front + count ≡ index = omega (arith, length-drop following ring) in
+    let there : count ≤ length back = omega (arith, length-take-le following ring within) in
+    ap (λ items. drop count items ++ take count ring) (sym (take-append-drop following ring))
     ∙ ap (λ rest. rest ++ take count ring) (drop-append-le count back front there)
     ∙ append_assoc (drop count back) front (take count ring)
-    ∙ ap (λ rest. drop count back ++ (front ++ rest)) (sym (take-take count behind ring few))
+    ∙ ap (λ rest. drop count back ++ (front ++ rest)) (sym (take-take count following ring few))
     ∙ ap (λ rest. rest ++ (front ++ take count back)) (sym (drop_past count front back))
     ∙ ap (λ rest. drop (length front + count) (front ++ back) ++ rest) (sym (take_past count front back))
     ∙ ap (λ n. drop n (front ++ back) ++ take n (front ++ back)) sum
 
 -- items come after the gap, which goes to an index
-pub put_behind : {A : Type 0} (behind index : ℕ) (put items : List A) → length (put ++ drop index items) ≡ behind → unrolled behind (put ++ (drop index items ++ take index items)) ≡ splice index 0 put items
-put_behind behind index put items is =
+pub put_after : {A : Type 0} (following index : ℕ) (put items : List A) → length (put ++ drop index items) ≡ following → unrolled following (put ++ (drop index items ++ take index items)) ≡ splice index 0 put items
+put_after following index put items is =
     let front = put ++ drop index items in
     let back = take index items in
     let none : index + 0 ≡ index = omega arith in
-    ap (unrolled behind) (sym (append_assoc put (drop index items) back))
-    ∙ ap (λ rest. rest ++ take behind (front ++ back)) (drop_at front back behind is)
-    ∙ ap (λ rest. back ++ rest) (take_at front back behind is)
+    ap (unrolled following) (sym (append_assoc put (drop index items) back))
+    ∙ ap (λ rest. rest ++ take following (front ++ back)) (drop_at front back following is)
+    ∙ ap (λ rest. back ++ rest) (take_at front back following is)
     ∙ sym (append_assoc back put (drop index items))
     ∙ ap (λ n. (back ++ put) ++ drop n items) (sym none)
 

@@ -209,10 +209,10 @@ module _ {S T : Type 0} (on : S → Type 0) (splice_of : S → Splice T) (turned
         pub stops : ((s : S) → roomier s s) → roomier step next → (back : List S) (end : Held T) → back ≡ so_far.are_turned.0 → end.items ≡ list.items → length end.items + end.room ≡ length made.items + made.room → OnlyMakesRoom roomier given (back ++ drop n (set steps n next)) list end
         stops as_roomy more back end were same capacity =
             let front = take n given in
-            let behind : given ≡ front ++ step ∷ drop (n + 1) given = sym (take-append-drop n given) ∙ ap (λ xs. front ++ xs) (drop_more given n d within ∙ ap (λ s. s ∷ drop (n + 1) given) (sym same_step)) in
+            let following : given ≡ front ++ step ∷ drop (n + 1) given = sym (take-append-drop n given) ∙ ap (λ xs. front ++ xs) (drop_more given n d within ∙ ap (λ s. s ∷ drop (n + 1) given) (sym same_step)) in
             let left : drop n (set steps n next) ≡ next ∷ drop (n + 1) given = drop-set steps n next inside ∙ ap (λ xs. next ∷ xs) (sym (drop-set-lt (n + 1) steps n next (omega arith)) ∙ rest_more next) in
             let all = zip_joined roomier front so_far.are_turned.0 (step ∷ drop (n + 1) given) (next ∷ drop (n + 1) given) so_far.are_turned.1 (more, zip_same roomier as_roomy (drop (n + 1) given)) in
-            record { items = same; room = omega (arith, room, so_far.room, capacity); are_roomier = subst (λ xs. AllZip roomier xs (back ++ drop n (set steps n next))) (sym behind) (rw (were, left) all) }
+            record { items = same; room = omega (arith, room, so_far.room, capacity); are_roomier = subst (λ xs. AllZip roomier xs (back ++ drop n (set steps n next))) (sym following) (rw (were, left) all) }
 
     -- the next step, if there is one, is not on the list
     pub ends_there : (n < length steps → on step → ⊥) → StartElsewhere on (drop n given)

@@ -19,7 +19,7 @@ const FEW: usize = 4;
 /// in the list's own memory. Contracts see the whole list, and also the room for more.
 pub struct Gap<T> {
     ring: VecDeque<T>,
-    behind: usize,
+    following: usize,
 }
 
 impl<T> Model for Gap<T> {
@@ -29,9 +29,9 @@ impl<T> Model for Gap<T> {
 
     ghost Value = { Held T };
 
-    ghost view = { λ g. record { items = drop g.behind g.ring.items ++ take g.behind g.ring.items; room = deque_capacity g.ring - deque_len g.ring } };
+    ghost view = { λ g. record { items = drop g.following g.ring.items ++ take g.following g.ring.items; room = deque_capacity g.ring - deque_len g.ring } };
 
-    ghost invariant = { λ g. (g.behind ≤ deque_len g.ring) × (deque_len g.ring ≤ deque_capacity g.ring) };
+    ghost invariant = { λ g. (g.following ≤ deque_len g.ring) × (deque_len g.ring ≤ deque_capacity g.ring) };
 }
 
 impl<T> Gap<T> {
@@ -44,7 +44,7 @@ impl<T> Gap<T> {
         let list = mem::replace(list, Vec::new(alloc));
         Gap {
             ring: VecDeque::from_vec(list),
-            behind: 0,
+            following: 0,
         }
     }
 
@@ -70,15 +70,15 @@ impl<T> Gap<T> {
         ensures room { length self.new.items + self.new.room ≡ length self.old.items + self.old.room }
         ensures put_room { length put.new.items + put.new.room ≡ length put.old.items + put.old.room }
     {
-        let goes_back = index < self.ring.len() - self.behind;
-        let behind = self.ring.len() - index - taken;
-        move_gap(&mut self.ring, self.behind, index);
+        let goes_back = index < self.ring.len() - self.following;
+        let following = self.ring.len() - index - taken;
+        move_gap(&mut self.ring, self.following, index);
         if comes_first(goes_back, taken, put.len()) {
             put_first(&mut self.ring, put);
-            self.behind = behind + 1;
+            self.following = following + 1;
         } else {
             exchange_first(&mut self.ring, taken, put);
-            self.behind = behind;
+            self.following = following;
         }
     }
 
@@ -88,25 +88,28 @@ impl<T> Gap<T> {
         ensures items { list.new.items ≡ self.items }
         ensures room { self.room ≤ (held_in list.new).room }
     {
-        let Gap { mut ring, behind } = self;
-        ring.rotate_left(behind);
+        let Gap {
+            mut ring,
+            following,
+        } = self;
+        ring.rotate_left(following);
         mem::replace(list, ring.into_vec()).destroy_empty();
     }
 }
 
-/// Moves the gap of a list, with `behind` items after it, to `index`: the items after it come
+/// Moves the gap of a list, with `following` items after it, to `index`: the items after it come
 /// first.
-fn move_gap<T>(ring: &mut VecDeque<T>, behind: usize, index: usize)
-    requires behind { behind ≤ deque_len ring.old }
+fn move_gap<T>(ring: &mut VecDeque<T>, following: usize, index: usize)
+    requires following { following ≤ deque_len ring.old }
     requires there { index ≤ deque_len ring.old }
     requires room { deque_len ring.old ≤ deque_capacity ring.old }
-    ensures items { let items = drop behind ring.old.items ++ take behind ring.old.items in ring.new.items ≡ drop index items ++ take index items }
+    ensures items { let items = drop following ring.old.items ++ take following ring.old.items in ring.new.items ≡ drop index items ++ take index items }
     ensures length { deque_len ring.new ≡ deque_len ring.old }
     ensures room { deque_capacity ring.new ≡ deque_capacity ring.old }
 {
-    let before = ring.len() - behind;
+    let before = ring.len() - following;
     let count = if index <= before {
-        behind + index
+        following + index
     } else {
         index - before
     };

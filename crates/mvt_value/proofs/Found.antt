@@ -16,7 +16,7 @@ use Rattle.mvt_value.specs.Values.{Value, OfText, OfFloat, OfDouble, OfInt, OfUi
 use Rattle.mvt_value.specs.Messages.{BodyHas, FieldHas, HasValue}
 use Rattle.mvt_document.specs.Signed.{unzigzag}
 use Rattle.mvt_value.specs.Signed.{signed}
-use Rattle.mvt_value.specs.Found.{Front, first_piece, front_in, if_length, delimited_in, value_of_number, value_behind, value_in}
+use Rattle.mvt_value.specs.Found.{Front, first_piece, front_in, if_length, delimited_in, value_of_number, value_after, value_in}
 use Rattle.mvt_value.specs.Laws.{ValueIn}
 use Rattle.mvt_document.proofs.Signed.{unzigzag-zigzag, zigzag-unzigzag}
 use Rattle.mvt_value.proofs.Signed.{signed-twos_complement, signed_is}
@@ -30,7 +30,7 @@ pub front-spelling : (number : Number) (rest : List ℕ) → IsNumber number →
 front-spelling number rest s =
     ap first_piece (pieces-spelling number rest s)
     ∙ ap (λ (found : Option Number). option_map (λ (n : Number). front n (flat_map (λ (piece : List ℕ). piece) (pieces rest))) found) (number_in-spell number.value number.width s)
-    ∙ ap (λ (behind : List ℕ). Some (front number behind)) (pieces-joined rest)
+    ∙ ap (λ (following : List ℕ). Some (front number following)) (pieces-joined rest)
 
 record IsFront (bytes : List ℕ) (found : Front) : Type 0 where
   valid : IsNumber found.number
@@ -60,34 +60,34 @@ delimited_in-delimited width bytes s =
     ∙ ap (λ (found : Option Front). option_and_then (λ (f : Front). if_length f.number.value f.rest) found) (front-spelling (record { value = length bytes; width = width }) bytes s)
     ∙ if_length-same (length bytes) bytes refl
 
-number_behind : (tag : ℕ) (number : Number) (value : Value) → IsNumber number → value_of_number tag number.value ≡ Some value → option_and_then (λ (n : Number). value_of_number tag n.value) (number_in (spelling number)) ≡ Some value
-number_behind tag number value s e = ap (λ (found : Option Number). option_and_then (λ (n : Number). value_of_number tag n.value) found) (number_in-spell number.value number.width s) ∙ e
+number_after : (tag : ℕ) (number : Number) (value : Value) → IsNumber number → value_of_number tag number.value ≡ Some value → option_and_then (λ (n : Number). value_of_number tag n.value) (number_in (spelling number)) ≡ Some value
+number_after tag number value s e = ap (λ (found : Option Number). option_and_then (λ (n : Number). value_of_number tag n.value) found) (number_in-spell number.value number.width s) ∙ e
 
-at_tag : (tag other : ℕ) (bytes : List ℕ) (value : Value) → tag ≡ other → value_behind other bytes ≡ Some value → value_behind tag bytes ≡ Some value
-at_tag tag other bytes value same e = ap (λ (t : ℕ). value_behind t bytes) same ∙ e
+at_tag : (tag other : ℕ) (bytes : List ℕ) (value : Value) → tag ≡ other → value_after other bytes ≡ Some value → value_after tag bytes ≡ Some value
+at_tag tag other bytes value same e = ap (λ (t : ℕ). value_after t bytes) same ∙ e
 
-behind : (tag : ℕ) (body : Body) (value : Value) → IsTag tag (wire_type body) → IsBodyWith IsGroup (tag / 8) body → StoresBody body → BodyHas (tag / 8) body value → value_behind tag (body_bytes body) ≡ Some value
-behind tag (Delimited width bytes) (OfText text) t b s h =
+following : (tag : ℕ) (body : Body) (value : Value) → IsTag tag (wire_type body) → IsBodyWith IsGroup (tag / 8) body → StoresBody body → BodyHas (tag / 8) body value → value_after tag (body_bytes body) ≡ Some value
+following tag (Delimited width bytes) (OfText text) t b s h =
     at_tag tag 10 (delimited width bytes) (OfText text) (omega (arith, t.typed, h.0)) (ap (option_map OfText) (delimited_in-delimited width bytes s) ∙ ap (λ (x : List ℕ). Some (OfText x)) h.1)
-behind tag (Four bytes) (OfFloat float) t b s h =
+following tag (Four bytes) (OfFloat float) t b s h =
     at_tag tag 21 bytes (OfFloat float) (omega (arith, t.typed, h.0)) (ap (option_map OfFloat) (if_length-same 4 bytes b) ∙ ap (λ (x : List ℕ). Some (OfFloat x)) h.1)
-behind tag (Eight bytes) (OfDouble double) t b s h =
+following tag (Eight bytes) (OfDouble double) t b s h =
     at_tag tag 25 bytes (OfDouble double) (omega (arith, t.typed, h.0)) (ap (option_map OfDouble) (if_length-same 8 bytes b) ∙ ap (λ (x : List ℕ). Some (OfDouble x)) h.1)
-behind tag (Spelled n) (OfInt int) t b s h =
-    at_tag tag 32 (spelling n) (OfInt int) (omega (arith, t.typed, h.0)) (number_behind 32 n (OfInt int) b (ap (λ (v : ℕ). Some (OfInt (signed v))) h.2 ∙ ap (λ (z : _). Some (OfInt z)) (signed-twos_complement int h.1)))
-behind tag (Spelled n) (OfUint uint) t b s h =
-    at_tag tag 40 (spelling n) (OfUint uint) (omega (arith, t.typed, h.0)) (number_behind 40 n (OfUint uint) b (ap (λ (v : ℕ). Some (OfUint v)) h.1))
-behind tag (Spelled n) (OfSint sint) t b s h =
-    at_tag tag 48 (spelling n) (OfSint sint) (omega (arith, t.typed, h.0)) (number_behind 48 n (OfSint sint) b (ap (λ (v : ℕ). Some (OfSint (unzigzag v))) h.1 ∙ ap (λ (z : _). Some (OfSint z)) (unzigzag-zigzag sint)))
-behind tag (Spelled n) (OfBool truth) t b s h =
-    at_tag tag 56 (spelling n) (OfBool truth) (omega (arith, t.typed, h.0)) (number_behind 56 n (OfBool truth) b (ap (λ (v : Bool). Some (OfBool v)) (sym h.1)))
-behind tag body value t b s h = absurd h
+following tag (Spelled n) (OfInt int) t b s h =
+    at_tag tag 32 (spelling n) (OfInt int) (omega (arith, t.typed, h.0)) (number_after 32 n (OfInt int) b (ap (λ (v : ℕ). Some (OfInt (signed v))) h.2 ∙ ap (λ (z : _). Some (OfInt z)) (signed-twos_complement int h.1)))
+following tag (Spelled n) (OfUint uint) t b s h =
+    at_tag tag 40 (spelling n) (OfUint uint) (omega (arith, t.typed, h.0)) (number_after 40 n (OfUint uint) b (ap (λ (v : ℕ). Some (OfUint v)) h.1))
+following tag (Spelled n) (OfSint sint) t b s h =
+    at_tag tag 48 (spelling n) (OfSint sint) (omega (arith, t.typed, h.0)) (number_after 48 n (OfSint sint) b (ap (λ (v : ℕ). Some (OfSint (unzigzag v))) h.1 ∙ ap (λ (z : _). Some (OfSint z)) (unzigzag-zigzag sint)))
+following tag (Spelled n) (OfBool truth) t b s h =
+    at_tag tag 56 (spelling n) (OfBool truth) (omega (arith, t.typed, h.0)) (number_after 56 n (OfBool truth) b (ap (λ (v : Bool). Some (OfBool v)) (sym h.1)))
+following tag body value t b s h = absurd h
 
 found_in_field : (f : Field) (value : Value) → IsField f → StoresField f → FieldHas f value → value_in (field_bytes f) ≡ Some value
 unfolding value_in
 found_in_field f value valid stored has =
-    ap (λ (found : Option Front). option_and_then (λ (at : Front). value_behind at.number.value at.rest) found) (front-spelling f.tag (body_bytes f.body) valid.number)
-    ∙ behind f.tag.value f.body value valid.tag valid.body stored has
+    ap (λ (found : Option Front). option_and_then (λ (at : Front). value_after at.number.value at.rest) found) (front-spelling f.tag (body_bytes f.body) valid.number)
+    ∙ following f.tag.value f.body value valid.tag valid.body stored has
 
 pub found_value : (bytes : List ℕ) (value : Value) → HasValue bytes value → value_in bytes ≡ Some value
 found_value bytes value h = ap value_in (sym h.spelled) ∙ found_in_field h.field value h.valid h.stored h.has
@@ -231,7 +231,7 @@ spelled_says tag bytes value e =
       has = n.has;
     })
 
-says : (tag : ℕ) (bytes : List ℕ) (value : Value) → value_behind tag bytes ≡ Some value → Says tag bytes value
+says : (tag : ℕ) (bytes : List ℕ) (value : Value) → value_after tag bytes ≡ Some value → Says tag bytes value
 says tag bytes value e =
     let P : ℕ → Value → Type 0 = λ t v. Says t bytes v in
     chosen P tag 10 _ _ value (text_says bytes value)
@@ -240,8 +240,8 @@ says tag bytes value e =
     (spelled_says tag bytes value)))
     e
 
-behind_front : (bytes : List ℕ) (value : Value) (found : Front) → IsFront bytes found → Says found.number.value found.rest value → HasValue bytes value
-behind_front bytes value found f s =
+after_front : (bytes : List ℕ) (value : Value) (found : Front) → IsFront bytes found → Says found.number.value found.rest value → HasValue bytes value
+after_front bytes value found f s =
     record {
       field = record { tag = found.number; body = s.body };
       valid = record { number = f.valid; tag = s.typed; body = s.valid };
@@ -253,8 +253,8 @@ behind_front bytes value found f s =
 pub has_value : (bytes : List ℕ) (value : Value) → value_in bytes ≡ Some value → HasValue bytes value
 unfolding value_in
 has_value bytes value e =
-    option_and_then_some (λ (front : Front). value_behind front.number.value front.rest) (front_in bytes) value e
-    (λ found is same. behind_front bytes value found (front_is bytes found is) (says found.number.value found.rest value same))
+    option_and_then_some (λ (front : Front). value_after front.number.value front.rest) (front_in bytes) value e
+    (λ found is same. after_front bytes value found (front_is bytes found is) (says found.number.value found.rest value same))
 
 pub value_in_bytes : ValueIn
 value_in_bytes bytes value = (has_value bytes value, found_value bytes value)

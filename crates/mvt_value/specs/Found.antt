@@ -41,8 +41,8 @@ value_of_number tag n =
     else None
 
 -- the value that bytes stand for after this tag: a text, a float, or a number (tiles 4.1)
-abbrev pub value_behind : ℕ → List ℕ → Option Value
-value_behind tag bytes =
+abbrev pub value_after : ℕ → List ℕ → Option Value
+value_after tag bytes =
     if tag == 8 * 1 + 2 then option_map OfText (delimited_in bytes)
     else if tag == 8 * 2 + 5 then option_map OfFloat (if_length 4 bytes)
     else if tag == 8 * 3 + 1 then option_map OfDouble (if_length 8 bytes)
@@ -50,4 +50,4 @@ value_behind tag bytes =
 
 -- the value of the bytes: a tag, and what follows it up to the end, where these are a value (tiles 4.1)
 unfoldable pub value_in : List ℕ → Option Value
-value_in bytes = option_and_then (λ (front : Front). value_behind front.number.value front.rest) (front_in bytes)
+value_in bytes = option_and_then (λ (front : Front). value_after front.number.value front.rest) (front_in bytes)

@@ -14,7 +14,7 @@ use Rattle.tile_listing.specs.Printed.{MayBePrinted, AreLinesToPrint}
 use Rattle.tile_listing.proofs.Printing.{uncut-append, decimal_uncut}
 use Rattle.tile_answers.specs.Answering.{Answer, carried_out}
 use Rattle.tile_answers.proofs.AnswerLaws.{requests_print_lines, no_request_is_out_of_memory}
-use Rattle.tile_reply.specs.Replies.{accepted_reply, refused_front, refused_reply, refusal_number, refusal_name, place_text, behind_name, IsOutOfMemory, NoneIsOutOfMemory}
+use Rattle.tile_reply.specs.Replies.{accepted_reply, refused_front, refused_reply, refusal_number, refusal_name, place_text, after_name, IsOutOfMemory, NoneIsOutOfMemory}
 use Rattle.tile_course.specs.Run.{Progress, at_first, ran, settled_by, answered_by, after_line, is_over, after_lines}
 use Rattle.run_laws.specs.RunLaws.{NoRunIsOutOfMemory}
 use Rattle.mvt_meaning.specs.declared.refusal.Refusal.TheVariants as edit
@@ -88,38 +88,38 @@ place_uncut layer feature =
     let second = uncut-append prefix (codes " feature ") first (uncut_by_test (codes " feature ") refl) in
     uncut-append (prefix ++ codes " feature ") (decimal feature) second (decimal_uncut feature)
 
-behind_uncut : (reason : Refused) → HasNoLineFeed (behind_name reason)
-behind_uncut (refused.Parse parse.BadUtf8) = tt
-behind_uncut (refused.Parse parse.BadWord) = tt
-behind_uncut (refused.Parse parse.UnknownCommand) = tt
-behind_uncut (refused.Parse parse.BadArguments) = tt
-behind_uncut (refused.Parse parse.BadNumber) = tt
-behind_uncut (refused.Parse parse.BadValue) = tt
-behind_uncut (refused.Parse parse.BadGeometryText) = tt
-behind_uncut (refused.Parse parse.LineTooLong) = tt
-behind_uncut (refused.Parse parse.NoMemory) = tt
-behind_uncut (refused.Edit edit.NoLayer) = tt
-behind_uncut (refused.Edit edit.AmbiguousLayer) = tt
-behind_uncut (refused.Edit edit.NoFeature) = tt
-behind_uncut (refused.Edit edit.NoKey) = tt
-behind_uncut (refused.Edit edit.BadPlace) = tt
-behind_uncut (refused.Edit edit.AmbiguousFeature) = tt
-behind_uncut (refused.Edit (edit.BadTags layer feature)) = place_uncut layer feature
-behind_uncut (refused.Edit (edit.RepeatedKey layer feature)) = place_uncut layer feature
-behind_uncut (refused.Edit (edit.BadGeometry layer feature)) = place_uncut layer feature
-behind_uncut (refused.Edit edit.NameTaken) = tt
-behind_uncut (refused.Edit edit.KeyTaken) = tt
-behind_uncut (refused.Edit edit.OutOfRange) = tt
-behind_uncut (refused.Edit edit.TooLarge) = tt
-behind_uncut (refused.Edit edit.NoMemory) = tt
-behind_uncut (refused.History history.NothingToUndo) = tt
-behind_uncut (refused.History history.NothingToRedo) = tt
-behind_uncut (refused.History history.NoMark) = tt
-behind_uncut (refused.History history.TooManyMarks) = tt
-behind_uncut (refused.History (history.Stopped taken)) = uncut-append (codes " taken ") (decimal taken) (uncut_by_test (codes " taken ") refl) (decimal_uncut taken)
-behind_uncut (refused.History history.GroupOpen) = tt
-behind_uncut (refused.History history.NoGroup) = tt
-behind_uncut (refused.History history.NoMemory) = tt
+after_uncut : (reason : Refused) → HasNoLineFeed (after_name reason)
+after_uncut (refused.Parse parse.BadUtf8) = tt
+after_uncut (refused.Parse parse.BadWord) = tt
+after_uncut (refused.Parse parse.UnknownCommand) = tt
+after_uncut (refused.Parse parse.BadArguments) = tt
+after_uncut (refused.Parse parse.BadNumber) = tt
+after_uncut (refused.Parse parse.BadValue) = tt
+after_uncut (refused.Parse parse.BadGeometryText) = tt
+after_uncut (refused.Parse parse.LineTooLong) = tt
+after_uncut (refused.Parse parse.NoMemory) = tt
+after_uncut (refused.Edit edit.NoLayer) = tt
+after_uncut (refused.Edit edit.AmbiguousLayer) = tt
+after_uncut (refused.Edit edit.NoFeature) = tt
+after_uncut (refused.Edit edit.NoKey) = tt
+after_uncut (refused.Edit edit.BadPlace) = tt
+after_uncut (refused.Edit edit.AmbiguousFeature) = tt
+after_uncut (refused.Edit (edit.BadTags layer feature)) = place_uncut layer feature
+after_uncut (refused.Edit (edit.RepeatedKey layer feature)) = place_uncut layer feature
+after_uncut (refused.Edit (edit.BadGeometry layer feature)) = place_uncut layer feature
+after_uncut (refused.Edit edit.NameTaken) = tt
+after_uncut (refused.Edit edit.KeyTaken) = tt
+after_uncut (refused.Edit edit.OutOfRange) = tt
+after_uncut (refused.Edit edit.TooLarge) = tt
+after_uncut (refused.Edit edit.NoMemory) = tt
+after_uncut (refused.History history.NothingToUndo) = tt
+after_uncut (refused.History history.NothingToRedo) = tt
+after_uncut (refused.History history.NoMark) = tt
+after_uncut (refused.History history.TooManyMarks) = tt
+after_uncut (refused.History (history.Stopped taken)) = uncut-append (codes " taken ") (decimal taken) (uncut_by_test (codes " taken ") refl) (decimal_uncut taken)
+after_uncut (refused.History history.GroupOpen) = tt
+after_uncut (refused.History history.NoGroup) = tt
+after_uncut (refused.History history.NoMemory) = tt
 
 refused_uncut : (line : ℕ) (reason : Refused) → HasNoLineFeed (refused_text line reason)
 refused_uncut line reason =
@@ -129,7 +129,7 @@ refused_uncut line reason =
     let third = uncut-append (codes "line " ++ decimal line ++ codes " refused ") number second (decimal_uncut (refusal_number reason)) in
     let fourth = uncut-append (codes "line " ++ decimal line ++ codes " refused " ++ number) (codes " ") third (uncut_by_test (codes " ") refl) in
     let fifth = uncut-append (before_name line reason) (refusal_name reason) fourth (uncut_by_test (refusal_name reason) (name_uncut reason)) in
-    uncut-append (refused_front line reason) (behind_name reason) fifth (behind_uncut reason)
+    uncut-append (refused_front line reason) (after_name reason) fifth (after_uncut reason)
 
 -- ---- texts of whole lines that are not out of memory
 
@@ -161,7 +161,7 @@ clean_line text uncut is = record { ends = inr (text, refl); each = subst (AllBy
 printed_is_not_out_of_memory : (text : List ℕ) → MayBePrinted text → IsNotOutOfMemory text
 unfolding IsNotOutOfMemory
 printed_is_not_out_of_memory text may line reason out_of_memory e =
-    may.other (decimal line ++ codes " refused " ++ decimal (refusal_number reason) ++ codes " " ++ refusal_name reason ++ behind_name reason) e
+    may.other (decimal line ++ codes " refused " ++ decimal (refusal_number reason) ++ codes " " ++ refusal_name reason ++ after_name reason) e
 
 clean_each : (lines : List (List ℕ)) → AllByRecursion MayBePrinted lines → IsClean (flat_map with_feed lines)
 clean_each [] all = clean_nothing
@@ -228,11 +228,11 @@ unfolding IsNotOutOfMemory
 clean_none_out_of_memory replies clean line reason prefix rest ends out_of_memory e =
     let reply = refused_reply line reason in
     let text = refused_text line reason in
-    let behind : lines_of (reply ++ rest) ≡ text ∷ lines_of rest =
+    let following : lines_of (reply ++ rest) ≡ text ∷ lines_of rest =
     first_lines reply rest (refused_ends line reason) ∙ ap (λ (ls : List (List ℕ)). ls ++ lines_of rest) (one_line text (refused_uncut line reason)) in
     let whole : lines_of replies ≡ lines_of prefix ++ lines_of (reply ++ rest) = ap lines_of (e ∙ append_assoc prefix reply rest) ∙ first_lines prefix (reply ++ rest) ends in
     let all : AllByRecursion IsNotOutOfMemory (lines_of prefix ++ lines_of (reply ++ rest)) = subst (AllByRecursion IsNotOutOfMemory) whole clean.each in
-    let there : AllByRecursion IsNotOutOfMemory (text ∷ lines_of rest) = subst (AllByRecursion IsNotOutOfMemory) behind (all_apart IsNotOutOfMemory (lines_of prefix) (lines_of (reply ++ rest)) all).1 in
+    let there : AllByRecursion IsNotOutOfMemory (text ∷ lines_of rest) = subst (AllByRecursion IsNotOutOfMemory) following (all_apart IsNotOutOfMemory (lines_of prefix) (lines_of (reply ++ rest)) all).1 in
     head_is text (lines_of rest) there line reason out_of_memory refl
 
 pub no_run_is_out_of_memory : NoRunIsOutOfMemory

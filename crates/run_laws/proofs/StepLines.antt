@@ -25,16 +25,16 @@ asks_for : (line : List ℕ) (request : Request) → answer_to line ≡ Ok (Some
 asks_for line request asks_so = ap asked_in asks_so
 
 -- the history after a first line and others, where the first asks for this
-behind_first : (p : Progress) (first : List ℕ) (request : Request) (lines : List (List ℕ)) → answer_to first ≡ Ok (Some request) → (after_lines false p (first ∷ lines)).history ≡ asked_all (requests_of lines) (asked_all (asked_of request) p.history)
-behind_first p first request lines asks_so =
+following_first : (p : Progress) (first : List ℕ) (request : Request) (lines : List (List ℕ)) → answer_to first ≡ Ok (Some request) → (after_lines false p (first ∷ lines)).history ≡ asked_all (requests_of lines) (asked_all (asked_of request) p.history)
+following_first p first request lines asks_so =
     lines_are_requests p (first ∷ lines)
     ∙ ap (λ requests. asked_all (requests ++ requests_of lines) p.history) (asks_for first request asks_so)
     ∙ asked_joined (asked_of request) (requests_of lines) p.history
 
 -- the same, and more lines
-behind_lines : (p : Progress) (first : List ℕ) (request : Request) (lines more : List (List ℕ)) → answer_to first ≡ Ok (Some request) → (after_lines false p (first ∷ lines ++ more)).history ≡ asked_all (requests_of more) (asked_all (requests_of lines) (asked_all (asked_of request) p.history))
-behind_lines p first request lines more asks_so =
-    behind_first p first request (lines ++ more) asks_so
+following_lines : (p : Progress) (first : List ℕ) (request : Request) (lines more : List (List ℕ)) → answer_to first ≡ Ok (Some request) → (after_lines false p (first ∷ lines ++ more)).history ≡ asked_all (requests_of more) (asked_all (requests_of lines) (asked_all (asked_of request) p.history))
+following_lines p first request lines more asks_so =
+    following_first p first request (lines ++ more) asks_so
     ∙ ap (λ requests. asked_all requests (asked_all (asked_of request) p.history)) (requests_joined lines more)
     ∙ asked_joined (requests_of lines) (requests_of more) (asked_all (asked_of request) p.history)
 
@@ -58,7 +58,7 @@ cancel_in_a_run p begin cancel lines none asks_begin leave asks_cancel =
     let opening = with_group (Some []) p.history in
     let begun : asked Begin p.history ≡ opening = ap (or_before p.history) (opens p.history none) in
     let whole = cancel_leaves_no_trace requests p.history opening (opens p.history none) leave in
-    behind_lines p begin (OnHistory Begin) lines (cancel ∷ []) asks_begin
+    following_lines p begin (OnHistory Begin) lines (cancel ∷ []) asks_begin
     ∙ last_asks cancel (OnHistory Cancel) (asked_all requests (asked Begin p.history)) asks_cancel
     ∙ ap (λ history. asked Cancel (asked_all requests history)) begun
     ∙ ap (or_before (asked_all requests opening)) whole
@@ -68,14 +68,14 @@ step_undone_in_a_run p begin end undo lines sound none asks_begin leave some ask
     let requests = requests_of lines in
     let opening = with_group (Some []) p.history in
     let begun : asked Begin p.history ≡ opening = ap (or_before p.history) (opens p.history none) in
-    let within : (after_lines false p (begin ∷ lines)).history ≡ asked_all requests opening = behind_first p begin (OnHistory Begin) lines asks_begin ∙ ap (asked_all requests) begun in
+    let within : (after_lines false p (begin ∷ lines)).history ≡ asked_all requests opening = following_first p begin (OnHistory Begin) lines asks_begin ∙ ap (asked_all requests) begun in
     let whole = step_undoes_whole requests p.history opening sound (opens p.history none) leave (λ empty. some (ap (λ (history : History). history.group) within ∙ empty)) in
     let after = whole.0 in
     let back = whole.1 in
     let ended : asked End (asked_all requests opening) ≡ after = ap (or_before (asked_all requests opening)) whole.2 in
     let taken_back : asked Undo after ≡ back = ap (or_before after) whole.3 in
     let all : (after_lines false p (begin ∷ lines ++ end ∷ undo ∷ [])).history ≡ back =
-    behind_lines p begin (OnHistory Begin) lines (end ∷ undo ∷ []) asks_begin
+    following_lines p begin (OnHistory Begin) lines (end ∷ undo ∷ []) asks_begin
     ∙ last_two_ask end undo (OnHistory End) (OnHistory Undo) (asked_all requests (asked Begin p.history)) asks_end asks_undo
     ∙ ap (λ history. asked Undo (asked End (asked_all requests history))) begun
     ∙ ap (asked Undo) ended
@@ -88,10 +88,10 @@ pub back_in_a_run : BackInARun
 back_in_a_run p name mark back lines set gone sound asks_mark sets others asks_back goes =
     let requests = requests_of lines in
     let marks : asked (SetMark name) p.history ≡ set = ap (or_before p.history) sets in
-    let between : (after_lines false p (mark ∷ lines)).history ≡ asked_all requests set = behind_first p mark (OnHistory (SetMark name)) lines asks_mark ∙ ap (asked_all requests) marks in
+    let between : (after_lines false p (mark ∷ lines)).history ≡ asked_all requests set = following_first p mark (OnHistory (SetMark name)) lines asks_mark ∙ ap (asked_all requests) marks in
     let goes_so : gone_back name (asked_all requests set) ≡ Ok gone = ap (gone_back name) (sym between) ∙ goes in
     let all : (after_lines false p (mark ∷ lines ++ back ∷ [])).history ≡ gone =
-    behind_lines p mark (OnHistory (SetMark name)) lines (back ∷ []) asks_mark
+    following_lines p mark (OnHistory (SetMark name)) lines (back ∷ []) asks_mark
     ∙ last_asks back (OnHistory (GoBack name)) (asked_all requests (asked (SetMark name) p.history)) asks_back
     ∙ ap (λ history. asked (GoBack name) (asked_all requests history)) marks
     ∙ ap (or_before (asked_all requests set)) goes_so in

@@ -39,10 +39,10 @@ change_prints refusal (Ok history) answer e = let none : [] ≡ answer.lines = c
 change_prints refusal (Err error) answer e = absurd cc
 
 both_to_print : (first second : List ℕ) → AreLinesToPrint first → AreLinesToPrint second → AreLinesToPrint (first ++ second)
-both_to_print first second before behind = record {
-  lines = before.lines ++ behind.lines;
-  spelled = ap (λ text. text ++ second) before.spelled ∙ ap (λ text. flat_map with_feed before.lines ++ text) behind.spelled ∙ sym (flat_map-append with_feed before.lines behind.lines);
-  each = All-append MayBePrinted before.lines behind.lines before.each behind.each;
+both_to_print first second before following = record {
+  lines = before.lines ++ following.lines;
+  spelled = ap (λ text. text ++ second) before.spelled ∙ ap (λ text. flat_map with_feed before.lines ++ text) following.spelled ∙ sym (flat_map-append with_feed before.lines following.lines);
+  each = All-append MayBePrinted before.lines following.lines before.each following.each;
 }
 
 size_to_print : (document : Document) → AreLinesToPrint (size_line document)

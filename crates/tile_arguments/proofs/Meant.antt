@@ -6,7 +6,7 @@ use Rattle.std.specs.Str.Parse.{digits_value}
 use Rattle.std.proofs.lemmas.Bool.Decides.{nat_tests}
 use Rattle.mvt_command.specs.Command.{AtOrdinal, Named, FeatureAtOrdinal, WithId}
 use Rattle.tile_words.specs.Words.{Bare, Quoted}
-use Rattle.tile_arguments.specs.Arguments.{behind_mark, is_number, text_in, text_of, layer_of, feature_by, feature_of}
+use Rattle.tile_arguments.specs.Arguments.{after_mark, is_number, text_in, text_of, layer_of, feature_by, feature_of}
 use Rattle.tile_arguments.proofs.Digits.{is_number_parts, digit_among, number_is}
 
 pub text_quoted : (text : List ℕ) → text_of (Quoted text) ≡ Ok text
@@ -26,7 +26,7 @@ unfolding feature_of
 feature_with_id digits number = rw (number_is digits number) refl
 
 -- a number begins with a digit, and so not with a mark
-no_mark : (digits : List ℕ) → is_number digits ≡ true → behind_mark (codes "@") digits ≡ None
+no_mark : (digits : List ℕ) → is_number digits ≡ true → after_mark (codes "@") digits ≡ None
 no_mark [] number = refl
 no_mark (b ∷ digits) number =
     let digit : is_ascii_digit b ≡ true = digit_among (b ∷ digits) 0 (omega arith) (is_number_parts (b ∷ digits) number).1 in

@@ -5,7 +5,7 @@ use Rattle.std.specs.List.{position, position_or_len}
 use Rattle.std.proofs.lemmas.Bool.{ltb-true, ltb-false}
 use Rattle.std.proofs.lemmas.List.{drop_all}
 use Rattle.tile_words.proofs.Places.{place_le}
-use Rattle.tile_arguments.specs.Arguments.{behind_mark, number_up_to, signed_of, delta_of, point_at, point_in}
+use Rattle.tile_arguments.specs.Arguments.{after_mark, number_up_to, signed_of, delta_of, point_at, point_in}
 
 place_found : (p : ℕ → Bool) (xs : List ℕ) (k : ℕ) → position p xs ≡ Some k → (position_or_len p xs ≡ k) × (k < length xs)
 place_found p xs k e = tested (ltb (position_or_len p xs) (length xs)) refl e
@@ -46,7 +46,7 @@ pub without_x : (bytes x : List ℕ) (k : ℕ) → position (λ b. b == 44) byte
 without_x bytes x k e front none = around_comma bytes k e ∙ rw (← front, none) refl
 
 pub without_y : (bytes y : List ℕ) (k : ℕ) → position (λ b. b == 44) bytes ≡ Some k → y ≡ drop (k + 1) bytes → delta_of y ≡ None → point_in bytes ≡ None
-without_y bytes y k e behind_mark none = around_comma bytes k e ∙ rw (← behind_mark, none) (no_second (delta_of (take k bytes)))
+without_y bytes y k e after_mark none = around_comma bytes k e ∙ rw (← after_mark, none) (no_second (delta_of (take k bytes)))
 
 pub with_both : (bytes x y : List ℕ) (k : ℕ) (along down : ℤ) → position (λ b. b == 44) bytes ≡ Some k → x ≡ take k bytes → y ≡ drop (k + 1) bytes → delta_of x ≡ Some along → delta_of y ≡ Some down → point_in bytes ≡ Some (record { x = along; y = down })
-with_both bytes x y k along down e front behind_mark first second = around_comma bytes k e ∙ rw (← front, ← behind_mark, first, second) refl
+with_both bytes x y k along down e front after_mark first second = around_comma bytes k e ∙ rw (← front, ← after_mark, first, second) refl

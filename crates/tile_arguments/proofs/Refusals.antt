@@ -12,7 +12,7 @@ use Rattle.tile_words.specs.declared.parse_error.ParseError.{ParseError}
 use Rattle.tile_words.specs.declared.parse_error.ParseError.TheVariants as parse
 use Rattle.mvt_command.proofs.Others.{Other, either}
 use Rattle.tile_arguments.proofs.Judged.{only_other, texts_only, parts_only}
-use Rattle.tile_arguments.specs.Arguments.{behind_mark, is_number, number_of, number_in, delta_of, distance_of, text_in, text_of, texts_of, layer_by, layer_of, is_star, layers_of, feature_by, feature_of, parts_of, kinds, kind_word, kind_of, are_parts, shaped, geometry_of, value_in, value_of}
+use Rattle.tile_arguments.specs.Arguments.{after_mark, is_number, number_of, number_in, delta_of, distance_of, text_in, text_of, texts_of, layer_by, layer_of, is_star, layers_of, feature_by, feature_of, parts_of, kinds, kind_word, kind_of, are_parts, shaped, geometry_of, value_in, value_of}
 
 pub then_other : {A B : Type 0} (r : Result A ParseError) (f : A → Result B ParseError) → Other parse.NoMemory r → ((x : A) → Other parse.NoMemory (f x)) → Other parse.NoMemory (r >>= f)
 then_other (Ok x) f first second = second x
@@ -40,7 +40,7 @@ layer_by_other None word = then_other (text_of word) (λ name. Ok (Named name)) 
 pub layer_other : (word : Word) → Other parse.NoMemory (layer_of word)
 unfolding layer_of
 layer_other (Quoted text) = layer_by_other None (Quoted text)
-layer_other (Bare bytes) = layer_by_other (behind_mark (codes "#") bytes) (Bare bytes)
+layer_other (Bare bytes) = layer_by_other (after_mark (codes "#") bytes) (Bare bytes)
 
 pub layers_other : (word : Word) → Other parse.NoMemory (layers_of word)
 unfolding layers_of
@@ -53,7 +53,7 @@ feature_by_other None bytes = then_other (number_of bytes) (λ n. Ok (FeatureAtO
 pub feature_other : (word : Word) → Other parse.NoMemory (feature_of word)
 unfolding feature_of
 feature_other (Quoted text) = λ e. cc
-feature_other (Bare bytes) = feature_by_other (behind_mark (codes "@") bytes) bytes
+feature_other (Bare bytes) = feature_by_other (after_mark (codes "@") bytes) bytes
 
 pub number_in_other : (word : Word) → Other parse.NoMemory (number_in word)
 unfolding number_in

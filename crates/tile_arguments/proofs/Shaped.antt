@@ -13,7 +13,7 @@ use Rattle.tile_words.specs.declared.parse_error.ParseError.{ParseError}
 use Rattle.tile_words.specs.declared.parse_error.ParseError.TheVariants.{BadGeometryText}
 use Rattle.mvt_geometry.specs.Checks.{is_part_count}
 use Rattle.mvt_geometry.proofs.Checks.{counted-Decides}
-use Rattle.tile_arguments.specs.Arguments.{behind_mark, are_digits, number_up_to, signed_by, signed_of, delta_of, each, point_at, point_in, bare_in, point_of, part_of, is_bar, parts_of, are_parts, shaped}
+use Rattle.tile_arguments.specs.Arguments.{after_mark, are_digits, number_up_to, signed_by, signed_of, delta_of, each, point_at, point_in, bare_in, point_of, part_of, is_bar, parts_of, are_parts, shaped}
 use Rattle.tile_arguments.proofs.Digits.{both_true}
 
 -- ---- coordinates
@@ -46,7 +46,7 @@ signed_le most None bytes z e = positive_le most (number_up_to most bytes) z (up
 
 delta_le : (bytes : List ℕ) (z : ℤ) → delta_of bytes ≡ Some z → unsigned_abs z ≤ 2147483647
 unfolding signed_of
-delta_le bytes z e = signed_le 2147483647 (behind_mark (codes "-") bytes) bytes z e
+delta_le bytes z e = signed_le 2147483647 (after_mark (codes "-") bytes) bytes z e
 
 at_placed : (x y : Option ℤ) (p : Point) → ((z : ℤ) → x ≡ Some z → unsigned_abs z ≤ 2147483647) → ((z : ℤ) → y ≡ Some z → unsigned_abs z ≤ 2147483647) → point_at x y ≡ Some p → IsPlaced p
 at_placed None y p along down e = absurd cc

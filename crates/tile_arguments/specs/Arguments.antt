@@ -19,8 +19,8 @@ use Rattle.tile_words.specs.declared.parse_error.ParseError.{ParseError}
 use Rattle.tile_words.specs.declared.parse_error.ParseError.TheVariants.{BadArguments, BadNumber, BadValue, BadGeometryText}
 
 -- what follows a mark, where the bytes begin with it
-abbrev pub behind_mark : List ℕ → List ℕ → Option (List ℕ)
-behind_mark mark bytes = if starts_with nat_eq bytes mark then Some (drop (length mark) bytes) else None
+abbrev pub after_mark : List ℕ → List ℕ → Option (List ℕ)
+after_mark mark bytes = if starts_with nat_eq bytes mark then Some (drop (length mark) bytes) else None
 
 -- ---- numbers
 
@@ -52,7 +52,7 @@ signed_by least greatest None bytes = option_map pos (number_up_to greatest byte
 
 -- the signed number that the bytes denote: an optional `-`, then digits; from -least to greatest
 unfoldable pub signed_of : ℕ → ℕ → List ℕ → Option ℤ
-signed_of least greatest bytes = signed_by least greatest (behind_mark (codes "-") bytes) bytes
+signed_of least greatest bytes = signed_by least greatest (after_mark (codes "-") bytes) bytes
 
 -- a signed number of 64 bits: from -2^63 to 2^63 - 1
 abbrev pub integer_of : List ℕ → Option ℤ
@@ -81,7 +81,7 @@ bytes_in digits = result_ok (decode_of digits)
 -- the text that a word says: that of a quoted word, or the bytes that the digits after `x:` denote
 unfoldable pub text_in : Word → Option (List ℕ)
 text_in (Quoted text) = Some text
-text_in (Bare bytes) = option_and_then bytes_in (behind_mark (codes "x:") bytes)
+text_in (Bare bytes) = option_and_then bytes_in (after_mark (codes "x:") bytes)
 
 -- the text that a word says; else BadArguments
 unfoldable pub text_of : Word → Result (List ℕ) ParseError
@@ -111,7 +111,7 @@ layer_by None word = text_of word >>= λ name. Ok (Named name)
 -- how a word selects a layer: `#` and an ordinal, or a name as a text
 unfoldable pub layer_of : Word → Result LayerChoice ParseError
 layer_of (Quoted text) = layer_by None (Quoted text)
-layer_of (Bare bytes) = layer_by (behind_mark (codes "#") bytes) (Bare bytes)
+layer_of (Bare bytes) = layer_by (after_mark (codes "#") bytes) (Bare bytes)
 
 -- the word is the star `*` that means each layer
 abbrev pub is_star : Word → Bool
@@ -130,7 +130,7 @@ feature_by None bytes = number_of bytes >>= λ n. Ok (FeatureAtOrdinal n)
 -- how a word selects a feature: an ordinal, or `@` and an id; a quoted word is refused with BadNumber
 unfoldable pub feature_of : Word → Result FeatureChoice ParseError
 feature_of (Quoted text) = Err BadNumber
-feature_of (Bare bytes) = feature_by (behind_mark (codes "@") bytes) bytes
+feature_of (Bare bytes) = feature_by (after_mark (codes "@") bytes) bytes
 
 -- ---- values
 

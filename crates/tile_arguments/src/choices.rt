@@ -7,7 +7,7 @@ ghost use Rattle.tile_words.specs.Answers.{Gives, GivesAlways};
 ghost use Rattle.tile_words.specs.WordStands.{word_of};
 ghost use Rattle.tile_arguments.specs.Arguments.{text_in, layer_of, is_star, layers_of, feature_of};
 
-use crate::marks::behind_mark;
+use crate::marks::after_mark;
 use crate::numbers::number;
 use crate::texts::text_argument;
 use mvt_command::{FeatureChoice, LayerChoice, LayersChoice};
@@ -21,7 +21,7 @@ pub fn layer_choice(alloc: Global, word: Word<'_>) -> Result<LayerChoice, ParseE
     ensures no_memory { IsErrOf result ParseError.NoMemory → IsSome (text_in (word_of word.entry)) }
 {
     match word {
-        Word::Bare(bytes) => match behind_mark(b"#", bytes) {
+        Word::Bare(bytes) => match after_mark(b"#", bytes) {
             Some(digits) => Ok(LayerChoice::Ordinal(number(digits)?)),
             None => Ok(LayerChoice::Name(text_argument(alloc, word)?)),
         },
@@ -56,7 +56,7 @@ pub fn feature_choice(word: Word<'_>) -> Result<FeatureChoice, ParseError>
     ensures { GivesAlways feature_choice_of result (feature_of (word_of word.entry)) }
 {
     match word {
-        Word::Bare(bytes) => match behind_mark(b"@", bytes) {
+        Word::Bare(bytes) => match after_mark(b"@", bytes) {
             Some(digits) => Ok(FeatureChoice::Id(number(digits)?)),
             None => Ok(FeatureChoice::Ordinal(number(bytes)?)),
         },

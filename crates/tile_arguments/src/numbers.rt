@@ -5,7 +5,7 @@ ghost use Rattle.std.specs.Option.{SomeIff};
 ghost use Rattle.tile_words.specs.WordStands.{word_of};
 ghost use Rattle.tile_arguments.specs.Arguments.{number_of, number_in, number_up_to, signed_of, delta_of, distance_of};
 
-use crate::marks::behind_mark;
+use crate::marks::after_mark;
 use tile_words::{ParseError, Word};
 
 /// The farthest that points move or lie.
@@ -67,7 +67,7 @@ pub(crate) fn signed(least: u64, greatest: u64, bytes: &[u8]) -> Option<i64>
     requires greatest { greatest < 2 ^ 63 }
     ensures { result ≡ signed_of least greatest bytes.now }
 {
-    match behind_mark(b"-", bytes) {
+    match after_mark(b"-", bytes) {
         Some(digits) => Some(below_zero(number_up_to(least, digits)?)),
         None => Some(number_up_to(greatest, bytes)? as i64),
     }

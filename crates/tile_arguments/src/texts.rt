@@ -8,7 +8,7 @@ ghost use Rattle.tile_words.specs.Answers.{Gives};
 ghost use Rattle.tile_words.specs.WordStands.{word_of};
 ghost use Rattle.tile_arguments.specs.Arguments.{text_in, text_of, texts_of, bytes_in};
 
-use crate::marks::behind_mark;
+use crate::marks::after_mark;
 use mvt_document::Items;
 use std::alloc::{AllocError, Global};
 use tile_words::{ParseError, Word, text};
@@ -52,7 +52,7 @@ fn is_text(word: Word<'_>) -> bool
 {
     match word {
         Word::Quoted(_) => true,
-        Word::Bare(bytes) => match behind_mark(b"x:", bytes) {
+        Word::Bare(bytes) => match after_mark(b"x:", bytes) {
             Some(digits) => are_pairs(digits),
             None => false,
         },
@@ -67,7 +67,7 @@ pub(crate) fn text_in(alloc: Global, word: Word<'_>) -> Result<Option<Items<u8>>
 {
     match word {
         Word::Quoted(bytes) => Ok(Some(Items::from_vec(text(alloc, bytes)?))),
-        Word::Bare(bytes) => match behind_mark(b"x:", bytes) {
+        Word::Bare(bytes) => match after_mark(b"x:", bytes) {
             Some(digits) => bytes_in(alloc, digits),
             None => Ok(None),
         },

@@ -7,7 +7,7 @@ use Rattle.std.proofs.lemmas.Bool.{cases_Bool}
 use Rattle.std.proofs.lemmas.Bool.Decides.{nat_tests}
 use Rattle.std.proofs.lemmas.List.{append_cancel_right}
 use Rattle.tile_lines.specs.Lines.{with_feed, EndsWithALine}
-use Rattle.tile_reply.specs.Replies.{accepted_reply, refused_front, refused_reply, refusal_number, refusal_name, behind_name, IsOutOfMemory}
+use Rattle.tile_reply.specs.Replies.{accepted_reply, refused_front, refused_reply, refusal_number, refusal_name, after_name, IsOutOfMemory}
 use Rattle.mvt_meaning.specs.declared.refusal.Refusal.TheVariants as edit
 use Rattle.mvt_history_error.specs.declared.HistoryError.TheVariants as history
 use Rattle.tile_words.specs.declared.parse_error.ParseError.TheVariants as parse
@@ -33,7 +33,7 @@ before_name line reason = codes "line " ++ decimal line ++ codes " refused " ++ 
 
 -- the reply without its line feed
 abbrev pub refused_text : ℕ → Refused → List ℕ
-refused_text line reason = refused_front line reason ++ behind_name reason
+refused_text line reason = refused_front line reason ++ after_name reason
 
 pub refused_ends : (line : ℕ) (reason : Refused) → EndsWithALine (refused_reply line reason)
 refused_ends line reason = inr (refused_text line reason, refl)
@@ -69,11 +69,11 @@ one_of : (q : Bool) (ends : ℕ × ℕ) (xs ys : List ℕ) → last_two ends xs 
 one_of true ends xs ys first second = first
 one_of false ends xs ys first second = second
 
-last_two-digits : (ends : ℕ × ℕ) (k n : ℕ) (behind : List ℕ) → last_two ends behind ≡ ends → last_two ends (digits_onto k 10 false n behind) ≡ ends
-last_two-digits ends zero n behind same = same
-last_two-digits ends (suc k) n behind same =
-    let more : last_two ends (digit_glyph false (n % 10) ∷ behind) ≡ ends = last_two-digit ends (digit_glyph false (n % 10)) behind (glyph_is_digit n) ∙ same in
-    one_of (n / 10 == 0) ends _ _ more (last_two-digits ends k (n / 10) (digit_glyph false (n % 10) ∷ behind) more)
+last_two-digits : (ends : ℕ × ℕ) (k n : ℕ) (following : List ℕ) → last_two ends following ≡ ends → last_two ends (digits_onto k 10 false n following) ≡ ends
+last_two-digits ends zero n following same = same
+last_two-digits ends (suc k) n following same =
+    let more : last_two ends (digit_glyph false (n % 10) ∷ following) ≡ ends = last_two-digit ends (digit_glyph false (n % 10)) following (glyph_is_digit n) ∙ same in
+    one_of (n / 10 == 0) ends _ _ more (last_two-digits ends k (n / 10) (digit_glyph false (n % 10) ∷ following) more)
 
 last_two-decimal : (ends : ℕ × ℕ) (n : ℕ) → last_two ends (decimal n) ≡ ends
 unfolding digits
@@ -81,12 +81,12 @@ last_two-decimal ends n = last_two-digits ends 64 n [] refl
 
 -- those of the reply to a refused line
 abbrev ends_of : ℕ × ℕ → Refused → ℕ × ℕ
-ends_of ends reason = last_two (last_two ends (refusal_name reason)) (behind_name reason)
+ends_of ends reason = last_two (last_two ends (refusal_name reason)) (after_name reason)
 
 refused_last : (line : ℕ) (reason : Refused) → last_two (0, 0) (refused_text line reason) ≡ ends_of (last_two (0, 0) (before_name line reason)) reason
 refused_last line reason =
-    last_two-append (0, 0) (refused_front line reason) (behind_name reason)
-    ∙ ap (λ (ends : ℕ × ℕ). last_two ends (behind_name reason)) (last_two-append (0, 0) (before_name line reason) (refusal_name reason))
+    last_two-append (0, 0) (refused_front line reason) (after_name reason)
+    ∙ ap (λ (ends : ℕ × ℕ). last_two ends (after_name reason)) (last_two-append (0, 0) (before_name line reason) (refusal_name reason))
 
 -- the number is one of out of memory
 abbrev pub runs_out : ℕ → Bool

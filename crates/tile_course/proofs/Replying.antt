@@ -78,11 +78,11 @@ cut : (p next q : Progress) (added : List ℕ) → q.replies ≡ p.replies ++ ad
 unfolding adds_both
 cut p next q added e first others = append_cancel_left p.replies added (first.reply ++ others.reply) (sym e ∙ (adds_both p next q first others).is)
 
-none_out_of_memory_behind : (prefix rest : List ℕ) → EndsWithALine prefix → NoneIsOutOfMemory (prefix ++ rest) → NoneIsOutOfMemory rest
-none_out_of_memory_behind prefix rest whole none line reason before behind ends out_of_memory e =
-    none line reason (prefix ++ before) behind (ends-append prefix before whole ends) out_of_memory (
-    ap (λ (xs : List ℕ). prefix ++ xs) e ∙ sym (append_assoc prefix (before ++ refused_reply line reason) behind)
-    ∙ ap (λ (xs : List ℕ). xs ++ behind) (sym (append_assoc prefix before (refused_reply line reason)))
+none_out_of_memory_after : (prefix rest : List ℕ) → EndsWithALine prefix → NoneIsOutOfMemory (prefix ++ rest) → NoneIsOutOfMemory rest
+none_out_of_memory_after prefix rest whole none line reason before following ends out_of_memory e =
+    none line reason (prefix ++ before) following (ends-append prefix before whole ends) out_of_memory (
+    ap (λ (xs : List ℕ). prefix ++ xs) e ∙ sym (append_assoc prefix (before ++ refused_reply line reason) following)
+    ∙ ap (λ (xs : List ℕ). xs ++ following) (sym (append_assoc prefix before (refused_reply line reason)))
     )
 
 -- a reply that says that memory was refused would be at the front of what was added
@@ -108,7 +108,7 @@ walks_are_runs strict p q (line ∷ lines) added walk e none =
           let steps = walk_on strict p q line lines on walk in
           let others = walk_adds strict steps.0 lines q steps.2 in
           let first = follow_adds p line steps.0 steps.1 in
-          let rest = none_out_of_memory_behind first.reply others.reply first.ends (subst NoneIsOutOfMemory (cut p steps.0 q added e first others) none) in
+          let rest = none_out_of_memory_after first.reply others.reply first.ends (subst NoneIsOutOfMemory (cut p steps.0 q added e first others) none) in
           rw on (
           walks_are_runs strict steps.0 q lines others.reply steps.2 others.is rest
           ∙ ap (λ (r : Progress). after_lines strict r lines) (follows_as_run p steps.0 q line added steps.1 others e none)

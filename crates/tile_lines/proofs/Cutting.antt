@@ -25,11 +25,11 @@ joined_cut line byte = by_length (ltb LINE_LIMIT (length line)) refl
     by_length false short = refl
 
 -- the cut of the bytes after the last line feed, if there are any
-abbrev cut_behind : List ℕ → Option Cut
-cut_behind [] = None
-cut_behind (b ∷ line) = Some (cut_of (b ∷ line))
+abbrev cut_after : List ℕ → Option Cut
+cut_after [] = None
+cut_after (b ∷ line) = Some (cut_of (b ∷ line))
 
-some_cut : (line : List ℕ) → some_bytes (cut_of line) ≡ cut_behind line
+some_cut : (line : List ℕ) → some_bytes (cut_of line) ≡ cut_after line
 some_cut [] = refl
 some_cut (b ∷ line) = by_length (ltb LINE_LIMIT (length (b ∷ line)))
   where
@@ -40,7 +40,7 @@ some_cut (b ∷ line) = by_length (ltb LINE_LIMIT (length (b ∷ line)))
 -- what is held is that of this line, which goes on
 record Stands (line : List ℕ) (held : Holding) : Type 0 where
   joins : line_to_join held ≡ cut_of line
-  rest : rest_of held ≡ cut_behind line
+  rest : rest_of held ≡ cut_after line
 
 feed_cut : (line : List ℕ) (held : Holding) (byte : ℕ) → is_line_feed byte ≡ true → Stands line held → pushed held byte ≡ record { cut = cut_of line; is_complete = true }
 unfolding pushed
@@ -98,7 +98,7 @@ none_completed script byte none = by_feed (cases_Bool (is_line_feed byte))
 pub rest_is_last : (script : List ℕ) (cut : Cut) → rest_of (after_pushes nothing_held script) ≡ Some cut → (line : List ℕ) × (cut_of line ≡ cut) × (lines_of script ≡ whole_lines script ++ line ∷ [])
 rest_is_last script cut some = by_bytes (open_line script) (sym (stands script).rest ∙ some) (lines_of-open script)
   where
-    by_bytes : (last : List ℕ) → cut_behind last ≡ Some cut → lines_of script ≡ whole_lines script ++ last_line last → (line : List ℕ) × (cut_of line ≡ cut) × (lines_of script ≡ whole_lines script ++ line ∷ [])
+    by_bytes : (last : List ℕ) → cut_after last ≡ Some cut → lines_of script ≡ whole_lines script ++ last_line last → (line : List ℕ) × (cut_of line ≡ cut) × (lines_of script ≡ whole_lines script ++ line ∷ [])
     by_bytes [] is lines = absurd cc
     by_bytes (b ∷ last) is lines = (b ∷ last, cc, lines)
 
@@ -106,7 +106,7 @@ rest_is_last script cut some = by_bytes (open_line script) (sym (stands script).
 pub no_rest : (script : List ℕ) → rest_of (after_pushes nothing_held script) ≡ None → lines_of script ≡ whole_lines script
 no_rest script none = by_bytes (open_line script) (sym (stands script).rest ∙ none) (lines_of-open script)
   where
-    by_bytes : (last : List ℕ) → cut_behind last ≡ None → lines_of script ≡ whole_lines script ++ last_line last → lines_of script ≡ whole_lines script
+    by_bytes : (last : List ℕ) → cut_after last ≡ None → lines_of script ≡ whole_lines script ++ last_line last → lines_of script ≡ whole_lines script
     by_bytes [] is lines = lines ∙ append-nil (whole_lines script)
     by_bytes (b ∷ last) is lines = absurd cc
 
@@ -123,7 +123,7 @@ whole_cuts front (byte ∷ more) held stands =
         let is : complete_line (pushed held byte) ≡ None = ap complete_line (other_cut (open_line front) held byte other stands) in
         rw (is, whole_lines-other front byte other) refl
 
-rest_cut : (line : List ℕ) → map cut_of (last_line line) ≡ option_to_list (cut_behind line)
+rest_cut : (line : List ℕ) → map cut_of (last_line line) ≡ option_to_list (cut_after line)
 rest_cut [] = refl
 rest_cut (b ∷ line) = refl
 

@@ -15,9 +15,9 @@ abbrev pub open_line : List ℕ → List ℕ
 open_line text = last_part (slice_split is_line_feed text)
 
 -- parts, with a line before the first
-abbrev behind : List ℕ → List (List ℕ) → List (List ℕ)
-behind line [] = line ∷ []
-behind line (part ∷ parts) = (line ++ part) ∷ parts
+abbrev following : List ℕ → List (List ℕ) → List (List ℕ)
+following line [] = line ∷ []
+following line (part ∷ parts) = (line ++ part) ∷ parts
 
 -- there is at least one part
 some_part : (text : List ℕ) → (first : List ℕ) × (others : List (List ℕ)) × (slice_split is_line_feed text ≡ first ∷ others)
@@ -28,26 +28,26 @@ some_part (b ∷ text) = by_feed (is_line_feed b) refl (some_part text)
     by_feed true e rest = ([], slice_split is_line_feed text, rw e refl)
     by_feed false e rest = (b ∷ rest.0, rest.1, rw e (ap (onto_first b) rest.2))
 
-from_nothing : (parts : List (List ℕ)) (first : List ℕ) (others : List (List ℕ)) → parts ≡ first ∷ others → parts ≡ behind [] parts
+from_nothing : (parts : List (List ℕ)) (first : List ℕ) (others : List (List ℕ)) → parts ≡ first ∷ others → parts ≡ following [] parts
 from_nothing parts first others e = rw e refl
 
-onto_joined : (b : ℕ) (parts more : List (List ℕ)) → onto_first b (without_last parts ++ behind (last_part parts) more) ≡ without_last (onto_first b parts) ++ behind (last_part (onto_first b parts)) more
+onto_joined : (b : ℕ) (parts more : List (List ℕ)) → onto_first b (without_last parts ++ following (last_part parts) more) ≡ without_last (onto_first b parts) ++ following (last_part (onto_first b parts)) more
 onto_joined b [] [] = refl
 onto_joined b [] (next ∷ more) = refl
 onto_joined b (part ∷ []) [] = refl
 onto_joined b (part ∷ []) (next ∷ more) = refl
 onto_joined b (part ∷ other ∷ parts) more = refl
 
-feed_joined : (parts more : List (List ℕ)) (first : List ℕ) (others : List (List ℕ)) → parts ≡ first ∷ others → [] ∷ (without_last parts ++ behind (last_part parts) more) ≡ without_last ([] ∷ parts) ++ behind (last_part ([] ∷ parts)) more
+feed_joined : (parts more : List (List ℕ)) (first : List ℕ) (others : List (List ℕ)) → parts ≡ first ∷ others → [] ∷ (without_last parts ++ following (last_part parts) more) ≡ without_last ([] ∷ parts) ++ following (last_part ([] ∷ parts)) more
 feed_joined parts more first others e = rw e refl
 
 -- the whole lines of a prefix stay, and what comes after them goes on
-split-append : (front more : List ℕ) → slice_split is_line_feed (front ++ more) ≡ whole_lines front ++ behind (open_line front) (slice_split is_line_feed more)
+split-append : (front more : List ℕ) → slice_split is_line_feed (front ++ more) ≡ whole_lines front ++ following (open_line front) (slice_split is_line_feed more)
 split-append [] more = let some = some_part more in from_nothing (slice_split is_line_feed more) some.0 some.1 some.2
 split-append (b ∷ front) more = by_feed (is_line_feed b) refl (split-append front more)
   where
-    by_feed : (q : Bool) → is_line_feed b ≡ q → slice_split is_line_feed (front ++ more) ≡ whole_lines front ++ behind (open_line front) (slice_split is_line_feed more)
-        → slice_split is_line_feed (b ∷ (front ++ more)) ≡ whole_lines (b ∷ front) ++ behind (open_line (b ∷ front)) (slice_split is_line_feed more)
+    by_feed : (q : Bool) → is_line_feed b ≡ q → slice_split is_line_feed (front ++ more) ≡ whole_lines front ++ following (open_line front) (slice_split is_line_feed more)
+        → slice_split is_line_feed (b ∷ (front ++ more)) ≡ whole_lines (b ∷ front) ++ following (open_line (b ∷ front)) (slice_split is_line_feed more)
     by_feed true e same = let some = some_part front in
         rw e (ap (λ (parts : List (List ℕ)). [] ∷ parts) same ∙ feed_joined (slice_split is_line_feed front) (slice_split is_line_feed more) some.0 some.1 some.2)
     by_feed false e same = rw e (ap (onto_first b) same ∙ onto_joined b (slice_split is_line_feed front) (slice_split is_line_feed more))
@@ -71,7 +71,7 @@ last_part-append (first ∷ next ∷ parts) part more = last_part-append (next �
 front_parts : (front more : List ℕ) → (part : List ℕ) × (parts : List (List ℕ)) × (slice_split is_line_feed (front ++ more) ≡ whole_lines front ++ part ∷ parts)
 front_parts front more =
     let some = some_part more in
-    (open_line front ++ some.0, some.1, split-append front more ∙ ap (λ (parts : List (List ℕ)). whole_lines front ++ behind (open_line front) parts) some.2)
+    (open_line front ++ some.0, some.1, split-append front more ∙ ap (λ (parts : List (List ℕ)). whole_lines front ++ following (open_line front) parts) some.2)
 
 pub whole_lines-front : (front more : List ℕ) → (others : List (List ℕ)) × (whole_lines (front ++ more) ≡ whole_lines front ++ others)
 whole_lines-front front more =
@@ -88,13 +88,13 @@ lines-front front more =
 feed_parts : (front : List ℕ) (byte : ℕ) → is_line_feed byte ≡ true → slice_split is_line_feed (front ++ byte ∷ []) ≡ whole_lines front ++ open_line front ∷ [] ∷ []
 feed_parts front byte feed =
     let alone : slice_split is_line_feed (byte ∷ []) ≡ [] ∷ [] ∷ [] = rw feed refl in
-    split-append front (byte ∷ []) ∙ ap (λ (parts : List (List ℕ)). whole_lines front ++ behind (open_line front) parts) alone ∙ ap (λ (line : List ℕ). whole_lines front ++ line ∷ [] ∷ []) (append-nil (open_line front))
+    split-append front (byte ∷ []) ∙ ap (λ (parts : List (List ℕ)). whole_lines front ++ following (open_line front) parts) alone ∙ ap (λ (line : List ℕ). whole_lines front ++ line ∷ [] ∷ []) (append-nil (open_line front))
 
 -- another byte joins it
 other_parts : (front : List ℕ) (byte : ℕ) → is_line_feed byte ≡ false → slice_split is_line_feed (front ++ byte ∷ []) ≡ whole_lines front ++ (open_line front ++ byte ∷ []) ∷ []
 other_parts front byte other =
     let alone : slice_split is_line_feed (byte ∷ []) ≡ (byte ∷ []) ∷ [] = rw other refl in
-    split-append front (byte ∷ []) ∙ ap (λ (parts : List (List ℕ)). whole_lines front ++ behind (open_line front) parts) alone
+    split-append front (byte ∷ []) ∙ ap (λ (parts : List (List ℕ)). whole_lines front ++ following (open_line front) parts) alone
 
 pub whole_lines-line_feed : (front : List ℕ) (byte : ℕ) → is_line_feed byte ≡ true → whole_lines (front ++ byte ∷ []) ≡ whole_lines front ++ open_line front ∷ []
 whole_lines-line_feed front byte feed = ap without_last (feed_parts front byte feed) ∙ without_last-append (whole_lines front) (open_line front) ([] ∷ [])

@@ -20,9 +20,9 @@ one_of : (q : Bool) (xs ys : List ℕ) → HasNoLineFeed xs → HasNoLineFeed ys
 one_of true xs ys first second = first
 one_of false xs ys first second = second
 
-digits_uncut : (k n : ℕ) (behind : List ℕ) → HasNoLineFeed behind → HasNoLineFeed (digits_onto k 10 false n behind)
-digits_uncut zero n behind none = none
-digits_uncut (suc k) n behind none = one_of (n / 10 == 0) _ _ (digit_other n, none) (digits_uncut k (n / 10) (digit_glyph false (n % 10) ∷ behind) (digit_other n, none))
+digits_uncut : (k n : ℕ) (following : List ℕ) → HasNoLineFeed following → HasNoLineFeed (digits_onto k 10 false n following)
+digits_uncut zero n following none = none
+digits_uncut (suc k) n following none = one_of (n / 10 == 0) _ _ (digit_other n, none) (digits_uncut k (n / 10) (digit_glyph false (n % 10) ∷ following) (digit_other n, none))
 
 pub decimal_uncut : (n : ℕ) → HasNoLineFeed (decimal n)
 unfolding digits

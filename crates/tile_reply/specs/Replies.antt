@@ -65,16 +65,16 @@ place_text layer feature = codes " layer " ++ decimal layer ++ codes " feature "
 
 -- what follows the name of a refusal: the ordinals of the layer and the feature whose tags or geometry are at fault;
 -- how many steps, or commands of the open step, were taken before a request was stopped; nothing for any other refusal
-abbrev pub behind_name : Refused → List ℕ
-behind_name (refused.Edit (edit.BadTags layer feature)) = place_text layer feature
-behind_name (refused.Edit (edit.RepeatedKey layer feature)) = place_text layer feature
-behind_name (refused.Edit (edit.BadGeometry layer feature)) = place_text layer feature
-behind_name (refused.History (history.Stopped taken)) = codes " taken " ++ decimal taken
-behind_name reason = []
+abbrev pub after_name : Refused → List ℕ
+after_name (refused.Edit (edit.BadTags layer feature)) = place_text layer feature
+after_name (refused.Edit (edit.RepeatedKey layer feature)) = place_text layer feature
+after_name (refused.Edit (edit.BadGeometry layer feature)) = place_text layer feature
+after_name (refused.History (history.Stopped taken)) = codes " taken " ++ decimal taken
+after_name reason = []
 
 -- the reply to a refused line: its beginning, what follows the name of the refusal, and a line feed
 abbrev pub refused_reply : ℕ → Refused → List ℕ
-refused_reply line reason = refused_front line reason ++ behind_name reason ++ codes "\n"
+refused_reply line reason = refused_front line reason ++ after_name reason ++ codes "\n"
 
 -- what a line was answered, as plain values: its lines, or its refusal
 abbrev pub answer_seen : Result (Bor (List ℕ)) Refused → Result (List ℕ) Refused

@@ -4,7 +4,7 @@ ghost use Rattle.std.specs.Prelude.{◌++◌, codes, decimal};
 ghost use Rattle.std.specs.List.{flat_map};
 ghost use Rattle.tile_device.specs.Device.{trouble_of};
 ghost use Rattle.tile_device.specs.Seen.{Sends, sink_at};
-ghost use Rattle.tile_reply.specs.Replies.{answer_seen, behind_name, refused_front, refused_reply, reply_to};
+ghost use Rattle.tile_reply.specs.Replies.{answer_seen, after_name, refused_front, refused_reply, reply_to};
 
 use crate::refused::Refused;
 use itoa::Buffer;
@@ -91,7 +91,7 @@ fn write_end<W: Sink>(
     retries: &mut Retries,
 ) -> Result<(), Trouble>
     ensures { Sends (sink_at W.Sink replies.old) (sink_at W.Sink replies.new)
-        retries.old retries.new (behind_name reason ++ codes "\n") (trouble_of result) }
+        retries.old retries.new (after_name reason ++ codes "\n") (trouble_of result) }
 {
     match reason {
         Refused::Edit(Refusal::BadTags { layer, feature })

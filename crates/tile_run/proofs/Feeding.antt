@@ -10,7 +10,7 @@ use Rattle.tile_run.specs.Steps.{Moment, AnswersLine, CarriesOutLines, ComesTo, 
 use Rattle.tile_run.specs.declared.editor.Editor.{Editor}
 use Rattle.tile_course.specs.declared.outcome.LineStop.{LineStop}
 use Rattle.tile_course.specs.declared.outcome.LineStop.TheVariants as line_stops
-use Rattle.tile_run.proofs.Running.{comes_more, over_behind, cut_short}
+use Rattle.tile_run.proofs.Running.{comes_more, over_after, cut_short}
 
 grown : (before bytes : List ℕ) (i : ℕ) → i < length bytes → before ++ take (i + 1) bytes ≡ (before ++ take i bytes) ++ get_or bytes i 0 ∷ []
 grown before bytes i within = ap (λ (t : List ℕ). before ++ t) (take_more bytes i 0 within) ∙ sym (append_assoc before (take i bytes) (get_or bytes i 0 ∷ []))
@@ -38,8 +38,8 @@ some_more next before bytes i cut within given some =
     (found.0, found.1, ap whole_lines e ∙ found.2)
 
 -- the lines of the other bytes come after it
-others_behind : (before bytes : List ℕ) (i : ℕ) → (others : List (List ℕ)) × (whole_lines (before ++ bytes) ≡ whole_lines (before ++ take i bytes) ++ others)
-others_behind before bytes i =
+others_after : (before bytes : List ℕ) (i : ℕ) → (others : List (List ℕ)) × (whole_lines (before ++ bytes) ≡ whole_lines (before ++ take i bytes) ++ others)
+others_after before bytes i =
     let found = whole_lines-front (before ++ take i bytes) (drop i bytes) in
     (found.0, ap (λ (t : List ℕ). whole_lines (before ++ t)) (sym (take-append-drop i bytes)) ∙ ap whole_lines (sym (append_assoc before (take i bytes) (drop i bytes))) ∙ found.1)
 
@@ -50,11 +50,11 @@ pub stops_there : (strict : Bool) (start : Progress) (before bytes line : List �
     → AnswersLine b c after strict line to.comes.progress (Err stop)
     → CarriesOutLines strict start (whole_lines (before ++ bytes)) a c after (Err stop)
 stops_there strict start before bytes line i a b c editor after line_stops.Strict whole to step =
-    let others = others_behind before bytes (i + 1) in
-    over_behind strict start (whole_lines (before ++ take (i + 1) bytes)) (whole_lines (before ++ bytes)) others.0 a c others.1
+    let others = others_after before bytes (i + 1) in
+    over_after strict start (whole_lines (before ++ take (i + 1) bytes)) (whole_lines (before ++ bytes)) others.0 a c others.1
     (comes_more strict true start (whole_lines (before ++ take i bytes)) (whole_lines (before ++ take (i + 1) bytes)) line a b c editor after whole to step)
 stops_there strict start before bytes line i a b c editor after line_stops.Replies whole to step =
-    let others = others_behind before bytes (i + 1) in
+    let others = others_after before bytes (i + 1) in
     let all : whole_lines (before ++ bytes) ≡ whole_lines (before ++ take i bytes) ++ line ∷ others.0 =
     others.1 ∙ ap (λ (ls : List (List ℕ)). ls ++ others.0) whole ∙ append_assoc (whole_lines (before ++ take i bytes)) (line ∷ []) others.0 in
     cut_short strict start (whole_lines (before ++ take i bytes)) (whole_lines (before ++ bytes)) others.0 line a b c editor all to step

@@ -56,9 +56,9 @@ mark_there present marks index lines new printed None there sees so_far adds = a
 mark_there present marks index lines new printed (Some mark) there sees so_far adds = line_added present marks index lines new printed.0.now printed.1 mark there sees.0 sees.1 so_far adds
 
 -- after the last mark none is printed
-pub none_behind : (present : ℕ) (marks : List Mark) (index : ℕ) (found : Option Mark) → slice_get marks index ≡ found → SeesMark present None found → index < length marks → ⊥
-none_behind present marks index None there sees within = let some = slice_get-get_or marks index (record { name = []; point = 0 }) within in absurd cc
-none_behind present marks index (Some mark) there sees within = sees
+pub none_after : (present : ℕ) (marks : List Mark) (index : ℕ) (found : Option Mark) → slice_get marks index ≡ found → SeesMark present None found → index < length marks → ⊥
+none_after present marks index None there sees within = let some = slice_get-get_or marks index (record { name = []; point = 0 }) within in absurd cc
+none_after present marks index (Some mark) there sees within = sees
 
 pub all_printed : (present : ℕ) (marks : List Mark) (index : ℕ) → length marks ≤ index → flat_map (mark_line present) (take index marks) ≡ flat_map (mark_line present) marks
 all_printed present marks index all = ap (flat_map (mark_line present)) (take_all index marks all)

@@ -138,10 +138,10 @@ cut_at bytes piece room n counted within =
         take_all room (take n piece) short ∙ ap (λ (k : ℕ). take k piece) (sym low)
 
 -- what was passed on of a piece that comes before other bytes
-pub passed_on : (buffer behind : List ℕ) (k n room : ℕ) → k ≡ min n room → n ≤ length buffer → take k (buffer ++ behind) ≡ take (min n room) buffer
-passed_on buffer behind k n room is within =
+pub passed_on : (buffer following : List ℕ) (k n room : ℕ) → k ≡ min n room → n ≤ length buffer → take k (buffer ++ following) ≡ take (min n room) buffer
+passed_on buffer following k n room is within =
     let low : k ≤ length buffer = omega (arith, is) in
-    take-append-le k buffer behind low ∙ ap (λ (i : ℕ). take i buffer) is
+    take-append-le k buffer following low ∙ ap (λ (i : ℕ). take i buffer) is
 
 pub all_replies : (retries : ℕ) (bytes : List ℕ) → IsWritten (written retries bytes) bytes
 all_replies retries bytes = record { all = refl; untroubled = refl }

@@ -168,9 +168,9 @@ pub comes_to_same : (strict : Bool) (start : Progress) (lines all : List (List �
 comes_to_same strict start lines all a b editor whole to = subst (λ (ls : List (List ℕ)). ComesTo strict start ls a b editor) (sym whole) to
 
 -- a run that is over stays so
-pub over_behind : (strict : Bool) (start : Progress) (lines all others : List (List ℕ)) (a b : Moment)
+pub over_after : (strict : Bool) (start : Progress) (lines all others : List (List ℕ)) (a b : Moment)
     → all ≡ lines ++ others → Comes strict start lines a b true → Comes strict start all a b true
-over_behind strict start lines all others a b whole comes = record {
+over_after strict start lines all others a b whole comes = record {
   progress = comes.progress;
   walk = subst (λ (ls : List (List ℕ)). Walk strict start ls comes.progress) (sym whole) (walk-append strict start comes.progress comes.progress lines others comes.walk (walk_over_any strict comes.progress others comes.over));
   over = comes.over;

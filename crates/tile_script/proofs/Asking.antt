@@ -11,20 +11,20 @@ use Rattle.mvt_command.specs.Requests.{HistoryRequest, Edit, Undo, Redo, SetMark
 use Rattle.tile_request.specs.Request.{Request, OnHistory, ListMarks, PrintHistory, Size, Lists, Whole, OneLayer, OneFeature}
 use Rattle.tile_words.specs.Words.{Word, Bare, Quoted, words_of}
 use Rattle.tile_words.specs.Spelling.{SpellsWords}
-use Rattle.tile_words.proofs.Again.{words_only, behind_blanks, no_gap}
+use Rattle.tile_words.proofs.Again.{words_only, past_blanks, no_gap}
 use Rattle.tile_script.specs.Commands.{chosen_of, command_by, rename_layer_of}
 use Rattle.tile_script.specs.Line.{IsAsking, requests_alone, requests_by_name, alone_of, name_of, list_of, request_by, asked_by, is_remark, request_in, answer_to, IsReadable}
 use Rattle.tile_script.specs.Shapes.{AsksAlone, AsksByName}
 use Rattle.tile_script.proofs.Silent.{answer_to-words}
 
 -- the first of the bytes, where there is one, is a `#`
-abbrev is_remark_behind : List ℕ → Bool
-is_remark_behind bytes = option_map_or (λ byte. byte == 35) (slice_get bytes 0) true
+abbrev is_remark_after : List ℕ → Bool
+is_remark_after bytes = option_map_or (λ byte. byte == 35) (slice_get bytes 0) true
 
 -- a line is not a remark, where its first word is bare and begins with another byte
 no_remark : (line : List ℕ) (b : ℕ) (name : List ℕ) (words : List Word) → SpellsWords line (Bare (b ∷ name) ∷ words) → is_remark line ≡ eqb b 35
 no_remark line b name words s =
-    ap is_remark s.3 ∙ ap is_remark_behind (behind_blanks s.0 (s.1 ++ s.2) s.4 (no_gap s.1 (Bare (b ∷ name)) s.2 s.5)) ∙ ap (λ (bytes : List ℕ). is_remark_behind (bytes ++ s.2)) s.5.0
+    ap is_remark s.3 ∙ ap is_remark_after (past_blanks s.0 (s.1 ++ s.2) s.4 (no_gap s.1 (Bare (b ∷ name)) s.2 s.5)) ∙ ap (λ (bytes : List ℕ). is_remark_after (bytes ++ s.2)) s.5.0
 
 -- a readable line that is not a remark asks for what its words ask for
 asks : (line : List ℕ) (words : List Word) (request : Request) → IsAsking line → words_of line ≡ Some words → asked_by words ≡ Ok request → answer_to line ≡ Ok (Some request)

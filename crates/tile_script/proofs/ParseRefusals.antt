@@ -235,13 +235,13 @@ all_alone arguments [] more others = others
 all_alone arguments (word ∷ words) more others = (alone_other word.1 arguments, all_alone arguments words more others)
 
 -- the readers after those of a mark's name
-abbrev behind_names : List (List ℕ × (List Word → Result Request ParseError))
-behind_names = map (λ word. (word.0, alone_of word.1)) requests_alone ++ (codes "list", list_of) ∷ []
+abbrev names_following : List (List ℕ × (List Word → Result Request ParseError))
+names_following = map (λ word. (word.0, alone_of word.1)) requests_alone ++ (codes "list", list_of) ∷ []
 
 named_other : (name : List ℕ) (arguments : List Word) → Other parse.NoMemory (request_by name arguments)
 unfolding request_by
 named_other name arguments =
-    read_other requests _ name arguments (all_by_name arguments requests_by_name behind_names (all_alone arguments requests_alone ((codes "list", list_of) ∷ []) (list_other arguments, tt)))
+    read_other requests _ name arguments (all_by_name arguments requests_by_name names_following (all_alone arguments requests_alone ((codes "list", list_of) ∷ []) (list_other arguments, tt)))
     (then_other (command_by name arguments) _ (command_other name arguments) (λ command. tt))
 
 asked_other : (words : List Word) → Other parse.NoMemory (asked_by words)

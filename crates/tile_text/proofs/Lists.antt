@@ -20,10 +20,10 @@ none_passes p (x ∷ xs) e =
 
 -- ---- the words of a geometry's parts: points and bars
 
-behind_all : (P : List ℕ → Type 0) → P (codes "/") → (parts : List (List Point)) → AllByRecursion (AllByRecursion (λ p. P (point_form p))) parts → AllByRecursion P (flat_map (λ points. codes "/" ∷ [] ++ map point_form points) parts)
-behind_all P bar [] h = tt
-behind_all P bar (part ∷ parts) h = all_joined P (codes "/" ∷ [] ++ map point_form part) (flat_map (λ points. codes "/" ∷ [] ++ map point_form points) parts) (bar, all_of_map point_form P part h.0) (behind_all P bar parts h.1)
+appended : (P : List ℕ → Type 0) → P (codes "/") → (parts : List (List Point)) → AllByRecursion (AllByRecursion (λ p. P (point_form p))) parts → AllByRecursion P (flat_map (λ points. codes "/" ∷ [] ++ map point_form points) parts)
+appended P bar [] h = tt
+appended P bar (part ∷ parts) h = all_joined P (codes "/" ∷ [] ++ map point_form part) (flat_map (λ points. codes "/" ∷ [] ++ map point_form points) parts) (bar, all_of_map point_form P part h.0) (appended P bar parts h.1)
 
 pub words_all : (P : List ℕ → Type 0) → P (codes "/") → (parts : List (List Point)) → AllByRecursion (AllByRecursion (λ p. P (point_form p))) parts → AllByRecursion P (part_words parts)
 words_all P bar [] h = tt
-words_all P bar (part ∷ parts) h = all_joined P (map point_form part) (flat_map (λ points. codes "/" ∷ [] ++ map point_form points) parts) (all_of_map point_form P part h.0) (behind_all P bar parts h.1)
+words_all P bar (part ∷ parts) h = all_joined P (map point_form part) (flat_map (λ points. codes "/" ∷ [] ++ map point_form points) parts) (all_of_map point_form P part h.0) (appended P bar parts h.1)

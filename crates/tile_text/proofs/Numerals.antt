@@ -9,7 +9,7 @@ use Rattle.std.specs.Str.Parse.{digits_value}
 use Rattle.std.proofs.lemmas.Bool.{lt-ltb, le-leb}
 use Rattle.std.proofs.lemmas.Bool.Decides.{nat_tests}
 use Rattle.std.proofs.lemmas.Fmt.{decimal_is_IsNumeral, decimal_nonempty}
-use Rattle.tile_arguments.specs.Arguments.{behind_mark, are_digits, number_of, number_up_to, signed_by, signed_of}
+use Rattle.tile_arguments.specs.Arguments.{after_mark, are_digits, number_of, number_up_to, signed_by, signed_of}
 use Rattle.tile_text.proofs.Digits.{decimal_all}
 
 digit_is_ascii : (d : ℕ) → d < 10 → is_ascii_digit (48 + d) ≡ true
@@ -48,7 +48,7 @@ Lies least greatest (pos n) = n ≤ greatest
 Lies least greatest (negsuc n) = suc n ≤ least
 
 -- digits do not begin with a `-`
-no_dash : (bytes : List ℕ) → AllByRecursion (λ b. eqb 45 b ≡ false) bytes → 0 < length bytes → behind_mark (codes "-") bytes ≡ None
+no_dash : (bytes : List ℕ) → AllByRecursion (λ b. eqb 45 b ≡ false) bytes → 0 < length bytes → after_mark (codes "-") bytes ≡ None
 no_dash [] h lt = absurd (omega arith)
 no_dash (b ∷ bytes) h lt = rw (h.0) refl
 

@@ -55,8 +55,8 @@ before_comma : (xs ys : List ℕ) → AllByRecursion (λ b. eqb b 44 ≡ false) 
 before_comma xs ys h =
     ap (λ (n : ℕ). take n (xs ++ 44 ∷ ys)) (place_of_comma xs ys h) ∙ take_at xs (44 ∷ ys) (length xs) refl
 
-behind_comma : (xs ys : List ℕ) → AllByRecursion (λ b. eqb b 44 ≡ false) xs → after_first (λ b. eqb b 44) (xs ++ 44 ∷ ys) ≡ ys
-behind_comma xs ys h =
+after_comma : (xs ys : List ℕ) → AllByRecursion (λ b. eqb b 44 ≡ false) xs → after_first (λ b. eqb b 44) (xs ++ 44 ∷ ys) ≡ ys
+after_comma xs ys h =
     ap (λ (n : ℕ). drop (n + 1) (xs ++ 44 ∷ ys)) (place_of_comma xs ys h) ∙ ap (drop (length xs + 1)) (sym (append_assoc xs (44 ∷ []) ys))
     ∙ drop_at (xs ++ 44 ∷ []) ys (length xs + 1) (length_push xs 44)
 
@@ -68,7 +68,7 @@ unfolding point_of point_in
 point_reads p near =
     let comma = signed_all (λ b. eqb b 44 ≡ false) refl no_comma p.x (near_fits p.x near.x) in
     let x = ap delta_of (before_comma (signed_decimal p.x) (signed_decimal p.y) comma) ∙ delta_reads p.x near.x in
-    let y = ap delta_of (behind_comma (signed_decimal p.x) (signed_decimal p.y) comma) ∙ delta_reads p.y near.y in
+    let y = ap delta_of (after_comma (signed_decimal p.x) (signed_decimal p.y) comma) ∙ delta_reads p.y near.y in
     ap (λ (o : Option ℤ). ok_or (point_at o (delta_of (after_first (λ b. eqb b 44) (point_form p)))) BadGeometryText) x
     ∙ ap (λ (o : Option ℤ). ok_or (point_at (Some p.x) o) BadGeometryText) y
 
@@ -192,9 +192,9 @@ parts_spelled parts near =
 
 pub geometry_read_back : (g : Geometry) → IsGeometry g → AllByRecursion (AllByRecursion IsNear) g.parts → IsReadAsGeometry g
 geometry_read_back g valid near =
-    let behind = parts_spelled g.parts near in
+    let following = parts_spelled g.parts near in
     record {
-      spelled = (kind_spelled g.kind, behind);
-      line = ([], kind_word g.kind, with_leading_spaces (part_words g.parts), refl, tt, kind_spelled g.kind, ends (part_words g.parts), spaced_spelled (part_words g.parts) behind);
+      spelled = (kind_spelled g.kind, following);
+      line = ([], kind_word g.kind, with_leading_spaces (part_words g.parts), refl, tt, kind_spelled g.kind, ends (part_words g.parts), spaced_spelled (part_words g.parts) following);
       read = geometry_reads g valid near;
     }

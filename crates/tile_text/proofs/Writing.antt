@@ -86,11 +86,11 @@ pub plain_front : (bytes : List ℕ) → StandsAlone bytes (position_or_len is_e
 plain_front [] = refl
 plain_front (b ∷ bytes) = plain_first b bytes (position_or_len is_escaped bytes) (is_escaped b) refl (plain_front bytes)
 
-pub front_written : (line new bytes front behind : List ℕ) (n : ℕ) → n ≡ position_or_len is_escaped bytes → front ≡ take n bytes → behind ≡ drop n bytes → new ≡ line ++ front
-    → new ++ flat_map quoted_byte behind ≡ line ++ flat_map quoted_byte bytes
-front_written line new bytes front behind n place is_front is_behind written =
+pub front_written : (line new bytes front following : List ℕ) (n : ℕ) → n ≡ position_or_len is_escaped bytes → front ≡ take n bytes → following ≡ drop n bytes → new ≡ line ++ front
+    → new ++ flat_map quoted_byte following ≡ line ++ flat_map quoted_byte bytes
+front_written line new bytes front following n place is_front is_after written =
     let whole : flat_map quoted_byte bytes ≡ take n bytes ++ flat_map quoted_byte (drop n bytes) = rw place (plain_front bytes) in
-    rw (written, is_front, is_behind, whole) (append_assoc line (take n bytes) (flat_map quoted_byte (drop n bytes)))
+    rw (written, is_front, is_after, whole) (append_assoc line (take n bytes) (flat_map quoted_byte (drop n bytes)))
 
 -- a list that is not empty: its first element, and what follows it
 pub first_and_rest : {X : Type 0} (xs : List X) (d : X) → 1 ≤ length xs → xs ≡ get_or xs 0 d ∷ take (length xs - 1) (drop 1 xs)
@@ -104,20 +104,20 @@ not_not true e = refl
 not_not false e = absurd cc
 
 -- the first byte after the plain ones is escaped
-pub first_is_escaped : (bytes behind : List ℕ) (n : ℕ) → n ≡ position_or_len is_escaped bytes → behind ≡ drop n bytes → 1 ≤ length behind → is_escaped (get_or behind 0 0) ≡ true
-first_is_escaped bytes behind n place is_behind some =
-    let long : 1 ≤ length (drop n bytes) = rw (← is_behind) some in
+pub first_is_escaped : (bytes following : List ℕ) (n : ℕ) → n ≡ position_or_len is_escaped bytes → following ≡ drop n bytes → 1 ≤ length following → is_escaped (get_or following 0 0) ≡ true
+first_is_escaped bytes following n place is_after some =
+    let long : 1 ≤ length (drop n bytes) = rw (← is_after) some in
     let lt : n < length bytes = omega (arith, length-drop n bytes) in
     let front : n + 0 ≡ n = omega arith in
-    let at : get_or behind 0 0 ≡ get_or bytes n 0 = ap (λ (xs : List ℕ). get_or xs 0 0) is_behind ∙ get_or-drop n bytes 0 0 ∙ ap (λ (k : ℕ). get_or bytes k 0) front in
+    let at : get_or following 0 0 ≡ get_or bytes n 0 = ap (λ (xs : List ℕ). get_or xs 0 0) is_after ∙ get_or-drop n bytes 0 0 ∙ ap (λ (k : ℕ). get_or bytes k 0) front in
     rw (at, place) (not_not _ (prefix_len_stops (λ x. not (is_escaped x)) bytes 0 (rw (← place) lt)))
 
-pub first_written : (line new behind : List ℕ) → 1 ≤ length behind → new ≡ line ++ quoted_byte (get_or behind 0 0)
-    → new ++ flat_map quoted_byte (take (length behind - 1) (drop 1 behind)) ≡ line ++ flat_map quoted_byte behind
-first_written line new behind some written =
-    let rest : List ℕ = take (length behind - 1) (drop 1 behind) in
-    ap (λ (xs : List ℕ). xs ++ flat_map quoted_byte rest) written ∙ append_assoc line (quoted_byte (get_or behind 0 0)) (flat_map quoted_byte rest)
-    ∙ ap (λ (xs : List ℕ). line ++ flat_map quoted_byte xs) (sym (first_and_rest behind 0 some))
+pub first_written : (line new following : List ℕ) → 1 ≤ length following → new ≡ line ++ quoted_byte (get_or following 0 0)
+    → new ++ flat_map quoted_byte (take (length following - 1) (drop 1 following)) ≡ line ++ flat_map quoted_byte following
+first_written line new following some written =
+    let rest : List ℕ = take (length following - 1) (drop 1 following) in
+    ap (λ (xs : List ℕ). xs ++ flat_map quoted_byte rest) written ∙ append_assoc line (quoted_byte (get_or following 0 0)) (flat_map quoted_byte rest)
+    ∙ ap (λ (xs : List ℕ). line ++ flat_map quoted_byte xs) (sym (first_and_rest following 0 some))
 
 -- ---- bytes that are not a value
 
@@ -141,11 +141,11 @@ parts_form part others =
 pub parts_written : (line first new : List ℕ) (parts : List Part) (part : Part) (points : List Point) → 1 ≤ length parts → part ≡ get_or parts 0 part → points ≡ points_of part
     → first ≡ line ++ with_leading_spaces (map point_form points) → new ≡ first ++ flat_map (λ part. other_part (points_of part)) (take (length parts - 1) (drop 1 parts))
     → new ≡ line ++ with_leading_spaces (part_words (map points_of parts))
-parts_written line first new parts part points some is points_are written behind =
+parts_written line first new parts part points some is points_are written following =
     let others : List Part = take (length parts - 1) (drop 1 parts) in
     let rest : List ℕ = flat_map (λ part. other_part (points_of part)) others in
     let whole : parts ≡ part ∷ others = first_and_rest parts part some ∙ ap (λ (p : Part). p ∷ others) (sym is) in
-    behind ∙ ap (λ (xs : List ℕ). xs ++ rest) (written ∙ ap (λ (ps : List Point). line ++ with_leading_spaces (map point_form ps)) points_are)
+    following ∙ ap (λ (xs : List ℕ). xs ++ rest) (written ∙ ap (λ (ps : List Point). line ++ with_leading_spaces (map point_form ps)) points_are)
     ∙ append_assoc line (with_leading_spaces (map point_form (points_of part))) rest
     ∙ ap (λ (xs : List ℕ). line ++ xs) (sym (parts_form part others))
     ∙ ap (λ (ps : List Part). line ++ with_leading_spaces (part_words (map points_of ps))) (sym whole)

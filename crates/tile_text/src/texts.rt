@@ -57,10 +57,10 @@ fn put_run<'a>(line: &mut Vec<u8>, bytes: &'a [u8]) -> Result<&'a [u8], AllocErr
     ensures shorter { IfOk result (λ rest. 0 < length bytes.now → length rest.now < length bytes.now) }
     ensures kept { Extends line.old.items line.new.items }
 {
-    let (plain, behind) = bytes.split_at(plain_len(bytes));
+    let (plain, following) = bytes.split_at(plain_len(bytes));
     line.extend_from_slice(plain)?;
-    match behind {
-        [] => Ok(behind),
+    match following {
+        [] => Ok(following),
         [byte, rest @ ..] => {
             put_escaped(line, *byte)?;
             Ok(rest)

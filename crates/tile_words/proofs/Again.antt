@@ -93,14 +93,14 @@ no_words : (bytes : List ℕ) → AreBlanks bytes → AllByRecursion (λ b. not 
 no_words [] blanks = tt
 no_words (b ∷ bytes) blanks = (ap not blanks.0, no_words bytes blanks.1)
 
-pub behind_blanks : (gap bytes : List ℕ) → AreBlanks gap → position_or_len (λ b. not (is_blank b)) bytes ≡ 0 → after_blanks (gap ++ bytes) ≡ bytes
-behind_blanks gap bytes blanks e = cut (position_or_len (λ b. not (is_blank b)) (gap ++ bytes)) (stops_at (λ b. not (is_blank b)) gap bytes (no_words gap blanks) e)
+pub past_blanks : (gap bytes : List ℕ) → AreBlanks gap → position_or_len (λ b. not (is_blank b)) bytes ≡ 0 → after_blanks (gap ++ bytes) ≡ bytes
+past_blanks gap bytes blanks e = cut (position_or_len (λ b. not (is_blank b)) (gap ++ bytes)) (stops_at (λ b. not (is_blank b)) gap bytes (no_words gap blanks) e)
   where
     cut : (k : ℕ) → k ≡ length gap → drop k (gap ++ bytes) ≡ bytes
     cut k is = rw is (drop-append_seam gap bytes)
 
 pub blanks_end : (bytes : List ℕ) → AreBlanks bytes → after_blanks bytes ≡ []
-blanks_end bytes blanks = ap after_blanks (sym (append-nil bytes)) ∙ behind_blanks bytes [] blanks refl
+blanks_end bytes blanks = ap after_blanks (sym (append-nil bytes)) ∙ past_blanks bytes [] blanks refl
 
 unquoted : (q : Bool) (x y z : Option (Word × List ℕ)) → q ≡ false → y ≡ z → cond q x y ≡ z
 unquoted true x y z e f = absurd cc
@@ -124,7 +124,7 @@ no_gap bytes (Quoted text) rest s = ap (λ (bs : List ℕ). position_or_len (λ 
 pub next_again : (line gap spelled rest : List ℕ) (word : Word) → line ≡ gap ++ (spelled ++ rest) → AreBlanks gap → SpellsWord spelled word → ends_word rest ≡ true → word_at line ≡ Some (word, rest)
 unfolding word_at
 next_again line gap spelled rest word whole blanks s e =
-    ap (λ (bytes : List ℕ). first_word (after_blanks bytes)) whole ∙ ap first_word (behind_blanks gap (spelled ++ rest) blanks (no_gap spelled word rest s)) ∙ word_again spelled word rest s e
+    ap (λ (bytes : List ℕ). first_word (after_blanks bytes)) whole ∙ ap first_word (past_blanks gap (spelled ++ rest) blanks (no_gap spelled word rest s)) ∙ word_again spelled word rest s e
 
 no_more : (line : List ℕ) → after_blanks line ≡ [] → word_at line ≡ None
 unfolding word_at

@@ -11,7 +11,7 @@ use Rattle.std.proofs.lemmas.List.Folds.{length-prefix_len}
 use Rattle.std.proofs.lemmas.Option.{some_pair_parts, cond_some}
 use Rattle.tile_words.specs.Words.{Word, Bare, Quoted, is_blank, ends_bare, after_blanks, ends_word, onto, repeated, taken, hex_at, escape_at, byte_at, text_at, closed_word, quoted_at, bare_at, first_word, word_at, words_of}
 use Rattle.tile_words.specs.Spelling.{SpellsByte, SpellsText, SpellsWord, AreBlanks, SpellsWords}
-use Rattle.tile_words.proofs.Short.{head_behind, bare_long}
+use Rattle.tile_words.proofs.Short.{head_after, bare_long}
 
 -- a prefix of the bytes spells a byte
 abbrev Front : List ℕ → ℕ → List ℕ → Type 0
@@ -162,7 +162,7 @@ gap_first line = sym (take-append-drop (position_or_len (λ b. not (is_blank b))
 pub word_spelled : (line : List ℕ) (word : Word) (rest : List ℕ) (words : List Word) → word_at line ≡ Some (word, rest) → SpellsWords rest words → SpellsWords line (word ∷ words)
 unfolding word_at
 word_spelled line word rest words read others =
-    let f = first_spelled (after_blanks line) word rest (head_behind line) read in
+    let f = first_spelled (after_blanks line) word rest (head_after line) read in
     (gap_of line, f.0, rest, gap_first line ∙ ap (λ (xs : List ℕ). gap_of line ++ xs) f.1, gap_blank line, f.2, f.3, others)
 
 words_spelled : (n : ℕ) (line : List ℕ) → AreBlanks (repeated word_at n line).1 → SpellsWords line (repeated word_at n line).0

@@ -45,18 +45,18 @@ pub taken_none : {A : Type 0} (step : List ℕ → Option (A × List ℕ)) → S
 taken_none step short bytes e = taken_step step short bytes ∙ rw e refl
 
 -- what was taken before, in front of what is taken still
-abbrev pub behind : {A : Type 0} → List A → List A × List ℕ → List A × List ℕ
-behind front found = (front ++ found.0, found.1)
+abbrev pub following : {A : Type 0} → List A → List A × List ℕ → List A × List ℕ
+following front found = (front ++ found.0, found.1)
 
 pub goes_on : {A : Type 0} (step : List ℕ → Option (A × List ℕ)) → Shortens step → (front : List A) (bytes : List ℕ) (x : A) (rest : List ℕ) (whole : List A × List ℕ) → step bytes ≡ Some (x, rest)
-    → behind front (taken step bytes) ≡ whole → behind (front ++ x ∷ []) (taken step rest) ≡ whole
+    → following front (taken step bytes) ≡ whole → following (front ++ x ∷ []) (taken step rest) ≡ whole
 goes_on {A} step short front bytes x rest whole e so_far =
-    ap (λ (xs : List A). (xs, (taken step rest).1)) (append_assoc front (x ∷ []) (taken step rest).0) ∙ ap (behind front) (sym (taken_some step short bytes x rest e)) ∙ so_far
+    ap (λ (xs : List A). (xs, (taken step rest).1)) (append_assoc front (x ∷ []) (taken step rest).0) ∙ ap (following front) (sym (taken_some step short bytes x rest e)) ∙ so_far
 
 pub ends : {A : Type 0} (step : List ℕ → Option (A × List ℕ)) → Shortens step → (front : List A) (bytes : List ℕ) (whole : List A × List ℕ) → step bytes ≡ None
-    → behind front (taken step bytes) ≡ whole → whole ≡ (front, bytes)
+    → following front (taken step bytes) ≡ whole → whole ≡ (front, bytes)
 ends {A} step short front bytes whole e so_far =
-    sym so_far ∙ ap (behind front) (taken_none step short bytes e) ∙ ap (λ (xs : List A). (xs, bytes)) (append-nil front)
+    sym so_far ∙ ap (following front) (taken_none step short bytes e) ∙ ap (λ (xs : List A). (xs, bytes)) (append-nil front)
 
 -- no more is left than there was
 pub rest_le : {A : Type 0} (step : List ℕ → Option (A × List ℕ)) → Shortens step → (n : ℕ) (bytes : List ℕ) → length (repeated step n bytes).1 ≤ length bytes

@@ -51,8 +51,8 @@ twice : (b : Bool) → not (not b) ≡ false → b ≡ false
 twice true e = absurd cc
 twice false e = refl
 
-pub head_behind : (bytes : List ℕ) (b : ℕ) (more : List ℕ) → after_blanks bytes ≡ b ∷ more → is_blank b ≡ false
-head_behind bytes b more e =
+pub head_after : (bytes : List ℕ) (b : ℕ) (more : List ℕ) → after_blanks bytes ≡ b ∷ more → is_blank b ≡ false
+head_after bytes b more e =
     let n : ℕ = position_or_len (λ b. not (is_blank b)) bytes in
     let long : length (drop n bytes) ≡ suc (length more) = ap length e in
     let lt : n < length bytes = omega (arith, long, length-drop n bytes) in
@@ -82,4 +82,4 @@ first_short (b ∷ more) n le no_blank = quote_or_not (eqb b 34) refl
 
 pub word_short : Shortens word_at
 unfolding word_at
-word_short bytes = first_short (after_blanks bytes) (length bytes) (omega (arith, length-drop (position_or_len (λ b. not (is_blank b)) bytes) bytes)) (head_behind bytes)
+word_short bytes = first_short (after_blanks bytes) (length bytes) (omega (arith, length-drop (position_or_len (λ b. not (is_blank b)) bytes) bytes)) (head_after bytes)

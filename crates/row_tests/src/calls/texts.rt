@@ -11,7 +11,7 @@ pub fn answer(alloc: Global, call: &str, given: Given<'_>) -> Answer {
     match call {
         "quote" => Ok(quote(alloc, given.bytes)?.into_vec()),
         "put_value" => Ok(value_put(Vec::new(alloc), given.bytes)?),
-        "put_value_behind" => {
+        "put_value_after" => {
             let line = Vec::from_slice(alloc, b"value 3 ")?;
             Ok(value_put(line, given.bytes)?)
         }

@@ -29,8 +29,8 @@ fn encoded(alloc: Global, given: Given<'_>) -> Answer {
 /// float as digits.
 pub fn value_shown(alloc: Global, value: Value<'_>) -> Result<Vec<u8>, AllocError> {
     let line = match value {
-        Value::Text(text) => return behind(alloc, b"Text ", text),
-        Value::Raw(bytes) => return behind(alloc, b"Raw ", bytes),
+        Value::Text(text) => return after_word(alloc, b"Text ", text),
+        Value::Raw(bytes) => return after_word(alloc, b"Raw ", bytes),
         Value::Float4(bytes) => format!(in alloc; "Float4 {}", hex::encode(alloc, &bytes)?)?,
         Value::Double8(bytes) => format!(in alloc; "Double8 {}", hex::encode(alloc, &bytes)?)?,
         Value::Int(number) => format!(in alloc; "Int {number}")?,
@@ -41,7 +41,7 @@ pub fn value_shown(alloc: Global, value: Value<'_>) -> Result<Vec<u8>, AllocErro
     Ok(line.into_bytes())
 }
 
-fn behind(alloc: Global, word: &[u8], bytes: &[u8]) -> Result<Vec<u8>, AllocError> {
+fn after_word(alloc: Global, word: &[u8], bytes: &[u8]) -> Result<Vec<u8>, AllocError> {
     let mut line = Vec::from_slice(alloc, word)?;
     line.extend_from_slice(bytes)?;
     Ok(line)

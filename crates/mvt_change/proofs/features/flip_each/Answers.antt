@@ -68,7 +68,7 @@ loop-item-preserved c =
       on = next;
       made = λ document is change start made under.
           let on = (read_there l.steps l.at step (IsInFeatureOf c.args.layer) c.index-steps-at.is l.invariant.on).1 in
-          rw c.forget_size_behind.ensures
+          rw c.forget_size_after.ensures
           (one_more_visited c.args.layer document c.args.items.now l.items c.flip_fields.new.items is change start l.steps l.at step c.flip_fields.new.step c.flip_fields.result l.invariant.there c.index-steps-at.is on
           (c.is_err.ensures.negation ∙ ap not c.if-is_err.false) (rw (← c.index-steps-at.is) at c.flip_fields.ensures.kept) (rw (← c.index-steps-at.is) at c.flip_fields.ensures.turned) made (l.invariant.made document is change start made under));
     }

@@ -18,7 +18,7 @@ returns c = λ change more takes comes.
     let both = joined_size (change_at (in_feature change) c.args.item (layer_of c.args.layer.now).items) more in
     let old = c.items_size.ensures change takes in
     let first = (rw c.in_ok-items_size.was at old).1 in
-    let second = (rw c.in_ok-behind.was at comes).1 in
+    let second = (rw c.in_ok-following.was at comes).1 in
     same_size MAX_FILE c.sum_within.result _ _ (omega (arith, both, first, second)) c.sum_within.ensures
 
 pub returns-in_err-items_size : goal.returns-in_err-items_size
@@ -27,8 +27,8 @@ returns-in_err-items_size c = λ change more takes comes.
     let none = rw c.in_err-items_size.was at c.items_size.ensures change takes in
     rw c.from_residual.ensures (λ within. none (omega (arith, both, within)))
 
-pub returns-in_err-behind : goal.returns-in_err-behind
-returns-in_err-behind c = λ change more takes comes.
+pub returns-in_err-following : goal.returns-in_err-following
+returns-in_err-following c = λ change more takes comes.
     let both = joined_size (change_at (in_feature change) c.args.item (layer_of c.args.layer.now).items) more in
-    let none = rw c.in_err-behind.was at comes in
-    rw c.from_residual-in_err-behind.ensures (λ within. none (omega (arith, both, within)))
+    let none = rw c.in_err-following.was at comes in
+    rw c.from_residual-in_err-following.ensures (λ within. none (omega (arith, both, within)))

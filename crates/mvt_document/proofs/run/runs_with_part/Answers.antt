@@ -6,10 +6,10 @@ pub returns : goal.returns
 returns g c = λ items known all.
     let of_kind = g.T.Measured.of_kind in
     let part = c.args.part.now in
-    let behind = c.runs_of_part-behind.ensures in
+    let following = c.runs_of_part-following.ensures in
     record {
-      names = run_with_part (of_kind kind.Name) items part c.args.seen all known.names behind.names c.spliced.ensures;
-      messages = run_with_part (of_kind kind.Message) items part c.args.seen all known.messages behind.messages c.spliced-2.ensures;
-      keys = run_with_part (of_kind kind.Key) items part c.args.seen all known.keys behind.keys c.spliced-3.ensures;
-      values = run_with_part (of_kind kind.Value) items part c.args.seen all known.values behind.values c.spliced-4.ensures;
+      names = run_with_part (of_kind kind.Name) items part c.args.seen all known.names following.names c.spliced.ensures;
+      messages = run_with_part (of_kind kind.Message) items part c.args.seen all known.messages following.messages c.spliced-2.ensures;
+      keys = run_with_part (of_kind kind.Key) items part c.args.seen all known.keys following.keys c.spliced-3.ensures;
+      values = run_with_part (of_kind kind.Value) items part c.args.seen all known.values following.values c.spliced-4.ensures;
     }

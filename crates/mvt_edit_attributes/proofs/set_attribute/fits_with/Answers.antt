@@ -23,6 +23,6 @@ returns c = λ given makes.
     let more = map layer_item_of c.args.entries.now in
     let run = option_map (λ run. seen field_of (splice_of run)) c.args.run.now in
     let fields = subst (λ list. IsFileSize c.size_with-fields.result (length (flat_map field_bytes list))) (ap (λ list. fields_with (map field_of list) run) c.fields.ensures ∙ sym makes) c.size_with-fields.ensures in
-    let behind = same_size MAX_FILE c.size_of_all-behind.result _ _ (ap length (sym (flat_map-map layer_item_bytes layer_item_of c.args.entries.now))) c.size_of_all-behind.ensures in
-    let items = c.size_with_fields-items.ensures given more (fields_there found.position layer.items feature (λ old. IsFileSize c.size_with-fields.result (length (flat_map field_bytes (given old)))) c.requires.feature fields) behind in
+    let following = same_size MAX_FILE c.size_of_all-following.result _ _ (ap length (sym (flat_map-map layer_item_bytes layer_item_of c.args.entries.now))) c.size_of_all-following.ensures in
+    let items = c.size_with_fields-items.ensures given more (fields_there found.position layer.items feature (λ old. IsFileSize c.size_with-fields.result (length (flat_map field_bytes (given old)))) c.requires.feature fields) following in
     c.fits_with_items.ensures (λ items. change_at (in_feature given) found.position items ++ more) (items_there holder.position document layer (λ old. IsFileSize c.size_with_fields-items.result (length (flat_map layer_item_bytes (change_at (in_feature given) found.position old ++ more)))) c.requires.layer items)

@@ -13,7 +13,7 @@ use Rattle.mvt_command.specs.CommandStands.{feature_choice_of, layer_choice_of}
 use Rattle.mvt_meaning.specs.Tagging.{with_attribute}
 use Rattle.mvt_fates.specs.Fates.{seen, splice_of}
 use Rattle.mvt_fates.proofs.Carrying.{in_feature_at}
-use Rattle.mvt_edit_attributes.specs.Attribute.{AreFound, behind_all, entries_for}
+use Rattle.mvt_edit_attributes.specs.Attribute.{AreFound, appended, entries_for}
 use Rattle.mvt_edit_attributes.proofs.AttributeSet.{attribute_set, attributed_at, entries_lacked, no_feature_gets, set_too_large, tags_refused}
 use Rattle.mvt_edit_steps.proofs.Limits.{not_false, not_true}
 use Rattle.mvt_edit_attributes.proofs.set_attribute.set_attribute.Goals as goal
@@ -79,4 +79,4 @@ returns c =
     ∙ ap (λ more. not (nat_lt MAX_FILE (length (bytes_of (change_items (λ items. change_at (in_feature (with_attribute key bytes layer.items)) found.position items ++ more) holder.position document))))) (ap (map layer_item_of) c.as_slice-2.ensures.value ∙ entries) in
     attribute_set choice key value document holder.ordinal holder.position layer is.selects is.placed is.there (feature_choice_of c.args.feature.now) found.ordinal found.position feature here.selects here.placed here.there c.in_ok-run.ensures.checked
     (not_true (nat_lt MAX_FILE (length (bytes_of (change_items (attributed_at key bytes layer.items found.position) holder.position document)))) (sym answered ∙ c.if-not-fits_with.false)) _ gives _
-    (c.in_ok-steps_of.ensures ∙ ap (λ list. map (in_feature_at holder.position found.position) (cons_option (option_map (λ run. seen field_of (splice_of run)) c.in_ok-run.run') []) ++ behind_all holder.position layer.items list) entries)
+    (c.in_ok-steps_of.ensures ∙ ap (λ list. map (in_feature_at holder.position found.position) (cons_option (option_map (λ run. seen field_of (splice_of run)) c.in_ok-run.run') []) ++ appended holder.position layer.items list) entries)

@@ -28,7 +28,7 @@ returns c =
     (feature_choice_of c.args.feature.now) c.in_ok-found.found.ordinal item (feature_of c.in_ok-found.found.feature.now) found.selects found.placed found.there _
     (heavy field_bytes field_of is_id id_has_bytes fields)
     (c.new.ensures.change
-    ∙ alone step_of c.new-steps.result.items _ _ c.new-steps.ensures.items done.2.behind
+    ∙ alone step_of c.new-steps.result.items _ _ c.new-steps.ensures.items done.2.following
     ∙ sym (map-map (in_feature_at layer item) (seen field_of) (splices_of done.0))
     ∙ ap (map (in_feature_at layer item)) (out_seen field_of is_id _ (λ field fate says. search rules) c.fields.result.now done.0 done.1)
     ∙ ap (λ list. map (in_feature_at layer item) (out is_id (map field_of list))) c.fields.ensures)

@@ -8,5 +8,5 @@ abbrev pub invariant-loop-position : goal.invariant-loop-position
 invariant-loop-position l = record {
   within : l.before ≤ l.position;
   few : l.before ≤ l.ordinal;
-  rest : place_from is_feature l.position (l.ordinal - l.before) l.behind (map layer_item_of (drop l.position l.items)) ≡ place_from is_feature 0 l.ordinal (length l.items) (map layer_item_of l.items);
+  rest : place_from is_feature l.position (l.ordinal - l.before) l.following (map layer_item_of (drop l.position l.items)) ≡ place_from is_feature 0 l.ordinal (length l.items) (map layer_item_of l.items);
 }

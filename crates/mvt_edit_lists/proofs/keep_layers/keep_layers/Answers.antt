@@ -32,7 +32,7 @@ returns c =
     let listed = ap (λ list. length (filter (goes names) (map tile_item_of list))) c.as_slice-items.ensures in
     keeps names (document_of c.args.document.now) _
     (c.new.ensures.change
-    ∙ alone step_of c.new-steps.result.items _ _ c.new-steps.ensures.items done.2.behind
+    ∙ alone step_of c.new-steps.result.items _ _ c.new-steps.ensures.items done.2.following
     ∙ sym (map-map in_tile (seen tile_item_of) (splices_of done.0))
     ∙ ap (map in_tile) (out_seen tile_item_of (goes names) _ (λ item fate says. search (rules, alike)) c.as_slice-items.result.now done.0 done.1)
     ∙ ap (λ list. map in_tile (out (goes names) (map tile_item_of list))) c.as_slice-items.ensures)

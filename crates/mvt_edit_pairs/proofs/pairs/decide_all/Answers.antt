@@ -8,7 +8,7 @@ use Rattle.mvt_layers.specs.Seen.{pair_seen}
 use Rattle.mvt_messages.specs.Tags.{plain_pairs}
 use Rattle.mvt_layers.proofs.Pairing.{plain_more}
 use Rattle.mvt_fates.specs.Decided.{counted_by, decided_by}
-use Rattle.mvt_edit_pairs.proofs.Deciding.{counted_behind, counted_more, counted_none, decided_behind, decided_more, decided_none, more_some, none_is}
+use Rattle.mvt_edit_pairs.proofs.Deciding.{counted_after, counted_more, counted_none, decided_after, decided_more, decided_none, more_some, none_is}
 use Rattle.mvt_edit_pairs.proofs.pairs.decide_all.Goals as goal
 
 pub loop-tags-init : goal.loop-tags-init
@@ -17,7 +17,7 @@ loop-tags-init g c =
     let left = plain_pairs c.into_iter-tags-iterator.result in
     record {
       decided = λ said means. record {
-        decided = ap (λ (list : List (Option ℕ)). option_map (decided_behind said list) left) c.clear.ensures.items ∙ decided_none said left ∙ ap (λ found. option_map (decided_by said) (plain_pairs found)) read;
+        decided = ap (λ (list : List (Option ℕ)). option_map (decided_after said list) left) c.clear.ensures.items ∙ decided_none said left ∙ ap (λ found. option_map (decided_by said) (plain_pairs found)) read;
         counted = counted_none said left ∙ ap (λ found. option_map (counted_by said) (plain_pairs found)) read;
       };
       read = ap (λ found. is_some (plain_pairs found)) read;
@@ -44,13 +44,13 @@ loop-tags-preserved g c =
           let is : made ≡ said pair = means found.pair made (says g.D.Fn c.decide-key.ensures refl) in
           let so_far = c.loop-tags.invariant.decided said means in
           record {
-            decided = ap (λ (list : List (Option ℕ)). option_map (decided_behind said list) rest) (pushed ∙ ap (λ (d : Option ℕ × Option ℕ × Bool). front ++ d.0 ∷ d.1 ∷ []) is)
+            decided = ap (λ (list : List (Option ℕ)). option_map (decided_after said list) rest) (pushed ∙ ap (λ (d : Option ℕ × Option ℕ × Bool). front ++ d.0 ∷ d.1 ∷ []) is)
                 ∙ sym (decided_more said front pair rest)
-                ∙ ap (option_map (decided_behind said front)) (sym step)
+                ∙ ap (option_map (decided_after said front)) (sym step)
                 ∙ so_far.decided;
-            counted = ap (λ n. option_map (counted_behind said (c.loop-tags.count + n)) rest) (counted ∙ ap (λ (d : Option ℕ × Option ℕ × Bool). cond d.2 1 0) is)
+            counted = ap (λ n. option_map (counted_after said (c.loop-tags.count + n)) rest) (counted ∙ ap (λ (d : Option ℕ × Option ℕ × Bool). cond d.2 1 0) is)
                 ∙ sym (counted_more said c.loop-tags.count pair rest)
-                ∙ ap (option_map (counted_behind said c.loop-tags.count)) (sym step)
+                ∙ ap (option_map (counted_after said c.loop-tags.count)) (sym step)
                 ∙ so_far.counted;
           };
       read = sym (ap (λ found. is_some found) step ∙ more_some pair rest) ∙ c.loop-tags.invariant.read;
@@ -75,6 +75,6 @@ returns-clause-decided g c = λ said means.
     let count = c.loop-tags.count in
     let all : count + 0 ≡ count = omega arith in
     record {
-      decided = sym so_far.decided ∙ ap (λ left. option_map (decided_behind said decisions) (plain_pairs left)) none ∙ ap Some (append-nil decisions);
-      counted = sym so_far.counted ∙ ap (λ left. option_map (counted_behind said count) (plain_pairs left)) none ∙ ap Some all;
+      decided = sym so_far.decided ∙ ap (λ left. option_map (decided_after said decisions) (plain_pairs left)) none ∙ ap Some (append-nil decisions);
+      counted = sym so_far.counted ∙ ap (λ left. option_map (counted_after said count) (plain_pairs left)) none ∙ ap Some all;
     }

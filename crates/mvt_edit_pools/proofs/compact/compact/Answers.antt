@@ -10,7 +10,7 @@ use Rattle.mvt_layers.specs.Seen.{found_layer_seen}
 use Rattle.mvt_select.specs.Found.{layers_left}
 use Rattle.mvt_edit_pairs.proofs.StepsPassed.{steps_more}
 use Rattle.mvt_edit_pools.specs.Pools.{compacting, keys_stay, values_stay}
-use Rattle.mvt_edit_pools.proofs.Compacted.{compacts, layer_refused, none_selected, readable_behind}
+use Rattle.mvt_edit_pools.proofs.Compacted.{compacts, layer_refused, none_selected, readable_after}
 use Rattle.mvt_edit_pools.proofs.compact.compact.Goals as goal
 
 pub returns : goal.returns
@@ -42,7 +42,7 @@ loop-found-preserved c =
     let front = map step_of c.loop-found.steps.items in
     record {
       steps = steps_more steps front _ _ at rest c.in_ok-compact_layer.ensures.steps (ap (λ left. front ++ flat_map steps left) (sym c.in-Some.ensures.steps) ∙ c.loop-found.invariant.steps);
-      readable = sym (readable_behind at rest c.in_ok-compact_layer.ensures.readable) ∙ ap unreadable (sym c.in-Some.ensures.steps) ∙ c.loop-found.invariant.readable;
+      readable = sym (readable_after at rest c.in_ok-compact_layer.ensures.readable) ∙ ap unreadable (sym c.in-Some.ensures.steps) ∙ c.loop-found.invariant.readable;
     }
 
 pub returns-in_err-compact_layer : goal.returns-in_err-compact_layer

@@ -9,27 +9,27 @@ pub returns-then-is_entry_at : goal.returns-then-is_entry_at
 returns-then-is_entry_at c =
     let keys = c.args.keys.now in
     let values = c.args.values.now in
-    let behind = map layer_item_of (drop (c.args.index + 1) c.args.items.now) in
+    let following = map layer_item_of (drop (c.args.index + 1) c.args.items.now) in
     let at = item_at c.args.items.now c.args.index c.requires.there in
     let key = at.seen key_field _ c.is_entry_at.ensures ∙ c.if-is_entry_at.true in
-    at.first keys values ∙ goes_key keys values (layer_item_of at.item) behind _ _ key c.first_goes.ensures c.behind_first.ensures
+    at.first keys values ∙ goes_key keys values (layer_item_of at.item) following _ _ key c.first_goes.ensures c.after_first.ensures
 
 pub returns-then-is_entry_at-2 : goal.returns-then-is_entry_at-2
 returns-then-is_entry_at-2 c =
     let keys = c.args.keys.now in
     let values = c.args.values.now in
-    let behind = map layer_item_of (drop (c.args.index + 1) c.args.items.now) in
+    let following = map layer_item_of (drop (c.args.index + 1) c.args.items.now) in
     let at = item_at c.args.items.now c.args.index c.requires.there in
     let key = at.seen key_field _ c.is_entry_at.ensures ∙ c.if-is_entry_at.false in
     let value = at.seen value_field _ c.is_entry_at-2.ensures ∙ c.if-is_entry_at-2.true in
-    at.first keys values ∙ goes_value keys values (layer_item_of at.item) behind _ _ key value c.first_goes-then-is_entry_at-2.ensures c.behind_first-then-is_entry_at-2.ensures
+    at.first keys values ∙ goes_value keys values (layer_item_of at.item) following _ _ key value c.first_goes-then-is_entry_at-2.ensures c.after_first-then-is_entry_at-2.ensures
 
 pub returns : goal.returns
 returns c =
     let keys = c.args.keys.now in
     let values = c.args.values.now in
-    let behind = map layer_item_of (drop (c.args.index + 1) c.args.items.now) in
+    let following = map layer_item_of (drop (c.args.index + 1) c.args.items.now) in
     let at = item_at c.args.items.now c.args.index c.requires.there in
     let key = at.seen key_field _ c.is_entry_at.ensures ∙ c.if-is_entry_at.false in
     let value = at.seen value_field _ c.is_entry_at-2.ensures ∙ c.if-is_entry_at-2.false in
-    at.first keys values ∙ goes_neither keys values (layer_item_of at.item) behind key value
+    at.first keys values ∙ goes_neither keys values (layer_item_of at.item) following key value

@@ -15,6 +15,6 @@ returns c =
     let marks = c.as_slice.result.now in
     let given = map step_of c.args.steps.now.items in
     let done = c.in_ok-take_out.ensures (λ s. LayerStep layer s.index s.taken (map layer_item_of s.put)) (λ run made says. search rules) in
-    done.behind
+    done.following
     ∙ ap (λ more. given ++ more) (sym (map-map (in_layer_at layer) (seen layer_item_of) (splices_of (map (λ is. goes_if is) marks))) ∙ ap (map (in_layer_at layer)) (marks_seen layer_item_of marks))
     ∙ ap (λ picked. given ++ entry_steps layer picked) (c.as_slice.ensures.value ∙ c.in_ok-gone.ensures)

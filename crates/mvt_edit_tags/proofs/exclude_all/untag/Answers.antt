@@ -14,7 +14,7 @@ returns c =
     let layer = c.args.layer in
     let item = c.args.found.position in
     let done = c.in_ok-carry_out.ensures (λ s. FeatureStep layer item s.index s.taken (map field_of s.put)) (λ run made says. search rules) in
-    done.2.behind
+    done.2.following
     ∙ ap (λ more. map step_of c.args.steps.now.items ++ more) (
     sym (map-map (in_feature_at layer item) (seen field_of) (splices_of done.0))
     ∙ ap (map (in_feature_at layer item)) (out_seen field_of is_tags _ (λ field fate says. search rules) c.fields.result.now done.0 done.1)

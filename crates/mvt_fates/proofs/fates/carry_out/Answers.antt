@@ -31,4 +31,4 @@ returns g c = λ step_with means.
     let kept = c.loop-index.invariant in
     let all : length c.args.items.now ≤ c.loop-index.index = let done = c.loop-index-test.false in omega arith in
     let answered = subst (λ items. AllZip (λ item fate. FnReturnsAt g.F.Fn c.args.fate_of item (Ok fate)) items kept.fates) (take_all c.loop-index.index c.args.items.now all) kept.said in
-    IfOk-weaker c.end.result _ _ (λ changed ended. (kept.fates, answered, record { behind = all_steps kept c.end.new.steps.items step_with means ended.0; counted = ended.1 ∙ kept.counted })) (c.end.ensures step_with means)
+    IfOk-weaker c.end.result _ _ (λ changed ended. (kept.fates, answered, record { following = all_steps kept c.end.new.steps.items step_with means ended.0; counted = ended.1 ∙ kept.counted })) (c.end.ensures step_with means)

@@ -34,10 +34,10 @@ loop-index-preserved g c =
     let field = c.index-fields-index.result in
     let fate = c.in_ok-fate.fate in
     let becomes = field_fate-seen field_of c.args.number c.loop-index.left.now (field_of field) fate is.fate is.changes in
-    let decided = decided_more c.args.number c.args.decisions.now c.loop-index.left.now c.in_ok-fate.behind.now c.args.fields.now c.loop-index.index field kept.fates fate (omega arith) c.index-fields-index.is kept.said becomes is.left in
+    let decided = decided_more c.args.number c.args.decisions.now c.loop-index.left.now c.in_ok-fate.following.now c.args.fields.now c.loop-index.index field kept.fates fate (omega arith) c.index-fields-index.is kept.said becomes is.left in
     record {
       steps = goes_on kept fate c.pass.new.steps.items c.in_ok-walk.walk decided made.steps made.ends (made.take c.loop-index.index kept.taken) made.next made.changed;
-      size = sized_more c.args.number c.args.decisions.now c.loop-index.left.now c.in_ok-fate.behind.now c.args.fields.now c.loop-index.index field _ _ _ _ (omega arith) c.index-fields-index.is c.loop-index.invariant.size is.fate c.and_left-size.ensures is.left;
+      size = sized_more c.args.number c.args.decisions.now c.loop-index.left.now c.in_ok-fate.following.now c.args.fields.now c.loop-index.index field _ _ _ _ (omega arith) c.index-fields-index.is c.loop-index.invariant.size is.fate c.and_left-size.ensures is.left;
     }
 
 pub returns-clause-steps : goal.returns-clause-steps

@@ -34,6 +34,6 @@ returns g c = λ step_with means.
     let all : length c.args.picked.now ≤ c.loop-index.index = let done = c.loop-index-test.false in omega arith in
     let fates = kept.said ∙ ap (λ picked. map (λ is. goes_if is) picked) (take_all c.loop-index.index c.args.picked.now all) in
     IfOk-weaker c.end.result _ _ (λ changed ended. record {
-      behind = all_steps kept c.end.new.steps.items step_with means ended.0 ∙ ap (λ all. given ++ map step_with (splices_of all)) fates;
+      following = all_steps kept c.end.new.steps.items step_with means ended.0 ∙ ap (λ all. given ++ map step_with (splices_of all)) fates;
       counted = ended.1 ∙ kept.counted ∙ ap (λ all. length (filter changes all)) fates;
     }) (c.end.ensures step_with means)

@@ -4,7 +4,7 @@ use Rattle.std.proofs.lemmas.Result.{err_from_is_err_and}
 use Rattle.mvt_geometry.specs.Walks.{BeginsWithPart, GoesOn}
 use Rattle.mvt_geometry.proofs.Fronts.{begins_with_four, goes_on_from, begins_from, first_four, length-parameters}
 use Rattle.mvt_geometry.proofs.path.path_at_front.Goals as goal
-use Rattle.mvt_geometry.proofs.path.path_at_front.Goals.{then-command-ne-LINE_TO-via-then-command-ne-LINE_TO, then-command-ne-LINE_TO-via-else-command-ne-LINE_TO+then-count-least, then-command-ne-LINE_TO-via-else-command-ne-LINE_TO+else-count-least+then-behind-count}
+use Rattle.mvt_geometry.proofs.path.path_at_front.Goals.{then-command-ne-LINE_TO-via-then-command-ne-LINE_TO, then-command-ne-LINE_TO-via-else-command-ne-LINE_TO+then-count-least, then-command-ne-LINE_TO-via-else-command-ne-LINE_TO+else-count-least+then-following-count}
 
 pub returns-then-command-ne-LINE_TO-clause-bad : goal.returns-then-command-ne-LINE_TO-clause-bad
 returns-then-command-ne-LINE_TO-clause-bad c = λ e points rest p.
@@ -15,7 +15,7 @@ returns-then-command-ne-LINE_TO-clause-bad c = λ e points rest p.
     elim c.then-command-ne-LINE_TO.branch [
       | then-command-ne-LINE_TO-via-then-command-ne-LINE_TO w ↦ omega arith
       | then-command-ne-LINE_TO-via-else-command-ne-LINE_TO+then-count-least w ↦ omega arith
-      | then-command-ne-LINE_TO-via-else-command-ne-LINE_TO+else-count-least+then-behind-count w ↦ let few = rw take_rest at w.if-behind-count.true in omega (arith, few)
+      | then-command-ne-LINE_TO-via-else-command-ne-LINE_TO+else-count-least+then-following-count w ↦ let few = rw take_rest at w.if-following-count.true in omega (arith, few)
     ]
 
 pub returns-in_err-points-clause-bad : goal.returns-in_err-points-clause-bad

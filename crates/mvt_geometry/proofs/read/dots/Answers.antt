@@ -7,7 +7,7 @@ use Rattle.mvt_geometry.specs.Walks.{GoesOn}
 use Rattle.mvt_geometry.proofs.Moves.{one_move}
 use Rattle.mvt_geometry.proofs.Single.{three_at_least, first_three, dots_open, dots_have}
 use Rattle.mvt_geometry.proofs.read.dots.Goals as goal
-use Rattle.mvt_geometry.proofs.read.dots.Goals.{then-command-ne-MOVE_TO-via-then-command-ne-MOVE_TO, then-command-ne-MOVE_TO-via-else-command-ne-MOVE_TO+then-behind-count}
+use Rattle.mvt_geometry.proofs.read.dots.Goals.{then-command-ne-MOVE_TO-via-then-command-ne-MOVE_TO, then-command-ne-MOVE_TO-via-else-command-ne-MOVE_TO+then-following-count}
 
 pub returns-in_default-clause-bad : goal.returns-in_default-clause-bad
 returns-in_default-clause-bad c = λ e g h. let some = three_at_least c.args.numbers.now g h in omega (arith, c.in_default.len_below)
@@ -19,7 +19,7 @@ returns-then-command-ne-MOVE_TO-clause-bad c = λ e g h.
     let long = o.long in
     elim c.then-command-ne-MOVE_TO.branch [
       | then-command-ne-MOVE_TO-via-then-command-ne-MOVE_TO w ↦ omega arith
-      | then-command-ne-MOVE_TO-via-else-command-ne-MOVE_TO+then-behind-count w ↦ let other = rw take_rest at w.if-behind-count.true in other (omega arith)
+      | then-command-ne-MOVE_TO-via-else-command-ne-MOVE_TO+then-following-count w ↦ let other = rw take_rest at w.if-following-count.true in other (omega arith)
     ]
 
 pub returns-in_default-moved-clause-bad : goal.returns-in_default-moved-clause-bad
@@ -43,7 +43,7 @@ returns-clause-found c =
     let points = c.in_ok-points.points.items in
     let led : GoesOn c.in-Some.first (drop 3 numbers) points = rw take_rest at c.in_ok-points.ensures.points in
     let line : get_or numbers 0 0 ≡ 1 + 8 * count = omega (arith, c.if-command-ne-MOVE_TO.false) in
-    let long : 2 + length (drop 3 numbers) ≡ 2 * count = rw take_rest at c.if-behind-count.false in
+    let long : 2 + length (drop 3 numbers) ≡ 2 * count = rw take_rest at c.if-following-count.false in
     let few : count < 2 ^ 29 = omega (arith, c.type_inv.numbers 0) in
     let has = dots_have (get_or numbers 1 0) (get_or numbers 2 0) count (drop 3 numbers) c.in-Some.first points c.in-Some.ensures.found led long few in
     let front = first_three numbers (omega (arith, c.in-len3-up.len_at_least)) in

@@ -29,7 +29,7 @@ pub returns-in_err-found : goal.returns-in_err-found
 returns-in_err-found c =
     let number = c.args.number in
     let items = map layer_item_of c.args.items.now in
-    let found = nth_from_yields_List _ _ _ c.nth.ensures.ran (YieldsList-from_first found_entry_seen (λ left. left) _ c.behind.ensures.items) in
+    let found = nth_from_yields_List _ _ _ c.nth.ensures.ran (YieldsList-from_first found_entry_seen (λ left. left) _ c.following.ensures.items) in
     let past = found ∙ sym (run_past layer_item_of (entry_in number) (is_entry number) (is_found_entry number) c.args.entries c.args.items.now c.args.ordinal c.requires c.if-ordinal-entries.false) in
     let whole = ap (option_map (λ f. f.1.1)) past ∙ sym (got_mapped (λ f. f.1.1) (found_in (entry_in number) items) c.args.ordinal) ∙ ap (λ xs. slice_get xs c.args.ordinal) (found_contents number items) in
     rw c.from_residual.ensures (rw c.in_err-found.was at whole)
@@ -38,7 +38,7 @@ pub returns : goal.returns
 returns c =
     let number = c.args.number in
     let items = map layer_item_of c.args.items.now in
-    let found = nth_from_yields_List _ _ _ c.nth.ensures.ran (YieldsList-from_first found_entry_seen (λ left. left) _ c.behind.ensures.items) in
+    let found = nth_from_yields_List _ _ _ c.nth.ensures.ran (YieldsList-from_first found_entry_seen (λ left. left) _ c.following.ensures.items) in
     let past = found ∙ sym (run_past layer_item_of (entry_in number) (is_entry number) (is_found_entry number) c.args.entries c.args.items.now c.args.ordinal c.requires c.if-ordinal-entries.false) in
     let whole = ap (option_map (λ f. f.1.1)) past ∙ sym (got_mapped (λ f. f.1.1) (found_in (entry_in number) items) c.args.ordinal) ∙ ap (λ xs. slice_get xs c.args.ordinal) (found_contents number items) in
     rw c.in_ok-found.was at whole

@@ -28,21 +28,21 @@ loop-place-preserved c =
     let bytes = c.args.bytes.now in
     let place = c.loop-place.place in
     let left = c.loop-place.left.now in
-    let behind = c.first_fate-fate.result.1.now in
+    let following = c.first_fate-fate.result.1.now in
     let n = number_of c.in-Some.number in
     let kept : List Number = left_of_fate number_of n c.first_fate-fate.result.0 in
     let front = take c.args.start bytes in
     let whole = drop c.args.start bytes in
     let found : take n.width (drop place bytes) ≡ spelling n =
     ap (take n.width) (sym (take_rest bytes place)) ∙ c.in-Some.ensures.found in
-    let made = makes_more front whole c.args.decisions.now (drop place bytes) left behind (made_up_to bytes place c.loop-place.making) (made_up_to bytes (place + n.width) c.pass.new.self) n kept
+    let made = makes_more front whole c.args.decisions.now (drop place bytes) left following (made_up_to bytes place c.loop-place.making) (made_up_to bytes (place + n.width) c.pass.new.self) n kept
     c.loop-place.invariant.makes c.in-Some.number.spelled found (fate_valid c.in-Some.number c.first_fate-fate.result.0) c.first_fate-fate.ensures.fate c.first_fate-fate.ensures.left c.in_ok-pass.ensures.made in
     record {
       within = omega (arith, c.in-Some.ensures.within, length-drop place bytes, ap length (take_rest bytes place));
       copied = omega (arith, c.in_ok-pass.ensures.copied);
       makes =
-          subst (λ (w : ℕ). Makes front whole c.args.decisions.now (drop (place + w) bytes) behind (made_up_to bytes (place + w) c.pass.new.self)) (sym c.from-place.ensures)
-          (subst (λ (rest : List ℕ). Makes front whole c.args.decisions.now rest behind (made_up_to bytes (place + n.width) c.pass.new.self)) (drop-drop n.width place bytes) made);
+          subst (λ (w : ℕ). Makes front whole c.args.decisions.now (drop (place + w) bytes) following (made_up_to bytes (place + w) c.pass.new.self)) (sym c.from-place.ensures)
+          (subst (λ (rest : List ℕ). Makes front whole c.args.decisions.now rest following (made_up_to bytes (place + n.width) c.pass.new.self)) (drop-drop n.width place bytes) made);
     }
 
 pub returns : goal.returns

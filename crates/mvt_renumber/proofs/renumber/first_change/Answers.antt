@@ -44,19 +44,19 @@ loop-place-preserved c =
     let bytes = c.args.bytes.now in
     let place = c.loop-place.place in
     let left = c.loop-place.left.now in
-    let behind = c.first_fate-fate.result.1.now in
+    let following = c.first_fate-fate.result.1.now in
     let n = number_of c.in-Some.number in
     let found : take n.width (drop place bytes) ≡ spelling n =
     ap (take n.width) (sym (take_rest bytes place)) ∙ c.in-Some.ensures.found in
-    let same : (more : List Number) → renumbered left (n ∷ more) ≡ n ∷ renumbered behind more = λ more.
-    c.first_fate-fate.ensures.fate more ∙ ap (λ fate. left_of_fate number_of n fate ++ renumbered behind more) c.in-Stays.is in
-    let unchanged : (more : List Number) → some_changed left (n ∷ more) ≡ some_changed behind more = λ more.
-    c.first_fate-fate.ensures.changes more ∙ ap (λ fate. changes fate || some_changed behind more) c.in-Stays.is in
+    let same : (more : List Number) → renumbered left (n ∷ more) ≡ n ∷ renumbered following more = λ more.
+    c.first_fate-fate.ensures.fate more ∙ ap (λ fate. left_of_fate number_of n fate ++ renumbered following more) c.in-Stays.is in
+    let unchanged : (more : List Number) → some_changed left (n ∷ more) ≡ some_changed following more = λ more.
+    c.first_fate-fate.ensures.changes more ∙ ap (λ fate. changes fate || some_changed following more) c.in-Stays.is in
     record {
       within = omega (arith, c.in-Some.ensures.within, length-drop place bytes, ap length (take_rest bytes place));
       stays =
-          subst (λ (w : ℕ). StaysBefore bytes c.args.decisions.now (place + w) behind) (sym c.from-place.ensures)
-          (stays_more bytes c.args.decisions.now place left behind n c.loop-place.invariant.stays c.in-Some.number.spelled found same c.first_fate-fate.ensures.left unchanged);
+          subst (λ (w : ℕ). StaysBefore bytes c.args.decisions.now (place + w) following) (sym c.from-place.ensures)
+          (stays_more bytes c.args.decisions.now place left following n c.loop-place.invariant.stays c.in-Some.number.spelled found same c.first_fate-fate.ensures.left unchanged);
     }
 
 pub returns : goal.returns

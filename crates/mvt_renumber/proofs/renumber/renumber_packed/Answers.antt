@@ -1,7 +1,7 @@
 use Rattle.std.proofs.Common.{◌∙◌, sym}
 use Rattle.mvt_document.specs.Bodies.{number_of}
 use Rattle.mvt_renumber.specs.Deciding.{packed_field}
-use Rattle.mvt_renumber.proofs.PackedLeft.{IsChanged, whole_changed, changed_left, changed_behind, changed_field, changed_some}
+use Rattle.mvt_renumber.proofs.PackedLeft.{IsChanged, whole_changed, changed_left, changed_after, changed_field, changed_some}
 use Rattle.mvt_renumber.proofs.renumber.renumber_packed.Goals as goal
 use Rattle.mvt_renumber.proofs.renumber.renumber_packed.Goals.{In-Some}
 
@@ -21,7 +21,7 @@ returns-in-Some-clause-change c =
 
 pub returns-in-Some-clause-left : goal.returns-in-Some-clause-left
 returns-in-Some-clause-left c =
-    changed_behind c.args.bytes.now c.args.decisions.now c.in-Some.made.items c.in-Some.left.now (whole (goal.at.returns-in-Some-clause-left c).In-Some)
+    changed_after c.args.bytes.now c.args.decisions.now c.in-Some.made.items c.in-Some.left.now (whole (goal.at.returns-in-Some-clause-left c).In-Some)
 
 pub returns-in-Some-clause-changes : goal.returns-in-Some-clause-changes
 returns-in-Some-clause-changes c =

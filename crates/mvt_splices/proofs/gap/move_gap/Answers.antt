@@ -7,6 +7,6 @@ pub returns-clause-items : goal.returns-clause-items
 returns-clause-items g c =
     let ring = c.args.ring.now.items in
     c.turn.ensures.items ∙ elim c.if-index-before.branch [
-      | then-index-before w ↦ ap (λ n. drop n ring ++ take n ring) w.count-is ∙ turned_back c.args.behind c.args.index ring (omega arith)
-      | else-index-before w ↦ ap (λ n. drop n ring ++ take n ring) w.count-is ∙ turned_on c.args.behind _ c.args.index ring (omega arith) (omega arith) (omega arith)
+      | then-index-before w ↦ ap (λ n. drop n ring ++ take n ring) w.count-is ∙ turned_back c.args.following c.args.index ring (omega arith)
+      | else-index-before w ↦ ap (λ n. drop n ring ++ take n ring) w.count-is ∙ turned_on c.args.following _ c.args.index ring (omega arith) (omega arith) (omega arith)
     ]

@@ -2,7 +2,7 @@ use Rattle.std.proofs.Common.{rules, ◌≡◌, ℤ, ◌++◌, ◌∙◌, ap, sy
 use mir.Val.{SFits}
 use Rattle.std.proofs.lemmas.Int.{to_z-of_z}
 use Rattle.tile_answers.specs.Answering.{offset_line}
-use Rattle.tile_run.proofs.Printing.{mark_there, none_behind, lines_of_marks, all_printed}
+use Rattle.tile_run.proofs.Printing.{mark_there, none_after, lines_of_marks, all_printed}
 use Rattle.tile_run.proofs.printed.mark_lines.Goals as goal
 use Rattle.tile_run.proofs.printed.mark_lines.Goals.{else-loop-index-test, then-loop-index-test+in_default}
 
@@ -17,5 +17,5 @@ returns-clause-lines c history stands =
     let session = c.args.session.now in
     elim c.loop-index-test.branch [
       | else-loop-index-test w ↦ c.from_vec.ensures.items ∙ c.loop-index.invariant ∙ all_printed (length session.undo) session.marks c.loop-index.index (omega (arith, w.loop-index-test.false, c.mark_count-index-end.ensures)) ∙ sym (lines_of_marks session history stands)
-      | then-loop-index-test+in_default w ↦ absurd (none_behind (length session.undo) session.marks c.loop-index.index _ refl w.in_default.ensures (omega (arith, w.loop-index-test.true, c.mark_count-index-end.ensures)))
+      | then-loop-index-test+in_default w ↦ absurd (none_after (length session.undo) session.marks c.loop-index.index _ refl w.in_default.ensures (omega (arith, w.loop-index-test.true, c.mark_count-index-end.ensures)))
     ]

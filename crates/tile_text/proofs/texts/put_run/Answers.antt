@@ -13,9 +13,9 @@ put_escaped-requires c =
 
 pub returns-in_ok-put_escaped-in-len1-up-clause-ok : goal.returns-in_ok-put_escaped-in-len1-up-clause-ok
 returns-in_ok-put_escaped-in-len1-up-clause-ok c =
-    let behind = c.split_at.result.1.now in
-    first_written c.extend_from_slice.new.self.items _ behind c.in-len1-up.len_at_least c.in_ok-put_escaped-in-len1-up.ensures.ok
-    ∙ front_written c.args.line.now.items _ c.args.bytes.now _ behind c.plain_len.result c.plain_len.ensures.place c.split_at.ensures.front c.split_at.ensures.back c.in_ok-extend_from_slice.ensures.items
+    let following = c.split_at.result.1.now in
+    first_written c.extend_from_slice.new.self.items _ following c.in-len1-up.len_at_least c.in_ok-put_escaped-in-len1-up.ensures.ok
+    ∙ front_written c.args.line.now.items _ c.args.bytes.now _ following c.plain_len.result c.plain_len.ensures.place c.split_at.ensures.front c.split_at.ensures.back c.in_ok-extend_from_slice.ensures.items
 
 pub returns-in_err-put_escaped-in-len1-up-clause-kept : goal.returns-in_err-put_escaped-in-len1-up-clause-kept
 returns-in_err-put_escaped-in-len1-up-clause-kept c =

@@ -1,10 +1,10 @@
 use Rattle.std.proofs.Common.{◌≡◌, length}
 use Rattle.tile_words.specs.Words.{text_at}
-use Rattle.tile_words.proofs.Repeats.{behind}
+use Rattle.tile_words.proofs.Repeats.{following}
 use Rattle.tile_words.proofs.words.text.Given as goal
 
 abbrev pub invariant-loop-byte : goal.invariant-loop-byte
-invariant-loop-byte l = behind l.text.items (text_at l.rest) ≡ text_at l.bytes
+invariant-loop-byte l = following l.text.items (text_at l.rest) ≡ text_at l.bytes
 
 abbrev pub decreases-loop-byte : goal.decreases-loop-byte
 decreases-loop-byte l = length l.rest

@@ -10,6 +10,6 @@ use Rattle.tile_words.proofs.words.word_at.Goals as goal
 pub returns-in-34-clause-shorter : goal.returns-in-34-clause-shorter
 returns-in-34-clause-shorter c =
     let bytes : List ℕ = c.args.bytes.now in
-    let behind : List ℕ = take (length c.after_blanks.result.now - 1) (drop 1 c.after_blanks.result.now) in
-    let le : length behind ≤ length bytes = omega (arith, length-take (length c.after_blanks.result.now - 1) (drop 1 c.after_blanks.result.now), length-drop 1 c.after_blanks.result.now, ap length c.after_blanks.ensures, length-drop (position_or_len (λ b. not (is_blank b)) bytes) bytes) in
-    if_seen (λ found. (word_of found.0, found.1.now)) c.quoted_at.result (quoted_at behind) (λ (found : Word × List ℕ). length found.1 < length bytes) c.quoted_at.ensures (quoted_short behind (length bytes) le)
+    let following : List ℕ = take (length c.after_blanks.result.now - 1) (drop 1 c.after_blanks.result.now) in
+    let le : length following ≤ length bytes = omega (arith, length-take (length c.after_blanks.result.now - 1) (drop 1 c.after_blanks.result.now), length-drop 1 c.after_blanks.result.now, ap length c.after_blanks.ensures, length-drop (position_or_len (λ b. not (is_blank b)) bytes) bytes) in
+    if_seen (λ found. (word_of found.0, found.1.now)) c.quoted_at.result (quoted_at following) (λ (found : Word × List ℕ). length found.1 < length bytes) c.quoted_at.ensures (quoted_short following (length bytes) le)

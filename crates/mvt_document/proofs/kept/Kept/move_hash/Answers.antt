@@ -2,7 +2,7 @@ use Rattle.std.proofs.Common.{length, take, sym, ap, subst, arith}
 use Rattle.std.proofs.lemmas.List.{length-take}
 use Rattle.mvt_document.specs.Hashes.{AreHashes}
 use Rattle.mvt_document.specs.Splicing.{moved}
-use Rattle.mvt_document.proofs.Hashing.{cut_so, moved_behind, moved_within}
+use Rattle.mvt_document.proofs.Hashing.{cut_so, moved_after, moved_within}
 use Rattle.mvt_document.proofs.kept.Kept.move_hash.Goals as goal
 
 pub returns-then-to-count-clause-hashes : goal.returns-then-to-count-clause-hashes
@@ -22,4 +22,4 @@ returns-else-from-count-clause-hashes g c =
     let least = c.min.result in
     let few = length-take least old in
     subst (λ hashes. AreHashes f hashes (moved c.args.from c.args.to items)) (sym c.cut_hashes.ensures.hashes)
-    (moved_behind f c.args.from c.args.to (take least old) items (omega (arith, few, c.min.ensures)) (omega (arith, few, c.min.ensures)) (cut_so f least old items c.requires.hashes))
+    (moved_after f c.args.from c.args.to (take least old) items (omega (arith, few, c.min.ensures)) (omega (arith, few, c.min.ensures)) (cut_so f least old items c.requires.hashes))

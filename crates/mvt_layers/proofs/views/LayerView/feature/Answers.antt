@@ -11,5 +11,5 @@ use Rattle.mvt_layers.proofs.views.LayerView.feature.Goals as goal
 pub returns : goal.returns
 returns c =
     let items = c.args.self.layer.now.items.items in
-    nth_from_yields_List _ _ _ c.nth.ensures.ran (YieldsList-from_first found_feature_seen (λ left. left) _ c.behind.ensures.items)
+    nth_from_yields_List _ _ _ c.nth.ensures.ran (YieldsList-from_first found_feature_seen (λ left. left) _ c.following.ensures.items)
     ∙ rw c.as_slice-items.ensures (sym (run_past layer_item_of feature_in (in_layer_of_kind Message) is_found_feature c.runs.result.messages items c.args.ordinal c.runs.ensures.messages c.if-ordinal-features.false))

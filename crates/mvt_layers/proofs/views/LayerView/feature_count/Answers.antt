@@ -11,14 +11,14 @@ use Rattle.mvt_layers.proofs.views.LayerView.feature_count.Goals as goal
 
 pub overflow_add-result : goal.overflow_add-result
 overflow_add-result c =
-    let count = count_from_yields_List _ _ c.count.ensures.ran (YieldsList-from_first found_feature_seen (λ left. left) _ c.behind.ensures.items) in
-    let bound = rw c.behind.ensures.items at c.behind.ensures.bound in
+    let count = count_from_yields_List _ _ c.count.ensures.ran (YieldsList-from_first found_feature_seen (λ left. left) _ c.following.ensures.items) in
+    let bound = rw c.following.ensures.items at c.following.ensures.bound in
     omega (arith, count, bound)
 
 pub returns : goal.returns
 returns c =
     let items = c.args.self.layer.now.items.items in
     let features = c.runs.result.messages in
-    ap (λ n. features.count + n) (count_from_yields_List _ _ c.count.ensures.ran (YieldsList-from_first found_feature_seen (λ left. left) _ c.behind.ensures.items))
+    ap (λ n. features.count + n) (count_from_yields_List _ _ c.count.ensures.ran (YieldsList-from_first found_feature_seen (λ left. left) _ c.following.ensures.items))
     ∙ rw c.as_slice.ensures (sym (run_total layer_item_of feature_in (in_layer_of_kind Message) is_found_feature features items c.runs.ensures.messages))
     ∙ found_count feature_in (layer_seen c.args.self).items

@@ -4,7 +4,7 @@ use Rattle.mvt_document.specs.Stands.{layer_item_of}
 use Rattle.mvt_layers.specs.Pools.{entry_in}
 use Rattle.mvt_layers.proofs.InRun.{count_before, is_found_entry, passes_none, run_total, until_within}
 use Rattle.mvt_layers.proofs.Placing.{found_fit}
-use Rattle.mvt_layers.proofs.entries.Entries.behind.Goals as goal
+use Rattle.mvt_layers.proofs.entries.Entries.following.Goals as goal
 
 pub returns-clause-bound : goal.returns-clause-bound
 returns-clause-bound c =

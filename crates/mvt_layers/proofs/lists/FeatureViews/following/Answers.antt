@@ -5,7 +5,7 @@ use Rattle.mvt_document.specs.Stands.{layer_item_of}
 use Rattle.mvt_messages.specs.Views.{feature_in}
 use Rattle.mvt_layers.proofs.InRun.{count_before, is_found_feature, run_total, until_within}
 use Rattle.mvt_layers.proofs.Placing.{found_fit}
-use Rattle.mvt_layers.proofs.lists.FeatureViews.behind.Goals as goal
+use Rattle.mvt_layers.proofs.lists.FeatureViews.following.Goals as goal
 
 pub returns-clause-bound : goal.returns-clause-bound
 returns-clause-bound c =
