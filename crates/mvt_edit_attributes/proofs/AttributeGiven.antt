@@ -16,12 +16,12 @@ use Rattle.mvt_meaning.specs.Ordinals.{count}
 use Rattle.mvt_meaning.specs.Tagging.{is_key_at, missing_entries, new_pair, pairs_among, pairs_with, replacements, revalued, with_attribute}
 use Rattle.mvt_meaning.specs.Weights.{set_puts, set_takes, weigh}
 use Rattle.mvt_meaning.specs.declared.refusal.Refusal.TheVariants.{BadTags, RepeatedKey}
-use Rattle.mvt_fates.specs.Decided.{field_fates}
-use Rattle.mvt_fates.specs.Fates.{Splice, splices_of}
-use Rattle.mvt_fates.proofs.CarriedOut.{AreThere, put_all, spliced_all, taken_all}
-use Rattle.mvt_edit_pairs.proofs.FieldsLeft.{FieldsLeft}
+use Rattle.mvt_edit_steps.specs.Decided.{field_fates}
+use Rattle.mvt_edit_steps.specs.Fates.{Splice, splices_of}
+use Rattle.mvt_edit_steps.proofs.CarriedOut.{AreThere, put_all, spliced_all, taken_all}
+use Rattle.mvt_edit_steps.proofs.FieldsLeft.{FieldsLeft}
 use Rattle.mvt_edit_attributes.specs.Attribute.{GivesAttribute, PutsPair, attribute_checked}
-use Rattle.mvt_edit_pairs.proofs.NamedKeys.{named_at}
+use Rattle.mvt_edit_steps.proofs.NamedKeys.{named_at}
 use mathlib.Core.Path.{fun_ext}
 
 -- ---- the pairs

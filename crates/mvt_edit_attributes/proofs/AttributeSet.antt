@@ -28,13 +28,13 @@ use Rattle.mvt_meaning.specs.Weights.{of_selected, set_puts, set_takes, set_weig
 use Rattle.mvt_meaning.specs.declared.refusal.Refusal.{Refusal}
 use Rattle.mvt_meaning.specs.declared.refusal.Refusal.TheVariants.{BadTags, RepeatedKey, TooLarge}
 use Rattle.mvt_meaning.proofs.Found.{change_layer_found, change_nth_found, fields_at_found, fields_of_found, items_at_found, items_of_found, selected_in_found}
-use Rattle.mvt_fates.specs.Fates.{Splice}
+use Rattle.mvt_edit_steps.specs.Fates.{Splice}
 use Rattle.mvt_edit_steps.specs.Prepared.{IsPrepared}
-use Rattle.mvt_fates.proofs.CarriedOut.{AreThere, put_all, spliced_all, taken_all}
-use Rattle.mvt_fates.proofs.Carrying.{carried, in_feature_at, in_layer_at, in_the_feature, in_the_layer, makes_alike}
-use Rattle.mvt_fates.proofs.Heavy.{tag_and_content}
-use Rattle.mvt_edit_pairs.proofs.Leading.{Leads, both_lead}
-use Rattle.mvt_fates.proofs.ListPlaces.{of_the_layer}
+use Rattle.mvt_edit_steps.proofs.CarriedOut.{AreThere, put_all, spliced_all, taken_all}
+use Rattle.mvt_edit_steps.proofs.Carrying.{carried, in_feature_at, in_layer_at, in_the_feature, in_the_layer, makes_alike}
+use Rattle.mvt_edit_steps.proofs.Heavy.{tag_and_content}
+use Rattle.mvt_edit_steps.proofs.Leading.{Leads, both_lead}
+use Rattle.mvt_edit_steps.proofs.ListPlaces.{of_the_layer}
 use Rattle.mvt_edit_attributes.specs.Attribute.{AreFound, GivesAttribute, attribute_checked, appended, bytes_put, entries_for, entry_unless}
 use Rattle.mvt_edit_attributes.specs.declared.pools.Ordinals.{Ordinals}
 

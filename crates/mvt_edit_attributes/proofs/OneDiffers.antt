@@ -14,12 +14,12 @@ use Rattle.mvt_renumber.specs.declared.fate.Fate.{Fate}
 use Rattle.mvt_renumber.specs.declared.fate.Fate.TheVariants.{Stays, Goes, Becomes}
 use Rattle.mvt_renumber.proofs.Reread.{read_of_fields}
 use Rattle.mvt_messages.specs.Attributes.{if_pairs, in_pairs, is_pair, pairs_in}
-use Rattle.mvt_fates.specs.Decided.{field_fates}
-use Rattle.mvt_fates.specs.Fates.{splices_from}
-use Rattle.mvt_edit_pairs.proofs.FieldsLeft.{changes_one}
+use Rattle.mvt_edit_steps.specs.Decided.{field_fates}
+use Rattle.mvt_edit_steps.specs.Fates.{splices_from}
+use Rattle.mvt_edit_steps.proofs.FieldsLeft.{changes_one}
 use Rattle.mvt_edit_attributes.specs.Attribute.{run_for}
 use Rattle.mvt_meaning.specs.Tagging.{revalued}
-use Rattle.mvt_edit_pairs.proofs.Deciding.{counted_first}
+use Rattle.mvt_edit_steps.proofs.Deciding.{counted_first}
 
 pub some_mapped : {A B : Type 0} (f : A → B) (found : Option A) → is_some (option_map f found) ≡ is_some found
 some_mapped f None = refl

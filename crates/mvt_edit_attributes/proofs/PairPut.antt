@@ -16,7 +16,7 @@ use Rattle.mvt_meaning.specs.Fields.{new_content}
 use Rattle.mvt_meaning.specs.Ordinals.{put_last}
 use Rattle.mvt_meaning.specs.Tagging.{is_packed_last, is_tags, with_more_content, with_more_tags}
 use Rattle.mvt_meaning.specs.Weights.{weigh_last}
-use Rattle.mvt_fates.proofs.PutLast.{around, end_spliced, get_there, index_of, last_filtered, last_of, none_filtered, put_last_at, put_of, taken_of, weighed}
+use Rattle.mvt_edit_steps.proofs.PutLast.{around, end_spliced, get_there, index_of, last_filtered, last_of, none_filtered, put_last_at, put_of, taken_of, weighed}
 use Rattle.mvt_edit_steps.proofs.Putting.{item_seen, old_or_new}
 use Rattle.mvt_edit_attributes.specs.Attribute.{PutsPair}
 

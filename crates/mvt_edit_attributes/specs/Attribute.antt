@@ -16,7 +16,7 @@ use Rattle.mvt_meaning.specs.Tagging.{entry_ordinal, is_packed_last, is_tags, mi
 use Rattle.mvt_meaning.specs.Weights.{set_puts, set_takes, weigh, weigh_last}
 use Rattle.mvt_meaning.specs.declared.refusal.Refusal.{Refusal}
 use Rattle.mvt_meaning.specs.declared.refusal.Refusal.TheVariants.{BadTags, RepeatedKey}
-use Rattle.mvt_fates.specs.Fates.{Splice}
+use Rattle.mvt_edit_steps.specs.Fates.{Splice}
 use Rattle.mvt_renumber.specs.declared.fate.Fate.{Fate}
 use Rattle.mvt_renumber.specs.declared.fate.Fate.TheVariants.{Stays, Goes, Becomes}
 use Rattle.mvt_edit_attributes.specs.declared.pools.Ordinals.{Ordinals}

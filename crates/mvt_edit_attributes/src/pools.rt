@@ -13,7 +13,7 @@ ghost use Rattle.mvt_edit_attributes.specs.Attribute.{AreFound, IsSought, entrie
 
 use mvt_document::tags::{KEYS, LEN, VALUES};
 use mvt_document::{Body, Field, FieldParts, Items, LayerItem, Tag};
-use mvt_edit_pairs::named_keys;
+use mvt_edit_steps::named_keys;
 use mvt_layers::{FoundEntry, LayerView};
 use std::alloc::{AllocError, Global};
 

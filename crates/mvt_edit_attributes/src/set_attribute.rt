@@ -22,7 +22,7 @@ ghost use Rattle.mvt_numbers.specs.Numbers.{numbers};
 ghost use Rattle.mvt_meaning.specs.declared.refusal.Refusal.TheVariants.{BadTags, NoMemory};
 ghost use Rattle.mvt_meaning.specs.Ordinals.{count};
 ghost use Rattle.mvt_meaning.specs.Tagging.{revalued};
-ghost use Rattle.mvt_fates.specs.Fates.{seen, splice_of};
+ghost use Rattle.mvt_edit_steps.specs.Fates.{seen, splice_of};
 ghost use Rattle.mvt_edit_steps.specs.Prepared.{Prepares};
 ghost use Rattle.mvt_edit_attributes.specs.Attribute.{AreFound, GivesAttribute, IsSought, attribute_checked, appended, fields_with};
 
@@ -30,8 +30,7 @@ use crate::pools::{Ordinals, keys_that_are, look_for, missing_entries};
 use crate::tags_run::{and_pair, first_renumbered, size_with};
 use mvt_change::{Change, Step, fits_with_items, size_with_fields};
 use mvt_document::{Document, Field, LayerItem, MAX_FILE, Put, size_of_all};
-use mvt_edit_pairs::decide_or_refuse;
-use mvt_fates::Run;
+use mvt_edit_steps::{Run, decide_or_refuse};
 use mvt_layers::PoolSizes;
 use mvt_select::{
     FeatureChoice, FoundFeature, FoundLayer, LayerChoice, Refusal, find_feature, find_layer,

@@ -13,8 +13,8 @@ ghost use Rattle.mvt_messages.specs.Views.{content_in};
 ghost use Rattle.mvt_meaning.specs.Fields.{new_content};
 ghost use Rattle.mvt_meaning.specs.Tagging.{is_packed_last, is_tags, with_more_content};
 ghost use Rattle.mvt_meaning.specs.Ordinals.{positions_of};
-ghost use Rattle.mvt_fates.specs.Decided.{field_fates};
-ghost use Rattle.mvt_fates.specs.Fates.{seen, splice_of, splices_of};
+ghost use Rattle.mvt_edit_steps.specs.Decided.{field_fates};
+ghost use Rattle.mvt_edit_steps.specs.Fates.{seen, splice_of, splices_of};
 ghost use Rattle.mvt_edit_attributes.specs.Attribute.{PutsPair, fields_with, run_for};
 
 use mvt_document::tags::{LEN, TAGS};
@@ -22,9 +22,7 @@ use mvt_document::{
     Body, BodyRef, Field, FieldParts, Items, MAX_FILE, Tag, Varint, size_beside_part, size_of_all,
     sum_within,
 };
-use mvt_edit_pairs::is_tags;
-use mvt_edit_steps::Spot;
-use mvt_fates::{Fate, Run};
+use mvt_edit_steps::{Fate, Run, Spot, is_tags};
 use mvt_renumber::renumber_field;
 use std::alloc::{AllocError, Global};
 

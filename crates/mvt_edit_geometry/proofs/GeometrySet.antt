@@ -28,13 +28,13 @@ use Rattle.mvt_meaning.specs.Weights.{geometry_weight, of_selected, put_by, take
 use Rattle.mvt_meaning.specs.declared.refusal.Refusal.{Refusal}
 use Rattle.mvt_meaning.specs.declared.refusal.Refusal.TheVariants.{NoMemory, OutOfRange, TooLarge}
 use Rattle.mvt_meaning.proofs.Found.{change_feature_found, fields_at_found, fields_changed, fields_of_found, selected_in_found}
-use Rattle.mvt_fates.specs.Fates.{Splice}
-use Rattle.mvt_fates.specs.Once.{once_splices}
+use Rattle.mvt_edit_steps.specs.Fates.{Splice}
+use Rattle.mvt_edit_steps.specs.Once.{once_splices}
 use Rattle.mvt_edit_steps.specs.Prepared.{IsPrepared}
 use Rattle.mvt_edit_steps.specs.PutsLast.{ReplacesLast}
-use Rattle.mvt_fates.proofs.Carrying.{carried, in_feature_at, in_the_feature, makes_alike}
-use Rattle.mvt_edit_pairs.proofs.Leading.{Leads, both_lead}
-use Rattle.mvt_fates.proofs.Once.{puts_once}
+use Rattle.mvt_edit_steps.proofs.Carrying.{carried, in_feature_at, in_the_feature, makes_alike}
+use Rattle.mvt_edit_steps.proofs.Leading.{Leads, both_lead}
+use Rattle.mvt_edit_steps.proofs.Once.{puts_once}
 use Rattle.mvt_edit_geometry.proofs.Redrawn.{drawing_long, drawing_valid, drawn_kinds, kinded_drawings, kinded_splices, one_drawing}
 
 -- the bytes of the last kind field and of all geometry fields

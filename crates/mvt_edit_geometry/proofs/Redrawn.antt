@@ -19,10 +19,10 @@ use Rattle.mvt_meaning.specs.Fields.{new_content, new_number, with_field_value}
 use Rattle.mvt_meaning.specs.Geometries.{is_geometry_field, is_kind, with_kind}
 use Rattle.mvt_meaning.specs.Ordinals.{change_last, put_last, put_once}
 use Rattle.mvt_meaning.specs.Weights.{weigh_last}
-use Rattle.mvt_fates.specs.Once.{once_splices}
-use Rattle.mvt_fates.proofs.Heavy.{heavy, number_has_bytes, tag_and_content}
+use Rattle.mvt_edit_steps.specs.Once.{once_splices}
+use Rattle.mvt_edit_steps.proofs.Heavy.{heavy, number_has_bytes, tag_and_content}
 use Rattle.mvt_edit_steps.proofs.NumberFields.{numbered_kept}
-use Rattle.mvt_fates.proofs.Once.{one_skipped}
+use Rattle.mvt_edit_steps.proofs.Once.{one_skipped}
 
 -- ---- what a test says of a list in which the last item that passes another test is changed, or which gets a new one
 

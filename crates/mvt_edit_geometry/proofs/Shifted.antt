@@ -12,12 +12,12 @@ use Rattle.mvt_meaning.specs.Selection.{feature_positions, layer_positions, sele
 use Rattle.mvt_meaning.specs.declared.refusal.Refusal.{Refusal}
 use Rattle.mvt_meaning.specs.declared.refusal.Refusal.TheVariants.{BadGeometry, OutOfRange, TooLarge}
 use Rattle.mvt_meaning.proofs.Found.{change_feature_found, fields_of_found, selected_in_found}
-use Rattle.mvt_fates.specs.Decided.{field_fates}
-use Rattle.mvt_fates.specs.Fates.{splices_of}
+use Rattle.mvt_edit_steps.specs.Decided.{field_fates}
+use Rattle.mvt_edit_steps.specs.Fates.{splices_of}
 use Rattle.mvt_edit_steps.specs.Prepared.{IsPrepared}
-use Rattle.mvt_fates.proofs.Carrying.{in_feature_at}
-use Rattle.mvt_edit_pairs.proofs.FeatureRenumbered.{renumbers}
-use Rattle.mvt_edit_pairs.proofs.FieldsLeft.{FieldsLeft}
+use Rattle.mvt_edit_steps.proofs.Carrying.{in_feature_at}
+use Rattle.mvt_edit_steps.proofs.FeatureRenumbered.{renumbers}
+use Rattle.mvt_edit_steps.proofs.FieldsLeft.{FieldsLeft}
 
 module _ (choice : LayerChoice) (dx dy : ℤ) (document : Document) (ordinal position : ℕ) (layer : Layer) (chosen : selected choice document ≡ Ok ordinal) (placed : slice_get (layer_positions document) ordinal ≡ Some position) (there : slice_get document position ≡ Some (OfLayer layer)) where
   -- where no feature is selected

@@ -17,7 +17,7 @@ ghost use Rattle.mvt_command.specs.CommandStands.{feature_choice_of, layer_choic
 ghost use Rattle.mvt_meaning.specs.Fields.{new_content};
 ghost use Rattle.mvt_meaning.specs.Geometries.{is_geometry_field, is_kind, with_kind};
 ghost use Rattle.mvt_meaning.specs.Ordinals.{put_once};
-ghost use Rattle.mvt_fates.specs.Once.{once_splices};
+ghost use Rattle.mvt_edit_steps.specs.Once.{once_splices};
 ghost use Rattle.mvt_edit_steps.specs.Prepared.{Prepares};
 ghost use Rattle.mvt_edit_steps.specs.PutsLast.{ReplacesLast};
 
@@ -27,8 +27,7 @@ use mvt_document::tags::{GEOMETRY, GEOMETRY_TAG, KIND_TAG};
 use mvt_document::{
     Body, BodyRef, Document, Field, FieldParts, Items, MAX_FILE, Measured, Tag, sum_within,
 };
-use mvt_edit_steps::number_put;
-use mvt_fates::{Run, put_once};
+use mvt_edit_steps::{Run, number_put, put_once};
 use mvt_geometry::{EncodeError, Geometry, encode_geometry};
 use mvt_select::{FeatureChoice, FoundFeature, LayerChoice, Refusal, find_feature, find_layer};
 use std::alloc::{AllocError, Global};

@@ -17,15 +17,15 @@ ghost use Rattle.mvt_command.specs.CommandStands.{feature_choice_of, layer_choic
 ghost use Rattle.mvt_layers.specs.Seen.{feature_seen};
 ghost use Rattle.mvt_meaning.specs.Geometries.{can_move, can_move_integers, further, geometry_among, moved_integers, moves};
 ghost use Rattle.mvt_meaning.specs.declared.refusal.Refusal.TheVariants.{BadGeometry, NoMemory, OutOfRange};
-ghost use Rattle.mvt_fates.specs.Decided.{field_fates};
-ghost use Rattle.mvt_fates.specs.Fates.{splices_of};
+ghost use Rattle.mvt_edit_steps.specs.Decided.{field_fates};
+ghost use Rattle.mvt_edit_steps.specs.Fates.{splices_of};
 ghost use Rattle.mvt_edit_steps.specs.Prepared.{Prepares};
 
 use crate::fits::fits_with_fields;
 use mvt_change::{Change, Step};
 use mvt_document::tags::GEOMETRY;
 use mvt_document::{Document, from_zigzag, to_zigzag};
-use mvt_edit_pairs::renumber_feature;
+use mvt_edit_steps::renumber_feature;
 use mvt_geometry::is_delta;
 use mvt_layers::FeatureView;
 use mvt_numbers::Numbers;

@@ -14,11 +14,11 @@ use Rattle.mvt_meaning.specs.Selection.{feature_positions, is_feature, is_layer,
 use Rattle.mvt_meaning.specs.Meaning.{applied, is_id, without_id}
 use Rattle.mvt_meaning.specs.declared.refusal.Refusal.{Refusal}
 use Rattle.mvt_meaning.proofs.Found.{change_feature_found, change_layer_found, fields_at_found, fields_of_found, filtered_found, from_nth_splits, items_at_found, items_of_found, selected_in_found}
-use Rattle.mvt_fates.specs.Fates.{Splice, item_out}
+use Rattle.mvt_edit_steps.specs.Fates.{Splice, item_out}
 use Rattle.mvt_edit_steps.specs.Prepared.{IsPrepared}
-use Rattle.mvt_fates.proofs.CarriedOut.{taken_all}
-use Rattle.mvt_fates.proofs.Carrying.{Sits, Carried, carried, in_feature_at, in_the_tile, in_the_layer, in_the_feature, makes_alike}
-use Rattle.mvt_fates.proofs.Going.{out, takes_out}
+use Rattle.mvt_edit_steps.proofs.CarriedOut.{taken_all}
+use Rattle.mvt_edit_steps.proofs.Carrying.{Sits, Carried, carried, in_feature_at, in_the_tile, in_the_layer, in_the_feature, makes_alike}
+use Rattle.mvt_edit_steps.proofs.Going.{out, takes_out}
 
 -- ---- one item
 

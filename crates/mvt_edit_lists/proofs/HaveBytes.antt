@@ -11,7 +11,7 @@ use Rattle.mvt_document.specs.declared.Field.{Field}
 use Rattle.mvt_document.specs.declared.TileItem.{TileItem}
 use Rattle.mvt_document.specs.declared.TileItem.TheVariants as in_tile
 use Rattle.mvt_meaning.specs.Meaning.{is_id}
-use Rattle.mvt_fates.proofs.Heavy.{number_has_bytes, tag_and_content}
+use Rattle.mvt_edit_steps.proofs.Heavy.{number_has_bytes, tag_and_content}
 use Rattle.mvt_edit_lists.proofs.Kept.{goes}
 
 pub layer_has_bytes : (names : List (List ℕ)) (item : TileItem) → goes names (tile_item_of item) ≡ true → 2 ≤ length (tile_item_bytes (tile_item_of item))

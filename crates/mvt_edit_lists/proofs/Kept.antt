@@ -15,8 +15,8 @@ use Rattle.mvt_command.specs.Command.{KeepLayers}
 use Rattle.mvt_meaning.specs.Meaning.{applied, is_kept}
 use Rattle.mvt_meaning.specs.declared.refusal.Refusal.TheVariants.{NoLayer}
 use Rattle.mvt_edit_steps.specs.Prepared.{IsPrepared}
-use Rattle.mvt_fates.proofs.Carrying.{carried, in_the_tile, in_tile}
-use Rattle.mvt_fates.proofs.Going.{out, takes_out}
+use Rattle.mvt_edit_steps.proofs.Carrying.{carried, in_the_tile, in_tile}
+use Rattle.mvt_edit_steps.proofs.Going.{out, takes_out}
 
 -- an item that goes
 abbrev pub goes : List (List ℕ) → TileItem → Bool

@@ -10,7 +10,7 @@ ghost use Rattle.mvt_edit_steps.specs.Prepared.{Prepares};
 use mvt_change::Change;
 use mvt_document::tags::ID;
 use mvt_document::{BodyRef, Document, Field};
-use mvt_fates::{carry_out, goes_if};
+use mvt_edit_steps::{carry_out, goes_if};
 use mvt_select::{FeatureChoice, LayerChoice, Refusal, find_feature, find_layer};
 use std::alloc::Global;
 

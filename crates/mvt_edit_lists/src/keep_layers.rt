@@ -13,7 +13,7 @@ ghost use Rattle.mvt_edit_steps.specs.Prepared.{Prepares};
 
 use mvt_change::Change;
 use mvt_document::{Document, Items, TileItem};
-use mvt_fates::{carry_out, goes_if};
+use mvt_edit_steps::{carry_out, goes_if};
 use mvt_layers::{LayerView, layer_count};
 use mvt_select::Refusal;
 use std::alloc::{AllocError, Global};

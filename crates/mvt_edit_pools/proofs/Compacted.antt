@@ -28,10 +28,10 @@ use Rattle.mvt_meaning.specs.Weights.{compact_puts, compact_takes, layers_weight
 use Rattle.mvt_meaning.specs.declared.refusal.Refusal.{Refusal}
 use Rattle.mvt_meaning.proofs.Compaction.{new_ordinals_short}
 use Rattle.mvt_edit_steps.specs.Prepared.{IsPrepared}
-use Rattle.mvt_edit_pairs.proofs.Come.{Carries, CarriesIn}
-use Rattle.mvt_edit_pairs.proofs.EachLayer.{InTile, each_found, layers_made}
-use Rattle.mvt_edit_pairs.proofs.FieldsLeft.{fields_left}
-use Rattle.mvt_fates.proofs.Heavy.{tag_and_content}
+use Rattle.mvt_edit_steps.proofs.Come.{Carries, CarriesIn}
+use Rattle.mvt_edit_steps.proofs.EachLayer.{InTile, each_found, layers_made}
+use Rattle.mvt_edit_steps.proofs.FieldsLeft.{fields_left}
+use Rattle.mvt_edit_steps.proofs.Heavy.{tag_and_content}
 use Rattle.mvt_edit_pools.specs.Pools.{compacting, compaction, keys_stay, values_stay}
 use Rattle.mvt_edit_pools.specs.declared.compact.Pools.{Pools}
 use Rattle.mvt_edit_pools.specs.declared.compact.Pools.TheVariants.{Keys, Values, Both}

@@ -9,8 +9,8 @@ use Rattle.mvt_renumber.specs.Fates.{changes, left_of_fate}
 use Rattle.mvt_renumber.specs.declared.fate.Fate.{Fate}
 use Rattle.mvt_messages.specs.Views.{content_in, contents, key_field, plain_fields, value_field}
 use Rattle.mvt_meaning.specs.Compaction.{is_entry, leaving, staying}
-use Rattle.mvt_fates.specs.Fates.{goes_if, splices_of}
-use Rattle.mvt_fates.proofs.CarriedOut.{AreThere, carries_beside, new_in, put_all, spliced_all, taken_all}
+use Rattle.mvt_edit_steps.specs.Fates.{goes_if, splices_of}
+use Rattle.mvt_edit_steps.proofs.CarriedOut.{AreThere, carries_beside, new_in, put_all, spliced_all, taken_all}
 use Rattle.mvt_edit_pools.specs.Marks.{entry_splices, first_goes, gone_by, stays_from}
 use Rattle.mvt_edit_pools.specs.Pools.{gone_from}
 

@@ -14,14 +14,14 @@ use Rattle.mvt_messages.specs.Views.{features, key_field, value_field}
 use Rattle.mvt_meaning.specs.Compaction.{compacted, is_entry, leaving, new_ordinals, repointing, staying, with_new_ordinals}
 use Rattle.mvt_meaning.specs.Tagging.{differing}
 use Rattle.mvt_meaning.specs.Weights.{as_after, as_before, compact_puts, compact_takes}
-use Rattle.mvt_edit_pairs.specs.EachFeature.{layer_steps}
-use Rattle.mvt_fates.specs.Fates.{splices_of}
-use Rattle.mvt_fates.proofs.CarriedOut.{put_all, spliced_all, taken_all}
-use Rattle.mvt_fates.proofs.Carrying.{carried, in_layer_at, in_the_layer, makes_alike}
-use Rattle.mvt_edit_pairs.proofs.Come.{CarriesEach, Come, both_come, each_changed, layer_comes, puts_in, takes_in}
-use Rattle.mvt_edit_pairs.proofs.EachFeature.{joined_each, mapped_each, of_features, same_each}
-use Rattle.mvt_edit_pairs.proofs.FieldsLeft.{fields_put, fields_taken}
-use Rattle.mvt_fates.proofs.ListPlaces.{of_the_layer}
+use Rattle.mvt_edit_steps.specs.EachFeature.{layer_steps}
+use Rattle.mvt_edit_steps.specs.Fates.{splices_of}
+use Rattle.mvt_edit_steps.proofs.CarriedOut.{put_all, spliced_all, taken_all}
+use Rattle.mvt_edit_steps.proofs.Carrying.{carried, in_layer_at, in_the_layer, makes_alike}
+use Rattle.mvt_edit_steps.proofs.Come.{CarriesEach, Come, both_come, each_changed, layer_comes, puts_in, takes_in}
+use Rattle.mvt_edit_steps.proofs.EachFeature.{joined_each, mapped_each, of_features, same_each}
+use Rattle.mvt_edit_steps.proofs.FieldsLeft.{fields_put, fields_taken}
+use Rattle.mvt_edit_steps.proofs.ListPlaces.{of_the_layer}
 use Rattle.mvt_edit_pools.specs.Marks.{entry_splices, entry_steps}
 use Rattle.mvt_edit_pools.specs.Pools.{compacting, gone_from, ordinal_fates}
 use Rattle.mvt_edit_pools.proofs.Gone.{IsHeavy, entries_weigh, field_list, gone_changed, heavy_changed, leaving_changed, takes_entries}

@@ -13,7 +13,7 @@ use Rattle.mvt_layers.proofs.Pairing.{tags_are_pairs}
 use Rattle.mvt_layers.proofs.Placing.{found_items}
 use Rattle.mvt_meaning.specs.Compaction.{all_pairs, is_key_used, is_value_used}
 use Rattle.mvt_meaning.specs.Tagging.{pairs_among}
-use Rattle.mvt_edit_pairs.proofs.Deciding.{then_pairs}
+use Rattle.mvt_edit_steps.proofs.Deciding.{then_pairs}
 use Rattle.mvt_edit_pools.specs.Marks.{is_one, marked, names_key, names_value, pairs_at, stays_from}
 use Rattle.mvt_edit_pools.specs.Pools.{all_keys, all_values, keys_stay, values_stay}
 use Rattle.mvt_edit_pools.specs.declared.compact.Pools.{Pools}

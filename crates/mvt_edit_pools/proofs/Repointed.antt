@@ -17,11 +17,11 @@ use Rattle.mvt_messages.specs.Views.{contents, key_field, keys, plain_fields, va
 use Rattle.mvt_meaning.specs.Compaction.{new_ordinal, new_ordinals, repointed}
 use Rattle.mvt_meaning.specs.Tagging.{pairs_among}
 use Rattle.mvt_meaning.proofs.Removals.{flat, head_same, make_pairs}
-use Rattle.mvt_fates.specs.Decided.{counted_by, decided_by, field_fates, is_any_gone}
-use Rattle.mvt_edit_pairs.specs.EachFeature.{feature_steps, layer_steps}
-use Rattle.mvt_fates.specs.Fates.{splices_from}
-use Rattle.mvt_fates.proofs.Carrying.{in_feature_at}
-use Rattle.mvt_edit_pairs.proofs.StepsPassed.{no_splices}
+use Rattle.mvt_edit_steps.specs.Decided.{counted_by, decided_by, field_fates, is_any_gone}
+use Rattle.mvt_edit_steps.specs.EachFeature.{feature_steps, layer_steps}
+use Rattle.mvt_edit_steps.specs.Fates.{splices_from}
+use Rattle.mvt_edit_steps.proofs.Carrying.{in_feature_at}
+use Rattle.mvt_edit_steps.proofs.StepsPassed.{no_splices}
 use Rattle.mvt_edit_pools.specs.Marks.{keeps_ordinal, ordinals_by, ordinals_in, pair_repointed, pairs_at, pairs_repointed, stays_from}
 use Rattle.mvt_edit_pools.specs.Pools.{ordinal_fates}
 use Rattle.mvt_edit_pools.proofs.Numbering.{got_numbered}

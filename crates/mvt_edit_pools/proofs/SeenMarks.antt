@@ -2,8 +2,8 @@
 use Rattle.std.proofs.Common.{◌≡◌, Bool, true, false, List, [], ◌∷◌, map, refl, ap, ◌∙◌}
 use Rattle.mvt_renumber.specs.Fates.{fate_seen}
 use Rattle.mvt_renumber.specs.declared.fate.Fate.{Fate}
-use Rattle.mvt_fates.specs.Fates.{goes_if, seen, splices_from, splices_of}
-use Rattle.mvt_fates.proofs.Planned.{splices_seen}
+use Rattle.mvt_edit_steps.specs.Fates.{goes_if, seen, splices_from, splices_of}
+use Rattle.mvt_edit_steps.proofs.Planned.{splices_seen}
 
 module _ {T A : Type 0} (view : T → A) where
   one_seen : (is : Bool) → fate_seen view (goes_if is) ≡ goes_if is

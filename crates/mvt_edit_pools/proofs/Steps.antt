@@ -2,7 +2,7 @@
 use Rattle.std.proofs.Common.{◌≡◌, ℕ, Bool, List, ◌++◌, length, ap, ◌∙◌}
 use Rattle.mvt_document.specs.Plain.{Layer, LayerItem}
 use Rattle.mvt_messages.specs.Views.{keys, values}
-use Rattle.mvt_edit_pairs.specs.EachFeature.{layer_steps}
+use Rattle.mvt_edit_steps.specs.EachFeature.{layer_steps}
 use Rattle.mvt_edit_pools.specs.Marks.{entry_steps, gone_by, ordinals_by, pairs_repointed, stays_from}
 use Rattle.mvt_edit_pools.specs.Pools.{compacting, ordinal_fates}
 use Rattle.mvt_edit_pools.proofs.Gone.{gone_same}

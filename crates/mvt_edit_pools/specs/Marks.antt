@@ -7,8 +7,8 @@ use Rattle.mvt_change.specs.Changes.{Change, LayerStep}
 use Rattle.mvt_messages.specs.Views.{key_field, value_field}
 use Rattle.mvt_meaning.specs.Compaction.{is_entry}
 use Rattle.mvt_meaning.specs.Tagging.{pairs_among}
-use Rattle.mvt_fates.specs.Decided.{decided_by, field_fates}
-use Rattle.mvt_fates.specs.Fates.{Splice, goes_if, splices_of}
+use Rattle.mvt_edit_steps.specs.Decided.{decided_by, field_fates}
+use Rattle.mvt_edit_steps.specs.Fates.{Splice, goes_if, splices_of}
 use Rattle.mvt_renumber.specs.declared.fate.Fate.{Fate}
 
 -- ---- marks

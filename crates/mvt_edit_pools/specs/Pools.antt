@@ -5,8 +5,8 @@ use Rattle.mvt_change.specs.Changes.{Change}
 use Rattle.mvt_command.specs.Command.{Command, LayersChoice, CompactKeys, CompactValues, Compact}
 use Rattle.mvt_messages.specs.Views.{key_field, value_field}
 use Rattle.mvt_meaning.specs.Compaction.{is_any, is_entry, is_key_used, is_value_used, new_ordinals}
-use Rattle.mvt_fates.specs.Decided.{field_fates}
-use Rattle.mvt_edit_pairs.specs.EachFeature.{layer_steps}
+use Rattle.mvt_edit_steps.specs.Decided.{field_fates}
+use Rattle.mvt_edit_steps.specs.EachFeature.{layer_steps}
 use Rattle.mvt_edit_pools.specs.Marks.{entry_steps}
 use Rattle.mvt_renumber.specs.declared.fate.Fate.{Fate}
 use Rattle.mvt_edit_pools.specs.declared.compact.Pools.{Pools}

@@ -11,7 +11,7 @@ ghost use Rattle.mvt_meaning.specs.declared.refusal.Refusal.TheVariants.{NoMemor
 ghost use Rattle.mvt_messages.specs.Found.{found_features};
 ghost use Rattle.mvt_layers.specs.Seen.{found_layer_seen, pair_seen};
 ghost use Rattle.mvt_messages.specs.Views.{keys, values};
-ghost use Rattle.mvt_edit_pairs.specs.EachFeature.{layer_steps};
+ghost use Rattle.mvt_edit_steps.specs.EachFeature.{layer_steps};
 ghost use Rattle.mvt_edit_steps.specs.Prepared.{Prepares};
 ghost use Rattle.mvt_edit_pools.specs.Pools.{all_keys, all_values, compaction, compacting, keys_stay, values_stay};
 ghost use Rattle.mvt_edit_pools.specs.Marks.{entry_steps, gone_by, ordinals_by, pair_counts, pairs_repointed, stays_from};

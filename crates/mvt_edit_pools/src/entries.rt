@@ -11,7 +11,7 @@ ghost use Rattle.mvt_edit_pools.specs.Marks.{entry_steps, first_goes, gone_by};
 use mvt_change::Step;
 use mvt_document::tags::{KEYS, VALUES};
 use mvt_document::{BodyRef, Layer, LayerItem, Run, Runs};
-use mvt_fates::take_out;
+use mvt_edit_steps::take_out;
 use mvt_select::FoundLayer;
 use std::alloc::{AllocError, Global};
 
@@ -31,7 +31,7 @@ pub(crate) fn take_entries(
     take_out(
         alloc,
         gone.as_slice(),
-        |run: mvt_fates::Run<LayerItem>| Ok(run.in_layer(layer)),
+        |run: mvt_edit_steps::Run<LayerItem>| Ok(run.in_layer(layer)),
         steps,
     )?;
     Ok(())

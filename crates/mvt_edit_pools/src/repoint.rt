@@ -6,14 +6,14 @@ ghost use Rattle.mvt_change.specs.ChangeStands.{step_of};
 ghost use Rattle.mvt_meaning.specs.Compaction.{all_pairs};
 ghost use Rattle.mvt_messages.specs.Found.{found_features};
 ghost use Rattle.mvt_layers.specs.Seen.{found_feature_seen, found_layer_seen, pair_seen};
-ghost use Rattle.mvt_fates.specs.Decided.{counted_by, decided_by, field_fates};
-ghost use Rattle.mvt_edit_pairs.specs.EachFeature.{feature_steps, layer_steps};
+ghost use Rattle.mvt_edit_steps.specs.Decided.{counted_by, decided_by, field_fates};
+ghost use Rattle.mvt_edit_steps.specs.EachFeature.{feature_steps, layer_steps};
 ghost use Rattle.mvt_edit_pools.specs.Marks.{keeps_ordinal, pair_counts, pair_repointed, pairs_repointed};
 
 use crate::used::Marks;
 use mvt_change::Step;
 use mvt_document::tags::TAGS;
-use mvt_edit_pairs::renumber_feature;
+use mvt_edit_steps::renumber_feature;
 use mvt_layers::Pair;
 use mvt_select::{FoundFeature, FoundLayer};
 use std::alloc::{AllocError, Global};

@@ -6,7 +6,7 @@ use Rattle.std.specs.Option.{IfSome, option_copied, option_map_or, unwrap_or}
 use Rattle.std.specs.Slice.{IsItemAt}
 use Rattle.mvt_meaning.specs.Ordinals.{put_last}
 use Rattle.mvt_edit_steps.specs.PutsLast.{ReplacesLast}
-use Rattle.mvt_fates.proofs.PutLast.{IsPutLast, index_of, last_of, put_last_at, put_of, taken_of}
+use Rattle.mvt_edit_steps.proofs.PutLast.{IsPutLast, index_of, last_of, put_last_at, put_of, taken_of}
 
 -- ---- what is put
 

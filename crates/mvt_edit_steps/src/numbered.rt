@@ -13,9 +13,9 @@ ghost use Rattle.mvt_meaning.specs.Ordinals.{positions_of};
 ghost use Rattle.mvt_edit_steps.specs.NumberPut.{is_numbered, with_last_number};
 ghost use Rattle.mvt_edit_steps.specs.PutsLast.{ReplacesLast};
 
+use crate::fates::Run;
 use crate::put_last::Spot;
 use mvt_document::{Body, BodyRef, Field, FieldParts, Tag, Varint};
-use mvt_fates::Run;
 use std::alloc::{AllocError, Global};
 
 /// The run that gives the value to the last VARINT field of the number of this tag, or puts one

@@ -7,12 +7,12 @@ ghost use Rattle.mvt_document.specs.Stands.{document_of};
 ghost use Rattle.mvt_document.specs.Wire.{bytes_of};
 ghost use Rattle.mvt_change.specs.Changes.{FitsStep, go_step};
 ghost use Rattle.mvt_change.specs.ChangeStands.{change_of, place_of, step_of};
-ghost use Rattle.mvt_fates.specs.Fates.{item_out, splice_of};
+ghost use Rattle.mvt_edit_steps.specs.Fates.{item_out, splice_of};
 ghost use Rattle.mvt_meaning.specs.declared.refusal.Refusal.TheVariants.{NoMemory, TooLarge};
 
+use crate::fates::Run;
 use mvt_change::{Change, Place, Step, fits_after};
 use mvt_document::Document;
-use mvt_fates::Run;
 use mvt_meaning::Refusal;
 use std::alloc::{AllocError, Global};
 

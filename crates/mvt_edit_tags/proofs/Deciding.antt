@@ -10,8 +10,8 @@ use Rattle.mvt_messages.specs.Tags.{plain_pairs, tag_pairs}
 use Rattle.mvt_messages.specs.Views.{content_in, contents, key_field, keys, plain_fields, values}
 use Rattle.mvt_layers.proofs.Pairing.{tags_are_pairs}
 use Rattle.mvt_meaning.specs.Tagging.{is_key, is_key_at, pairs_among, removals, without_pairs}
-use Rattle.mvt_edit_pairs.proofs.Deciding.{then_pairs}
-use Rattle.mvt_edit_pairs.proofs.NamedKeys.{named_at}
+use Rattle.mvt_edit_steps.proofs.Deciding.{then_pairs}
+use Rattle.mvt_edit_steps.proofs.NamedKeys.{named_at}
 
 -- ---- the pairs of a key
 

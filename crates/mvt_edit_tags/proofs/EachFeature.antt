@@ -7,10 +7,10 @@ use Rattle.mvt_meaning.specs.Meaning.{change_layers}
 use Rattle.mvt_meaning.specs.Selection.{selected_layers}
 use Rattle.mvt_meaning.specs.declared.refusal.Refusal.{Refusal}
 use Rattle.mvt_renumber.specs.declared.fate.Fate.{Fate}
-use Rattle.mvt_edit_pairs.specs.EachFeature.{layer_steps}
-use Rattle.mvt_edit_pairs.proofs.Come.{CarriesEach, each_changed, layer_comes, puts_in, takes_in}
-use Rattle.mvt_edit_pairs.proofs.EachLayer as each_layer
-use Rattle.mvt_edit_pairs.proofs.EachLayer.{InTile, Made}
+use Rattle.mvt_edit_steps.specs.EachFeature.{layer_steps}
+use Rattle.mvt_edit_steps.proofs.Come.{CarriesEach, each_changed, layer_comes, puts_in, takes_in}
+use Rattle.mvt_edit_steps.proofs.EachLayer as each_layer
+use Rattle.mvt_edit_steps.proofs.EachLayer.{InTile, Made}
 
 module _ (fates : List LayerItem → List Field → List (Fate Field)) (change : List LayerItem → List Field → List Field) where
   -- the features of the item can be changed in this way, if it is a layer

@@ -17,14 +17,14 @@ use Rattle.mvt_meaning.specs.Selection.{selected_layers}
 use Rattle.mvt_meaning.specs.Tagging.{losing, losing_in, removals, unreadable, without_attribute}
 use Rattle.mvt_meaning.specs.Weights.{as_after, as_before}
 use Rattle.mvt_meaning.proofs.Removals.{removals_short}
-use Rattle.mvt_fates.specs.Fates.{splices_of}
+use Rattle.mvt_edit_steps.specs.Fates.{splices_of}
 use Rattle.mvt_edit_steps.specs.Prepared.{IsPrepared}
-use Rattle.mvt_fates.proofs.CarriedOut.{put_all, taken_all}
-use Rattle.mvt_edit_pairs.proofs.EachFeature.{joined_each, mapped_each, of_features, same_each}
-use Rattle.mvt_edit_pairs.proofs.FieldsLeft.{fields_left, fields_put, fields_taken}
-use Rattle.mvt_edit_pairs.specs.EachFeature.{layer_steps}
+use Rattle.mvt_edit_steps.proofs.CarriedOut.{put_all, taken_all}
+use Rattle.mvt_edit_steps.proofs.EachFeature.{joined_each, mapped_each, of_features, same_each}
+use Rattle.mvt_edit_steps.proofs.FieldsLeft.{fields_left, fields_put, fields_taken}
+use Rattle.mvt_edit_steps.specs.EachFeature.{layer_steps}
 use Rattle.mvt_edit_tags.specs.EachFeature.{pairs_go}
-use Rattle.mvt_edit_pairs.proofs.Come.{Carries, CarriesIn, puts_in, takes_in}
+use Rattle.mvt_edit_steps.proofs.Come.{Carries, CarriesIn, puts_in, takes_in}
 use Rattle.mvt_edit_tags.proofs.EachFeature.{CarriesInTile, layers_made}
 
 module _ (key : List ℕ) where

@@ -17,8 +17,8 @@ use Rattle.mvt_document.specs.declared.LayerItem.{LayerItem}
 use Rattle.mvt_document.specs.declared.LayerItem.TheVariants as in_layer
 use Rattle.mvt_meaning.specs.Fields.{with_content, with_text}
 use Rattle.mvt_meaning.specs.Tagging.{is_key}
-use Rattle.mvt_fates.proofs.CarriedOut.{new_in}
-use Rattle.mvt_fates.proofs.Heavy.{tag_and_content}
+use Rattle.mvt_edit_steps.proofs.CarriedOut.{new_in}
+use Rattle.mvt_edit_steps.proofs.Heavy.{tag_and_content}
 use Rattle.mvt_edit_tags.specs.KeyFates.{key_fate}
 
 module _ (old new : List ℕ) where

@@ -22,10 +22,10 @@ use Rattle.mvt_meaning.specs.Weights.{of_selected, put_by, taken_by, weigh}
 use Rattle.mvt_meaning.specs.declared.refusal.Refusal.TheVariants.{KeyTaken, NoKey, TooLarge}
 use Rattle.mvt_meaning.proofs.Found.{change_layer_found, items_at_found, items_changed, items_of_found}
 use Rattle.mvt_renumber.specs.Fates.{changes, left_of_fate}
-use Rattle.mvt_fates.specs.Fates.{splices_of}
+use Rattle.mvt_edit_steps.specs.Fates.{splices_of}
 use Rattle.mvt_edit_steps.specs.Prepared.{IsPrepared}
-use Rattle.mvt_fates.proofs.CarriedOut.{carries_out, new_in}
-use Rattle.mvt_fates.proofs.Carrying.{carried, in_layer_at, in_the_layer, makes_alike}
+use Rattle.mvt_edit_steps.proofs.CarriedOut.{carries_out, new_in}
+use Rattle.mvt_edit_steps.proofs.Carrying.{carried, in_layer_at, in_the_layer, makes_alike}
 use Rattle.mvt_edit_tags.specs.KeyFates.{key_fate}
 
 -- ---- a key that gets other bytes

@@ -10,12 +10,12 @@ use Rattle.mvt_meaning.specs.Tagging.{is_key, pairs_among, removals, without_att
 use Rattle.mvt_meaning.specs.declared.refusal.Refusal.{Refusal}
 use Rattle.mvt_meaning.specs.declared.refusal.Refusal.TheVariants.{BadTags, NoKey}
 use Rattle.mvt_meaning.proofs.Found.{fields_of_found, items_of_found, selected_in_found}
-use Rattle.mvt_fates.specs.Decided.{field_fates}
-use Rattle.mvt_fates.specs.Fates.{splices_of}
+use Rattle.mvt_edit_steps.specs.Decided.{field_fates}
+use Rattle.mvt_edit_steps.specs.Fates.{splices_of}
 use Rattle.mvt_edit_steps.specs.Prepared.{IsPrepared}
-use Rattle.mvt_edit_pairs.proofs.FieldsLeft.{FieldsLeft}
-use Rattle.mvt_fates.proofs.Carrying.{in_feature_at}
-use Rattle.mvt_edit_pairs.proofs.FeatureRenumbered.{renumbers}
+use Rattle.mvt_edit_steps.proofs.FieldsLeft.{FieldsLeft}
+use Rattle.mvt_edit_steps.proofs.Carrying.{in_feature_at}
+use Rattle.mvt_edit_steps.proofs.FeatureRenumbered.{renumbers}
 
 module _ (choice : LayerChoice) (key : List ℕ) (document : Document) (ordinal position : ℕ) (layer : Layer) (chosen : selected choice document ≡ Ok ordinal) (placed : slice_get (layer_positions document) ordinal ≡ Some position) (there : slice_get document position ≡ Some (OfLayer layer)) where
   items_here : items_of ordinal document ≡ layer.items

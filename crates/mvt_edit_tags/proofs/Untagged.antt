@@ -26,13 +26,13 @@ use Rattle.mvt_meaning.specs.Selection.{selected_layers}
 use Rattle.mvt_meaning.specs.Tagging.{is_tags, tags_fields, without_tags}
 use Rattle.mvt_meaning.specs.declared.refusal.Refusal.{Refusal}
 use Rattle.mvt_edit_steps.specs.Prepared.{IsPrepared}
-use Rattle.mvt_fates.specs.Fates.{splices_of}
-use Rattle.mvt_fates.proofs.CarriedOut.{put_all, taken_all}
-use Rattle.mvt_fates.proofs.Going.{takes_out}
-use Rattle.mvt_fates.proofs.Heavy.{heavy, number_has_bytes}
-use Rattle.mvt_edit_pairs.specs.EachFeature.{layer_steps}
+use Rattle.mvt_edit_steps.specs.Fates.{splices_of}
+use Rattle.mvt_edit_steps.proofs.CarriedOut.{put_all, taken_all}
+use Rattle.mvt_edit_steps.proofs.Going.{takes_out}
+use Rattle.mvt_edit_steps.proofs.Heavy.{heavy, number_has_bytes}
+use Rattle.mvt_edit_steps.specs.EachFeature.{layer_steps}
 use Rattle.mvt_edit_tags.specs.EachFeature.{tags_go}
-use Rattle.mvt_edit_pairs.proofs.Come.{Carries, CarriesIn, puts_in, takes_in}
+use Rattle.mvt_edit_steps.proofs.Come.{Carries, CarriesIn, puts_in, takes_in}
 use Rattle.mvt_edit_tags.proofs.EachFeature.{CarriesInTile, layers_made, none_made}
 
 -- ---- tags fields have at least two bytes

@@ -2,8 +2,8 @@
 use Rattle.std.specs.Prelude.{ℕ, List, map}
 use Rattle.mvt_document.specs.Plain.{Field, LayerItem}
 use Rattle.mvt_meaning.specs.Tagging.{is_tags, removals}
-use Rattle.mvt_fates.specs.Decided.{field_fates}
-use Rattle.mvt_fates.specs.Fates.{goes_if}
+use Rattle.mvt_edit_steps.specs.Decided.{field_fates}
+use Rattle.mvt_edit_steps.specs.Fates.{goes_if}
 use Rattle.mvt_renumber.specs.declared.fate.Fate.{Fate}
 
 -- the tags fields go, and the other fields of a feature stay (tiles 4.2)

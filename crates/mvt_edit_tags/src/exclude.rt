@@ -14,14 +14,14 @@ ghost use Rattle.mvt_layers.specs.Seen.{feature_seen, found_feature_seen, found_
 ghost use Rattle.mvt_messages.specs.Tags.{plain_pairs, tag_pairs};
 ghost use Rattle.mvt_messages.specs.Views.{keys, values};
 ghost use Rattle.mvt_edit_steps.specs.Prepared.{Prepares};
-ghost use Rattle.mvt_edit_pairs.specs.EachFeature.{feature_steps, layer_steps};
+ghost use Rattle.mvt_edit_steps.specs.EachFeature.{feature_steps, layer_steps};
 ghost use Rattle.mvt_edit_tags.specs.EachFeature.{pairs_go};
 
 use crate::unset::is_any;
 use mvt_change::{Change, Step};
 use mvt_document::Document;
 use mvt_document::tags::TAGS;
-use mvt_edit_pairs::{decide_or_refuse, name_keys, renumber_feature};
+use mvt_edit_steps::{decide_or_refuse, name_keys, renumber_feature};
 use mvt_layers::{FeatureView, PoolSizes};
 use mvt_select::{FoundFeature, FoundLayer, LayersChoice, Refusal, find_layers};
 use std::alloc::Global;

@@ -7,13 +7,12 @@ ghost use Rattle.mvt_command.specs.Command.{ExcludeAll};
 ghost use Rattle.mvt_command.specs.CommandStands.{layers_choice_of};
 ghost use Rattle.mvt_layers.specs.Seen.{found_feature_seen, found_layer_seen};
 ghost use Rattle.mvt_edit_steps.specs.Prepared.{Prepares};
-ghost use Rattle.mvt_edit_pairs.specs.EachFeature.{feature_steps, layer_steps};
+ghost use Rattle.mvt_edit_steps.specs.EachFeature.{feature_steps, layer_steps};
 ghost use Rattle.mvt_edit_tags.specs.EachFeature.{tags_go};
 
 use mvt_change::{Change, Step};
 use mvt_document::Document;
-use mvt_edit_pairs::is_tags;
-use mvt_fates::{carry_out, goes_if};
+use mvt_edit_steps::{carry_out, goes_if, is_tags};
 use mvt_select::{FoundFeature, FoundLayer, LayersChoice, Refusal, find_layers};
 use std::alloc::{AllocError, Global};
 

@@ -13,7 +13,7 @@ ghost use Rattle.mvt_command.specs.Command.{RenameKey};
 ghost use Rattle.mvt_command.specs.CommandStands.{layer_choice_of};
 ghost use Rattle.mvt_meaning.specs.Tagging.{is_key, renamed_keys};
 ghost use Rattle.mvt_renumber.specs.Fates.{fate_seen};
-ghost use Rattle.mvt_fates.specs.Fates.{splices_of};
+ghost use Rattle.mvt_edit_steps.specs.Fates.{splices_of};
 ghost use Rattle.mvt_edit_steps.specs.Prepared.{Prepares};
 ghost use Rattle.mvt_edit_tags.specs.KeyFates.{FindsKeys, key_fate};
 
@@ -23,7 +23,7 @@ use mvt_document::{
     Body, BodyRef, Document, Field, FieldParts, Items, LayerItem, MAX_FILE, Measured, Tag,
     message_size, sum_within,
 };
-use mvt_fates::{Fate, carry_out};
+use mvt_edit_steps::{Fate, carry_out};
 use mvt_select::{LayerChoice, Refusal, find_layer};
 use std::alloc::{AllocError, Global};
 

@@ -9,14 +9,14 @@ ghost use Rattle.mvt_command.specs.CommandStands.{feature_choice_of, layer_choic
 ghost use Rattle.mvt_layers.specs.Seen.{found_feature_seen};
 ghost use Rattle.mvt_meaning.specs.Tagging.{is_key, pairs_among, removals};
 ghost use Rattle.mvt_meaning.specs.declared.refusal.Refusal.TheVariants.{BadTags, NoKey, NoMemory};
-ghost use Rattle.mvt_fates.specs.Decided.{field_fates};
+ghost use Rattle.mvt_edit_steps.specs.Decided.{field_fates};
 ghost use Rattle.mvt_edit_steps.specs.Prepared.{Prepares};
-ghost use Rattle.mvt_edit_pairs.specs.EachFeature.{feature_steps};
+ghost use Rattle.mvt_edit_steps.specs.EachFeature.{feature_steps};
 
 use mvt_change::Change;
 use mvt_document::Document;
 use mvt_document::tags::TAGS;
-use mvt_edit_pairs::{decide_or_refuse, named_keys, renumber_feature};
+use mvt_edit_steps::{decide_or_refuse, named_keys, renumber_feature};
 use mvt_select::{
     FeatureChoice, FoundFeature, FoundLayer, LayerChoice, Refusal, find_feature, find_layer,
 };

@@ -9,7 +9,7 @@ use Rattle.mvt_document.specs.Stands.{document_of, feature_of, field_of, layer_i
 use Rattle.mvt_document.specs.Wire.{field_bytes, layer_item_bytes}
 use Rattle.mvt_change.specs.FileSizes.{IsFileSize}
 use Rattle.mvt_change.proofs.Resized.{fields_there, items_there}
-use Rattle.mvt_fates.specs.Fates.{seen, splice_of}
+use Rattle.mvt_edit_steps.specs.Fates.{seen, splice_of}
 use Rattle.mvt_edit_attributes.specs.Attribute.{fields_with}
 use Rattle.mvt_edit_attributes.proofs.set_attribute.fits_with.Goals as goal
 

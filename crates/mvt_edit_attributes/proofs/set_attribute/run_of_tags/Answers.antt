@@ -7,9 +7,9 @@ use Rattle.mvt_document.specs.Wire.{shortest}
 use Rattle.mvt_messages.specs.Views.{keys, values}
 use Rattle.mvt_meaning.specs.Tagging.{is_key_at, key_ordinal, replacements, revalued, value_ordinal}
 use Rattle.mvt_meaning.proofs.Replacements.{replacements_short}
-use Rattle.mvt_edit_pairs.proofs.FieldsLeft.{fields_left}
+use Rattle.mvt_edit_steps.proofs.FieldsLeft.{fields_left}
 use Rattle.mvt_edit_attributes.proofs.AttributeGiven.{gives_pair, gives_value, nothing_refused, on_values, repeated_refused, unreadable_refused}
-use Rattle.mvt_edit_pairs.proofs.Deciding.{no_pairs}
+use Rattle.mvt_edit_steps.proofs.Deciding.{no_pairs}
 use Rattle.mvt_edit_attributes.proofs.OneDiffers.{one_differs}
 use Rattle.mvt_edit_attributes.proofs.set_attribute.run_of_tags.Goals as goal
 

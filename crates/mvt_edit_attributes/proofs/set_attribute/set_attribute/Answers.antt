@@ -11,8 +11,8 @@ use Rattle.mvt_value.specs.Stands.{new_value_of}
 use Rattle.mvt_layers.specs.Seen.{layer_seen}
 use Rattle.mvt_command.specs.CommandStands.{feature_choice_of, layer_choice_of}
 use Rattle.mvt_meaning.specs.Tagging.{with_attribute}
-use Rattle.mvt_fates.specs.Fates.{seen, splice_of}
-use Rattle.mvt_fates.proofs.Carrying.{in_feature_at}
+use Rattle.mvt_edit_steps.specs.Fates.{seen, splice_of}
+use Rattle.mvt_edit_steps.proofs.Carrying.{in_feature_at}
 use Rattle.mvt_edit_attributes.specs.Attribute.{AreFound, appended, entries_for}
 use Rattle.mvt_edit_attributes.proofs.AttributeSet.{attribute_set, attributed_at, entries_lacked, no_feature_gets, set_too_large, tags_refused}
 use Rattle.mvt_edit_steps.proofs.Limits.{not_false, not_true}

@@ -5,8 +5,8 @@ use Rattle.mvt_document.specs.Stands.{field_of}
 use Rattle.mvt_renumber.specs.Fates.{changes, fate_seen}
 use Rattle.mvt_renumber.specs.Renumbering.{field_numbers}
 use Rattle.mvt_renumber.proofs.FieldFate.{field_fate-seen}
-use Rattle.mvt_fates.specs.Decided.{field_fates}
-use Rattle.mvt_fates.specs.Fates.{splices_from}
+use Rattle.mvt_edit_steps.specs.Decided.{field_fates}
+use Rattle.mvt_edit_steps.specs.Fates.{splices_from}
 use Rattle.mvt_edit_attributes.specs.Attribute.{run_for}
 use Rattle.mvt_edit_attributes.proofs.OneDiffers.{only_run, some_mapped}
 use Rattle.mvt_edit_attributes.proofs.tags_run.first_renumbered.Goals as goal

@@ -11,9 +11,9 @@ use Rattle.mvt_geometry.specs.Shapes.{kind_number}
 use Rattle.mvt_change.specs.Changes.{FeatureStep}
 use Rattle.mvt_command.specs.CommandStands.{feature_choice_of, layer_choice_of}
 use Rattle.mvt_meaning.specs.Geometries.{is_geometry_field, is_kind, with_geometry, with_kind}
-use Rattle.mvt_fates.specs.Once.{once_splices}
+use Rattle.mvt_edit_steps.specs.Once.{once_splices}
 use Rattle.mvt_edit_steps.specs.PutsLast.{ReplacesLast}
-use Rattle.mvt_fates.proofs.Carrying.{in_feature_at}
+use Rattle.mvt_edit_steps.proofs.Carrying.{in_feature_at}
 use Rattle.mvt_edit_geometry.proofs.Drawn.{drawn_size}
 use Rattle.mvt_edit_geometry.proofs.GeometrySet.{drawing_refused, drawn_too_large, geometry_set, no_feature_drawn}
 use Rattle.mvt_edit_geometry.proofs.Redrawn.{drawings_heavy}

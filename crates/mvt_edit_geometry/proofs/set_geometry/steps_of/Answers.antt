@@ -5,10 +5,10 @@ use Rattle.mvt_document.specs.Stands.{field_of}
 use Rattle.mvt_change.specs.Changes.{FeatureStep}
 use Rattle.mvt_change.specs.ChangeStands.{step_of}
 use Rattle.mvt_meaning.specs.Geometries.{is_geometry_field}
-use Rattle.mvt_fates.specs.Fates.{seen}
-use Rattle.mvt_fates.specs.Once.{once_splices}
-use Rattle.mvt_fates.proofs.Carrying.{in_feature_at}
-use Rattle.mvt_fates.proofs.Once.{once_splices_seen, picked_seen}
+use Rattle.mvt_edit_steps.specs.Fates.{seen}
+use Rattle.mvt_edit_steps.specs.Once.{once_splices}
+use Rattle.mvt_edit_steps.proofs.Carrying.{in_feature_at}
+use Rattle.mvt_edit_steps.proofs.Once.{once_splices_seen, picked_seen}
 use Rattle.mvt_edit_geometry.proofs.set_geometry.steps_of.Goals as goal
 
 pub returns : goal.returns

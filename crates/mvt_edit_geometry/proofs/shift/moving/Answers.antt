@@ -1,5 +1,5 @@
 use Rattle.mvt_change.specs.ChangeStands.{step_of}
-use Rattle.mvt_fates.proofs.Following.{alone}
+use Rattle.mvt_edit_steps.proofs.Following.{alone}
 use Rattle.mvt_edit_geometry.proofs.shift.moving.Goals as goal
 
 pub returns-clause-steps : goal.returns-clause-steps

@@ -7,12 +7,12 @@ use Rattle.mvt_change.specs.Changes.{FeatureStep}
 use Rattle.mvt_change.specs.ChangeStands.{step_of}
 use Rattle.mvt_command.specs.CommandStands.{feature_choice_of, layer_choice_of}
 use Rattle.mvt_meaning.specs.Meaning.{is_id}
-use Rattle.mvt_fates.specs.Fates.{splices_of}
-use Rattle.mvt_fates.proofs.Carrying.{in_feature_at}
-use Rattle.mvt_fates.proofs.Following.{alone}
+use Rattle.mvt_edit_steps.specs.Fates.{splices_of}
+use Rattle.mvt_edit_steps.proofs.Carrying.{in_feature_at}
+use Rattle.mvt_edit_steps.proofs.Following.{alone}
 use Rattle.mvt_edit_lists.proofs.Gone.{ids_go, no_ids_go}
-use Rattle.mvt_fates.proofs.Going.{out, out_seen, seen}
-use Rattle.mvt_fates.proofs.Heavy.{heavy}
+use Rattle.mvt_edit_steps.proofs.Going.{out, out_seen, seen}
+use Rattle.mvt_edit_steps.proofs.Heavy.{heavy}
 use Rattle.mvt_edit_lists.proofs.HaveBytes.{id_has_bytes}
 use Rattle.mvt_edit_lists.proofs.clear_id.clear_id.Goals as goal
 

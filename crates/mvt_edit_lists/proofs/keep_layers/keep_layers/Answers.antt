@@ -4,11 +4,11 @@ use Rattle.mvt_document.specs.Stands.{document_of, tile_item_of}
 use Rattle.mvt_document.specs.Wire.{tile_item_bytes}
 use Rattle.mvt_change.specs.Changes.{TileStep}
 use Rattle.mvt_change.specs.ChangeStands.{step_of}
-use Rattle.mvt_fates.specs.Fates.{splices_of}
-use Rattle.mvt_fates.proofs.Carrying.{in_tile}
-use Rattle.mvt_fates.proofs.Following.{alone}
-use Rattle.mvt_fates.proofs.Going.{count_seen, out, out_seen, seen}
-use Rattle.mvt_fates.proofs.Heavy.{heavy}
+use Rattle.mvt_edit_steps.specs.Fates.{splices_of}
+use Rattle.mvt_edit_steps.proofs.Carrying.{in_tile}
+use Rattle.mvt_edit_steps.proofs.Following.{alone}
+use Rattle.mvt_edit_steps.proofs.Going.{count_seen, out, out_seen, seen}
+use Rattle.mvt_edit_steps.proofs.Heavy.{heavy}
 use Rattle.mvt_edit_lists.proofs.HaveBytes.{layer_has_bytes}
 use Rattle.mvt_edit_lists.proofs.Kept.{goes, kept_alike, keeps, none_stays}
 use Rattle.mvt_edit_lists.proofs.keep_layers.keep_layers.Goals as goal

@@ -8,7 +8,7 @@ use Rattle.mvt_command.specs.CommandStands.{layers_choice_of}
 use Rattle.mvt_meaning.specs.Tagging.{unreadable}
 use Rattle.mvt_layers.specs.Seen.{found_layer_seen}
 use Rattle.mvt_select.specs.Found.{layers_left}
-use Rattle.mvt_edit_pairs.proofs.StepsPassed.{steps_more}
+use Rattle.mvt_edit_steps.proofs.StepsPassed.{steps_more}
 use Rattle.mvt_edit_pools.specs.Pools.{compacting, keys_stay, values_stay}
 use Rattle.mvt_edit_pools.proofs.Compacted.{compacts, layer_refused, none_selected, readable_after}
 use Rattle.mvt_edit_pools.proofs.compact.compact.Goals as goal

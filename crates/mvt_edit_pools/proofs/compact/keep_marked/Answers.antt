@@ -2,7 +2,7 @@ use Rattle.std.proofs.Common.{◌++◌, map, append_assoc, ap, ◌∙◌}
 use Rattle.mvt_document.specs.Stands.{layer_of}
 use Rattle.mvt_change.specs.ChangeStands.{step_of}
 use Rattle.mvt_layers.specs.Seen.{found_layer_seen}
-use Rattle.mvt_edit_pairs.specs.EachFeature.{layer_steps}
+use Rattle.mvt_edit_steps.specs.EachFeature.{layer_steps}
 use Rattle.mvt_edit_pools.specs.Marks.{entry_steps, gone_by, ordinals_by, pairs_repointed}
 use Rattle.mvt_edit_pools.proofs.compact.keep_marked.Goals as goal
 

@@ -3,8 +3,8 @@ use Rattle.std.proofs.lemmas.Simd.{map-map}
 use Rattle.mvt_document.specs.Stands.{layer_item_of}
 use Rattle.mvt_change.specs.Changes.{LayerStep}
 use Rattle.mvt_change.specs.ChangeStands.{step_of}
-use Rattle.mvt_fates.specs.Fates.{goes_if, seen, splices_of}
-use Rattle.mvt_fates.proofs.Carrying.{in_layer_at}
+use Rattle.mvt_edit_steps.specs.Fates.{goes_if, seen, splices_of}
+use Rattle.mvt_edit_steps.proofs.Carrying.{in_layer_at}
 use Rattle.mvt_edit_pools.proofs.SeenMarks.{marks_seen}
 use Rattle.mvt_edit_pools.specs.Marks.{entry_steps}
 use Rattle.mvt_edit_pools.proofs.entries.take_entries.Goals as goal

@@ -1,6 +1,6 @@
 use Rattle.std.proofs.Common.{◌≡◌, ◌+◌, ◌++◌, ◌≤◌, drop, map}
 use Rattle.mvt_layers.specs.Seen.{pair_seen}
-use Rattle.mvt_fates.specs.Decided.{counted_by, decided_by}
+use Rattle.mvt_edit_steps.specs.Decided.{counted_by, decided_by}
 use Rattle.mvt_edit_pools.specs.Marks.{pair_repointed}
 use Rattle.mvt_edit_pools.proofs.repoint.decide.Given as goal
 

@@ -4,9 +4,9 @@ use Rattle.mvt_document.specs.Stands.{layer_of}
 use Rattle.mvt_change.specs.ChangeStands.{step_of}
 use Rattle.mvt_messages.specs.Found.{found_features}
 use Rattle.mvt_layers.specs.Seen.{found_feature_seen, pair_seen}
-use Rattle.mvt_fates.specs.Decided.{field_fates}
-use Rattle.mvt_edit_pairs.specs.EachFeature.{feature_steps}
-use Rattle.mvt_edit_pairs.proofs.StepsPassed.{steps_more}
+use Rattle.mvt_edit_steps.specs.Decided.{field_fates}
+use Rattle.mvt_edit_steps.specs.EachFeature.{feature_steps}
+use Rattle.mvt_edit_steps.proofs.StepsPassed.{steps_more}
 use Rattle.mvt_edit_pools.specs.Marks.{pair_counts, pairs_repointed}
 use Rattle.mvt_edit_pools.proofs.KeptPairs as pairs_kept
 use Rattle.mvt_edit_pools.proofs.Marking.{pairs_found, pairs_left}

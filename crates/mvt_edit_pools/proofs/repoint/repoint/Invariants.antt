@@ -3,7 +3,7 @@ use Rattle.std.specs.List.{flat_map}
 use Rattle.mvt_document.specs.Stands.{layer_of}
 use Rattle.mvt_change.specs.ChangeStands.{step_of}
 use Rattle.mvt_layers.specs.Seen.{found_layer_seen, pair_seen}
-use Rattle.mvt_edit_pairs.specs.EachFeature.{feature_steps, layer_steps}
+use Rattle.mvt_edit_steps.specs.EachFeature.{feature_steps, layer_steps}
 use Rattle.mvt_edit_pools.specs.Marks.{pair_counts, pairs_repointed}
 use Rattle.mvt_edit_pools.proofs.Marking.{pairs_left}
 use Rattle.mvt_edit_pools.proofs.repoint.repoint.Given as goal

@@ -3,8 +3,8 @@ use Rattle.std.proofs.lemmas.List.{append-nil}
 use Rattle.std.proofs.lemmas.Result.{err_from_is_err_and}
 use Rattle.mvt_document.specs.Stands.{layer_of}
 use Rattle.mvt_layers.specs.Seen.{found_feature_seen, pair_seen}
-use Rattle.mvt_edit_pairs.proofs.Deciding.{no_pairs}
-use Rattle.mvt_edit_pairs.proofs.Unreadable.{bad_among, feature_refused, readable_more, unreadable_in}
+use Rattle.mvt_edit_steps.proofs.Deciding.{no_pairs}
+use Rattle.mvt_edit_steps.proofs.Unreadable.{bad_among, feature_refused, readable_more, unreadable_in}
 use Rattle.mvt_edit_pools.specs.Marks.{marked, names_key, names_value, pair_counts, pairs_at}
 use Rattle.mvt_edit_pools.proofs.Marking.{counts_own, is_readable, keys_more, marked_none, pairs_found, pairs_left, pairs_own, values_more}
 use Rattle.mvt_edit_pools.proofs.used.mark_used.Goals as goal

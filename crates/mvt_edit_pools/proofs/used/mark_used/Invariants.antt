@@ -2,7 +2,7 @@ use Rattle.std.proofs.Common.{◌≡◌, ◌++◌, map}
 use Rattle.mvt_layers.specs.Seen.{pair_seen}
 use Rattle.mvt_document.specs.Stands.{layer_of}
 use Rattle.mvt_messages.specs.Found.{found_features}
-use Rattle.mvt_edit_pairs.proofs.Unreadable.{bad_among}
+use Rattle.mvt_edit_steps.proofs.Unreadable.{bad_among}
 use Rattle.mvt_edit_pools.specs.Marks.{marked, names_key, names_value, pair_counts}
 use Rattle.mvt_edit_pools.proofs.Marking.{pairs_left}
 use Rattle.mvt_edit_pools.proofs.used.mark_used.Given as goal

@@ -3,7 +3,7 @@ use Rattle.std.specs.List.{flat_map}
 use Rattle.mvt_change.specs.ChangeStands.{step_of}
 use Rattle.mvt_meaning.specs.Tagging.{unreadable}
 use Rattle.mvt_select.specs.Found.{layers_left}
-use Rattle.mvt_edit_pairs.specs.EachFeature.{layer_steps}
+use Rattle.mvt_edit_steps.specs.EachFeature.{layer_steps}
 use Rattle.mvt_edit_tags.specs.EachFeature.{pairs_go}
 use Rattle.mvt_edit_tags.proofs.exclude.exclude.Given as goal
 

@@ -7,9 +7,9 @@ use Rattle.mvt_numbers.specs.Numbers.{numbers}
 use Rattle.mvt_layers.specs.Seen.{found_feature_seen}
 use Rattle.mvt_meaning.specs.Tagging.{without_pairs}
 use Rattle.mvt_messages.specs.Tags.{plain_pairs, tag_pairs}
-use Rattle.mvt_fates.specs.Decided.{field_fates, is_any_gone}
-use Rattle.mvt_edit_pairs.specs.EachFeature.{feature_steps}
-use Rattle.mvt_edit_pairs.proofs.Deciding.{no_pairs}
+use Rattle.mvt_edit_steps.specs.Decided.{field_fates, is_any_gone}
+use Rattle.mvt_edit_steps.specs.EachFeature.{feature_steps}
+use Rattle.mvt_edit_steps.proofs.Deciding.{no_pairs}
 use Rattle.mvt_edit_tags.proofs.Deciding.{decided_readable, on_pairs}
 use Rattle.mvt_edit_tags.proofs.NoneLost.{no_steps, none_counted}
 use Rattle.mvt_edit_tags.proofs.exclude.exclude_pairs.Goals as goal

@@ -2,7 +2,7 @@ use Rattle.std.proofs.Common.{◌≡◌, map}
 use Rattle.std.specs.List.{flat_map}
 use Rattle.mvt_change.specs.ChangeStands.{step_of}
 use Rattle.mvt_layers.specs.Seen.{found_layer_seen}
-use Rattle.mvt_edit_pairs.specs.EachFeature.{layer_steps}
+use Rattle.mvt_edit_steps.specs.EachFeature.{layer_steps}
 use Rattle.mvt_edit_tags.specs.EachFeature.{tags_go}
 use Rattle.mvt_edit_tags.proofs.exclude_all.exclude_all.Given as goal
 

@@ -4,9 +4,9 @@ use Rattle.mvt_document.specs.Stands.{field_of}
 use Rattle.mvt_change.specs.Changes.{FeatureStep}
 use Rattle.mvt_change.specs.ChangeStands.{step_of}
 use Rattle.mvt_meaning.specs.Tagging.{is_tags}
-use Rattle.mvt_fates.specs.Fates.{splices_of}
-use Rattle.mvt_fates.proofs.Carrying.{in_feature_at}
-use Rattle.mvt_fates.proofs.Going.{out, out_seen, seen}
+use Rattle.mvt_edit_steps.specs.Fates.{splices_of}
+use Rattle.mvt_edit_steps.proofs.Carrying.{in_feature_at}
+use Rattle.mvt_edit_steps.proofs.Going.{out, out_seen, seen}
 use Rattle.mvt_edit_tags.proofs.exclude_all.untag.Goals as goal
 
 pub returns : goal.returns

@@ -2,7 +2,7 @@ use Rattle.std.proofs.Common.{◌≡◌, ◌++◌, map}
 use Rattle.std.specs.List.{flat_map}
 use Rattle.mvt_change.specs.ChangeStands.{step_of}
 use Rattle.mvt_layers.specs.Seen.{found_feature_seen}
-use Rattle.mvt_edit_pairs.specs.EachFeature.{feature_steps}
+use Rattle.mvt_edit_steps.specs.EachFeature.{feature_steps}
 use Rattle.mvt_edit_tags.specs.EachFeature.{tags_go}
 use Rattle.mvt_edit_tags.proofs.exclude_all.untag_layer.Given as goal
 

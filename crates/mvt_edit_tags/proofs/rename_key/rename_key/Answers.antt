@@ -14,7 +14,7 @@ use Rattle.mvt_command.specs.Command.{RenameKey}
 use Rattle.mvt_command.specs.CommandStands.{layer_choice_of}
 use Rattle.mvt_meaning.specs.Tagging.{is_key, renamed_keys}
 use Rattle.mvt_edit_steps.specs.Prepared.{IsPrepared}
-use Rattle.mvt_fates.proofs.Heavy.{heavy}
+use Rattle.mvt_edit_steps.proofs.Heavy.{heavy}
 use Rattle.mvt_edit_tags.proofs.KeyFields.{key_has_bytes, keys_valid}
 use Rattle.mvt_edit_tags.proofs.KeysRenamed.{either_false, key_missing, key_taken, keys_renamed, keys_stay, keys_too_large}
 use Rattle.mvt_edit_steps.proofs.Limits.{not_false, not_true}

@@ -3,10 +3,10 @@ use Rattle.std.proofs.lemmas.Simd.{map-map}
 use Rattle.mvt_document.specs.Stands.{layer_item_of}
 use Rattle.mvt_change.specs.Changes.{LayerStep}
 use Rattle.mvt_change.specs.ChangeStands.{step_of}
-use Rattle.mvt_fates.specs.Fates.{seen, splices_of}
-use Rattle.mvt_fates.proofs.Carrying.{in_layer_at}
-use Rattle.mvt_fates.proofs.Following.{alone}
-use Rattle.mvt_fates.proofs.Planned.{splices_planned}
+use Rattle.mvt_edit_steps.specs.Fates.{seen, splices_of}
+use Rattle.mvt_edit_steps.proofs.Carrying.{in_layer_at}
+use Rattle.mvt_edit_steps.proofs.Following.{alone}
+use Rattle.mvt_edit_steps.proofs.Planned.{splices_planned}
 use Rattle.mvt_edit_tags.specs.KeyFates.{key_fate}
 use Rattle.mvt_edit_tags.proofs.rename_key.renaming.Goals as goal
 

@@ -4,7 +4,7 @@ use Rattle.std.specs.List.{list_any}
 use Rattle.std.specs.Str.{bytes_eq}
 use Rattle.mvt_document.specs.Stands.{feature_of, layer_of}
 use Rattle.mvt_messages.specs.Views.{keys, values}
-use Rattle.mvt_edit_pairs.proofs.Deciding.{no_pairs}
+use Rattle.mvt_edit_steps.proofs.Deciding.{no_pairs}
 use Rattle.mvt_edit_tags.proofs.Deciding.{has_named, on_pairs}
 use Rattle.mvt_edit_tags.proofs.unset.decide.Goals as goal
 

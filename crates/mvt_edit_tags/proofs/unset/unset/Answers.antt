@@ -5,9 +5,9 @@ use Rattle.mvt_command.specs.CommandStands.{feature_choice_of, layer_choice_of}
 use Rattle.mvt_meaning.specs.Tagging.{removals}
 use Rattle.mvt_meaning.proofs.Removals.{removals_short}
 use Rattle.mvt_layers.specs.Seen.{found_feature_seen}
-use Rattle.mvt_fates.specs.Decided.{field_fates}
-use Rattle.mvt_edit_pairs.proofs.FieldsLeft.{fields_left}
-use Rattle.mvt_edit_pairs.specs.EachFeature.{feature_steps}
+use Rattle.mvt_edit_steps.specs.Decided.{field_fates}
+use Rattle.mvt_edit_steps.proofs.FieldsLeft.{fields_left}
+use Rattle.mvt_edit_steps.specs.EachFeature.{feature_steps}
 use Rattle.mvt_edit_tags.proofs.PairsLost.{key_lacks, no_feature_loses, pairs_lack, tags_lose}
 use Rattle.mvt_edit_tags.proofs.unset.unset.Goals as goal
 

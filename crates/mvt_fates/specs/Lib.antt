@@ -1,3 +1,0 @@
-pub mod Fates
-pub mod Once
-pub mod Decided
