@@ -1,7 +1,7 @@
 -- A list in a ring, which begins after a gap and ends before it.
-use Rattle.std.proofs.Common.{◌≡◌, ℕ, zero, suc, ◌+◌, ◌-◌, ◌≤◌, List, [], ◌∷◌, ◌++◌, length, length-drop, take, drop, append_assoc, take-append-drop, refl, sym, ap, ◌∙◌, arith}
+use Rattle.std.proofs.Common.{◌≡◌, ℕ, zero, suc, ◌+◌, ◌-◌, ◌≤◌, List, [], ◌∷◌, ◌++◌, length, length-append, length-drop, length-take, take, drop, append_assoc, take-append-drop, refl, sym, ap, ◌∙◌, arith}
 use Rattle.std.proofs.lemmas.List.{drop-append-le, drop-drop, drop_at, length-take-le, take_all, take_at, take-append-le, take-take}
-use Rattle.mvt_document.specs.Splicing.{splice}
+use Rattle.mvt_document.specs.Splicing.{part, splice}
 
 -- ---- the gap goes to an index
 
@@ -54,17 +54,45 @@ turned_on following count index ring within few is =
     ∙ ap (λ rest. drop (length front + count) (front ++ back) ++ rest) (sym (take_past count front back))
     ∙ ap (λ n. drop n (front ++ back) ++ take n (front ++ back)) sum
 
--- items come after the gap, which goes to an index
-pub put_after : {A : Type 0} (following index : ℕ) (put items : List A) → length (put ++ drop index items) ≡ following → unrolled following (put ++ (drop index items ++ take index items)) ≡ splice index 0 put items
-put_after following index put items is =
+-- an item comes after the gap, which goes to an index
+pub put_after : {A : Type 0} (count index taken : ℕ) (put items : List A) → count ≡ length items → index + taken ≤ length items → taken ≡ 0 → length put ≡ 1 → unrolled (count - index - taken + 1) (put ++ (drop index items ++ take index items)) ≡ splice index taken put items
+put_after count index taken put items all there none one =
+    let following = count - index - taken + 1 in
     let front = put ++ drop index items in
     let back = take index items in
-    let none : index + 0 ≡ index = omega arith in
+    let is : length front ≡ following = omega (arith, all, there, none, one, length-append put (drop index items), length-drop index items) in
+    let same : index ≡ index + taken = omega (arith, none) in
     ap (unrolled following) (sym (append_assoc put (drop index items) back))
-    ∙ ap (λ rest. rest ++ take following (front ++ back)) (drop_at front back following is)
-    ∙ ap (λ rest. back ++ rest) (take_at front back following is)
+    ∙ ap (λ xs. xs ++ take following (front ++ back)) (drop_at front back following is)
+    ∙ ap (λ xs. back ++ xs) (take_at front back following is)
     ∙ sym (append_assoc back put (drop index items))
-    ∙ ap (λ n. (back ++ put) ++ drop n items) (sym none)
+    ∙ ap (λ n. (back ++ put) ++ drop n items) same
+
+-- the first items after it go, and others come last
+pub put_exchanged : {A : Type 0} (count index taken : ℕ) (put items : List A) → count ≡ length items → index + taken ≤ length items → unrolled (count - index - taken) (drop taken (drop index items ++ take index items) ++ put) ≡ splice index taken put items
+put_exchanged count index taken put items all there =
+    let following = count - index - taken in
+    let front = take index items in
+    let rest = drop (index + taken) items in
+    let within : taken ≤ length (drop index items) = omega (arith, there, length-drop index items) in
+    let left : length rest ≡ following = omega (arith, all, there, length-drop (index + taken) items) in
+    let first : drop taken (drop index items ++ front) ≡ rest ++ front = drop-append-le taken (drop index items) front within ∙ ap (λ xs. xs ++ front) (drop-drop taken index items) in
+    ap (λ list. unrolled following (list ++ put)) first
+    ∙ ap (unrolled following) (append_assoc rest front put)
+    ∙ ap (λ xs. xs ++ take following (rest ++ (front ++ put))) (drop_at rest (front ++ put) following left)
+    ∙ ap (λ xs. (front ++ put) ++ xs) (take_at rest (front ++ put) following left)
+
+pub part_after : {A : Type 0} (index taken : ℕ) (items : List A) → index + taken ≤ length items → take taken (drop index items ++ take index items) ≡ part index taken items
+part_after index taken items there = take-append-le taken (drop index items) (take index items) (omega (arith, there, length-drop index items))
+
+-- the list has as many items as its ring
+pub length_unrolled : {A : Type 0} (following : ℕ) (ring : List A) → length (unrolled following ring) ≡ length ring
+length_unrolled following ring = omega (arith, length-append (drop following ring) (take following ring), length-drop following ring, length-take following ring)
+
+-- .. and its room is that of the ring: it stays the same together with the items if some of them are exchanged
+pub room_unrolled : {A : Type 0} (before following taken given count left capacity room : ℕ) (ring new items : List A) → count ≡ length ring → left ≡ length new → unrolled before ring ≡ items → capacity - count ≡ room → count ≤ capacity → taken ≤ length items → given ≤ room + taken → left + taken ≡ count + given → length (unrolled following new) + (capacity - left) ≡ length items + room
+room_unrolled before following taken given count left capacity room ring new items counted leaves seen is within there fits changed =
+    omega (arith, length_unrolled following new, length_unrolled before ring, ap length seen, counted, leaves, is, within, there, fits, changed)
 
 -- ---- the first items of a ring change places with others
 
