@@ -226,12 +226,8 @@ fn exchange_one<T: Drop>(ring: &mut VecDeque<T>, taken: usize, put: &mut Put<T>)
     ensures ring_room { deque_capacity ring.new ≡ deque_capacity ring.old }
     ensures put_room { length put.new.items + put.new.room ≡ length put.old.items + put.old.room }
 {
-    let left = if taken == 0 {
-        put.trade(None)
-    } else {
-        put.trade(ring.pop_front())
-    };
-    if let Some(item) = left {
+    let first = if taken == 0 { None } else { ring.pop_front() };
+    if let Some(item) = put.trade(first) {
         ring.push_back_reserved(item);
     }
 }
