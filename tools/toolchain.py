@@ -54,14 +54,14 @@ def share_bases(rt):
 
     def shared(tasks):
         # (of each crate `rt ci` has a task for its proofs, one for its tests and one for its edits, and `tools/build` has one)
-        crate_of = {key: key[0] if isinstance(key, tuple) else key for key in tasks}
-        waiting = Counter(base for base, _ in {(it, crate_of[key]) for key, (waits, *_) in tasks.items() for it in waits})
+        waiting = Counter(base for base, _ in {(it, crate) for (crate, *_), (waits, *_) in tasks.items() for it in waits})
+        crates = {crate for crate, *_ in tasks}
         jobs_of_a_base = min(JOBS_OF_A_BASE, rt.processors())
 
         def share(key, waits, lines, needs, call):
             # (`rt` too counts a further part as six tenths of the first)
             needs_shared = needs * (1 + 0.6 * (jobs_of_a_base - 1))
-            if 5 * waiting[key] < 4 * len({*crate_of.values()}) or needs_shared > 0.85 * rt.free():
+            if 5 * waiting[key] < 4 * len(crates) or needs_shared > 0.85 * rt.free():
                 return waits, lines, needs, call
             return waits, lines, needs_shared, lambda given, jobs: call(given, max(jobs, jobs_of_a_base))
 
