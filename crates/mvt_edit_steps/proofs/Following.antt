@@ -1,7 +1,7 @@
 -- The splices of the fates so far, and of those that follow.
 use Rattle.std.proofs.Common.{◌≡◌, ℕ, ◌+◌, ◌^◌, ◌<◌, ◌≤◌, ◌==◌, false, cond, Option, Some, None, List, [], ◌∷◌, ◌++◌, length, length-append, map, filter, take, get_or, option_map, slice_get, refl, ap, ◌∙◌, sym, subst, inl, inr, arith, append_assoc}
 use Rattle.std.proofs.lemmas.Bool.{cases_Bool, ne_eqb}
-use Rattle.std.proofs.lemmas.List.{append-nil, map-append, take_more}
+use Rattle.std.proofs.lemmas.List.{append-nil, map-append, take_all, take_more}
 use Rattle.std.proofs.lemmas.List.Elements.{filter-append}
 use Rattle.std.specs.List.{AllZip, cons_option}
 use Rattle.std.specs.Option.{IfSome}
@@ -60,10 +60,11 @@ pub one_more_answered : {T B : Type 0} (answers : T → B → Type 0) (items : L
 one_more_answered answers items index x fates fate within is answered says =
     subst (λ all. AllZip answers all (fates ++ fate ∷ [])) (sym (take_more items index x within ∙ ap (λ y. take index items ++ y ∷ []) (sym is))) (all_zip_more answers (take index items) fates x fate answered says)
 
--- the fates so far, for which this was said, and the steps after those that were given, whichever fates follow
-pub record SoFar {T : Type 0} (answered : List (Fate T) → Type 0) (means : (Splice T → plain.Step) → Type 0) (given steps : List Step) (walk : Walk T) (index : ℕ) : Type 0 where
+-- the fates of the items before the index, for which this was said, and the steps after those that were given, whichever
+-- fates follow
+pub record SoFar {X T : Type 0} (answered : List X → List (Fate T) → Type 0) (items : List X) (means : (Splice T → plain.Step) → Type 0) (given steps : List Step) (walk : Walk T) (index : ℕ) : Type 0 where
   pub fates : List (Fate T)
-  pub said : answered fates
+  pub said : answered (take index items) fates
   pub so_far : (step_with : Splice T → plain.Step) → means step_with → (rest : List (Fate T)) → map step_of given ++ map step_with (splices_from 0 (fates ++ rest)) ≡ steps_then step_with (map step_of steps) walk rest
   pub ends : IfSome walk.last (λ run. run.index + length run.put.items ≡ walk.at)
   pub taken : IfSome walk.last (λ run. run.take ≤ index)
@@ -71,16 +72,29 @@ pub record SoFar {T : Type 0} (answered : List (Fate T) → Type 0) (means : (Sp
   pub counted : walk.changed ≡ length (filter changes fates)
   pub few : walk.changed ≤ index
 
+-- before the first item
+pub nothing_yet : {X T : Type 0} {answered : List X → List (Fate T) → Type 0} {items : List X} {means : (Splice T → plain.Step) → Type 0} {given : List Step} → answered [] [] → SoFar answered items means given given (record { last = None; at = 0; changed = 0 }) 0
+nothing_yet said = record {
+  fates = [];
+  said = said;
+  so_far = λ step_with means_so rest. refl;
+  ends = tt;
+  taken = tt;
+  short = omega arith;
+  counted = refl;
+  few = omega arith;
+}
+
 counted_more : {A : Type 0} (fates : List (Fate A)) (fate : Fate A) → length (filter changes (fates ++ fate ∷ [])) ≡ length (filter changes fates) + cond (changes fate) 1 0
 counted_more fates fate =
     ap length (filter-append changes fates (fate ∷ [])) ∙ length-append (filter changes fates) (filter changes (fate ∷ []))
     ∙ elim (cases_Bool (changes fate)) [ inl so ↦ rw so refl | inr not_so ↦ rw not_so refl ]
 
-pub goes_on : {T : Type 0} {answered answered_then : List (Fate T) → Type 0} {means : (Splice T → plain.Step) → Type 0} {given steps : List Step} {walk : Walk T} {index : ℕ} (kept : SoFar answered means given steps walk index) (fate : Fate T) (steps_next : List Step) (next : Walk T)
-    → answered_then (kept.fates ++ fate ∷ [])
+pub goes_on : {X T : Type 0} {answered answered_then : List X → List (Fate T) → Type 0} {items : List X} {means : (Splice T → plain.Step) → Type 0} {given steps : List Step} {walk : Walk T} {index : ℕ} (kept : SoFar answered items means given steps walk index) (fate : Fate T) (steps_next : List Step) (next : Walk T)
+    → answered_then (take (index + 1) items) (kept.fates ++ fate ∷ [])
     → ((step_with : Splice T → plain.Step) → means step_with → (rest : List (Fate T)) → steps_then step_with (map step_of steps) walk (fate ∷ rest) ≡ steps_then step_with (map step_of steps_next) next rest)
     → IfSome next.last (λ run. run.index + length run.put.items ≡ next.at) → IfSome next.last (λ run. run.take ≤ index + 1) → next.at ≤ walk.at + 1 → next.changed ≡ walk.changed + cond (changes fate) 1 0
-    → SoFar answered_then means given steps_next next (index + 1)
+    → SoFar answered_then items means given steps_next next (index + 1)
 goes_on {given = given} kept fate steps_next next said passes ends taken further counted =
     let short = kept.short in
     let few = kept.few in
@@ -114,8 +128,12 @@ pub alone_last : {T : Type 0} (last : Option (Run T)) → map splice_of (cons_op
 alone_last None = refl
 alone_last (Some run) = refl
 
+-- what was said, once it is of all items
+pub all_said : {X T : Type 0} {answered : List X → List (Fate T) → Type 0} {items : List X} {means : (Splice T → plain.Step) → Type 0} {given steps : List Step} {walk : Walk T} {index : ℕ} (kept : SoFar answered items means given steps walk index) → length items ≤ index → answered items kept.fates
+all_said {answered = answered} {items = items} {index = index} kept all = subst (λ first. answered first kept.fates) (take_all index items all) kept.said
+
 -- all steps, once the last run is one
-pub all_steps : {T : Type 0} {answered : List (Fate T) → Type 0} {means : (Splice T → plain.Step) → Type 0} {given steps : List Step} {walk : Walk T} {index : ℕ} (kept : SoFar answered means given steps walk index) (steps_next : List Step) (step_with : Splice T → plain.Step) → means step_with → map step_of steps_next ≡ steps_then step_with (map step_of steps) walk [] → map step_of steps_next ≡ map step_of given ++ map step_with (splices_from 0 kept.fates)
+pub all_steps : {X T : Type 0} {answered : List X → List (Fate T) → Type 0} {items : List X} {means : (Splice T → plain.Step) → Type 0} {given steps : List Step} {walk : Walk T} {index : ℕ} (kept : SoFar answered items means given steps walk index) (steps_next : List Step) (step_with : Splice T → plain.Step) → means step_with → map step_of steps_next ≡ steps_then step_with (map step_of steps) walk [] → map step_of steps_next ≡ map step_of given ++ map step_with (splices_from 0 kept.fates)
 all_steps {given = given} kept steps_next step_with means_so ended =
     ended
     ∙ sym (kept.so_far step_with means_so [])

@@ -1,7 +1,9 @@
 -- What becomes of the items of a list, and the splices that carry it out: neighbours that change are one.
 use Rattle.std.specs.Prelude.{◌≡◌, ℕ, ◌+◌, ◌==◌, Bool, List, [], ◌∷◌, ◌++◌, Option, Some, None, length, filter, map, option_map, if◌then◌else◌}
 use Rattle.mvt_change.specs.Changes as plain
+use Rattle.mvt_change.specs.ChangeStands.{step_of}
 use Rattle.mvt_change.specs.Changes.{Place, OfTheTile, OfTheLayer, OfTheFeature, Step, TileStep, LayerStep, FeatureStep}
+use Rattle.mvt_change.specs.declared.change.Step as code
 use Rattle.mvt_edit_steps.specs.declared.fates.Run.{Run}
 use Rattle.mvt_edit_steps.specs.declared.fates.Walk.{Walk}
 use Rattle.mvt_renumber.specs.Fates.{changes}
@@ -67,3 +69,7 @@ pub record IsCarriedOut {A : Type 0} (step_with : Splice A → plain.Step) (fate
 -- each answer of the code means what `said` gives for the item
 abbrev pub Means : {A B C : Type 0} → (A → B → Type 0) → (B → C) → (A → C) → Type 0
 Means {A} {B} answers meant said = (item : A) (answer : B) → answers item answer → meant answer ≡ said item
+
+-- each step that the code makes of a run is the one that `step_with` gives for its splice
+abbrev pub MakesSteps : {T : Type 0} → (Run T → code.Step → Type 0) → (Splice T → plain.Step) → Type 0
+MakesSteps makes step_with = Means makes step_of (λ run. step_with (splice_of run))

@@ -14,7 +14,7 @@ ghost use Rattle.mvt_change.specs.Changes as plain;
 ghost use Rattle.mvt_change.specs.ChangeStands.{step_of};
 ghost use Rattle.mvt_edit_steps.specs.Decided.{IsSizeBeside, field_fates};
 ghost use Rattle.mvt_edit_steps.specs.Once.{at_end, once_fate, once_splices};
-ghost use Rattle.mvt_edit_steps.specs.Fates.{IsCarriedOut, Splice, Means, and_last, goes_if, seen, splice_of, splices_from, splices_of, steps_then};
+ghost use Rattle.mvt_edit_steps.specs.Fates.{IsCarriedOut, MakesSteps, Splice, and_last, goes_if, seen, splice_of, splices_from, splices_of, steps_then};
 
 use mvt_change::Step;
 use mvt_document::{Field, LayerItem, MAX_FILE, Measured, Put, TileItem, sum_within};
@@ -96,7 +96,7 @@ pub fn carry_out<
 ) -> Result<usize, AllocError>
     requires fates { F.IsAlwaysCallable fate_of }
     requires steps { S.IsAlwaysCallable step }
-    ensures { (step_with : Splice T → plain.Step) → Means (λ run made. FnReturns S.Fn step (run, tt) (Ok made)) step_of (λ run. step_with (splice_of run)) →
+    ensures { (step_with : Splice T → plain.Step) → MakesSteps (λ run made. FnReturns S.Fn step (run, tt) (Ok made)) step_with →
         IfOk result (λ changed. (fates : List (Fate T)) × AllZip (λ item fate. FnReturnsAt F.Fn fate_of item (Ok fate)) items.now fates × IsCarriedOut step_with fates (map step_of steps.old.items) (map step_of steps.new.items) changed) }
 {
     let mut walk = Walk::first();
@@ -116,7 +116,7 @@ pub fn take_out<T: Drop, S: Fn(Run<T>) -> Result<Step, AllocError>>(
     steps: &mut Vec<Step>,
 ) -> Result<usize, AllocError>
     requires { S.IsAlwaysCallable step }
-    ensures { (step_with : Splice T → plain.Step) → Means (λ run made. FnReturns S.Fn step (run, tt) (Ok made)) step_of (λ run. step_with (splice_of run)) →
+    ensures { (step_with : Splice T → plain.Step) → MakesSteps (λ run made. FnReturns S.Fn step (run, tt) (Ok made)) step_with →
         IfOk result (λ changed. IsCarriedOut step_with (map (λ is. goes_if is) picked.now) (map step_of steps.old.items) (map step_of steps.new.items) changed) }
 {
     let mut walk = Walk::first();
@@ -140,7 +140,7 @@ pub fn renumber_fields<S: Fn(Run<Field>) -> Result<Step, AllocError>>(
     beside: Option<usize>,
 ) -> Result<Option<usize>, AllocError>
     requires { S.IsAlwaysCallable step }
-    ensures steps { (step_with : Splice document.Field → plain.Step) → Means (λ run made. FnReturns S.Fn step (run, tt) (Ok made)) step_of (λ run. step_with (seen field_of (splice_of run))) →
+    ensures steps { (step_with : Splice document.Field → plain.Step) → MakesSteps (λ run made. FnReturns S.Fn step (run, tt) (Ok made)) (λ s. step_with (seen field_of s)) →
         IfOk result (λ size. map step_of steps.new.items ≡ map step_of steps.old.items ++ map step_with (splices_of (field_fates number decisions.now (map field_of fields.now)))) }
     ensures size { IfOk result (IsSizeBeside beside (length (flat_map field_bytes (renumber number decisions.now (map field_of fields.now))))) }
 {
@@ -185,7 +185,7 @@ pub fn put_once<T: Drop, P: Fn(&T) -> bool, S: Fn(Run<T>) -> Result<Step, AllocE
 ) -> Result<(), AllocError>
     requires passes { P.IsAlwaysCallable passes }
     requires steps { S.IsAlwaysCallable step }
-    ensures { (step_with : Splice T → plain.Step) → Means (λ run made. FnReturns S.Fn step (run, tt) (Ok made)) step_of (λ run. step_with (splice_of run)) →
+    ensures { (step_with : Splice T → plain.Step) → MakesSteps (λ run made. FnReturns S.Fn step (run, tt) (Ok made)) step_with →
         IfOk result (λ done. (picked : List Bool) × AllZip (λ item is. FnReturnsAt P.Fn passes item is) items.now picked × (map step_of steps.new.items ≡ map step_of steps.old.items ++ map step_with (once_splices picked new end))) }
 {
     let mut walk = Walk::first();
@@ -269,7 +269,7 @@ impl<T: Drop> Walk<T> {
         requires ends { IfSome self.last (λ run. (run.index + length run.put.items ≡ self.at) × (run.take + 1 < 2 ^ 64)) }
         requires short { self.at + 1 < 2 ^ 64 }
         requires few { self.changed + 1 < 2 ^ 64 }
-        ensures steps { (step_with : Splice T → plain.Step) → Means (λ run made. FnReturns S.Fn step.now (run, tt) (Ok made)) step_of (λ run. step_with (splice_of run)) →
+        ensures steps { (step_with : Splice T → plain.Step) → MakesSteps (λ run made. FnReturns S.Fn step.now (run, tt) (Ok made)) step_with →
             IfOk result (λ walk. (rest : List (Fate T)) → steps_then step_with (map step_of steps.old.items) self (fate ∷ rest) ≡ steps_then step_with (map step_of steps.new.items) walk rest) }
         ensures ends { IfOk result (λ walk. IfSome walk.last (λ run. run.index + length run.put.items ≡ walk.at)) }
         ensures take { IfOk result (λ walk. (most : ℕ) → IfSome self.last (λ run. run.take ≤ most) → IfSome walk.last (λ run. run.take ≤ most + 1)) }
@@ -295,7 +295,7 @@ impl<T: Drop> Walk<T> {
         steps: &mut Vec<Step>,
     ) -> Result<usize, AllocError>
         requires { S.IsAlwaysCallable step.now }
-        ensures { (step_with : Splice T → plain.Step) → Means (λ run made. FnReturns S.Fn step.now (run, tt) (Ok made)) step_of (λ run. step_with (splice_of run)) →
+        ensures { (step_with : Splice T → plain.Step) → MakesSteps (λ run made. FnReturns S.Fn step.now (run, tt) (Ok made)) step_with →
             IfOk result (λ changed. (map step_of steps.new.items ≡ steps_then step_with (map step_of steps.old.items) self []) × (changed ≡ self.changed)) }
     {
         let Walk { last, changed, .. } = self;
@@ -381,7 +381,7 @@ fn put_step<T: Drop, S: Fn(Run<T>) -> Result<Step, AllocError>>(
     steps: &mut Vec<Step>,
 ) -> Result<(), AllocError>
     requires { S.IsAlwaysCallable step.now }
-    ensures { (step_with : Splice T → plain.Step) → Means (λ run made. FnReturns S.Fn step.now (run, tt) (Ok made)) step_of (λ run. step_with (splice_of run)) →
+    ensures { (step_with : Splice T → plain.Step) → MakesSteps (λ run made. FnReturns S.Fn step.now (run, tt) (Ok made)) step_with →
         IfOk result (λ done. map step_of steps.new.items ≡ map step_of steps.old.items ++ map step_with (map splice_of (cons_option run []))) }
 {
     if let Some(run) = run {

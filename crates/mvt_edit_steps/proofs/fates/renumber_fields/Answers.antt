@@ -1,4 +1,4 @@
-use Rattle.std.proofs.Common.{◌≤◌, [], ◌++◌, length, map, refl, sym, subst, ap, arith, ◌∙◌}
+use Rattle.std.proofs.Common.{◌≤◌, ◌++◌, length, map, refl, sym, subst, ap, arith, ◌∙◌}
 use Rattle.std.proofs.lemmas.List.{take_all}
 use Rattle.std.proofs.lemmas.Simd.{map-map}
 use Rattle.mvt_document.specs.Stands.{field_of}
@@ -6,25 +6,13 @@ use Rattle.mvt_document.specs.declared.field.FieldParts.{FieldParts as Field}
 use Rattle.mvt_change.specs.ChangeStands.{step_of}
 use Rattle.mvt_renumber.proofs.FieldFate.{field_fate-seen}
 use Rattle.mvt_edit_steps.specs.Fates.{Splice, seen, splices_of}
-use Rattle.mvt_edit_steps.proofs.Decided.{Decided, Sized, all_decided, all_sized, decided_more, sized_more, sized_none}
-use Rattle.mvt_edit_steps.proofs.Following.{all_steps, goes_on}
+use Rattle.mvt_edit_steps.proofs.Decided.{Sized, all_decided, all_sized, decided_more, sized_more, sized_none}
+use Rattle.mvt_edit_steps.proofs.Following.{all_said, all_steps, goes_on, nothing_yet}
 use Rattle.mvt_edit_steps.proofs.Planned.{splices_seen}
 use Rattle.mvt_edit_steps.proofs.fates.renumber_fields.Goals as goal
 
 pub loop-index-init : goal.loop-index-init
-loop-index-init g c = rw c.first-walk.ensures (record {
-  steps = record {
-    fates = [];
-    said = λ more. refl;
-    so_far = λ step_with means rest. refl;
-    ends = tt;
-    taken = tt;
-    short = omega arith;
-    counted = refl;
-    few = omega arith;
-  };
-  size = sized_none c.args.number c.args.decisions.now c.args.beside;
-})
+loop-index-init g c = rw c.first-walk.ensures (record { steps = nothing_yet (λ more. refl); size = sized_none c.args.number c.args.decisions.now c.args.beside })
 
 pub loop-index-preserved : goal.loop-index-preserved
 loop-index-preserved g c =
@@ -44,8 +32,7 @@ pub returns-clause-steps : goal.returns-clause-steps
 returns-clause-steps g c = λ step_with means.
     let kept = c.loop-index.invariant.steps in
     let all : length c.args.fields.now ≤ c.loop-index.index = let done = c.loop-index-test.false in omega arith in
-    let decided = subst (λ fields. Decided c.args.number c.args.decisions.now c.loop-index.left.now fields kept.fates) (take_all c.loop-index.index c.args.fields.now all) kept.said in
-    let fates = all_decided c.args.number c.args.decisions.now c.loop-index.left.now c.args.fields.now kept.fates decided in
+    let fates = all_decided c.args.number c.args.decisions.now c.loop-index.left.now c.args.fields.now kept.fates (all_said kept all) in
     let steps_with = λ (s : Splice Field). step_with (seen field_of s) in
     all_steps kept c.end.new.steps.items steps_with means (c.in_ok-end.ensures steps_with means).0
     ∙ ap (λ more. map step_of c.args.steps.now.items ++ more) (sym (map-map step_with (seen field_of) (splices_of kept.fates)) ∙ ap (map step_with) (splices_seen field_of 0 kept.fates ∙ ap splices_of fates))

@@ -1,24 +1,14 @@
-use Rattle.std.proofs.Common.{◌≤◌, ◌++◌, [], filter, length, map, refl, ap, arith, ◌∙◌}
+use Rattle.std.proofs.Common.{◌≤◌, ◌++◌, filter, length, map, refl, ap, arith, ◌∙◌}
 use Rattle.std.proofs.lemmas.Result.{IfOk-weaker}
-use Rattle.std.proofs.lemmas.List.{take_all}
 use Rattle.mvt_change.specs.ChangeStands.{step_of}
 use Rattle.mvt_renumber.specs.Fates.{changes}
-use Rattle.mvt_edit_steps.specs.Fates.{goes_if, splices_of}
-use Rattle.mvt_edit_steps.proofs.Following.{all_steps, goes_on}
+use Rattle.mvt_edit_steps.specs.Fates.{splices_of}
+use Rattle.mvt_edit_steps.proofs.Following.{all_said, all_steps, goes_on, nothing_yet}
 use Rattle.mvt_edit_steps.proofs.Marked.{marked_more}
 use Rattle.mvt_edit_steps.proofs.fates.take_out.Goals as goal
 
 pub loop-index-init : goal.loop-index-init
-loop-index-init g c = rw c.first-walk.ensures (record {
-  fates = [];
-  said = refl;
-  so_far = λ step_with means rest. refl;
-  ends = tt;
-  taken = tt;
-  short = omega arith;
-  counted = refl;
-  few = omega arith;
-})
+loop-index-init g c = rw c.first-walk.ensures (nothing_yet refl)
 
 pub loop-index-preserved : goal.loop-index-preserved
 loop-index-preserved g c =
@@ -32,7 +22,7 @@ returns g c = λ step_with means.
     let kept = c.loop-index.invariant in
     let given = map step_of c.args.steps.now.items in
     let all : length c.args.picked.now ≤ c.loop-index.index = let done = c.loop-index-test.false in omega arith in
-    let fates = kept.said ∙ ap (λ picked. map (λ is. goes_if is) picked) (take_all c.loop-index.index c.args.picked.now all) in
+    let fates = all_said kept all in
     IfOk-weaker c.end.result _ _ (λ changed ended. record {
       following = all_steps kept c.end.new.steps.items step_with means ended.0 ∙ ap (λ all. given ++ map step_with (splices_of all)) fates;
       counted = ended.1 ∙ kept.counted ∙ ap (λ all. length (filter changes all)) fates;
