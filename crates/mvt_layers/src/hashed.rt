@@ -18,7 +18,7 @@ use std::marker::Model;
 
 /// The features of a layer, in order, to be looked up by their ids: those of the run by the hashes of the ids,
 /// without a look at the features themselves. Contracts see those that are left.
-#[derive(Clone, Debug, Drop)]
+#[derive(Drop)]
 pub(crate) struct HashedFeatures<'a> {
     items: &'a [LayerItem],
     features: Run,
