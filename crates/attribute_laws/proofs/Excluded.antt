@@ -6,6 +6,7 @@ use Rattle.std.specs.Option.{option_map_or}
 use Rattle.std.specs.Str.{bytes_eq}
 use Rattle.mvt_document.specs.Plain.{Number, Field, Feature, LayerItem, Layer, Document}
 use Rattle.mvt_document.specs.Places.{in_feature}
+use Rattle.mvt_document.proofs.Options.{some_is}
 use Rattle.mvt_command.specs.Command.{FeatureChoice}
 use Rattle.mvt_numbers.specs.Numbers.{numbers}
 use Rattle.mvt_renumber.specs.Renumbering.{renumber, renumbered, with_number}
@@ -95,14 +96,10 @@ attributes_by_fields one other feature same =
 
 -- ---- a feature
 
-pub some_of : {A : Type 0} (found : Option A) → is_some found ≡ true → (x : A) × (found ≡ Some x)
-some_of None e = absurd cc
-some_of (Some x) e = (x, refl)
-
 loses : (key : List ℕ) (layer present : Layer) (feature : Feature) → plain_fields present.items ≡ plain_fields layer.items → is_some (pairs_of layer feature) ≡ true → LosesAttribute key layer present feature (with_fields (without_attribute key layer.items) feature)
 loses key layer present feature same readable =
     let goes = is_key_at layer.items key in
-    let pairs = some_of (pairs_of layer feature) readable in
+    let pairs = some_is (pairs_of layer feature) readable in
     let left : pairs_of layer (with_fields (without_attribute key layer.items) feature) ≡ Some (staying goes pairs.0) =
     ap (λ (found : Option (List (ℕ × ℕ))). pairs_in (length (keys layer)) (length (values layer)) (numbers 2 (renumber 2 (option_map_or (without_pairs goes) found []) feature.fields))) pairs.1
     ∙ pairs_staying (length (keys layer)) (length (values layer)) goes feature.fields pairs.0 pairs.1 in

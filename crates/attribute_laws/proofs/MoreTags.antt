@@ -9,6 +9,7 @@ use Rattle.mvt_document.specs.Groups.{IsNumber}
 use Rattle.mvt_document.specs.Plain.{Number, Body, Spelled, Eight, Four, Delimited, Group, Field}
 use Rattle.mvt_document.specs.Wire.{spelling}
 use Rattle.mvt_document.proofs.EachItem.{all_joined}
+use Rattle.mvt_document.proofs.Lists.{none_filtered}
 use Rattle.mvt_renumber.specs.Deciding.{packed_numbers}
 use Rattle.mvt_renumber.specs.Laws.{read_numbers}
 use Rattle.mvt_renumber.proofs.Decisions.{packed-spellings}
@@ -31,10 +32,6 @@ last_any passes before (x ∷ xs) e =
       | inr skip ↦ rw skip (last_any passes before xs (later_any passes x xs e skip))
     ]
 
-none_any : (passes : Field → Bool) (xs : List Field) → list_any passes xs ≡ false → filter passes xs ≡ []
-none_any passes [] e = refl
-none_any passes (x ∷ xs) e = let parts = or_parts (passes x) (list_any passes xs) e in rw parts.0 (none_any passes xs parts.1)
-
 -- the last tags field is a LEN field
 abbrev is_len : Option Field → Bool
 is_len last = option_map_or (λ (field : Field). is_some (content_in 2 field)) last false
@@ -49,8 +46,8 @@ packed_later x xs later e =
 packed_here : (x : Field) (xs : List Field) → list_any is_tags xs ≡ false → is_packed_last (x ∷ xs) ≡ true → (is_tags x ≡ true) × (is_some (content_in 2 x) ≡ true)
 packed_here x xs none e =
     elim (cases_Bool (is_tags x)) [
-      | inl tags ↦ (tags, rw (tags, none_any is_tags xs none) at e)
-      | inr other ↦ absurd (let nothing = rw (other, none_any is_tags xs none) at e in cc)
+      | inl tags ↦ (tags, rw (tags, none_filtered is_tags xs none) at e)
+      | inr other ↦ absurd (let nothing = rw (other, none_filtered is_tags xs none) at e in cc)
     ]
 
 -- ---- what is read

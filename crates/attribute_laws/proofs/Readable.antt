@@ -3,6 +3,7 @@ use Rattle.std.proofs.Common.{◌≡◌, ℕ, zero, suc, ◌+◌, ◌==◌, Bool
 use Rattle.std.proofs.lemmas.Bool.{cases_Bool, eq-eqb}
 use Rattle.std.specs.List.{AllByRecursion, cons_option, enumerate_from, filter_map, flat_map}
 use Rattle.mvt_document.specs.Plain.{Feature, Layer, Document}
+use Rattle.mvt_document.proofs.EachItem.{one_of_all}
 use Rattle.mvt_command.specs.Command.{LayersChoice, TheLayer, EachLayer}
 use Rattle.mvt_messages.specs.Attributes.{pairs_of}
 use Rattle.mvt_messages.specs.Found.{found_layers, placed_from, with_position}
@@ -10,7 +11,6 @@ use Rattle.mvt_messages.specs.Views.{features, layer_in, layers, ordinals_of}
 use Rattle.mvt_meaning.specs.Selection.{selected_layers}
 use Rattle.mvt_meaning.specs.Tagging.{unreadable}
 use Rattle.mvt_meaning.specs.Meaning.{refuse_first}
-use Rattle.command_laws.proofs.Elements.{got_holds}
 use Rattle.attribute_laws.specs.ChangedLayers.{IsSelected}
 
 -- ---- lists that nothing is made of
@@ -95,11 +95,11 @@ none_of_layer : (choice : LayersChoice) (document : Document) (found : List (ℕ
 none_of_layer (TheLayer choice) document found ordinal position layer selected_so none selects there =
     let filtered : filter (λ (at : ℕ × (ℕ × Layer)). at.0 == ordinal) (found_layers document) ≡ found = let same = rw selects at selected_so in cc in
     let each = none_made_of unreadable_of (λ (at : ℕ × (ℕ × Layer)). at.0 == ordinal) (found_layers document) (ap unreadable filtered ∙ none) in
-    got_holds (λ (at : ℕ × (ℕ × Layer)). (at.0 == ordinal) ≡ true → unreadable_of at ≡ []) (found_layers document) ordinal (ordinal, (position, layer)) there each (eq-eqb ordinal ordinal refl)
+    one_of_all (λ (at : ℕ × (ℕ × Layer)). (at.0 == ordinal) ≡ true → unreadable_of at ≡ []) (found_layers document) ordinal (ordinal, (position, layer)) there each (eq-eqb ordinal ordinal refl)
 none_of_layer EachLayer document found ordinal position layer selected_so none selects there =
     let all : found_layers document ≡ found = cc in
     let each = none_made unreadable_of (found_layers document) (ap unreadable all ∙ none) in
-    got_holds (λ (at : ℕ × (ℕ × Layer)). unreadable_of at ≡ []) (found_layers document) ordinal (ordinal, (position, layer)) there each
+    one_of_all (λ (at : ℕ × (ℕ × Layer)). unreadable_of at ≡ []) (found_layers document) ordinal (ordinal, (position, layer)) there each
 
 -- each feature of a selected layer makes pairs
 pub selected_read : (choice : LayersChoice) (document : Document) (found : List (ℕ × (ℕ × Layer))) (nothing : Unit {0}) → selected_layers choice document ≡ Ok found → refuse_first (unreadable found) ≡ Ok nothing → (ordinal : ℕ) (layer : Layer) → IsSelected choice ordinal document → slice_get (layers document) ordinal ≡ Some layer → (index : ℕ) (feature : Feature) → slice_get (features layer) index ≡ Some feature → is_some (pairs_of layer feature) ≡ true

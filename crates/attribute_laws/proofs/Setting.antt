@@ -17,6 +17,7 @@ use Rattle.mvt_document.specs.Plain.{Number, Field, Feature, LayerItem, PlainInL
 use Rattle.mvt_document.specs.Wire.{bytes_of, layer_item_bytes, minimal, shortest, spelling, tile_item_bytes}
 use Rattle.mvt_document.proofs.Sizes.{length-message}
 use Rattle.mvt_document.proofs.Spelling.{minimal_spelling}
+use Rattle.mvt_document.proofs.Options.{some_is}
 use Rattle.mvt_value.specs.Messages.{encoded_value}
 use Rattle.mvt_command.specs.Command.{FeatureChoice}
 use Rattle.mvt_renumber.specs.Laws.{AreShort}
@@ -45,10 +46,11 @@ use Rattle.command_laws.proofs.OtherFields.{others_stay}
 use Rattle.command_laws.proofs.Parts.{changes_feature, changes_layer, fields_found, items_there, layer_differs, with_fields, with_items}
 use Rattle.command_laws.proofs.ReadValues.{value_list}
 use Rattle.attribute_laws.specs.Laws.{GetsAttribute, SetSets, SetsAttribute, is_entry, is_of, valued, with_entry, with_value}
-use Rattle.attribute_laws.proofs.Excluded.{read_there, some_of}
+use Rattle.attribute_laws.proofs.Excluded.{read_there}
 use Rattle.attribute_laws.proofs.Grown.{all_stay, attribute_stays, attributes_stay, key_stays, keys_grow, pairs_grow, values_grow}
 use Rattle.attribute_laws.proofs.MoreTags.{more_apart, more_is_read}
 use Rattle.attribute_laws.proofs.PairsRead.{pairs_again, pairs_read}
+use Rattle.attribute_laws.proofs.ChangedLayers.{some_same}
 
 -- ---- the entry of some bytes
 
@@ -418,7 +420,7 @@ module _ (key value : List ℕ) (index : ℕ) (layer : Layer) (within : weigh la
       let way : Feature → Feature → Type 0 = GetsAttribute key value layer set_layer in
       let c = changes_feature choice way change layer index selects (λ former was.
       let read = readable former was in
-      let pairs = some_of (pairs_of layer former) read.0 in
+      let pairs = some_is (pairs_of layer former) read.0 in
       gets former pairs.0 pairs.1 read.1) in
       record {
         ordinal = c.ordinal;
@@ -459,16 +461,13 @@ once_there key document ordinal index layer feature there is once =
     ∙ ap (λ (list : List Field). nat_lt 1 (pairs_with key layer.items list)) (fields_found document ordinal index layer feature there is))
     ∙ once
 
-layer_same : (one other : Layer) (found : Option Layer) → found ≡ Some one → found ≡ Some other → one ≡ other
-layer_same one other found is is_too = let both = sym is ∙ is_too in cc
-
 -- the layer that is set is within the limit, where the tile is
 set_within : (key value : List ℕ) (index ordinal : ℕ) (old : Document) (layer : Layer) → ordinal < length (layers old) → slice_get (layers old) ordinal ≡ Some layer → length (bytes_of (change_layer (attributed key value index) ordinal old)) ≤ MAX_FILE → weigh layer_item_bytes (attributed key value index layer.items) ≤ MAX_FILE
 set_within key value index ordinal old layer inside there short =
     let change = attributed key value index in
     let a = around layer_in old ordinal inside in
     let d = layer_differs change ordinal old a in
-    let same = layer_same a.value layer (slice_get (layers old) ordinal) d.was there in
+    let same = some_same a.value layer (slice_get (layers old) ordinal) d.was there in
     let is : slice_get (layers (change_layer change ordinal old)) ordinal ≡ Some (with_items change layer) = d.is ∙ ap (λ (l : Layer). Some (with_items change l)) same in
     omega (arith, short, layer_weighs (change_layer change ordinal old) ordinal (with_items change layer) is)
 

@@ -8,6 +8,7 @@ use Rattle.std.specs.Str.{bytes_eq}
 use Rattle.mvt_document.specs.Plain.{Number, Field, Feature, LayerItem, OfFeature, PlainInLayer, Layer, TileItem, OfLayer, PlainInTile, Document}
 use Rattle.mvt_document.specs.Lists.{change_at}
 use Rattle.mvt_document.specs.Places.{in_feature, in_layer}
+use Rattle.mvt_document.proofs.Options.{some_is}
 use Rattle.mvt_command.specs.Command.{LayerChoice, LayersChoice, TheLayer, EachLayer, Exclude}
 use Rattle.mvt_renumber.specs.Laws.{keeping}
 use Rattle.mvt_numbers.specs.Numbers.{Placed, numbers}
@@ -29,7 +30,7 @@ use Rattle.mvt_select.proofs.Chosen.{the_one_selected}
 use Rattle.attribute_laws.specs.Laws.{ExcludeAgainChangesNothing}
 use Rattle.attribute_laws.specs.ChangedLayers.{IsSelected}
 use Rattle.attribute_laws.proofs.EachFeature.{fields_stay}
-use Rattle.attribute_laws.proofs.Excluded.{pairs_staying, some_of, staying}
+use Rattle.attribute_laws.proofs.Excluded.{pairs_staying, staying}
 use Rattle.attribute_laws.proofs.ChangedLayers.{layers_change, some_same}
 use Rattle.attribute_laws.proofs.Readable.{selected_read}
 use Rattle.attribute_laws.proofs.SameSelected.{same_layer}
@@ -66,7 +67,7 @@ done key items fields readable =
     let key_count = length (contents key_field (plain_fields items)) in
     let value_count = length (contents value_field (plain_fields items)) in
     let goes = is_key_at items key in
-    let found = some_of (pairs_among items fields) readable in
+    let found = some_is (pairs_among items fields) readable in
     let pairs = found.0 in
     let first : without_attribute key items fields ≡ renumber 2 (without_pairs goes pairs) fields = ap (λ found. renumber 2 (option_map_or (without_pairs goes) found []) fields) found.1 in
     let left = pairs_staying key_count value_count goes fields pairs found.1 in

@@ -41,16 +41,6 @@ within_is document made e =
       | inr within ↦ (let same = rw within at e in cc)
     ]
 
-one_first : {E : Type 0} (none several : E) (ordinals : List ℕ) (ordinal : ℕ) → the_one none several ordinals ≡ Ok ordinal → slice_get ordinals 0 ≡ Some ordinal
-one_first none several [] ordinal e = absurd cc
-one_first none several (x ∷ []) ordinal e = let same : x ≡ ordinal = cc in ap (λ y. Some y) same
-one_first none several (x ∷ y ∷ more) ordinal e = absurd cc
-
--- a feature that is selected is one of the layer
-pub feature_within : (choice : FeatureChoice) (layer : Layer) (ordinal : ℕ) → selected_feature choice layer ≡ Ok ordinal → ordinal < length (features layer)
-feature_within (FeatureAtOrdinal n) layer ordinal e = grind (arith, nat_tests)
-feature_within (WithId id) layer ordinal e = let bounds = positions_within (has_id id) 0 (features layer) 0 ordinal (one_first _ _ (ordinals_of (has_id id) (features layer)) ordinal e) in omega arith
-
 -- which layer a feature is selected in
 pub feature_selects : (choice : FeatureChoice) (document : Document) (layer : Layer) (ordinal feature : ℕ) → slice_get (layers document) ordinal ≡ Some layer → selected_in choice ordinal document ≡ Ok feature → selected_feature choice layer ≡ Ok feature
 feature_selects choice document layer ordinal feature there e = rw there at e

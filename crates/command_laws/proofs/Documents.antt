@@ -28,14 +28,14 @@ use Rattle.mvt_meaning.specs.Meaning.{applied, refuse_if, can_shift, fields_of, 
 use Rattle.mvt_meaning.specs.declared.refusal.Refusal.TheVariants.{BadGeometry, BadPlace, BadTags, KeyTaken, NameTaken, NoKey, NoLayer, OutOfRange, RepeatedKey, TooLarge}
 use Rattle.mvt_renumber.specs.Renumbering.{renumber}
 use Rattle.mvt_document.proofs.EachItem.{all_joined}
-use Rattle.mvt_renumber.proofs.Redone.{stays_valid}
+use Rattle.mvt_renumber.proofs.Redone.{stays_valid, with_number-valid}
 use Rattle.mvt_meaning.proofs.Elements.{all_filtered}
 use Rattle.mvt_meaning.proofs.Compaction.{new_ordinals_short}
 use Rattle.mvt_meaning.proofs.Found.{fields_of_nth, items_of_nth}
 use Rattle.mvt_meaning.proofs.Moving.{moves_short}
 use Rattle.mvt_meaning.proofs.Removals.{removals_short}
 use Rattle.mvt_meaning.proofs.Replacements.{replacements_short}
-use Rattle.mvt_meaning.proofs.NewFields.{content_field, new_feature_valid, new_geometry, new_kind, number_field}
+use Rattle.mvt_meaning.proofs.NewFields.{content_field, new_feature_valid, new_geometry, new_kind, number_field, missing_valid, new_key, new_value}
 use Rattle.command_laws.specs.DocumentLaws.{CommandMakesDocument}
 use Rattle.command_laws.proofs.Accepted.{not_refused, ok_so, then_given, then_so}
 use Rattle.command_laws.proofs.EntryOrdinals.{value_short}
@@ -59,12 +59,8 @@ new_name name = (content_field 10 name (omega arith) (record { numbered = omega 
 
 -- ---- a new id
 
-numbered_valid : (value : ℕ) → value < 2 ^ 64 → (old : Number) → IsNumber old → IsNumber (with_number value old)
-numbered_valid value fits old valid =
-    cond_both (old.value == value) old (minimal value) IsNumber (λ _. valid) (λ _. minimal_spelling value fits)
-
 value_valid : (value : ℕ) → value < 2 ^ 64 → (tag : Number) (body : Body) → IsField (record { tag = tag; body = body }) → IsField (record { tag = tag; body = with_value value body })
-value_valid value fits tag (Spelled number) valid = record { number = valid.number; tag = valid.tag; body = numbered_valid value fits number valid.body }
+value_valid value fits tag (Spelled number) valid = record { number = valid.number; tag = valid.tag; body = with_number-valid value number fits valid.body }
 value_valid value fits tag (Eight bytes) valid = valid
 value_valid value fits tag (Four bytes) valid = valid
 value_valid value fits tag (Delimited width bytes) valid = valid
@@ -198,16 +194,6 @@ set_valid key value items short fields all =
     cond_both (pairs_with key items fields == 0) (with_more_tags (new_pair key value items) fields) (renumber 2 (replacements key value items fields) fields) (AllByRecursion IsField)
     (λ _. more_tags_valid (new_pair key value items) fields all)
     (λ _. stays_valid 2 (replacements key value items fields) fields (replacements_short key value items fields short) all)
-
-missing_valid : (tag : ℕ) (bytes : List ℕ) (entries : List (List ℕ)) → IsLayerItem (PlainInLayer (new_content tag bytes)) → AllByRecursion IsLayerItem (missing_entry tag bytes entries)
-missing_valid tag bytes entries valid =
-    cond_both (list_any (bytes_eq bytes) entries) [] (PlainInLayer (new_content tag bytes) ∷ []) (AllByRecursion IsLayerItem) (λ _. tt) (λ _. (valid, tt))
-
-new_key : (key : List ℕ) → IsLayerItem (PlainInLayer (new_content 26 key))
-new_key key = (content_field 26 key (omega arith) (record { numbered = omega arith; short = omega arith; typed = refl }), λ same. omega (arith, same))
-
-new_value : (value : List ℕ) → IsLayerItem (PlainInLayer (new_content 34 value))
-new_value value = (content_field 34 value (omega arith) (record { numbered = omega arith; short = omega arith; typed = refl }), λ same. omega (arith, same))
 
 attributed_valid : (key value : List ℕ) (feature : ℕ) (items : List LayerItem) → AllByRecursion IsLayerItem items → length (flat_map layer_item_bytes (attributed key value feature items)) ≤ MAX_FILE → AllByRecursion IsLayerItem (attributed key value feature items)
 attributed_valid key value feature items all within =

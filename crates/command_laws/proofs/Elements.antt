@@ -3,7 +3,7 @@ use Rattle.std.proofs.Common.{◌≡◌, ℕ, zero, suc, ◌+◌, ◌-◌, ◌�
 use Rattle.std.specs.List.{AllByRecursion, flat_map, list_any}
 use Rattle.std.specs.Option.{option_map_or}
 use Rattle.std.proofs.lemmas.Bool.{cases_Bool, cond_both, ne_eqb}
-use Rattle.mvt_document.proofs.EachItem.{all_joined}
+use Rattle.mvt_document.proofs.EachItem.{all_joined, one_of_all}
 use Rattle.mvt_meaning.specs.Compaction.{staying}
 use Rattle.mvt_meaning.specs.Ordinals.{from_nth, change_first, change_nth, change_last, put_last, put_once, count, without, before, after, move_nth, insert_nth}
 use Rattle.mvt_meaning.proofs.Elements.{all_filtered}
@@ -15,11 +15,6 @@ module _ {A : Type 0} (P : A → Type 0) where
   pub all_mapped : (change : A → A) → ((x : A) → P x → P (change x)) → (xs : List A) → AllByRecursion P xs → AllByRecursion P (map change xs)
   all_mapped change keeps [] all = tt
   all_mapped change keeps (x ∷ xs) all = (keeps x all.0, all_mapped change keeps xs all.1)
-
-  pub got_holds : (xs : List A) (index : ℕ) (x : A) → slice_get xs index ≡ Some x → AllByRecursion P xs → P x
-  got_holds [] index x is all = absurd cc
-  got_holds (x ∷ xs) zero y is all = let same : x ≡ y = cc in subst P same all.0
-  got_holds (x ∷ xs) (suc index) y is all = got_holds xs index y is all.1
 
   all_from_nth : (passes : A → Bool) (change : List A → List A) → ((xs : List A) → AllByRecursion P xs → AllByRecursion P (change xs)) → (ordinal : ℕ) (xs : List A) → AllByRecursion P xs → AllByRecursion P (from_nth passes change ordinal xs)
   all_from_nth passes change keeps ordinal [] all = tt
@@ -76,7 +71,7 @@ module _ {A : Type 0} (P : A → Type 0) where
   moved_by passes from to xs (Some item) is all =
       let out = without passes from xs in
       let rest = all_without passes from xs all in
-      let valid = got_holds (filter passes xs) from item is (all_filtered P passes xs all) in
+      let valid = one_of_all P (filter passes xs) from item is (all_filtered P passes xs all) in
       cond_both (ltb from to) (after passes (to - 1) item out) (cond (ltb to from) (before passes to item out) xs) (AllByRecursion P)
       (λ _. all_after passes (to - 1) item out valid rest)
       (λ _. cond_both (ltb to from) (before passes to item out) xs (AllByRecursion P) (λ _. all_before passes to item out valid rest) (λ _. all))

@@ -13,9 +13,10 @@ use Rattle.mvt_geometry.specs.Checks.{is_in_range}
 use Rattle.mvt_meaning.specs.Meaning.{◌>>=◌, change_feature, change_layer, feature_count, identified, new_feature, new_number, refuse_if, with_field_value, within_limit, without_id}
 use Rattle.mvt_meaning.specs.declared.refusal.Refusal.TheVariants.{BadPlace, OutOfRange}
 use Rattle.mvt_meaning.proofs.Given.{value_given}
+use Rattle.mvt_meaning.proofs.Selecting.{selected_feature_within}
 use Rattle.command_laws.specs.Kept.{ChangesFeature}
 use Rattle.command_laws.specs.FeatureLaws.{ClearIdClears, ClearsId, DropFeatureDrops, DropsFeature, InsertFeatureInserts, InsertsFeature, MoveFeatureMoves, MovesFeature, SetIdSets, SetsId}
-use Rattle.command_laws.proofs.Accepted.{accepted, feature_selects, feature_within, not_refused, within_is}
+use Rattle.command_laws.proofs.Accepted.{accepted, feature_selects, not_refused, within_is}
 use Rattle.command_laws.proofs.Around.{around, one_less, one_more, one_moved, put_nth}
 use Rattle.command_laws.proofs.LastPut.{last_put, others_put, parts_put}
 use Rattle.command_laws.proofs.NewFeature.{drawn_feature, is_new}
@@ -48,7 +49,7 @@ insert_feature_inserts choice index geometry old new valid e =
 
 moves_feature : (choice : FeatureChoice) (ordinal index : ℕ) (layer : Layer) → selected_feature choice layer ≡ Ok ordinal → index < length (features layer) → MovesFeature choice index layer (with_items (move_nth is_feature ordinal index) layer)
 moves_feature choice ordinal index layer selects within =
-    let m = one_moved feature_in plain_in feature_apart ordinal index layer.items (feature_within choice layer ordinal selects) within in
+    let m = one_moved feature_in plain_in feature_apart ordinal index layer.items (selected_feature_within choice layer ordinal selects) within in
     record { ordinal = ordinal; selects = selects; there = m.there; others = m.others; fields = m.fields; items = m.items }
 
 pub move_feature_moves : MoveFeatureMoves
@@ -63,7 +64,7 @@ move_feature_moves choice feature index old new e =
 
 drops_feature : (choice : FeatureChoice) (ordinal : ℕ) (layer : Layer) → selected_feature choice layer ≡ Ok ordinal → DropsFeature choice layer (with_items (without is_feature ordinal) layer)
 drops_feature choice ordinal layer selects =
-    let d = one_less feature_in plain_in feature_apart ordinal layer.items (around feature_in layer.items ordinal (feature_within choice layer ordinal selects)) in
+    let d = one_less feature_in plain_in feature_apart ordinal layer.items (around feature_in layer.items ordinal (selected_feature_within choice layer ordinal selects)) in
     record { ordinal = ordinal; selects = selects; others = d.others; fields = d.fields; items = d.items }
 
 pub drop_feature_drops : DropFeatureDrops

@@ -1,5 +1,6 @@
 -- The last item with a part, where it was changed or a new one was added at the end.
 use Rattle.std.proofs.Common.{◌≡◌, suc, ◌-◌, ◌<◌, Bool, true, false, ◌&&◌, ◌||◌, not, is_some, Option, Some, None, List, [], ◌∷◌, ◌++◌, filter, length, refl, ap, ◌∙◌, inl, inr, arith}
+use Rattle.mvt_document.proofs.Lists.{last_pushed}
 use Rattle.std.proofs.lemmas.Bool.{cases_Bool, and_left}
 use Rattle.std.proofs.lemmas.List.{append-nil}
 use Rattle.std.proofs.lemmas.List.Elements.{filter_map-append, filter-append}
@@ -8,10 +9,6 @@ use Rattle.mvt_meaning.specs.Ordinals.{change_last, put_last}
 use Rattle.mvt_meaning.proofs.Positions.{change_later, change_here}
 use Rattle.command_laws.specs.Kept.{all_but_last}
 use Rattle.command_laws.proofs.Around.{has_part, no_parts, some_parts}
-
-last_pushed : {B : Type 0} (o : Option B) (parts : List B) (value : B) → last_or o (parts ++ value ∷ []) ≡ Some value
-last_pushed o [] value = refl
-last_pushed o (first ∷ parts) value = last_pushed (Some first) parts value
 
 front_next : {B : Type 0} (found : Option B) (parts : List B) (value : B) → 0 < length parts → cons_option found (all_but_last parts ++ value ∷ []) ≡ all_but_last (cons_option found parts) ++ value ∷ []
 front_next found [] value some = absurd (omega arith)

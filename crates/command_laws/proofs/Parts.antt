@@ -9,9 +9,8 @@ use Rattle.mvt_messages.specs.Views.{feature_in, features, features_in, layer_in
 use Rattle.mvt_meaning.specs.Ordinals.{change_first, change_nth}
 use Rattle.mvt_meaning.specs.Selection.{is_feature, selected, selected_feature}
 use Rattle.mvt_meaning.specs.Meaning.{change_layer, fields_of, items_of}
-use Rattle.mvt_meaning.proofs.Selecting.{selected_within}
+use Rattle.mvt_meaning.proofs.Selecting.{selected_within, selected_feature_within}
 use Rattle.command_laws.specs.Kept.{ChangesFeature, ChangesLayer, field_in}
-use Rattle.command_laws.proofs.Accepted.{feature_within}
 use Rattle.command_laws.proofs.Around.{Around, OneDiffers, around, from_around, one_differs, parts_between}
 
 -- ---- a layer
@@ -74,7 +73,7 @@ feature_given change (PlainInLayer field) other e = absurd cc
 -- a change of the fields of the selected feature
 pub changes_feature : (choice : FeatureChoice) (way : Feature → Feature → Type 0) (change : List Field → List Field) (layer : Layer) (ordinal : ℕ) → selected_feature choice layer ≡ Ok ordinal → ((feature : Feature) → slice_get (features layer) ordinal ≡ Some feature → way feature (with_fields change feature)) → ChangesFeature choice way layer (with_items (change_nth is_feature (in_feature change) ordinal) layer)
 changes_feature choice way change layer ordinal selects changed =
-    let a = around feature_in layer.items ordinal (feature_within choice layer ordinal selects) in
+    let a = around feature_in layer.items ordinal (selected_feature_within choice layer ordinal selects) in
     let d = one_differs feature_in plain_in feature_apart (in_feature change) ordinal layer.items a (with_fields change a.value) (feature_given change a.item a.value a.has) in
     record {
       ordinal = ordinal;

@@ -7,6 +7,7 @@ use Rattle.std.specs.List.{flat_map, list_all}
 use Rattle.std.specs.Option.{option_map_or}
 use Rattle.mvt_document.specs.Plain.{Number, Field, LayerItem, OfFeature, PlainInLayer}
 use Rattle.mvt_document.specs.Places.{in_feature}
+use Rattle.mvt_document.proofs.Options.{some_is}
 use Rattle.mvt_renumber.specs.Laws.{keeping}
 use Rattle.mvt_renumber.specs.Renumbering.{field_numbers, renumber}
 use Rattle.mvt_renumber.proofs.Redone.{kept_stays}
@@ -15,7 +16,6 @@ use Rattle.mvt_messages.specs.Attributes.{is_ordinal, is_pair}
 use Rattle.mvt_messages.specs.Views.{content_in, contents, features_in, key_field, plain_fields, value_field}
 use Rattle.mvt_meaning.specs.Compaction.{compacted, is_any, is_entry, is_key_used, is_value_used, new_ordinal, repointed, staying, with_entries, with_new_ordinals}
 use Rattle.mvt_meaning.specs.Tagging.{pairs_among}
-use Rattle.attribute_laws.proofs.Excluded.{some_of}
 use Rattle.attribute_laws.proofs.PairsRead.{pairs_read}
 use Rattle.attribute_laws.proofs.Twice.{AreRead}
 use Rattle.mvt_meaning.proofs.Removals.{flat}
@@ -69,7 +69,7 @@ module _ (keys_stay values_stay : ℕ → Bool) (all : List LayerItem) where
     items_same : (items : List LayerItem) → AreRead all (features_in items) → map (in_feature (with_new_ordinals keys_stay values_stay all)) items ≡ items
     items_same [] read = refl
     items_same (OfFeature feature ∷ items) read =
-        let found = some_of (pairs_among all feature.fields) read.0 in
+        let found = some_is (pairs_among all feature.fields) read.0 in
         let rest = map (in_feature (with_new_ordinals keys_stay values_stay all)) items in
         let with_these : List Field → LayerItem = λ fields. OfFeature (record { tag = feature.tag; width = feature.width; fields = fields }) in
         ap (λ fields. with_these fields ∷ rest) (fields_same feature.fields found.0 found.1) ∙ ap (λ more. OfFeature feature ∷ more) (items_same items read.1)

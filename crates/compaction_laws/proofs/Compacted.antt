@@ -4,6 +4,8 @@ use Rattle.std.proofs.lemmas.Bool.{or_left, or_right}
 use Rattle.std.specs.List.{AllByRecursion}
 use Rattle.mvt_document.specs.Plain.{Field, Feature, LayerItem, OfFeature, PlainInLayer, Layer, Document}
 use Rattle.mvt_document.specs.Places.{in_feature}
+use Rattle.mvt_document.proofs.Options.{some_is}
+use Rattle.mvt_document.proofs.EachItem.{one_of_all}
 use Rattle.mvt_command.specs.Command.{LayersChoice}
 use Rattle.mvt_messages.specs.Attributes.{attribute_at}
 use Rattle.mvt_messages.specs.Views.{content_in, contents, features, features_in, key_field, plain_fields, plain_in, value_field}
@@ -12,12 +14,10 @@ use Rattle.mvt_meaning.specs.Selection.{selected_layers}
 use Rattle.mvt_meaning.specs.Tagging.{pairs_among, unreadable}
 use Rattle.mvt_meaning.specs.Meaning.{◌>>=◌, change_layers, change_readable, refuse_first}
 use Rattle.command_laws.proofs.Accepted.{accepted}
-use Rattle.command_laws.proofs.Elements.{got_holds}
 use Rattle.command_laws.proofs.OtherFields.{others_stay}
 use Rattle.command_laws.proofs.Parts.{with_fields, with_items}
 use Rattle.compaction_laws.proofs.Staying.{all_staying, filter-apart, filter-staying, kept, kept_filtered, map-staying}
 use Rattle.attribute_laws.specs.ChangedLayers.{ChangesLayers}
-use Rattle.attribute_laws.proofs.Excluded.{some_of}
 use Rattle.attribute_laws.proofs.ChangedLayers.{got_mapped, layers_change}
 use Rattle.attribute_laws.proofs.Readable.{selected_read}
 use Rattle.attribute_laws.proofs.Twice.{all_of}
@@ -39,7 +39,7 @@ EachIsRead items = (index : ℕ) (feature : Feature) → slice_get (features_in 
 pub read_staying : (keys_stay values_stay : ℕ → Bool) (items : List LayerItem) → Covers key_of keys_stay items → Covers value_of values_stay items → EachIsRead items → AllByRecursion (IsReadStaying keys_stay values_stay items) (features_in items)
 read_staying keys_stay values_stay items keys values read =
     all_of (IsReadStaying keys_stay values_stay items) (features_in items) (λ index feature there.
-    let found = some_of (pairs_among items feature.fields) (read index feature there) in
+    let found = some_is (pairs_among items feature.fields) (read index feature there) in
     record { pairs = found.0; is = found.1; stay = (keys index feature found.0 there found.1, values index feature found.0 there found.1) })
 
 pub keys_covered : (items : List LayerItem) → Covers key_of (is_key_used items) items
@@ -111,7 +111,7 @@ module _ (keys_stay values_stay : ℕ → Bool) (layer : Layer) where
   module _ (read : AllByRecursion (IsReadStaying keys_stay values_stay layer.items) (features_in layer.items)) where
     each_keeps : EachKeepsAttributes layer new_layer
     each_keeps ordinal former is =
-        let here = got_holds (IsReadStaying keys_stay values_stay layer.items) (features_in layer.items) ordinal former is read in
+        let here = one_of_all (IsReadStaying keys_stay values_stay layer.items) (features_in layer.items) ordinal former is read in
         let change = new_fields keys_stay values_stay layer.items in (
           with_fields change former,
           ap (λ (list : List Feature). slice_get list ordinal) (features_new keys_stay values_stay layer.items) ∙ got_mapped (with_fields change) (features layer) ordinal former is,

@@ -1,5 +1,6 @@
 -- Lists of which some entries stay, by their ordinals: which these are, and which ordinals they then have.
 use Rattle.std.proofs.Common.{◌≡◌, ℕ, zero, suc, ◌+◌, ◌-◌, ◌<◌, ◌≤◌, Bool, true, false, cond, is_some, Option, Some, None, List, [], ◌∷◌, length, map, filter, get_or, refl, ap, ◌∙◌, inl, inr, subst, arith}
+use Rattle.mvt_document.proofs.Options.{none_is}
 use Rattle.std.proofs.lemmas.Bool.{cases_Bool}
 use Rattle.std.specs.List.{cons_option, enumerate_from, filter_map}
 use Rattle.mvt_meaning.specs.Compaction.{new_ordinal, staying}
@@ -152,10 +153,6 @@ module _ {A : Type 0} (passes : A → Bool) (stays : ℕ → Bool) where
   picked None list is = absurd cc
   picked (Some y) list is = (y, refl)
 
-  none_picked : {B : Type 0} (found : Option B) → is_some found ≡ false → found ≡ None
-  none_picked None is = refl
-  none_picked (Some y) is = absurd cc
-
   module _ {B : Type 0} (pick : A → Option B) where
     -- of what the items that pass hold, that of those that stay
     pub filter_map-staying : ((x : A) → is_some (pick x) ≡ passes x) → (n : ℕ) (xs : List A) → filter_map pick (staying passes stays n xs) ≡ kept stays n (filter_map pick xs)
@@ -171,7 +168,7 @@ module _ {A : Type 0} (passes : A → Bool) (stays : ℕ → Bool) where
               ]
               )
           | inr skip ↦ (
-              let is = none_picked (pick x) (holds x ∙ skip) in
+              let is = none_is (pick x) (holds x ∙ skip) in
               rw (skip, is) (filter_map-staying holds n xs)
               )
         ]

@@ -16,8 +16,6 @@ use Rattle.attribute_laws.proofs.Twice.{AreRead}
 use Rattle.compaction_laws.specs.Laws.{is_used, key_of, value_of}
 use Rattle.compaction_laws.proofs.Repointed.{AllStay, Stay, features_new, keys_new, new_fields, new_items, pairs_new, repoint, values_new}
 
--- ---- lists
-
 -- ---- pairs that name an ordinal
 
 -- a pair of the list names this ordinal

@@ -27,6 +27,7 @@ use Rattle.mvt_meaning.specs.Ordinals.{change_nth, put_once}
 use Rattle.mvt_meaning.specs.Selection.{is_feature, selected, selected_in}
 use Rattle.mvt_meaning.specs.declared.refusal.Refusal.TheVariants.{OutOfRange}
 use Rattle.mvt_meaning.proofs.Given.{value_given}
+use Rattle.mvt_meaning.proofs.PutOnce.{put_alone}
 use Rattle.command_laws.specs.Kept.{ChangesFeature}
 use Rattle.command_laws.proofs.Accepted.{accepted, feature_selects, not_refused, within_is}
 use Rattle.command_laws.proofs.LastPut.{last_put, others_put, parts_put}
@@ -39,22 +40,9 @@ use Rattle.geometry_laws.proofs.Shifted.{one_of_feature}
 -- ---- lists with items left out
 
 module _ {A : Type 0} (passes : A → Bool) where
-  none_twice : (xs : List A) → filter passes (filter (λ x. not (passes x)) xs) ≡ []
-  none_twice [] = refl
-  none_twice (x ∷ xs) = elim (cases_Bool (passes x)) [ inl pass ↦ rw pass (none_twice xs) | inr skip ↦ rw (skip, skip) (none_twice xs) ]
-
   out_twice : (xs : List A) → filter (λ x. not (passes x)) (filter (λ x. not (passes x)) xs) ≡ filter (λ x. not (passes x)) xs
   out_twice [] = refl
   out_twice (x ∷ xs) = elim (cases_Bool (passes x)) [ inl pass ↦ rw pass (out_twice xs) | inr skip ↦ rw (skip, skip) (ap (λ rest. x ∷ rest) (out_twice xs)) ]
-
-  -- one item that passes, in place of all that do
-  put_alone : (new : A) → passes new ≡ true → (xs : List A) → filter passes (put_once passes new xs) ≡ new ∷ []
-  put_alone new own [] = rw own refl
-  put_alone new own (x ∷ xs) =
-      elim (cases_Bool (passes x)) [
-        | inl pass ↦ rw (pass, own) (ap (λ rest. new ∷ rest) (none_twice xs))
-        | inr skip ↦ rw (skip, skip) (put_alone new own xs)
-      ]
 
   put_others : (new : A) → passes new ≡ true → (xs : List A) → filter (λ x. not (passes x)) (put_once passes new xs) ≡ filter (λ x. not (passes x)) xs
   put_others new own [] = rw own refl

@@ -11,8 +11,9 @@ use Rattle.mvt_document.proofs.EachItem.{all_dropped}
 use Rattle.mvt_renumber.specs.Laws.{AreShort, keeping, read_numbers}
 use Rattle.mvt_renumber.specs.Renumbering.{field_numbers, renumber, renumbered, renumbered_field, with_left, with_numbers}
 use Rattle.mvt_renumber.proofs.Decisions.{renumbered-none, renumbered_more, with_number-same}
-use Rattle.mvt_renumber.proofs.Redone.{kept_stays, left_is_read, renumbered-append}
+use Rattle.mvt_renumber.proofs.Redone.{kept_stays, left_is_read, renumbered-append, own_left}
 use Rattle.mvt_renumber.proofs.Reread.{both_found, field_read, read_is, read_of_fields}
+use Rattle.mvt_renumber.proofs.DecidedTwice.{short_after}
 use Rattle.geometry_laws.specs.Laws.{front, stored_width}
 
 -- ---- no number goes
@@ -22,9 +23,6 @@ AllSome decisions = AllByRecursion (λ decision. is_some decision ≡ true) deci
 
 some_dropped : (n : ℕ) (decisions : List (Option ℕ)) → AllSome decisions → AllSome (drop n decisions)
 some_dropped n decisions all = all_dropped (λ decision. is_some decision ≡ true) n decisions all
-
-short_dropped : (n : ℕ) (decisions : List (Option ℕ)) → AreShort decisions → AreShort (drop n decisions)
-short_dropped n decisions short = all_dropped (λ decision. IfSome decision (λ value. value < 2 ^ 64)) n decisions short
 
 pub same_count : (decisions : List (Option ℕ)) (list : List Number) → AllSome decisions → length (renumbered decisions list) ≡ length list
 same_count [] list all = refl
@@ -59,23 +57,6 @@ fronts_stay number decisions (field ∷ fields) all =
 
 -- ---- all numbers stay
 
-kept : (list : List Number) → renumbered (keeping list) list ≡ list
-kept [] = refl
-kept (number ∷ list) =
-    renumbered_more (Some number.value) (keeping list) number list
-    ∙ ap (λ (n : Number). n ∷ renumbered (keeping list) list) (with_number-same number.value number refl)
-    ∙ ap (λ (more : List Number). number ∷ more) (kept list)
-
--- a field that is left with its own numbers is the field itself
-own_left : (number : ℕ) (field : Field) → with_left field (field_numbers number field) (field_numbers number field) ≡ field ∷ []
-own_left number field =
-    let own = field_numbers number field in
-    let left : List Number → List Field = λ list. with_left field own list in
-    ap left (sym (kept own))
-    ∙ ap (λ (list : List Number). left (renumbered (keeping list) own)) (sym (append-nil own))
-    ∙ sym (append-nil (left (renumbered (keeping (own ++ [])) own)))
-    ∙ kept_stays number (field ∷ [])
-
 same_fronts : (xs xs' ys ys' : List Number) → xs ++ ys ≡ xs' ++ ys' → length xs ≡ length xs' → (xs ≡ xs') × (ys ≡ ys')
 same_fronts xs xs' ys ys' e same = (
   sym (take-append_seam xs ys) ∙ ap (take (length xs)) e ∙ ap (λ (n : ℕ). take n (xs' ++ ys')) same ∙ take-append_seam xs' ys',
@@ -91,7 +72,7 @@ all_stay number decisions (field ∷ fields) all e =
     let following = drop (length own) decisions in
     let apart = same_fronts (renumbered decisions own) own (renumbered following others) others (sym (renumbered-append decisions own others) ∙ e) (same_count decisions own all) in
     ap (λ (list : List Number). with_left field own list ++ renumber number following fields) apart.0
-    ∙ ap (λ (first : List Field). first ++ renumber number following fields) (own_left number field)
+    ∙ ap (λ (first : List Field). first ++ renumber number following fields) (own_left number field (field_numbers number field) refl)
     ∙ ap (λ (rest : List Field). field ∷ rest) (all_stay number following fields (some_dropped (length own) decisions all) apart.1)
 
 -- ---- numbers that get other values, and their own again
@@ -138,7 +119,7 @@ back_by number decisions field (first ∷ more) (next ∷ others) short is are s
       numbers = sym (append-nil (field_numbers number made)) ∙ read_of_fields number (made ∷ []) (next ∷ others) read;
       back = ap (λ (body : Body). record field { body = body } ∷ []) (twice first next more others field.body)
           ∙ ap (λ (own : List Number). with_left field own own) (sym is)
-          ∙ own_left number field;
+          ∙ own_left number field (field_numbers number field) refl;
     }
 
 -- each field has as many numbers as it had
@@ -152,7 +133,7 @@ counts_stay number decisions (field ∷ fields) all short =
     let rest : List Field = renumber number following fields in
     ap (λ (first : List Field). map (λ (f : Field). length (field_numbers number f)) (first ++ rest)) b.left
     ∙ ap (λ (n : ℕ). n ∷ map (λ (f : Field). length (field_numbers number f)) rest) (ap length b.numbers ∙ counted)
-    ∙ ap (λ (more : List ℕ). length own ∷ more) (counts_stay number following fields (some_dropped (length own) decisions all) (short_dropped (length own) decisions short))
+    ∙ ap (λ (more : List ℕ). length own ∷ more) (counts_stay number following fields (some_dropped (length own) decisions all) (short_after (length own) decisions short))
 
 pub both_back : (number : ℕ) (there back : List (Option ℕ)) (fields : List Field) → AllSome there → AllSome back → AreShort there → renumbered back (renumbered there (flat_map (field_numbers number) fields)) ≡ flat_map (field_numbers number) fields → renumber number back (renumber number there fields) ≡ fields
 both_back number there back [] all all_back short e = refl
@@ -176,5 +157,5 @@ both_back number there back (field ∷ fields) all all_back short e =
     (both_back number there_more back_more fields
     (some_dropped (length own) there all)
     (some_dropped (length new) back all_back)
-    (short_dropped (length own) there short)
+    (short_after (length own) there short)
     apart.1)

@@ -9,16 +9,12 @@ use Rattle.mvt_document.specs.Wire.{spell, minimal_width, spelling, delimited, b
 use Rattle.mvt_document.specs.Groups.{IsNumber, IsBodyWith, IsGroupWithin, IsGroup}
 use Rattle.mvt_document.proofs.Spelling.{length-spell, spelling_some, minimal_width_some}
 use Rattle.mvt_document.specs.Lists.{CanSplice}
+use Rattle.mvt_document.proofs.Sizes.{delimited_some}
 use Rattle.mvt_change.specs.Changes.{Place, OfTheTile, OfTheLayer, OfTheFeature, ItemAt, Step, SpliceStep, MoveStep, list_at, IsItemAt, item_bytes, go_step, FitsStep, step_weight}
 use Rattle.history_laws.specs.Laws.{FieldWeighs, LayerItemWeighs, TileItemWeighs, NothingPut, put_count}
 
 number_weighs : (n : Number) → IsNumber n → 1 ≤ length (spelling n)
 number_weighs n valid = omega (arith, length-spell n.value n.width, spelling_some n.value n.width valid)
-
-delimited_weighs : (width : ℕ) (bytes : List ℕ) → 1 ≤ length (delimited width bytes)
-delimited_weighs width bytes =
-    let room = max width (minimal_width (length bytes)) in
-    omega (arith, length-append (spell (length bytes) room) bytes, length-spell (length bytes) room, minimal_width_some (length bytes))
 
 group_weighs : (levels number : ℕ) (bytes : List ℕ) → IsGroupWithin levels number bytes → 1 ≤ length bytes
 unfolding IsGroupWithin
@@ -32,7 +28,7 @@ body_weighs : (number : ℕ) (body : Body) → IsBodyWith IsGroup number body �
 body_weighs number (Spelled value) valid = number_weighs value valid
 body_weighs number (Eight bytes) valid = omega (arith, valid)
 body_weighs number (Four bytes) valid = omega (arith, valid)
-body_weighs number (Delimited width bytes) valid = delimited_weighs width bytes
+body_weighs number (Delimited width bytes) valid = delimited_some width bytes
 body_weighs number (Group bytes) valid = group_weighs MAX_GROUPS number bytes valid
 
 pub field_weighs : FieldWeighs
@@ -43,7 +39,7 @@ field_weighs field valid =
 
 message_weighs : (tag : Number) (width : ℕ) (bytes : List ℕ) → IsNumber tag → 2 ≤ length (spelling tag ++ delimited width bytes)
 message_weighs tag width bytes valid =
-    omega (arith, number_weighs tag valid, delimited_weighs width bytes, length-append (spelling tag) (delimited width bytes))
+    omega (arith, number_weighs tag valid, delimited_some width bytes, length-append (spelling tag) (delimited width bytes))
 
 pub layer_item_weighs : LayerItemWeighs
 layer_item_weighs (OfFeature feature) valid = message_weighs feature.tag feature.width (flat_map field_bytes feature.fields) valid.number

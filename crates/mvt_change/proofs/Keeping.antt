@@ -8,7 +8,7 @@ use Rattle.mvt_document.specs.declared.document.LayerItem.{LayerItem}
 use Rattle.mvt_document.specs.declared.document.LayerItem.TheVariants as in_layer
 use Rattle.mvt_document.specs.declared.document.TileItem.{TileItem}
 use Rattle.mvt_document.specs.declared.document.TileItem.TheVariants as in_tile
-use Rattle.mvt_splices.proofs.Runs.{zip_same}
+use Rattle.mvt_splices.proofs.Runs.{zip_same, zip_append}
 use Rattle.mvt_change.specs.Room.{capacity, KeepsList, KeepsField, KeepsMessage, KeepsLayerItem, KeepsTileItem, KeepsDocument}
 use Rattle.mvt_change.specs.HeldChanges.{ExchangesFirst, exchanged, held_moved, HasRoom, CanMoveHeld}
 use Rattle.mvt_splices.proofs.Backwards.{splice-back}
@@ -80,11 +80,6 @@ document_order = record { same = λ x. list_same tile_item_order x.items; joined
 -- ---- through splices and moves
 
 module _ {T : Type 0} (Keeps : T → T → Type 0) where
-  zip_append : (xs ys more others : List T) → AllZip Keeps xs ys → AllZip Keeps more others → AllZip Keeps (xs ++ more) (ys ++ others)
-  zip_append [] [] more others first second = second
-  zip_append (x ∷ xs) (y ∷ ys) more others first second = (first.0, zip_append xs ys more others first.1 second)
-  zip_append xs ys more others first second = absurd first
-
   zip_take : (n : ℕ) (xs ys : List T) → AllZip Keeps xs ys → AllZip Keeps (take n xs) (take n ys)
   zip_take zero xs ys all = tt
   zip_take (suc n) [] [] all = tt
@@ -99,8 +94,8 @@ module _ {T : Type 0} (Keeps : T → T → Type 0) where
 
   zip_splice : (index taken : ℕ) (put other xs ys : List T) → AllZip Keeps put other → AllZip Keeps xs ys → AllZip Keeps (splice index taken put xs) (splice index taken other ys)
   zip_splice index taken put other xs ys new all =
-      zip_append (take index xs ++ put) (take index ys ++ other) (drop (index + taken) xs) (drop (index + taken) ys)
-      (zip_append (take index xs) (take index ys) put other (zip_take index xs ys all) new)
+      zip_append Keeps (take index xs ++ put) (take index ys ++ other) (drop (index + taken) xs) (drop (index + taken) ys)
+      (zip_append Keeps (take index xs) (take index ys) put other (zip_take index xs ys all) new)
       (zip_drop (index + taken) xs ys all)
 
   zip_moved : (from to : ℕ) (xs ys : List T) → AllZip Keeps xs ys → AllZip Keeps (moved from to xs) (moved from to ys)

@@ -1,5 +1,5 @@
 -- What holds of each item of lists that are made of others.
-use Rattle.std.proofs.Common.{ℕ, zero, suc, List, [], ◌∷◌, ◌++◌, take, drop, map}
+use Rattle.std.proofs.Common.{ℕ, zero, suc, List, [], ◌∷◌, ◌++◌, take, drop, map, slice_get, Some, subst, ◌≡◌}
 use Rattle.std.specs.List.{AllByRecursion}
 
 module _ {A : Type 0} (P : A → Type 0) where
@@ -20,6 +20,11 @@ module _ {A : Type 0} (P : A → Type 0) where
   pub all_apart : (xs ys : List A) → AllByRecursion P (xs ++ ys) → AllByRecursion P xs × AllByRecursion P ys
   all_apart [] ys all = (tt, all)
   all_apart (x ∷ xs) ys all = let apart = all_apart xs ys all.1 in ((all.0, apart.0), apart.1)
+
+  pub one_of_all : (xs : List A) (index : ℕ) (x : A) → slice_get xs index ≡ Some x → AllByRecursion P xs → P x
+  one_of_all [] index x is all = absurd cc
+  one_of_all (x ∷ xs) zero y is all = let same : x ≡ y = cc in subst P same all.0
+  one_of_all (x ∷ xs) (suc index) y is all = one_of_all xs index y is all.1
 
   pub all_by : (Q : A → Type 0) → ((x : A) → P x → Q x) → (xs : List A) → AllByRecursion P xs → AllByRecursion Q xs
   all_by Q each [] all = tt

@@ -13,3 +13,4 @@ pub mod Exchanged
 pub mod Signed
 pub mod Placing
 pub mod Hashing
+pub mod Lists

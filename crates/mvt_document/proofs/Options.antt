@@ -1,5 +1,5 @@
 -- What holds of the value of an option, and of what is made of it.
-use Rattle.std.proofs.Common.{◌≡◌, Option, Some, None, option_map, sym, subst}
+use Rattle.std.proofs.Common.{◌≡◌, Option, Some, None, option_map, sym, subst, is_some, true, false, refl}
 use Rattle.std.specs.Option.{IfSome, IsSomeAnd}
 
 module _ {X : Type 0} where
@@ -35,3 +35,13 @@ module _ {X : Type 0} where
   pub if_known : (kept known : Option X) (P : X → Type 0) → IfSome kept (λ x. known ≡ Some x) → IfSome known P → IfSome kept P
   if_known None known P same holds = tt
   if_known (Some kept) known P same holds = subst (λ o. IfSome o P) same holds
+
+-- ---- whether there is one
+
+pub none_is : {A : Type 0} (found : Option A) → is_some found ≡ false → found ≡ None
+none_is None is = refl
+none_is (Some x) is = absurd cc
+
+pub some_is : {A : Type 0} (found : Option A) → is_some found ≡ true → (x : A) × (found ≡ Some x)
+some_is None is = absurd cc
+some_is (Some x) is = (x, refl)

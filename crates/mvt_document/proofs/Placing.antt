@@ -66,7 +66,7 @@ read_there items at x P read there =
     let same : y ≡ x = sym (read ∙ get_or_from_slice_get items at y x is) in
     (is ∙ ap Some same, subst P same holds)) there refl
 
-changed_alike : {A : Type 0} (f g : A → A) (at : ℕ) (items : List A) (x : A) → slice_get items at ≡ Some x → f x ≡ g x → change_at f at items ≡ change_at g at items
+pub changed_alike : {A : Type 0} (f g : A → A) (at : ℕ) (items : List A) (x : A) → slice_get items at ≡ Some x → f x ≡ g x → change_at f at items ≡ change_at g at items
 changed_alike f g at items x is same = sym (set_changed f at items x (f x) is refl) ∙ set_changed g at items x (f x) is same
 
 -- ---- the list that is found is changed to what it was made

@@ -1,14 +1,14 @@
 -- No field is a prefix of another, nor is any group, so a list of fields is determined by its bytes.
-use Rattle.std.proofs.Common.{◌≡◌, ℕ, zero, suc, ◌/◌, ◌%◌, ◌≤◌, max, List, [], ◌∷◌, ◌++◌, length, refl, sym, ap, ◌∙◌, subst, append_assoc, arith}
+use Rattle.std.proofs.Common.{◌≡◌, ℕ, zero, suc, ◌/◌, ◌%◌, ◌≤◌, List, [], ◌∷◌, ◌++◌, length, refl, sym, ap, ◌∙◌, subst, append_assoc, arith}
 use Rattle.std.specs.List.{flat_map, AllByRecursion}
 use Rattle.std.proofs.lemmas.List.{length-append, append-nil}
 use Rattle.mvt_document.specs.Plain.{Number, Body, Spelled, Eight, Four, Delimited, Group, Field}
 use Rattle.mvt_document.specs.Shape.{IsSpelling}
-use Rattle.mvt_document.specs.Wire.{spell, minimal_width, spelling, body_bytes, field_bytes}
+use Rattle.mvt_document.specs.Wire.{spell, spelling, body_bytes, field_bytes}
 use Rattle.mvt_document.specs.declared.TheConstants.{MAX_GROUPS}
 use Rattle.mvt_document.specs.Groups.{IsNumber, wire_type, IsWholeBodyWith, IsWholeFieldWith, IsEnd, IsGroupWithin, IsGroup}
 use Rattle.mvt_document.specs.Parts.{IsWholeField}
-use Rattle.mvt_document.proofs.Spelling.{length-spell, one_spelling, spelling_some}
+use Rattle.mvt_document.proofs.Spelling.{length-spell, one_spelling, spelling_some, max_spelling}
 
 -- two prefixes of one length are equal, and so is what follows them
 pub same_fronts : (a b x y : List ℕ) → length a ≡ length b → a ++ x ≡ b ++ y → (a ≡ b) × (x ≡ y)
@@ -22,10 +22,6 @@ same_fronts (g ∷ a) (h ∷ b) x y l e =
     let r : (a ≡ b) × (x ≡ y) = same_fronts a b x y lengths tails in
     let front : a ≡ b = r.0 in
     ((cc), r.1)
-
--- a length that is spelled in its stored width is written in that width
-pub stored_width : (length width : ℕ) → IsSpelling length width → max width (minimal_width length) ≡ width
-stored_width length width s = omega (arith, s.wide)
 
 abbrev pub number_with : ℕ → ℕ → Number
 number_with value width = record { value = value; width = width }
@@ -47,7 +43,7 @@ one_number a b x y p q e =
     (same_number a b r.0 r.1, r.2)
 
 pub delimited-bytes : (width : ℕ) (bytes rest : List ℕ) → IsSpelling (length bytes) width → body_bytes (Delimited width bytes) ++ rest ≡ spell (length bytes) width ++ (bytes ++ rest)
-delimited-bytes width bytes rest s = rw (stored_width (length bytes) width s) (append_assoc (spell (length bytes) width) bytes rest)
+delimited-bytes width bytes rest s = rw (max_spelling (length bytes) width s) (append_assoc (spell (length bytes) width) bytes rest)
 
 -- ---- fields, where no group begins another
 

@@ -1,7 +1,7 @@
 -- Lists in which one run is true, as far as they are known: joined, split and spliced.
 use Rattle.std.proofs.Common.{◌≡◌, ℕ, zero, suc, ◌+◌, ◌-◌, ◌<◌, ◌≤◌, Bool, true, false, Option, Some, None, List, [], ◌∷◌, ◌++◌, length, length-append, length-drop, take, drop, take-append-drop, get_or, map, min, refl, sym, ap, ◌∙◌, subst, append_assoc, arith}
 use Rattle.std.specs.Prelude.{if◌then◌else◌, replicate, slice_get, slice_set, IfSome, IsTrue}
-use Rattle.std.proofs.lemmas.List.{append-nil, drop-map, drop-replicate, drop_all, drop_more, length-map, length-replicate, length-take-le, map-append, replicate-append-replicate, replicate_more, take-map, take_all, take_more}
+use Rattle.std.proofs.lemmas.List.{append-nil, drop-map, drop-replicate, drop_all, drop_more, length-map, length-replicate, length-take-le, map-append, replicate-append-replicate, replicate_more, take-map, take_all, take_more, nil_from_length}
 use Rattle.mvt_document.specs.declared.run.Kind.{Kind}
 use Rattle.mvt_document.specs.declared.run.Kind.TheVariants as kind
 use Rattle.mvt_document.specs.declared.run.Run.{Run}
@@ -125,15 +125,11 @@ nothing_known run items first count until = record {
 
 -- ---- runs of lists that are joined
 
-nothing_left : (items : List Bool) → length items ≡ 0 → items ≡ []
-nothing_left [] none = refl
-nothing_left (x ∷ items) none = absurd (omega arith)
-
 -- of a list of which everything is known nothing is left
 all_known : (run : Run) (items : List Bool) (h : IsRun run items) → run.until ≡ length items → items ≡ one_run run.first run.count h.following
 all_known run items h all =
     let known = one_run run.first run.count h.following in
-    let none = nothing_left h.rest (omega (arith, all, ap length h.is, length-append known h.rest, run_length run.first run.count h.following, h.until)) in
+    let none = nil_from_length h.rest (omega (arith, all, ap length h.is, length-append known h.rest, run_length run.first run.count h.following, h.until)) in
     h.is ∙ ap (λ t. known ++ t) none ∙ append-nil known
 
 -- the same, joined with a list
@@ -145,7 +141,7 @@ joined_known run items more h all =
     ap (λ t. t ++ more) (all_known run items h all) ∙ append_assoc F (C ++ B) more ∙ ap (λ t. F ++ t) (append_assoc C B more)
 
 -- what is known of the second list, in parts
-parts_known : (run : Run) (items : List Bool) (h : IsRun run items) → items ≡ replicate run.first false ++ (replicate run.count true ++ (replicate h.following false ++ h.rest))
+pub parts_known : (run : Run) (items : List Bool) (h : IsRun run items) → items ≡ replicate run.first false ++ (replicate run.count true ++ (replicate h.following false ++ h.rest))
 parts_known run items h =
     let F = replicate run.first false in
     let C = replicate run.count true in

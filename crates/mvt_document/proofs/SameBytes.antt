@@ -8,7 +8,7 @@ use Rattle.mvt_document.specs.Opens.{IsField, IsSettled}
 use Rattle.mvt_document.specs.Parts.{feature_field, layer_item_field, layer_field, tile_item_field, IsWholeField, IsWholeLayerItem, IsWholeTileItem}
 use Rattle.mvt_document.proofs.Prefixes.{one_list}
 use Rattle.mvt_document.proofs.EachItem.{all_with}
-use Rattle.mvt_document.proofs.Wholes.{layer_items_whole, tile_items_whole, layer_items_are_fields, tile_items_are_fields, layer_items-bytes_as_fields, tile_items-bytes_as_fields}
+use Rattle.mvt_document.proofs.Wholes.{layer_items_whole, tile_items_whole, layer_items_are_fields, tile_items_are_fields, layer_items-bytes_as_fields, tile_items-bytes_as_fields, content_of}
 
 -- lists are equal if their images are, each item being determined by its image
 pub same_by : {S T : Type 0} (f : S → T) (P : S → Type 0) → ((x y : S) → P x → P y → f x ≡ f y → x ≡ y) → (xs ys : List S) → AllByRecursion P xs → AllByRecursion P ys → map f xs ≡ map f ys → xs ≡ ys
@@ -30,9 +30,6 @@ layer_with tag width items = record { tag = tag; width = width; items = items }
 
 width_of : (v w : ℕ) (a b : List ℕ) → Delimited v a ≡ Delimited w b → v ≡ w
 width_of v w a b e = cc
-
-content_of : (v w : ℕ) (a b : List ℕ) → Delimited v a ≡ Delimited w b → a ≡ b
-content_of v w a b e = cc
 
 fields_of_whole : (f : Feature) → IsWholeLayerItem (OfFeature f) → AllByRecursion IsWholeField f.fields
 fields_of_whole f p = all_with IsField StoresField IsWholeField (λ g v s. record { valid = v; stored = s }) f.fields p.valid.fields p.stored.fields

@@ -12,8 +12,8 @@ use Rattle.mvt_document.specs.Opens.{IsField, IsLayerItem, IsTileItem, IsDocumen
 use Rattle.mvt_document.specs.Settle.{written_width, settle_body, settle_field, settle_layer_item, settle_tile_item, settle, IsShort, IsShortBody, IsShortField, IsShortLayerItem, IsShortTileItem, HasShortLengths}
 use Rattle.mvt_document.proofs.Spelling.{minimal_width_short}
 use Rattle.mvt_document.proofs.EachItem.{all_by, all_of_map, all_with}
-use Rattle.mvt_document.proofs.Wholes.{same_bytes}
 use Rattle.mvt_document.proofs.SameBytes.{one_document_by_bytes}
+use Rattle.mvt_document.proofs.Lists.{same_each}
 
 -- ---- the written width
 
@@ -50,7 +50,7 @@ field-bytes_settled : (f : Field) → field_bytes (settle_field f) ≡ field_byt
 field-bytes_settled f = ap (λ (b : List ℕ). spelling f.tag ++ b) (body-bytes_settled f.body)
 
 contents-settled : {T : Type 0} (f : T → List ℕ) (s : T → T) → ((x : T) → f (s x) ≡ f x) → (xs : List T) → flat_map f (map s xs) ≡ flat_map f xs
-contents-settled f s e xs = flat_map-map f s xs ∙ same_bytes (λ x. f (s x)) f e xs
+contents-settled f s e xs = flat_map-map f s xs ∙ same_each (λ x. f (s x)) f e xs
 
 delimited-settled : (width : ℕ) (old new : List ℕ) → new ≡ old → delimited (written_width width old) new ≡ delimited width old
 delimited-settled width old new e = ap (delimited (written_width width old)) e ∙ written_again width old

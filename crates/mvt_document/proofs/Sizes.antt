@@ -6,7 +6,7 @@ use Rattle.std.proofs.lemmas.List.{at_drop_more}
 use Rattle.std.proofs.lemmas.List.Folds.{length-flat_map-take}
 use Rattle.std.proofs.lemmas.List.Concat.{flat_map-append}
 use Rattle.mvt_document.specs.Wire.{spell, minimal_width, delimited}
-use Rattle.mvt_document.proofs.Spelling.{length-spell, width_within_grows}
+use Rattle.mvt_document.proofs.Spelling.{length-spell, width_within_grows, minimal_width_some}
 
 -- a prefix and the item after it are no longer than all items
 pub item_within : {T : Type 0} (f : T → List ℕ) (xs : List T) (i : ℕ) (x : T) → i < length xs → x ≡ get_or xs i x → length (flat_map f (take i xs)) + length (f x) ≤ length (flat_map f xs)
@@ -23,6 +23,9 @@ item_within_back f xs i k x next inside is =
 
 pub length-delimited : (width : ℕ) (bytes : List ℕ) → length (delimited width bytes) ≡ max width (minimal_width (length bytes)) + length bytes
 length-delimited width bytes = rw (length-append, length-spell) refl
+
+pub delimited_some : (width : ℕ) (bytes : List ℕ) → 1 ≤ length (delimited width bytes)
+delimited_some width bytes = omega (arith, length-delimited width bytes, minimal_width_some (length bytes))
 
 pub length-message : (value tag_width width : ℕ) (bytes : List ℕ) → length (spell value tag_width ++ delimited width bytes) ≡ tag_width + (max width (minimal_width (length bytes)) + length bytes)
 length-message value tag_width width bytes = rw (length-append, length-spell, length-delimited) refl

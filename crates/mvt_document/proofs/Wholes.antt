@@ -9,10 +9,7 @@ use Rattle.mvt_document.specs.Opens.{IsField, IsLayerItem, IsTileItem, StoresLay
 use Rattle.mvt_document.specs.Parts.{feature_field, layer_item_field, layer_field, tile_item_field, IsWholeField, IsWholeLayerItem, IsWholeTileItem, MakesLayerItem, MakesTileItem}
 use Rattle.mvt_document.proofs.EachItem.{all_by, all_of_map, all_with}
 use Rattle.mvt_document.proofs.Prefixes.{field_with}
-
-pub same_bytes : {T : Type 0} (f g : T → List ℕ) → ((x : T) → f x ≡ g x) → (xs : List T) → flat_map f xs ≡ flat_map g xs
-same_bytes f g e [] = refl
-same_bytes f g e (x ∷ xs) = ap (λ (b : List ℕ). b ++ flat_map f xs) (e x) ∙ ap (λ (b : List ℕ). g x ++ b) (same_bytes f g e xs)
+use Rattle.mvt_document.proofs.Lists.{same_each}
 
 pub layer_item-bytes : (i : LayerItem) → layer_item_bytes i ≡ field_bytes (layer_item_field i)
 layer_item-bytes (OfFeature feature) = refl
@@ -22,17 +19,13 @@ pub tile_item-bytes : (i : TileItem) → tile_item_bytes i ≡ field_bytes (tile
 tile_item-bytes (OfLayer layer) = refl
 tile_item-bytes (PlainInTile field) = refl
 
--- the bytes of fields that stand for values of the program
-pub fields-bytes : {T : Type 0} (f : T → Field) (xs : List T) → flat_map field_bytes (map f xs) ≡ flat_map (λ x. field_bytes (f x)) xs
-fields-bytes f xs = flat_map-map field_bytes f xs
-
 pub layer_items-bytes : {T : Type 0} (f : T → LayerItem) (xs : List T) → flat_map layer_item_bytes (map f xs) ≡ flat_map (λ x. field_bytes (layer_item_field (f x))) xs
 layer_items-bytes f xs =
-    flat_map-map layer_item_bytes f xs ∙ same_bytes (λ x. layer_item_bytes (f x)) (λ x. field_bytes (layer_item_field (f x))) (λ x. layer_item-bytes (f x)) xs
+    flat_map-map layer_item_bytes f xs ∙ same_each (λ x. layer_item_bytes (f x)) (λ x. field_bytes (layer_item_field (f x))) (λ x. layer_item-bytes (f x)) xs
 
 pub tile_items-bytes : {T : Type 0} (f : T → TileItem) (xs : List T) → flat_map tile_item_bytes (map f xs) ≡ flat_map (λ x. field_bytes (tile_item_field (f x))) xs
 tile_items-bytes f xs =
-    flat_map-map tile_item_bytes f xs ∙ same_bytes (λ x. tile_item_bytes (f x)) (λ x. field_bytes (tile_item_field (f x))) (λ x. tile_item-bytes (f x)) xs
+    flat_map-map tile_item_bytes f xs ∙ same_each (λ x. tile_item_bytes (f x)) (λ x. field_bytes (tile_item_field (f x))) (λ x. tile_item-bytes (f x)) xs
 
 -- ---- items are fields
 
@@ -92,16 +85,16 @@ tile_items_made items p =
 pub layer_items-bytes_as_fields : (items : List LayerItem) → flat_map field_bytes (map layer_item_field items) ≡ flat_map layer_item_bytes items
 layer_items-bytes_as_fields items =
     flat_map-map field_bytes layer_item_field items
-    ∙ same_bytes (λ i. field_bytes (layer_item_field i)) layer_item_bytes (λ i. sym (layer_item-bytes i)) items
+    ∙ same_each (λ i. field_bytes (layer_item_field i)) layer_item_bytes (λ i. sym (layer_item-bytes i)) items
 
 pub tile_items-bytes_as_fields : (items : List TileItem) → flat_map field_bytes (map tile_item_field items) ≡ flat_map tile_item_bytes items
 tile_items-bytes_as_fields items =
     flat_map-map field_bytes tile_item_field items
-    ∙ same_bytes (λ i. field_bytes (tile_item_field i)) tile_item_bytes (λ i. sym (tile_item-bytes i)) items
+    ∙ same_each (λ i. field_bytes (tile_item_field i)) tile_item_bytes (λ i. sym (tile_item-bytes i)) items
 
 -- ---- a message inside that is not a list of items makes no item
 
-content_of : (v w : ℕ) (a b : List ℕ) → Delimited v a ≡ Delimited w b → a ≡ b
+pub content_of : (v w : ℕ) (a b : List ℕ) → Delimited v a ≡ Delimited w b → a ≡ b
 content_of v w a b e = cc
 
 pub no_layer : (front : Field) (width : ℕ) (bytes : List ℕ) → front.body ≡ Delimited width bytes → front.tag.value ≡ 26

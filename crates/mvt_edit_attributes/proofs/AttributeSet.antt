@@ -17,7 +17,8 @@ use Rattle.mvt_document.proofs.Spelling.{minimal_spelling}
 use Rattle.mvt_document.proofs.EachItem.{all_joined}
 use Rattle.mvt_value.specs.Messages.{encoded_value}
 use Rattle.mvt_value.specs.Values.{Value}
-use Rattle.mvt_change.specs.Changes.{Change}
+use Rattle.mvt_change.specs.Changes.{Change, OfTheLayer}
+use Rattle.mvt_change.proofs.Lenses.{list_part}
 use Rattle.mvt_command.specs.Command.{FeatureChoice, LayerChoice, SetAttribute}
 use Rattle.mvt_messages.specs.Views.{contents, key_field, plain_fields, value_field}
 use Rattle.mvt_meaning.specs.Fields.{new_content}
@@ -28,38 +29,23 @@ use Rattle.mvt_meaning.specs.Weights.{of_selected, set_puts, set_takes, set_weig
 use Rattle.mvt_meaning.specs.declared.refusal.Refusal.{Refusal}
 use Rattle.mvt_meaning.specs.declared.refusal.Refusal.TheVariants.{BadTags, RepeatedKey, TooLarge}
 use Rattle.mvt_meaning.proofs.Found.{change_layer_found, change_nth_found, fields_at_found, fields_of_found, items_at_found, items_of_found, selected_in_found}
+use Rattle.mvt_meaning.proofs.NewFields.{missing_valid, new_key, new_value}
 use Rattle.mvt_edit_steps.specs.Fates.{Splice}
 use Rattle.mvt_edit_steps.specs.Prepared.{IsPrepared}
 use Rattle.mvt_edit_steps.proofs.CarriedOut.{AreThere, put_all, spliced_all, taken_all}
 use Rattle.mvt_edit_steps.proofs.Carrying.{carried, in_feature_at, in_layer_at, in_the_feature, in_the_layer, makes_alike}
 use Rattle.mvt_edit_steps.proofs.Heavy.{tag_and_content}
 use Rattle.mvt_edit_steps.proofs.Leading.{Leads, both_lead}
-use Rattle.mvt_edit_steps.proofs.ListPlaces.{of_the_layer}
 use Rattle.mvt_edit_attributes.specs.Attribute.{AreFound, GivesAttribute, attribute_checked, appended, bytes_put, entries_for, entry_unless}
 use Rattle.mvt_edit_attributes.specs.declared.pools.Ordinals.{Ordinals}
 
 -- ---- the entries that a layer lacks
 
-key_valid : (bytes : List ℕ) → IsLayerItem (PlainInLayer (new_content 26 bytes))
-key_valid bytes = (
-  record { number = minimal_spelling 26 (omega arith); tag = record { numbered = omega arith; short = omega arith; typed = refl }; body = record { some = omega arith; short = omega arith } },
-  λ same. omega arith,
-)
-
-value_valid : (bytes : List ℕ) → IsLayerItem (PlainInLayer (new_content 34 bytes))
-value_valid bytes = (
-  record { number = minimal_spelling 34 (omega arith); tag = record { numbered = omega arith; short = omega arith; typed = refl }; body = record { some = omega arith; short = omega arith } },
-  λ same. omega arith,
-)
-
-one_valid : (tag : ℕ) (bytes : List ℕ) (entries : List (List ℕ)) → IsLayerItem (PlainInLayer (new_content tag bytes)) → AllByRecursion IsLayerItem (missing_entry tag bytes entries)
-one_valid tag bytes entries valid = elim (cases_Bool (list_any (bytes_eq bytes) entries)) [ inl there ↦ rw there tt | inr none ↦ rw none (valid, tt) ]
-
 entries_valid : (key value : List ℕ) (items : List LayerItem) → AllByRecursion IsLayerItem (missing_entries key value items)
 entries_valid key value items =
     let keys = contents key_field (plain_fields items) in
     let values = contents value_field (plain_fields items) in
-    all_joined IsLayerItem (missing_entry 26 key keys) (missing_entry 34 value values) (one_valid 26 key keys (key_valid key)) (one_valid 34 value values (value_valid value))
+    all_joined IsLayerItem (missing_entry 26 key keys) (missing_entry 34 value values) (missing_valid 26 key keys (new_key key)) (missing_valid 34 value values (new_value value))
 
 one_heavy : (tag : ℕ) (bytes : List ℕ) (entries : List (List ℕ)) → tag < 2 ^ 64 → 2 * length (missing_entry tag bytes entries) ≤ weigh layer_item_bytes (missing_entry tag bytes entries)
 one_heavy tag bytes entries short =
@@ -193,7 +179,7 @@ module _ (choice : LayerChoice) (key : List ℕ) (value : Value) (document : Doc
     made_there =
         let same : attributed key (encoded_value value) selects layer.items ≡ whole layer.items = ap (λ items. items ++ entries) (change_nth_found is_feature (in_feature given) layer.items selects item feature_placed) in
         change_layer_found document ordinal position layer placed there (attributed key (encoded_value value) selects)
-        ∙ (of_the_layer position).alike (attributed key (encoded_value value) selects) whole document (subst (λ o. IfSome o (λ items. attributed key (encoded_value value) selects items ≡ whole items)) (sym (items_at_found document ordinal position layer placed there)) same)
+        ∙ (list_part (OfTheLayer position) document).alike (attributed key (encoded_value value) selects) whole (subst (λ o. IfSome o (λ items. attributed key (encoded_value value) selects items ≡ whole items)) (sym (items_at_found document ordinal position layer placed there)) same)
 
     checks : applied (SetAttribute choice feature key value) document ≡ (refuse_if (not (is_some (pairs_among layer.items found.fields))) (BadTags ordinal selects) >>= λ readable. (refuse_if (nat_lt 1 (pairs_with key layer.items found.fields)) (RepeatedKey ordinal selects) >>= λ once. within_limit (change_items whole position document)))
     checks = rw (chosen, selected_here, pairs_here, repeats_here, made_there) refl
@@ -237,12 +223,12 @@ module _ (choice : LayerChoice) (key : List ℕ) (value : Value) (document : Doc
             takes_so = a.takes ∙ of_run.takes_so;
           } in
           let of_items = in_the_layer position in
-          let changed_there : items_at position half ≡ Some changed = of_items.found (change_at (in_feature given) item) document ∙ ap (option_map (change_at (in_feature given) item)) (items_at_found document ordinal position layer placed there) in
+          let changed_there : items_at position half ≡ Some changed = (of_items.is_part document).found (change_at (in_feature given) item) ∙ ap (option_map (change_at (in_feature given) item)) (items_at_found document ordinal position layer placed there) in
           let of_entries = after_spliced entries (length layer.items) changed (changed_long (in_feature given) item layer.items) in
           let b = carried of_items half changed changed_there splices of_entries.there (subst (AllByRecursion IsLayerItem) (sym of_entries.puts) (entries_valid key v layer.items)) in
           let to_made : Leads second half (change_items whole position document) (weigh layer_item_bytes entries) 0 = record {
             fits = b.fits;
-            makes = b.makes ∙ makes_alike of_items half changed changed_there (λ items. items ++ entries) splices of_entries.leaves ∙ (of_the_layer position).twice (change_at (in_feature given) item) (λ items. items ++ entries) document;
+            makes = b.makes ∙ makes_alike of_items half changed changed_there (λ items. items ++ entries) splices of_entries.leaves ∙ (list_part (OfTheLayer position) document).twice (change_at (in_feature given) item) (λ items. items ++ entries);
             puts_so = b.puts ∙ ap (λ list. length (flat_map layer_item_bytes list)) of_entries.puts;
             takes_so = b.takes ∙ ap (λ list. length (flat_map layer_item_bytes list)) of_entries.takes;
           } in

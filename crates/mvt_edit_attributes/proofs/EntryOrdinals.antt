@@ -1,5 +1,6 @@
 -- The first entry that is some bytes, and its ordinal among the entries.
 use Rattle.std.proofs.Common.{◌≡◌, ℕ, suc, ◌+◌, Bool, Option, Some, None, is_some, List, [], ◌∷◌, length, map, filter, option_map, refl, sym, ap, ◌∙◌, inl, inr, arith}
+use Rattle.mvt_select.proofs.Named.{bytes_eq-flip}
 use Rattle.std.proofs.lemmas.Bool.{cases_Bool}
 use Rattle.std.proofs.lemmas.List.{length-map}
 use Rattle.std.proofs.lemmas.Slice.Eq.{bytes_eq-Decides}
@@ -14,18 +15,6 @@ use Rattle.mvt_layers.specs.Seen.{found_entry_seen}
 use Rattle.mvt_messages.specs.Views.{content_in, contents, plain_fields}
 use Rattle.mvt_layers.specs.declared.found.FoundEntry.{FoundEntry}
 use Rattle.mvt_meaning.specs.Tagging.{entry_ordinal}
-
--- ---- bytes that are equal
-
-same_bytes : (xs ys : List ℕ) → bytes_eq xs ys ≡ bytes_eq ys xs
-same_bytes xs ys =
-    elim (cases_Bool (bytes_eq xs ys)) [
-      | inl same ↦ same ∙ sym ((bytes_eq-Decides ys xs).1 (sym ((bytes_eq-Decides xs ys).0 same)))
-      | inr apart ↦ elim (cases_Bool (bytes_eq ys xs)) [
-        | inl same ↦ absurd (let yes = (bytes_eq-Decides xs ys).1 (sym ((bytes_eq-Decides ys xs).0 same)) in cc)
-        | inr too ↦ apart ∙ sym too
-      ]
-    ]
 
 -- ---- entries with their positions
 
@@ -48,7 +37,7 @@ module _ (bytes : List ℕ) where
   first_ordinal : (k : ℕ) (placed : List (ℕ × List ℕ)) → option_map_or (λ (entry : ℕ × (ℕ × List ℕ)). entry.0) (find is (enumerate_from k placed)) (k + length placed) ≡ slice_index_or (map (λ (p : ℕ × List ℕ). p.0) (filter (λ (p : ℕ × List ℕ). bytes_eq bytes p.1) (enumerate_from k (map (λ (at : ℕ × List ℕ). at.1) placed)))) 0 (k + length placed)
   first_ordinal k [] = refl
   first_ordinal k (at ∷ placed) =
-      let swapped = same_bytes bytes at.1 in
+      let swapped = bytes_eq-flip bytes at.1 in
       let long : k + suc (length placed) ≡ k + 1 + length placed = omega arith in
       elim (cases_Bool (bytes_eq at.1 bytes)) [
         | inl here ↦ (let there = swapped ∙ here in rw (here, there) refl)
@@ -58,7 +47,7 @@ module _ (bytes : List ℕ) where
   first_there : (k : ℕ) (placed : List (ℕ × List ℕ)) → is_some (find is (enumerate_from k placed)) ≡ list_any (bytes_eq bytes) (map (λ (at : ℕ × List ℕ). at.1) placed)
   first_there k [] = refl
   first_there k (at ∷ placed) =
-      let swapped = same_bytes bytes at.1 in
+      let swapped = bytes_eq-flip bytes at.1 in
       elim (cases_Bool (bytes_eq at.1 bytes)) [
         | inl here ↦ (let there = swapped ∙ here in rw (here, there) refl)
         | inr other ↦ (let none = swapped ∙ other in rw (other, none) (first_there (k + 1) placed))

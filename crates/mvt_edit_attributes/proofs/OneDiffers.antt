@@ -19,6 +19,7 @@ use Rattle.mvt_edit_steps.specs.Fates.{splices_from}
 use Rattle.mvt_edit_steps.proofs.FieldsLeft.{changes_one}
 use Rattle.mvt_edit_attributes.specs.Attribute.{run_for}
 use Rattle.mvt_meaning.specs.Tagging.{revalued}
+use Rattle.mvt_meaning.proofs.Found.{filtered_skip}
 use Rattle.mvt_edit_steps.proofs.Deciding.{counted_first}
 
 pub some_mapped : {A B : Type 0} (f : A → B) (found : Option A) → is_some (option_map f found) ≡ is_some found
@@ -55,9 +56,6 @@ any_counted test (x ∷ xs) some =
 one_more : {A : Type 0} (test : A → Bool) (x : A) (xs : List A) → length (filter test (x ∷ xs)) ≤ 1 + length (filter test xs)
 one_more test x xs = elim (cases_Bool (test x)) [ inl pass ↦ rw pass (omega arith) | inr skip ↦ rw skip (omega arith) ]
 
-passed_over : {A : Type 0} (test : A → Bool) (x : A) (xs : List A) → test x ≡ false → filter test (x ∷ xs) ≡ filter test xs
-passed_over test x xs skip = rw skip refl
-
 zip_none : {A B : Type 0} (xs : List A) (zs : List B) → zs ≡ [] → zip xs zs ≡ []
 zip_none [] zs none = refl
 zip_none (x ∷ xs) [] none = refl
@@ -85,8 +83,8 @@ few_fields decisions (field ∷ more) =
 
 -- one that does not count, and one that counts at most if another does
 two_more : {A : Type 0} (test : A → Bool) (x y : A) (others : List A) (counts : Bool) (most : ℕ) → test x ≡ false → (counts ≡ false → test y ≡ false) → length (filter test others) ≤ most → length (filter test (x ∷ y ∷ others)) ≤ cond counts 1 0 + most
-two_more test x y others true most skip second few = omega (arith, ap length (passed_over test x (y ∷ others) skip), one_more test y others, few)
-two_more test x y others false most skip second few = omega (arith, ap length (passed_over test x (y ∷ others) skip), ap length (passed_over test y others (second refl)), few)
+two_more test x y others true most skip second few = omega (arith, ap length (filtered_skip test x (y ∷ others) skip), one_more test y others, few)
+two_more test x y others false most skip second few = omega (arith, ap length (filtered_skip test x (y ∷ others) skip), ap length (filtered_skip test y others (second refl)), few)
 
 abbrev flat : ℕ × ℕ → List ℕ
 flat pair = pair.0 ∷ pair.1 ∷ []

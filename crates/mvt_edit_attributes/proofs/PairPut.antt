@@ -11,12 +11,14 @@ use Rattle.mvt_document.specs.Plain as plain
 use Rattle.mvt_document.specs.Stands.{field_of}
 use Rattle.mvt_document.specs.Wire.{field_bytes}
 use Rattle.mvt_document.specs.declared.field.FieldParts.{FieldParts as Field}
+use Rattle.mvt_document.proofs.Lists.{none_filtered}
 use Rattle.mvt_messages.specs.Views.{content_in}
 use Rattle.mvt_meaning.specs.Fields.{new_content}
 use Rattle.mvt_meaning.specs.Ordinals.{put_last}
 use Rattle.mvt_meaning.specs.Tagging.{is_packed_last, is_tags, with_more_content, with_more_tags}
 use Rattle.mvt_meaning.specs.Weights.{weigh_last}
-use Rattle.mvt_edit_steps.proofs.PutLast.{around, end_spliced, get_there, index_of, last_filtered, last_of, none_filtered, put_last_at, put_of, taken_of, weighed}
+use Rattle.mvt_meaning.proofs.Between.{get_between}
+use Rattle.mvt_edit_steps.proofs.PutLast.{around, end_spliced, index_of, last_filtered, last_of, put_last_at, put_of, taken_of, weighed}
 use Rattle.mvt_edit_steps.proofs.Putting.{item_seen, old_or_new}
 use Rattle.mvt_edit_attributes.specs.Attribute.{PutsPair}
 
@@ -37,7 +39,7 @@ last_tags fields position e =
     let place : 0 + length found.front ≡ position = found.place in
     record {
       item = found.item;
-      there = ap (λ list. slice_get list position) found.whole ∙ get_there found.front found.item found.rest position (omega arith);
+      there = ap (λ list. slice_get list position) found.whole ∙ get_between found.front found.item found.rest position (omega arith);
       packed = ap is_packed_last found.whole ∙ ap (λ last. option_map_or is_packed last false) (last_filtered is_tags found.front found.item found.rest found.passing found.last);
     }
 

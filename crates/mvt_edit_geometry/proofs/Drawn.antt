@@ -43,9 +43,6 @@ both_weigh first second =
     ∙ ap length (flat_map-append field_bytes xs ys)
     ∙ length-append (flat_map field_bytes xs) (flat_map field_bytes ys)
 
-pub all_following : {A : Type 0} (n : ℕ) (xs : List A) → take (length xs - n) (drop n xs) ≡ drop n xs
-all_following n xs = take_all (length xs - n) (drop n xs) (omega (arith, length-drop n xs))
-
 -- the fields once a run of the kind is carried out and they have the geometry alone
 pub drawn_weighs : (index taken : ℕ) (put fields : List Field) (drawing : Field) → length (flat_map field_bytes (put_once is_geometry_field (field_of drawing) (splice index taken (map field_of put) (map field_of fields)))) ≡ length (field_bytes (field_of drawing)) + others_weigh (take index fields) + others_weigh put + others_weigh (drop (index + taken) fields)
 drawn_weighs index taken put fields drawing =

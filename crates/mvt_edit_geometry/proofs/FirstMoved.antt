@@ -25,13 +25,6 @@ next_read (Ok p ∷ chunks) value more is = one_read p (all_good chunks) value m
 
 -- ---- the first integers
 
-pub first_false : (a b : Bool) → a ≡ false → (a && b) ≡ false
-first_false a b none = rw none refl
-
-pub second_false : (a b : Bool) → b ≡ false → (a && b) ≡ false
-second_false true b none = none
-second_false false b none = refl
-
 module _ (dx dy : ℤ) (fields : List Field) (first : FirstIntegers fields) (command x y : ℕ) (same : command ≡ first.command) (across : x ≡ first.x) (down : y ≡ first.y) where
   pub first_moved : moved_integers dx dy (command ∷ x ∷ y ∷ []) ≡ moves dx dy fields
   first_moved = rw (same, across, down) (sym (ap (λ found. option_map_or (moved_integers dx dy) found []) first.read))

@@ -123,14 +123,14 @@ module _ (choice : LayerChoice) (geometry : Geometry) (document : Document) (ord
               puts_so = a.puts ∙ ap (λ list. length (flat_map field_bytes list)) (append-nil put) ∙ is.puts;
               takes_so = a.takes ∙ ap (λ list. length (flat_map field_bytes list)) (append-nil (part index taken fields)) ∙ is.takes;
             } in
-            let changed_there : fields_at position item half ≡ Some changed = of_fields.found kinded document ∙ ap (option_map kinded) fields_there in
+            let changed_there : fields_at position item half ≡ Some changed = (of_fields.is_part document).found kinded ∙ ap (option_map kinded) fields_there in
             let splices = once_splices (map is_geometry_field changed) drawing (length changed) in
             let once = puts_once is_geometry_field drawing changed in
             let b = carried of_fields half changed changed_there splices once.there (subst (AllByRecursion IsField) (sym once.puts) (drawing_valid (encoded geometry), tt)) in
             let kept = kinded_drawings (kind_number geometry.kind) fields in
             let to_made : Leads (map at splices) half (change_fields drawn position item document) (length (field_bytes drawing)) (length (flat_map field_bytes (filter is_geometry_field fields))) = record {
               fits = b.fits;
-              makes = b.makes ∙ makes_alike of_fields half changed changed_there (put_once is_geometry_field drawing) splices once.leaves ∙ of_fields.changing.twice kinded (put_once is_geometry_field drawing) document;
+              makes = b.makes ∙ makes_alike of_fields half changed changed_there (put_once is_geometry_field drawing) splices once.leaves ∙ (of_fields.is_part document).twice kinded (put_once is_geometry_field drawing);
               puts_so = b.puts ∙ ap (λ list. length (flat_map field_bytes list)) once.puts ∙ ap length (append-nil (field_bytes drawing));
               takes_so = b.takes ∙ ap (λ list. length (flat_map field_bytes list)) (once.takes ∙ kept);
             } in

@@ -19,6 +19,7 @@ use Rattle.mvt_meaning.specs.Fields.{new_content, new_number, with_field_value}
 use Rattle.mvt_meaning.specs.Geometries.{is_geometry_field, is_kind, with_kind}
 use Rattle.mvt_meaning.specs.Ordinals.{change_last, put_last, put_once}
 use Rattle.mvt_meaning.specs.Weights.{weigh_last}
+use Rattle.mvt_meaning.proofs.PutOnce.{put_alone}
 use Rattle.mvt_edit_steps.specs.Once.{once_splices}
 use Rattle.mvt_edit_steps.proofs.Heavy.{heavy, number_has_bytes, tag_and_content}
 use Rattle.mvt_edit_steps.proofs.NumberFields.{numbered_kept}
@@ -66,18 +67,6 @@ module _ {A : Type 0} (passes test : A → Bool) (change : A → A) (new : A) (a
 -- ---- what a test says of a list that has a new item in place of all that pass another test
 
 module _ {A : Type 0} (passes : A → Bool) (new : A) where
-  none_passing : (xs : List A) → filter passes (filter (λ y. not (passes y)) xs) ≡ []
-  none_passing [] = refl
-  none_passing (x ∷ xs) = elim (cases_Bool (passes x)) [ inl pass ↦ rw pass (none_passing xs) | inr skip ↦ rw (skip, skip) (none_passing xs) ]
-
-  once_alone : passes new ≡ true → (xs : List A) → filter passes (put_once passes new xs) ≡ new ∷ []
-  once_alone given [] = rw given refl
-  once_alone given (x ∷ xs) =
-      elim (cases_Bool (passes x)) [
-        | inl pass ↦ rw (pass, given) (ap (λ ys. new ∷ ys) (none_passing xs))
-        | inr skip ↦ rw (skip, skip) (once_alone given xs)
-      ]
-
   module _ (test : A → Bool) (apart : (x : A) → passes x ≡ true → test x ≡ false) (fresh : test new ≡ false) where
     others_kept : (xs : List A) → filter test (filter (λ y. not (passes y)) xs) ≡ filter test xs
     others_kept [] = refl
@@ -131,7 +120,7 @@ module _ (kind : ℕ) (fields : List plain.Field) where
 
 module _ (bytes : List ℕ) (fields : List plain.Field) where
   pub one_drawing : filter is_geometry_field (put_once is_geometry_field (new_content 34 bytes) fields) ≡ new_content 34 bytes ∷ []
-  one_drawing = once_alone is_geometry_field (new_content 34 bytes) refl fields
+  one_drawing = put_alone is_geometry_field (new_content 34 bytes) refl fields
 
   pub drawn_kinds : weigh_last field_bytes is_kind (put_once is_geometry_field (new_content 34 bytes) fields) ≡ weigh_last field_bytes is_kind fields
   drawn_kinds = ap (λ kinds. option_map_or (λ field. length (field_bytes field)) (last_or None kinds) 0) (once_kept is_geometry_field (new_content 34 bytes) is_kind drawing_apart refl fields)

@@ -6,6 +6,8 @@ use Rattle.std.proofs.lemmas.List.{length-append}
 use Rattle.std.proofs.lemmas.List.Elements.{filter-append}
 use Rattle.mvt_meaning.specs.Ordinals.{count, from_nth, positions_of}
 use Rattle.mvt_meaning.proofs.Positions.{positions_from, positions_pass, positions_skip}
+use Rattle.mvt_meaning.proofs.Found.{filtered_pass, from_here}
+use Rattle.mvt_meaning.proofs.Between.{get_between}
 
 -- ---- how many pass
 
@@ -73,27 +75,17 @@ from_nth_after passes change k i (x ∷ front) rest e =
           )
     ]
 
-from_nth_first : {A : Type 0} (passes : A → Bool) (change : List A → List A) (x : A) (rest : List A) → passes x ≡ true → from_nth passes change 0 (x ∷ rest) ≡ change (x ∷ rest)
-from_nth_first passes change x rest pass = rw pass refl
-
 pub from_nth_at : {A : Type 0} (passes : A → Bool) (change : List A → List A) (ordinal : ℕ) (front : List A) (item : A) (back : List A) → count passes front ≡ ordinal → passes item ≡ true → from_nth passes change ordinal (front ++ item ∷ back) ≡ front ++ change (item ∷ back)
 from_nth_at passes change ordinal front item back counted pass =
     from_nth_after passes change ordinal 0 front (item ∷ back) (omega arith)
-    ∙ ap (λ rest. front ++ rest) (from_nth_first passes change item back pass)
+    ∙ ap (λ rest. front ++ rest) (from_here passes change item back pass)
 
 -- ---- the item itself
 
-pub get_following : {A : Type 0} (front : List A) (x : A) (back : List A) (n : ℕ) → length front ≡ n → slice_get (front ++ x ∷ back) n ≡ Some x
-get_following [] x back n e = ap (slice_get (x ∷ back)) (sym e)
-get_following (y ∷ front) x back n e = ap (slice_get (y ∷ front ++ x ∷ back)) (sym e) ∙ get_following front x back (length front) refl
-
-filter_pass : {A : Type 0} (passes : A → Bool) (x : A) (xs : List A) → passes x ≡ true → filter passes (x ∷ xs) ≡ x ∷ filter passes xs
-filter_pass passes x xs e = rw e refl
-
 pub nth_is : {A : Type 0} (passes : A → Bool) (ordinal : ℕ) (front : List A) (item : A) (back : List A) → count passes front ≡ ordinal → passes item ≡ true → slice_get (filter passes (front ++ item ∷ back)) ordinal ≡ Some item
 nth_is passes ordinal front item back counted pass =
-    ap (λ xs. slice_get xs ordinal) (filter-append passes front (item ∷ back) ∙ ap (λ xs. filter passes front ++ xs) (filter_pass passes item back pass))
-    ∙ get_following (filter passes front) item (filter passes back) ordinal counted
+    ap (λ xs. slice_get xs ordinal) (filter-append passes front (item ∷ back) ∙ ap (λ xs. filter passes front ++ xs) (filtered_pass passes item back pass))
+    ∙ get_between (filter passes front) item (filter passes back) ordinal counted
 
 -- ---- two items
 

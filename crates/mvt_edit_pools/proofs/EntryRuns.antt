@@ -10,6 +10,7 @@ use Rattle.mvt_document.specs.declared.run.Run.{Run}
 use Rattle.mvt_document.specs.Kinds.{is_entry as is_entry_of}
 use Rattle.mvt_document.specs.Runs.{IsRun, IsRunOf}
 use Rattle.mvt_document.specs.Stands.{layer_item_of}
+use Rattle.mvt_document.proofs.Running.{parts_known}
 use Rattle.mvt_layers.proofs.InRun.{is_found_entry}
 use Rattle.mvt_meaning.specs.Compaction.{is_entry}
 use Rattle.mvt_edit_pools.specs.Marks.{gone_by}
@@ -41,13 +42,6 @@ true_before count following k rest inside =
           )
     ]
 
-parts : (run : Run) (values : List Bool) (h : IsRun run values) → values ≡ replicate run.first false ++ (replicate run.count true ++ (replicate h.following false ++ h.rest))
-parts run values h =
-    let F = replicate run.first false in
-    let C = replicate run.count true in
-    let B = replicate h.following false in
-    h.is ∙ append_assoc F (C ++ B) h.rest ∙ ap (λ t. F ++ t) (append_assoc C B h.rest)
-
 -- ---- an item at an index of a layer
 
 entry_same : (number : ℕ) (item : LayerItem) → is_entry number (layer_item_of item) ≡ is_entry_of number item
@@ -67,14 +61,14 @@ entry_at number (item ∷ items) (suc index) is h = entry_at number items index 
 pub none_before : (number : ℕ) (run : Run) (items : List LayerItem) (index : ℕ) → IsRunOf (is_entry_of number) run items → index < run.first → IsEntryAt number items index false
 none_before number run items index h before =
     entry_at number items index false
-    (ap (λ values. slice_get values index) (parts run (map (is_entry_of number) items) h)
+    (ap (λ values. slice_get values index) (parts_known run (map (is_entry_of number) items) h)
     ∙ same_at run.first index false (replicate run.count true ++ (replicate h.following false ++ h.rest)) before)
 
 -- from its first on each is one up to its last, and none after that
 pub ones_from : (number : ℕ) (run : Run) (items : List LayerItem) (index : ℕ) → IsRunOf (is_entry_of number) run items → run.first ≤ index → index < run.until → IsEntryAt number items index (nat_lt (index - run.first) run.count)
 ones_from number run items index h from known =
     entry_at number items index (nat_lt (index - run.first) run.count)
-    (ap (λ values. slice_get values index) (parts run (map (is_entry_of number) items) h)
+    (ap (λ values. slice_get values index) (parts_known run (map (is_entry_of number) items) h)
     ∙ past_same run.first index false (replicate run.count true ++ (replicate h.following false ++ h.rest)) from
     ∙ true_before run.count h.following (index - run.first) h.rest (omega (arith, h.until)))
 

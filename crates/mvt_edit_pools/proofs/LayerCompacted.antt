@@ -8,8 +8,10 @@ use Rattle.mvt_document.specs.Plain.{Field, Feature, Layer, LayerItem, OfLayer, 
 use Rattle.mvt_document.specs.Opens.{IsLayerItem}
 use Rattle.mvt_document.specs.Places.{change_items, items_at, items_in}
 use Rattle.mvt_document.specs.Wire.{field_bytes, layer_item_bytes}
+use Rattle.mvt_document.proofs.Lists.{same_each}
 use Rattle.mvt_renumber.specs.declared.fate.Fate.{Fate}
-use Rattle.mvt_change.specs.Changes.{Change}
+use Rattle.mvt_change.specs.Changes.{Change, OfTheLayer}
+use Rattle.mvt_change.proofs.Lenses.{list_part}
 use Rattle.mvt_messages.specs.Views.{features, key_field, value_field}
 use Rattle.mvt_meaning.specs.Compaction.{compacted, is_entry, leaving, new_ordinals, repointing, staying, with_new_ordinals}
 use Rattle.mvt_meaning.specs.Tagging.{differing}
@@ -19,9 +21,8 @@ use Rattle.mvt_edit_steps.specs.Fates.{splices_of}
 use Rattle.mvt_edit_steps.proofs.CarriedOut.{put_all, spliced_all, taken_all}
 use Rattle.mvt_edit_steps.proofs.Carrying.{carried, in_layer_at, in_the_layer, makes_alike}
 use Rattle.mvt_edit_steps.proofs.Come.{CarriesEach, Come, both_come, each_changed, layer_comes, puts_in, takes_in}
-use Rattle.mvt_edit_steps.proofs.EachFeature.{joined_each, mapped_each, of_features, same_each}
+use Rattle.mvt_edit_steps.proofs.EachFeature.{joined_each, mapped_each, of_features}
 use Rattle.mvt_edit_steps.proofs.FieldsLeft.{fields_put, fields_taken}
-use Rattle.mvt_edit_steps.proofs.ListPlaces.{of_the_layer}
 use Rattle.mvt_edit_pools.specs.Marks.{entry_splices, entry_steps}
 use Rattle.mvt_edit_pools.specs.Pools.{compacting, gone_from, ordinal_fates}
 use Rattle.mvt_edit_pools.proofs.Gone.{IsHeavy, entries_weigh, field_list, gone_changed, heavy_changed, leaving_changed, takes_entries}
@@ -74,12 +75,12 @@ module _ (keys values : List LayerItem → ℕ → Bool) where
     there = ap (option_and_then items_in) is
 
     there_then : items_at position half ≡ Some items_then
-    there_then = (in_the_layer position).found (each_changed fates change) document ∙ ap (option_map (each_changed fates change)) there
+    there_then = (list_part (OfTheLayer position) document).found (each_changed fates change) ∙ ap (option_map (each_changed fates change)) there
 
     stay_made : change_items stay position half ≡ made
     stay_made =
-        (of_the_layer position).twice (each_changed fates change) stay document
-        ∙ (of_the_layer position).alike (λ items. stay (each_changed fates change items)) (compacted keys values) document
+        (list_part (OfTheLayer position) document).twice (each_changed fates change) stay
+        ∙ (list_part (OfTheLayer position) document).alike (λ items. stay (each_changed fates change items)) (compacted keys values)
         (subst (λ found. IfSome found (λ items. stay (each_changed fates change items) ≡ compacted keys values items)) (sym there) refl)
 
     entries_come : Come (entry_steps position (gone_from (keys layer.items) (values layer.items) 0 0 items_then)) half made [] (entries_of layer)

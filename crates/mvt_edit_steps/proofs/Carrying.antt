@@ -11,16 +11,14 @@ use Rattle.mvt_document.specs.Splicing.{part, splice}
 use Rattle.mvt_document.specs.Lists.{CanSplice}
 use Rattle.mvt_document.specs.Places.{items_at, fields_at, change_items, change_fields}
 use Rattle.mvt_document.proofs.EachItem.{all_apart}
-use Rattle.mvt_change.specs.Changes.{OfTheLayer, OfTheFeature, Step, TileStep, LayerStep, FeatureStep, Change, go_step, go, FitsStep, Fits, turn_step, turn, taken_out, step_weight, weight}
-use Rattle.mvt_change.proofs.Lenses.{list_part}
+use Rattle.mvt_change.specs.Changes.{OfTheTile, OfTheLayer, OfTheFeature, Step, TileStep, LayerStep, FeatureStep, Change, go_step, go, FitsStep, Fits, turn_step, turn, taken_out, step_weight, weight}
+use Rattle.mvt_change.proofs.Lenses.{list_part, IsPart}
 use Rattle.mvt_edit_steps.specs.Fates.{Splice}
 use Rattle.mvt_edit_steps.proofs.CarriedOut.{spliced_all, taken_all, put_all, AreThere}
-use Rattle.mvt_edit_steps.proofs.ListPlaces.{Changing, of_the_tile, of_the_layer, of_the_feature}
 
 -- the list at a place: how it is found and changed, and what the step of a splice of it does
 pub record Sits {Y : Type 0} (step_with : Splice Y → Step) (valid : Y → Type 0) (find : Document → Option (List Y)) (change : (List Y → List Y) → Document → Document) (bytes : Y → List ℕ) : Type 0 where
-  pub found : (f : List Y → List Y) (document : Document) → find (change f document) ≡ option_map f (find document)
-  pub changing : Changing find change
+  pub is_part : (document : Document) → IsPart find change document
   pub goes : (s : Splice Y) (document : Document) → go_step (step_with s) document ≡ change (splice s.index s.taken s.put) document
   pub fits : (s : Splice Y) (document : Document) → IsSomeAnd (find document) (CanSplice valid s.index s.taken s.put) → FitsStep (step_with s) document
   pub puts : (s : Splice Y) → step_weight (step_with s) ≡ length (flat_map bytes s.put)
@@ -37,8 +35,7 @@ in_feature_at layer item s = FeatureStep layer item s.index s.taken s.put
 
 pub in_the_tile : Sits in_tile IsTileItem (λ document. Some document) (λ f document. f document) tile_item_bytes
 in_the_tile = record {
-  found = λ f document. refl;
-  changing = of_the_tile;
+  is_part = list_part OfTheTile;
   goes = λ s document. refl;
   fits = λ s document can. can;
   puts = λ s. refl;
@@ -47,8 +44,7 @@ in_the_tile = record {
 
 pub in_the_layer : (layer : ℕ) → Sits (in_layer_at layer) IsLayerItem (items_at layer) (λ f document. change_items f layer document) layer_item_bytes
 in_the_layer layer = record {
-  found = λ f document. (list_part (OfTheLayer layer) document).found f;
-  changing = of_the_layer layer;
+  is_part = list_part (OfTheLayer layer);
   goes = λ s document. refl;
   fits = λ s document can. can;
   puts = λ s. refl;
@@ -57,8 +53,7 @@ in_the_layer layer = record {
 
 pub in_the_feature : (layer item : ℕ) → Sits (in_feature_at layer item) IsField (fields_at layer item) (λ f document. change_fields f layer item document) field_bytes
 in_the_feature layer item = record {
-  found = λ f document. (list_part (OfTheFeature layer item) document).found f;
-  changing = of_the_feature layer item;
+  is_part = list_part (OfTheFeature layer item);
   goes = λ s document. refl;
   fits = λ s document can. can;
   puts = λ s. refl;
@@ -77,14 +72,14 @@ weighs_both bytes xs ys = ap length (flat_map-append bytes xs ys) ∙ length-app
 
 module _ {Y : Type 0} {step_with : Splice Y → Step} {valid : Y → Type 0} {find : Document → Option (List Y)} {change : (List Y → List Y) → Document → Document} {bytes : Y → List ℕ} (sits : Sits step_with valid find change bytes) where
   makes_all : (splices : List (Splice Y)) (document : Document) → go (map step_with splices) document ≡ change (spliced_all splices) document
-  makes_all [] document = sym (sits.changing.still document)
+  makes_all [] document = sym (sits.is_part document).same
   makes_all (s ∷ splices) document =
       ap (go (map step_with splices)) (sits.goes s document)
       ∙ makes_all splices (change (splice s.index s.taken s.put) document)
-      ∙ sits.changing.twice (splice s.index s.taken s.put) (spliced_all splices) document
+      ∙ (sits.is_part document).twice (splice s.index s.taken s.put) (spliced_all splices)
 
   then_there : (s : Splice Y) (document : Document) (items : List Y) → find document ≡ Some items → find (go_step (step_with s) document) ≡ Some (splice s.index s.taken s.put items)
-  then_there s document items there = ap find (sits.goes s document) ∙ sits.found (splice s.index s.taken s.put) document ∙ ap (option_map (splice s.index s.taken s.put)) there
+  then_there s document items there = ap find (sits.goes s document) ∙ (sits.is_part document).found (splice s.index s.taken s.put) ∙ ap (option_map (splice s.index s.taken s.put)) there
 
   fit_all : (splices : List (Splice Y)) (document : Document) (items : List Y) → find document ≡ Some items → AreThere splices items → AllByRecursion valid (put_all splices) → Fits (map step_with splices) document
   fit_all [] document items there has all = tt
@@ -113,4 +108,4 @@ module _ {Y : Type 0} {step_with : Splice Y → Step} {valid : Y → Type 0} {fi
 
   -- where the splices leave what a change of the list makes
   pub makes_alike : (document : Document) (items : List Y) → find document ≡ Some items → (f : List Y → List Y) (splices : List (Splice Y)) → spliced_all splices items ≡ f items → change (spliced_all splices) document ≡ change f document
-  makes_alike document items there f splices same = sits.changing.alike (spliced_all splices) f document (subst (λ o. IfSome o (λ x. spliced_all splices x ≡ f x)) (sym there) same)
+  makes_alike document items there f splices same = (sits.is_part document).alike (spliced_all splices) f (subst (λ o. IfSome o (λ x. spliced_all splices x ≡ f x)) (sym there) same)

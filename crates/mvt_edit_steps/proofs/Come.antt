@@ -10,7 +10,8 @@ use Rattle.mvt_document.specs.Opens.{IsField}
 use Rattle.mvt_document.specs.Wire.{field_bytes}
 use Rattle.mvt_document.specs.Lists.{change_at}
 use Rattle.mvt_document.specs.Places.{change_fields, change_items, fields_at, fields_in, fields_in_at, in_feature, items_at, items_in}
-use Rattle.mvt_change.specs.Changes.{Change, Fits, go, turn, weight}
+use Rattle.mvt_change.specs.Changes.{Change, Fits, go, turn, weight, OfTheLayer}
+use Rattle.mvt_change.proofs.Lenses.{list_part}
 use Rattle.mvt_messages.specs.Found.{found_features, with_position}
 use Rattle.mvt_messages.specs.Views.{feature_in}
 use Rattle.mvt_meaning.proofs.Between.{get_between}
@@ -19,7 +20,6 @@ use Rattle.mvt_renumber.specs.declared.fate.Fate.{Fate}
 use Rattle.mvt_edit_steps.proofs.CarriedOut.{AreThere, put_all, spliced_all, taken_all}
 use Rattle.mvt_edit_steps.proofs.Carrying.{carried, in_feature_at, in_the_feature, in_the_layer, makes_alike}
 use Rattle.mvt_edit_steps.proofs.Leading.{both_lead}
-use Rattle.mvt_edit_steps.proofs.ListPlaces.{of_the_layer}
 use Rattle.mvt_edit_steps.specs.EachFeature.{layer_steps}
 
 -- the steps fit the document and turn it into `made`; they put as many bytes as the fields of `puts` have, and take out
@@ -102,8 +102,8 @@ module _ (fates : List Field → List (Fate Field)) (change : List Field → Lis
 
   items_same : (layer : ℕ) (document : Document) (items : List LayerItem) → items_at layer document ≡ Some items → document ≡ with_items layer items document
   items_same layer document items there =
-      sym ((of_the_layer layer).still document)
-      ∙ (of_the_layer layer).alike (λ before. before) (λ before. items) document (subst (λ found. IfSome found (λ before. before ≡ items)) (sym there) refl)
+      sym (list_part (OfTheLayer layer) document).same
+      ∙ (list_part (OfTheLayer layer) document).alike (λ before. before) (λ before. items) (subst (λ found. IfSome found (λ before. before ≡ items)) (sym there) refl)
 
   features_come : (layer : ℕ) (front rest : List LayerItem) (n : ℕ) (document : Document) → length front ≡ n → items_at layer document ≡ Some (front ++ rest) → AllByRecursion CarriesIn rest
       → Come (flat_map (steps_at layer) (placed n rest)) document (with_items layer (front ++ map (in_feature change) rest) document) (flat_map puts_at (placed n rest)) (flat_map takes_at (placed n rest))
@@ -129,11 +129,11 @@ module _ (fates : List Field → List (Fate Field)) (change : List Field → Lis
       let first : Come (map (in_feature_at layer n) splices) document half (put_all splices) (taken_all splices feature.fields) =
       record { fits = done.fits; makes = made; puts_so = done.puts; takes_so = done.takes; few_so = omega (arith, all.0.few, length-map splices (in_feature_at layer n)) } in
       let there_then : items_at layer half ≡ Some ((front ++ item ∷ []) ++ rest) =
-      (in_the_layer layer).found (change_at (in_feature change) n) document ∙ ap (option_map (change_at (in_feature change) n)) there
+      (list_part (OfTheLayer layer) document).found (change_at (in_feature change) n) ∙ ap (option_map (change_at (in_feature change) n)) there
       ∙ ap Some (change_between (in_feature change) front (OfFeature feature) rest n e ∙ sym (append_assoc front (item ∷ []) rest)) in
       let more = features_come layer (front ++ item ∷ []) rest (n + 1) half (one_longer front item n e) there_then all.1 in
       let end : with_items layer ((front ++ item ∷ []) ++ map (in_feature change) rest) half ≡ with_items layer (front ++ item ∷ map (in_feature change) rest) document =
-      (of_the_layer layer).twice (change_at (in_feature change) n) (λ before. (front ++ item ∷ []) ++ map (in_feature change) rest) document
+      (list_part (OfTheLayer layer) document).twice (change_at (in_feature change) n) (λ before. (front ++ item ∷ []) ++ map (in_feature change) rest)
       ∙ ap (λ items. with_items layer items document) (append_assoc front (item ∷ []) (map (in_feature change) rest)) in
       subst (λ d. Come (map (in_feature_at layer n) splices ++ flat_map (steps_at layer) (placed (n + 1) rest)) document d (put_all splices ++ flat_map puts_at (placed (n + 1) rest)) (taken_all splices feature.fields ++ flat_map takes_at (placed (n + 1) rest))) end
       (both_come (map (in_feature_at layer n) splices) (flat_map (steps_at layer) (placed (n + 1) rest)) document half _ (put_all splices) (flat_map puts_at (placed (n + 1) rest)) (taken_all splices feature.fields) (flat_map takes_at (placed (n + 1) rest)) first more)
@@ -164,7 +164,7 @@ module _ (fates : List LayerItem → List Field → List (Fate Field)) (change :
       let list = placed f c 0 layer.items in
       let there : items_at position document ≡ Some layer.items = ap (option_and_then items_in) is in
       let come = features_come f c position [] layer.items 0 document refl there all in
-      let made = (of_the_layer position).alike (λ before. map (in_feature c) layer.items) each_changed document (subst (λ found. IfSome found (λ before. map (in_feature c) layer.items ≡ each_changed before)) (sym there) refl) in
+      let made = (list_part (OfTheLayer position) document).alike (λ before. map (in_feature c) layer.items) each_changed (subst (λ found. IfSome found (λ before. map (in_feature c) layer.items ≡ each_changed before)) (sym there) refl) in
       let steps = numbered (steps_at f c position) 0 list in
       record {
         fits = subst (λ s. Fits s document) (sym steps) come.fits;

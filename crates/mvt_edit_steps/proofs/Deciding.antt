@@ -52,10 +52,6 @@ pub more_some : {A : Type 0} (x : A) (rest : Option (List A)) → is_some (and_m
 more_some x None = refl
 more_some x (Some more) = refl
 
-pub none_is : {A : Type 0} (found : Option A) → is_some found ≡ false → found ≡ None
-none_is None is = refl
-none_is (Some x) is = absurd cc
-
 -- if tags are decided on, they make pairs
 pub then_pairs : {A B : Type 0} (f : A → B) (found : Option A) (made : B) → option_map f found ≡ Some made → is_some found ≡ true
 then_pairs f None made is = absurd cc

@@ -18,10 +18,6 @@ module _ {A B C : Type 0} (f : A → List B) where
   joined_each g [] = refl
   joined_each g (x ∷ list) = flat_map-append g (f x) (flat_map f list) ∙ ap (λ rest. flat_map g (f x) ++ rest) (joined_each g list)
 
-pub same_each : {A B : Type 0} (f g : A → List B) → ((x : A) → f x ≡ g x) → (list : List A) → flat_map f list ≡ flat_map g list
-same_each f g same [] = refl
-same_each f g same (x ∷ list) = ap (λ first. first ++ flat_map f list) (same x) ∙ ap (λ rest. g x ++ rest) (same_each f g same list)
-
 -- what is made of the features of a layer, by what is made of each
 pub of_features : {A : Type 0} (layer : Layer) (made : Feature → List A) → flat_map (λ (at : ℕ × (ℕ × Feature)). made at.1.1) (found_features layer.items) ≡ flat_map made (features layer)
 of_features layer made =

@@ -4,6 +4,7 @@ use Rattle.std.specs.List.{AllByRecursion, enumerate_from, filter_map, flat_map}
 use Rattle.mvt_document.specs.Plain.{Field, Layer, LayerItem, TileItem, OfLayer, PlainInTile, Document}
 use Rattle.mvt_document.specs.Wire.{field_bytes}
 use Rattle.mvt_document.specs.Places.{change_items, in_layer}
+use Rattle.mvt_document.proofs.EachItem.{one_of_all}
 use Rattle.mvt_change.specs.Changes.{Change, Fits, go, turn, weight}
 use Rattle.mvt_messages.specs.Found.{found_layers, with_position}
 use Rattle.mvt_messages.specs.Views.{layer_in}
@@ -30,11 +31,6 @@ placed_layers n items = filter_map (with_position layer_in) (enumerate_from n it
 
 same_list : (one other : List (ℕ × (ℕ × Layer))) (r : Result (List (ℕ × (ℕ × Layer))) Refusal) → r ≡ Ok one → r ≡ Ok other → one ≡ other
 same_list one other r is is_too = let both = sym is ∙ is_too in cc
-
-holds_at : {A : Type 0} (P : A → Type 0) (items : List A) (n : ℕ) (x : A) → slice_get items n ≡ Some x → AllByRecursion P items → P x
-holds_at P [] n x is all = absurd cc
-holds_at P (y ∷ items) zero x is all = let same : y ≡ x = cc in subst P same all.0
-holds_at P (y ∷ items) (suc n) x is all = holds_at P items n x is all.1
 
 -- the steps of a layer that is found with its position, what it becomes, and the fields that are put and taken out,
 -- where this holds for the layer
@@ -94,7 +90,7 @@ module _ (steps_of : ℕ × Layer → Change) (change : List LayerItem → List 
         let at : ℕ × (ℕ × Layer) = (ordinal, (one.position, one.layer)) in
         let here : at ∷ [] ≡ found = same_list (at ∷ []) found (selected_layers (TheLayer choice) document) one.alone is in
         let changed = change_items change one.position document in
-        let come = comes one.position one.layer document one.there (holds_at (InTile Holds) document one.position (OfLayer one.layer) one.there all) in
+        let come = comes one.position one.layer document one.there (one_of_all (InTile Holds) document one.position (OfLayer one.layer) one.there all) in
         subst (Made (TheLayer choice) document) here (record {
           made = changed;
           means = rw selects (ap Ok (change_layer_found document ordinal one.position one.layer one.placed one.there change));

@@ -24,7 +24,7 @@ use Rattle.mvt_renumber.specs.declared.fate.Fate.TheVariants.{Stays}
 use Rattle.mvt_renumber.specs.Laws.{AreShort, keeping}
 use Rattle.mvt_renumber.specs.Renumbering.{decided, field_numbers, is_changed, renumber, renumbered, renumbered_field, some_changed, with_left}
 use Rattle.mvt_renumber.proofs.Decisions.{renumbered-none, renumbered_more, with_number-same}
-use Rattle.mvt_renumber.proofs.Redone.{kept_stays, stays_valid}
+use Rattle.mvt_renumber.proofs.Redone.{kept_stays, stays_valid, own_left}
 use Rattle.mvt_meaning.specs.Decided.{as_before, as_renumbered, decided_fields, is_renumbered, renumbered_fields}
 use Rattle.mvt_edit_steps.specs.Decided.{field_fates}
 use Rattle.mvt_edit_steps.specs.Fates.{splices_of}
@@ -61,13 +61,6 @@ all_same (Some value ∷ decisions) (n ∷ list) same =
     renumbered_more (Some value) decisions n list
     ∙ ap (λ first. first ∷ renumbered decisions list) (with_number-same value n (sym is))
     ∙ ap (λ more. n ∷ more) (all_same decisions list parts.1)
-
-all_kept : (list : List plain.Number) → renumbered (keeping list) list ≡ list
-all_kept [] = refl
-all_kept (n ∷ list) =
-    renumbered_more (Some n.value) (keeping list) n list
-    ∙ ap (λ first. first ∷ renumbered (keeping list) list) (with_number-same n.value n refl)
-    ∙ ap (λ more. n ∷ more) (all_kept list)
 
 -- ---- what is left of one field
 
@@ -130,13 +123,6 @@ field_at at = at.1
 -- ---- the fields of one number
 
 module _ (number : ℕ) where
-  own_left : (field : plain.Field) → with_left field (field_numbers number field) (field_numbers number field) ≡ field ∷ []
-  own_left field =
-      let list = field_numbers number field in
-      ap (with_left field list) (sym (all_kept list) ∙ ap (λ all. renumbered (keeping all) list) (sym (append-nil list)))
-      ∙ sym (append-nil (with_left field list (renumbered (keeping (list ++ [])) list)))
-      ∙ kept_stays number (field ∷ [])
-
   module _ (decisions : List (Option ℕ)) (field : plain.Field) where
     abbrev own : List plain.Number
     own = field_numbers number field
@@ -148,7 +134,7 @@ module _ (number : ℕ) where
     left_one =
         elim (cases_Bool (some_changed decisions own)) [
           | inl some ↦ rw some (left_fate field (renumbered_field number decisions field) short)
-          | inr same ↦ rw same (sym (ap (with_left field own) (all_same decisions own same) ∙ own_left field))
+          | inr same ↦ rw same (sym (ap (with_left field own) (all_same decisions own same) ∙ own_left number field (field_numbers number field) refl))
         ]
 
     pub changes_one : changes (field_fate number decisions field) ≡ some_changed decisions own

@@ -5,6 +5,7 @@ use Rattle.std.proofs.lemmas.List.{append-nil, map-append, take_all, take_more}
 use Rattle.std.proofs.lemmas.List.Elements.{filter-append}
 use Rattle.std.specs.List.{AllZip, cons_option}
 use Rattle.std.specs.Option.{IfSome}
+use Rattle.std.proofs.lemmas.Slice.Zip.{all_zipped_more}
 use Rattle.mvt_change.specs.Changes as plain
 use Rattle.mvt_change.specs.ChangeStands.{step_of}
 use Rattle.mvt_change.specs.declared.change.Step.{Step}
@@ -49,16 +50,10 @@ run_whole (Some run) at rest ends =
 
 -- ---- one more fate
 
-all_zip_more : {A B : Type 0} (R : A → B → Type 0) (xs : List A) (ys : List B) (x : A) (y : B) → AllZip R xs ys → R x y → AllZip R (xs ++ x ∷ []) (ys ++ y ∷ [])
-all_zip_more R [] [] x y all new = (new, tt)
-all_zip_more R [] (z ∷ ys) x y all new = absurd all
-all_zip_more R (z ∷ xs) [] x y all new = absurd all
-all_zip_more R (z ∷ xs) (v ∷ ys) x y all new = (all.0, all_zip_more R xs ys x y all.1 new)
-
 -- what was answered for each of the items so far
 pub one_more_answered : {T B : Type 0} (answers : T → B → Type 0) (items : List T) (index : ℕ) (x : T) (fates : List B) (fate : B) → index < length items → x ≡ get_or items index x → AllZip answers (take index items) fates → answers x fate → AllZip answers (take (index + 1) items) (fates ++ fate ∷ [])
 one_more_answered answers items index x fates fate within is answered says =
-    subst (λ all. AllZip answers all (fates ++ fate ∷ [])) (sym (take_more items index x within ∙ ap (λ y. take index items ++ y ∷ []) (sym is))) (all_zip_more answers (take index items) fates x fate answered says)
+    subst (λ all. AllZip answers all (fates ++ fate ∷ [])) (sym (take_more items index x within ∙ ap (λ y. take index items ++ y ∷ []) (sym is))) (all_zipped_more answers (take index items) fates x fate answered says)
 
 -- the fates of the items before the index, for which this was said, and the steps after those that were given, whichever
 -- fates follow

@@ -49,13 +49,13 @@ takes_out goes items =
 
 -- ---- as the program sees them
 
-module _ {T A : Type 0} (view : T → A) (goes : A → Bool) (answers : T → Fate T → Type 0) (each : (x : T) (fate : Fate T) → answers x fate → fate ≡ goes_if (goes (view x))) where
-  picked_seen : (picked : Bool) → fate_seen view (goes_if picked) ≡ goes_if picked
-  picked_seen true = refl
-  picked_seen false = refl
+pub goes_seen : {T A : Type 0} (view : T → A) (picked : Bool) → fate_seen view (goes_if picked) ≡ goes_if picked
+goes_seen view true = refl
+goes_seen view false = refl
 
+module _ {T A : Type 0} (view : T → A) (goes : A → Bool) (answers : T → Fate T → Type 0) (each : (x : T) (fate : Fate T) → answers x fate → fate ≡ goes_if (goes (view x))) where
   each_seen : (x : T) (fate : Fate T) → answers x fate → fate_seen view fate ≡ goes_if (goes (view x))
-  each_seen x fate says = ap (fate_seen view) (each x fate says) ∙ picked_seen (goes (view x))
+  each_seen x fate says = ap (fate_seen view) (each x fate says) ∙ goes_seen view (goes (view x))
 
   -- the splices that the program makes are those of the plain values
   pub out_seen : (xs : List T) (fates : List (Fate T)) → AllZip answers xs fates → map (seen view) (splices_of fates) ≡ out goes (map view xs)

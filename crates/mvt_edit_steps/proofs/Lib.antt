@@ -1,7 +1,6 @@
 pub mod CarriedOut
 pub mod Once
 pub mod Following
-pub mod ListPlaces
 pub mod Planned
 pub mod Decided
 pub mod Going

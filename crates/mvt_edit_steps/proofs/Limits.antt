@@ -12,13 +12,3 @@ limit_kept made within = let fits : nat_lt MAX_FILE (length (bytes_of made)) ≡
 
 pub limit_passed : (made : Document) → MAX_FILE < length (bytes_of made) → within_limit made ≡ Err TooLarge
 limit_passed made past = let large : nat_lt MAX_FILE (length (bytes_of made)) ≡ true = lt-ltb MAX_FILE (length (bytes_of made)) past in rw large refl
-
--- ---- what follows for a check from its opposite
-
-pub not_true : (b : Bool) → not b ≡ true → b ≡ false
-not_true true e = absurd cc
-not_true false e = refl
-
-pub not_false : (b : Bool) → not b ≡ false → b ≡ true
-not_false true e = refl
-not_false false e = absurd cc

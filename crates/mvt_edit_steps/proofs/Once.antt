@@ -1,6 +1,7 @@
 -- A new item in place of the first that passes: the fates as far as a walk has come, and what the splices make of the
 -- list.
 use Rattle.std.proofs.Common.{◌≡◌, ℕ, ◌+◌, ◌<◌, ◌≤◌, Bool, true, false, not, cond, Option, Some, None, List, [], ◌∷◌, ◌++◌, length, map, take, filter, option_map, get_or, refl, sym, ap, ◌∙◌, subst, inl, inr, arith}
+use Rattle.mvt_document.proofs.Lists.{none_filtered}
 use Rattle.std.proofs.lemmas.Bool.{cases_Bool}
 use Rattle.std.proofs.lemmas.List.{append-nil, map-append}
 use Rattle.std.specs.List.{AllZip, flat_map, list_any}
@@ -12,7 +13,7 @@ use Rattle.mvt_edit_steps.specs.Once.{at_end, left_once, once_fate, once_fates, 
 use Rattle.mvt_edit_steps.proofs.CarriedOut.{AreThere, carries_beside, new_in, put_all, spliced_all, taken_all}
 use Rattle.mvt_edit_steps.proofs.Following.{one_more_answered}
 use Rattle.mvt_edit_steps.proofs.Planned.{splices_seen}
-use Rattle.mvt_edit_steps.proofs.PutLast.{end_spliced, none_filtered}
+use Rattle.mvt_edit_steps.proofs.PutLast.{end_spliced}
 
 -- ---- as far as a walk has come
 

@@ -7,9 +7,11 @@ use Rattle.std.proofs.lemmas.Option.{slice_get_past}
 use Rattle.std.specs.List.{flat_map, last_or, list_any}
 use Rattle.std.specs.Option.{IfSome, option_map_or, unwrap_or}
 use Rattle.mvt_document.specs.Splicing.{part, splice}
+use Rattle.mvt_document.proofs.Lists.{last_pushed, none_filtered}
 use Rattle.mvt_meaning.specs.Ordinals.{change_last, put_last}
 use Rattle.mvt_meaning.specs.Weights.{weigh_last}
 use Rattle.mvt_meaning.proofs.Positions.{change_here, change_later, last_here, last_later, no_last, positions_from}
+use Rattle.mvt_meaning.proofs.Between.{get_between}
 
 -- ---- the list around its last item that passes
 
@@ -49,22 +51,10 @@ changed_there passes change [] item rest pass none = change_here passes change i
 changed_there passes change (x ∷ front) item rest pass none =
     change_later passes change x (front ++ item ∷ rest) (any_there passes front item rest pass) ∙ ap (λ ys. x ∷ ys) (changed_there passes change front item rest pass none)
 
-pub none_filtered : {A : Type 0} (passes : A → Bool) (xs : List A) → list_any passes xs ≡ false → filter passes xs ≡ []
-none_filtered passes [] none = refl
-none_filtered passes (x ∷ xs) none =
-    elim (cases_Bool (passes x)) [
-      | inl pass ↦ absurd (let some = rw pass at none in cc)
-      | inr skip ↦ rw skip (none_filtered passes xs (rw skip at none))
-    ]
-
-last_after : {A : Type 0} (o : Option A) (xs : List A) (x : A) → last_or o (xs ++ x ∷ []) ≡ Some x
-last_after o [] x = refl
-last_after o (y ∷ xs) x = last_after (Some y) xs x
-
 pub last_filtered : {A : Type 0} (passes : A → Bool) (front : List A) (item : A) (rest : List A) → passes item ≡ true → list_any passes rest ≡ false → last_or None (filter passes (front ++ item ∷ rest)) ≡ Some item
 last_filtered passes front item rest pass none =
     let here : filter passes (item ∷ rest) ≡ item ∷ [] = rw pass (ap (λ ys. item ∷ ys) (none_filtered passes rest none)) in
-    ap (last_or None) (filter-append passes front (item ∷ rest) ∙ ap (λ ys. filter passes front ++ ys) here) ∙ last_after None (filter passes front) item
+    ap (last_or None) (filter-append passes front (item ∷ rest) ∙ ap (λ ys. filter passes front ++ ys) here) ∙ last_pushed None (filter passes front) item
 
 -- ---- one item replaced
 
@@ -88,9 +78,6 @@ one_part front item rest k place = ap (take 1) (drop_at front (item ∷ rest) k 
 get_front : {A : Type 0} (front : List A) (item : A) (rest : List A) → slice_get (front ++ item ∷ rest) (length front) ≡ Some item
 get_front [] item rest = refl
 get_front (x ∷ front) item rest = get_front front item rest
-
-pub get_there : {A : Type 0} (front : List A) (item : A) (rest : List A) (k : ℕ) → length front ≡ k → slice_get (front ++ item ∷ rest) k ≡ Some item
-get_there front item rest k place = subst (λ (at : ℕ). slice_get (front ++ item ∷ rest) at ≡ Some item) place (get_front front item rest)
 
 pub end_spliced : {A : Type 0} (xs : List A) (put : A) → splice (length xs) 0 (put ∷ []) xs ≡ xs ++ put ∷ []
 end_spliced xs put =
@@ -147,7 +134,7 @@ put_at_end passes change new bytes xs given e =
 put_in_place : {A : Type 0} (passes : A → Bool) (change : A → A) (new : A) (bytes : A → List ℕ) (front : List A) (item : A) (rest : List A) (k : ℕ) → length front ≡ k → passes item ≡ true → list_any passes rest ≡ false → passes (change item) ≡ true → IsPutLast passes change new bytes (front ++ item ∷ rest) (Some k)
 put_in_place passes change new bytes front item rest k place pass none kept =
     let some = any_there passes front item rest pass in
-    let there = get_there front item rest k place in
+    let there = get_between front item rest k place in
     let made : put_last passes change new (front ++ item ∷ rest) ≡ front ++ change item ∷ rest = rw some (changed_there passes change front item rest pass none) in
     record {
       old = rw there pass;

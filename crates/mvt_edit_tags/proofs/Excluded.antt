@@ -10,6 +10,7 @@ use Rattle.mvt_document.specs.declared.document.LayerItem.{LayerItem}
 use Rattle.mvt_document.specs.declared.document.LayerItem.TheVariants as in_layer
 use Rattle.mvt_document.specs.declared.document.TileItem.{TileItem}
 use Rattle.mvt_document.specs.declared.document.TileItem.TheVariants as in_tile
+use Rattle.mvt_document.proofs.Lists.{same_each}
 use Rattle.mvt_messages.specs.Views.{features}
 use Rattle.mvt_change.specs.Changes.{Change}
 use Rattle.mvt_command.specs.Command.{LayersChoice, Exclude}
@@ -20,7 +21,7 @@ use Rattle.mvt_meaning.proofs.Removals.{removals_short}
 use Rattle.mvt_edit_steps.specs.Fates.{splices_of}
 use Rattle.mvt_edit_steps.specs.Prepared.{IsPrepared}
 use Rattle.mvt_edit_steps.proofs.CarriedOut.{put_all, taken_all}
-use Rattle.mvt_edit_steps.proofs.EachFeature.{joined_each, mapped_each, of_features, same_each}
+use Rattle.mvt_edit_steps.proofs.EachFeature.{joined_each, mapped_each, of_features}
 use Rattle.mvt_edit_steps.proofs.FieldsLeft.{fields_left, fields_put, fields_taken}
 use Rattle.mvt_edit_steps.specs.EachFeature.{layer_steps}
 use Rattle.mvt_edit_tags.specs.EachFeature.{pairs_go}

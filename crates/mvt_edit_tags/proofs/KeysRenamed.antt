@@ -85,10 +85,6 @@ module _ (key : List ℕ) where
         | inr other ↦ rw other (ap (λ xs. x ∷ xs) (same_keys items))
       ]
 
-pub either_false : (b c : Bool) → c ≡ false → (b && c) ≡ false
-either_false true c e = e
-either_false false c e = refl
-
 first_false : (b same : Bool) → same ≡ false → (b && not same) ≡ false → b ≡ false
 first_false true same apart free = absurd (let no = rw apart at free in cc)
 first_false false same apart free = refl

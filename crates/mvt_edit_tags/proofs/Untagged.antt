@@ -16,6 +16,7 @@ use Rattle.mvt_document.specs.declared.document.LayerItem.{LayerItem}
 use Rattle.mvt_document.specs.declared.document.LayerItem.TheVariants as in_layer
 use Rattle.mvt_document.specs.declared.document.TileItem.{TileItem}
 use Rattle.mvt_document.specs.declared.document.TileItem.TheVariants as in_tile
+use Rattle.mvt_document.proofs.Sizes.{delimited_some}
 use Rattle.mvt_messages.specs.Found.{found_features}
 use Rattle.mvt_messages.specs.Views.{content_of, feature_in, value_of}
 use Rattle.mvt_layers.proofs.Placing.{found_items}
@@ -37,17 +38,12 @@ use Rattle.mvt_edit_tags.proofs.EachFeature.{CarriesInTile, layers_made, none_ma
 
 -- ---- tags fields have at least two bytes
 
-content_has_bytes : (width : ℕ) (content : List ℕ) → 1 ≤ length (delimited width content)
-content_has_bytes width content =
-    let room = max width (minimal_width (length content)) in
-    omega (arith, length-append (spell (length content) room) content, length-spell (length content) room, minimal_width_some (length content))
-
 value_tagged : (same : Bool) (body : Body) → (is_some (cond same (value_of (body_of body)) None) || is_some (cond same (content_of (body_of body)) None)) ≡ true → 1 ≤ length (body_bytes (body_of body))
 value_tagged false body tagged = absurd cc
 value_tagged true (Number varint) tagged = number_has_bytes varint
 value_tagged true (Eight bytes) tagged = absurd cc
 value_tagged true (Four bytes) tagged = absurd cc
-value_tagged true (Bytes width bytes) tagged = content_has_bytes width bytes.items
+value_tagged true (Bytes width bytes) tagged = delimited_some width bytes.items
 value_tagged true (Group bytes) tagged = absurd cc
 
 tags_have_bytes : (field : Field) → is_tags (field_of field) ≡ true → 2 ≤ length (field_bytes (field_of field))

@@ -17,6 +17,7 @@ use Rattle.mvt_geometry.specs.Found.{point_after, points_in, parts_in, parts_of,
 use Rattle.mvt_geometry.specs.Laws.{GeometryIn}
 use Rattle.mvt_document.proofs.Signed.{unzigzag-zigzag}
 use Rattle.mvt_geometry.proofs.Checks.{has_geometry-Decides}
+use Rattle.mvt_geometry.proofs.Fronts.{length-parameters}
 
 -- ---- points
 
@@ -37,10 +38,6 @@ points_in-parameters from [] = refl
 points_in-parameters from (to ∷ points) =
     ap (λ (p : Point). p ∷ points_in p (parameters to points)) (moved-delta from to)
     ∙ ap (λ (rest : List Point). to ∷ rest) (points_in-parameters to points)
-
-length-parameters : (from : Point) (points : List Point) → length (parameters from points) ≡ 2 * length points
-length-parameters from [] = refl
-length-parameters from (to ∷ points) = omega (arith, length-parameters to points)
 
 -- ---- parts
 

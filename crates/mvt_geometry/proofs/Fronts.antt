@@ -1,7 +1,7 @@
 -- The path of a part at the front of numbers: what the numbers are then, and that no other part has its path there.
 use Rattle.std.proofs.Common.{◌≡◌, ℕ, ◌+◌, ◌*◌, ◌/◌, ◌^◌, ◌<◌, ◌≤◌, suc, List, [], ◌∷◌, ◌++◌, length, take, drop, get_or, refl, sym, ap, ◌∙◌, subst, arith, append_assoc}
 use Rattle.std.specs.List.{AllByRecursion}
-use Rattle.std.proofs.lemmas.List.{take_at}
+use Rattle.std.proofs.lemmas.List.{take_at, append_cancel_left}
 use Rattle.mvt_geometry.specs.Shapes.{Point, IsPlaced}
 use Rattle.mvt_geometry.specs.Integers.{parameters, path, last_from}
 use Rattle.mvt_geometry.specs.Walks.{IsMove, LeadsThrough, GoesOn, BeginsWithPart}
@@ -24,10 +24,6 @@ one_way from (p ∷ a) (q ∷ b) x y same e =
     let tail : a ≡ b = others.0 in
     ((cc), others.1)
 
-same_after : (closing x y : List ℕ) → closing ++ x ≡ closing ++ y → x ≡ y
-same_after [] x y e = e
-same_after (n ∷ closing) x y e = same_after closing x y (cc)
-
 -- ---- the numbers of a path
 
 pub path-append : (closing : List ℕ) (from first : Point) (points : List Point) (rest : List ℕ) → path closing from (first ∷ points) ++ rest ≡ 9 ∷ (parameters from (first ∷ []) ++ ((2 + 8 * length points) ∷ (parameters first points ++ (closing ++ rest))))
@@ -47,7 +43,7 @@ one_path closing from (p ∷ a) (q ∷ b) x y some some' e =
     let rest : parameters p a ++ (closing ++ x) ≡ parameters q b ++ (closing ++ y) = cc in
     let others = one_way p a b (closing ++ x) (closing ++ y) (omega arith) (rest ∙ ap (λ (r : Point). parameters r b ++ (closing ++ y)) (sym first)) in
     let tail : a ≡ b = others.0 in
-    ((cc), same_after closing x y others.1)
+    ((cc), append_cancel_left closing x y others.1)
 
 -- ---- numbers that begin with a path
 

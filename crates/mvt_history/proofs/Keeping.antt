@@ -1,7 +1,7 @@
 -- What a session stands for, and that it is held, when a step is kept, and while one is open.
 use Rattle.std.proofs.Common.{◌≡◌, ℕ, zero, suc, ◌+◌, ◌-◌, ◌≤◌, min, Bool, true, ◌&&◌, nat_le, Option, None, List, [], ◌∷◌, length, length-take, length-take-le, map, take, drop, get_or, refl, sym, ap, subst, ◌∙◌, inl, inr, arith}
 use Rattle.std.specs.List.{AllByRecursion}
-use Rattle.std.proofs.lemmas.List.{take_all, take_at, get_or_at}
+use Rattle.std.proofs.lemmas.List.{take_all, take_at, get_or_at, length-map}
 use Rattle.std.proofs.lemmas.Bool.{cases_Bool}
 use Rattle.std.proofs.lemmas.Bool.Decides.{nat_tests}
 use Rattle.mvt_document.specs.Plain.{Document}
@@ -17,7 +17,7 @@ use Rattle.mvt_history_steps.specs.Standing.{Standing, IsReady, changes_in, clos
 use Rattle.mvt_history_steps.specs.Held.{IsReached, IsHeld}
 use Rattle.mvt_history_steps.specs.Session.{StandsFor}
 use Rattle.mvt_history_steps.proofs.MarkOrder.{all_passed, order_filtered, length_filtered}
-use Rattle.mvt_history_steps.proofs.Counting.{counted_twice, counted_length, counted_between, all_from_counted, in_order_from_counted}
+use Rattle.mvt_history_steps.proofs.Counting.{counted_twice, counted_between, all_from_counted, in_order_from_counted}
 use Rattle.mvt_history_steps.proofs.Sound.{length-with_step, sound_with_step, sound_with_group}
 use Rattle.mvt_history_steps.proofs.Following.{steps_joined, lead_back_same, lead_back_taken}
 
@@ -88,7 +88,7 @@ kept_held undo_room redo_room before after change kept held valid fits leads =
     let counts = length_kept before after change kept in
     let same = kept.depth in
     let within = held.within_depth in
-    let marks_kept : length after.marks ≡ length (between gone high before.marks) = sym (counted_length gone after.marks) ∙ ap length kept.marks in
+    let marks_kept : length after.marks ≡ length (between gone high before.marks) = sym (length-map after.marks (counted_from gone)) ∙ ap length kept.marks in
     let passed = all_passed (IsWithin gone high) test (λ mark e. within_tested gone high mark e) before.marks in
     let counted : AllByRecursion (IsWithin gone high) (map (counted_from gone) after.marks) = subst (AllByRecursion (IsWithin gone high)) (sym kept.marks) passed in
     record {

@@ -3,7 +3,8 @@ use Rattle.std.proofs.Common.{◌≡◌, ◌↔◌, ℕ, ◌+◌, ◌-◌, ◌<�
 use Rattle.std.specs.Option.{IsSome, ok_or}
 use Rattle.std.specs.Result.{OnOk, OnErr, IfErr, IsErrAnd, MatchResult}
 use Rattle.std.proofs.lemmas.Bool.{cases_Bool}
-use Rattle.mvt_history_steps.specs.Marks.{Mark, has_name, point_of, bound, unbound}
+use Rattle.std.proofs.lemmas.List.{length-map}
+use Rattle.mvt_history_steps.specs.Marks.{Mark, has_name, point_of, bound, unbound, counted_from}
 use Rattle.mvt_history_steps.specs.History.{History, at_point, with_marks, marked, unmarked, gone_back}
 use Rattle.mvt_history_steps.specs.Moves.{walk_in, moved_along, LeadsAlong}
 use Rattle.mvt_history_steps.specs.Standing.{Standing, IsReady}
@@ -15,7 +16,7 @@ use Rattle.mvt_history_steps.specs.declared.steps.Direction.{Direction}
 use Rattle.mvt_history_steps.specs.declared.steps.Direction.TheVariants.{Undo, Redo}
 use Rattle.mvt_history_error.specs.declared.HistoryError.{HistoryError}
 use Rattle.mvt_history_error.specs.declared.HistoryError.TheVariants.{NoMark, TooManyMarks, Stopped}
-use Rattle.mvt_history_steps.proofs.Counting.{counted_length, counted_point_of, counted_bound, counted_unbound}
+use Rattle.mvt_history_steps.proofs.Counting.{counted_point_of, counted_bound, counted_unbound}
 use Rattle.mvt_meaning.proofs.Elements.{all_filtered}
 use Rattle.mvt_history_steps.proofs.MarkOrder.{all_bound, order_bound, order_unbound, few_bound, length_filtered, point_holds}
 use Rattle.mvt_history_steps.proofs.Sound.{sound_bound, sound_unbound}
@@ -40,7 +41,7 @@ same_named name session history stands = ap is_some (same_point name session his
 
 same_room : (name : List ℕ) (session : Standing) (history : History) → StandsFor session history → has_room name history.marks ≡ has_room name session.marks
 same_room name session history stands =
-    ap₂ (λ named count. named || nat_lt count MAX_MARKS) (same_named name session history stands) (ap length stands.marks ∙ counted_length history.floor session.marks)
+    ap₂ (λ named count. named || nat_lt count MAX_MARKS) (same_named name session history stands) (ap length stands.marks ∙ length-map session.marks (counted_from history.floor))
 
 -- ---- a name that is marked
 

@@ -21,9 +21,6 @@ counted_twice more floor (mark ∷ marks) =
     let point : more + (floor + mark.point) ≡ more + floor + mark.point = omega arith in
     ap₂ (λ n ys. record { name = mark.name; point = n } ∷ ys) point (counted_twice more floor marks)
 
-pub counted_length : (floor : ℕ) (marks : List Mark) → length (map (counted_from floor) marks) ≡ length marks
-counted_length floor marks = length-map marks (counted_from floor)
-
 first_counted : (floor : ℕ) (marks : List Mark) → option_map (λ mark. mark.point) (slice_get (map (counted_from floor) marks) 0) ≡ option_map (λ point. floor + point) (option_map (λ mark. mark.point) (slice_get marks 0))
 first_counted floor [] = refl
 first_counted floor (mark ∷ marks) = refl

@@ -124,7 +124,7 @@ abbrev pub commands_of : List (List Command) → List Command
 commands_of [] = []
 commands_of (step ∷ steps) = step ++ commands_of steps
 
-commands_of_last : (steps : List (List Command)) (step : List Command) → commands_of (steps ++ step ∷ []) ≡ commands_of steps ++ step
+pub commands_of_last : (steps : List (List Command)) (step : List Command) → commands_of (steps ++ step ∷ []) ≡ commands_of steps ++ step
 commands_of_last [] step = append-nil step
 commands_of_last (first ∷ steps) step = ap (λ rest. first ++ rest) (commands_of_last steps step) ∙ sym (append_assoc first (commands_of steps) step)
 

@@ -3,8 +3,9 @@ use Rattle.std.proofs.Common.{◌≡◌, ℕ, zero, suc, ◌+◌, ◌-◌, ◌<�
 use Rattle.std.specs.Prelude.{if◌then◌else◌, is_some, replicate, slice_get, MatchOption}
 use Rattle.std.specs.List.{cons_option, filter_map, enumerate_from, last_or}
 use Rattle.std.specs.Option.{option_and_then}
-use Rattle.std.proofs.lemmas.List.{append-nil, drop-drop, drop-map, drop_all, drop_at, length-map, length-replicate, length-take-le, map-append, take-map, take_all, take_at}
+use Rattle.std.proofs.lemmas.List.{append-nil, drop-drop, drop-map, drop_all, drop_at, length-map, length-replicate, length-take-le, map-append, take-map, take_all, take_at, nil_from_length}
 use Rattle.std.proofs.lemmas.List.Elements.{filter_map-append}
+use Rattle.std.proofs.lemmas.List.FromFn.{length-enumerate_from}
 use Rattle.mvt_document.specs.declared.body.Body.TheVariants as in_body
 use Rattle.mvt_document.specs.declared.document.LayerItem.{LayerItem}
 use Rattle.mvt_document.specs.declared.document.LayerItem.TheVariants as in_layer
@@ -17,6 +18,8 @@ use Rattle.mvt_document.specs.Runs.{one_run, IsRunOf}
 use Rattle.mvt_document.specs.Bodies.{body_of}
 use Rattle.mvt_document.specs.Stands.{layer_item_of}
 use Rattle.mvt_document.proofs.Running.{run_length}
+use Rattle.mvt_document.proofs.Options.{none_is, some_is}
+use Rattle.mvt_document.proofs.Lists.{last_there}
 use Rattle.mvt_messages.specs.Found.{with_position, placed_from, found_from, found_in}
 use Rattle.mvt_layers.specs.Pools.{PassesOver, entry_in}
 use Rattle.mvt_messages.specs.Views.{content_in, content_of, contents, feature_in, plain_fields}
@@ -25,14 +28,6 @@ use Rattle.mvt_layers.proofs.Yielded.{last_joined, map_last}
 
 -- ---- what is picked, and what is not
 
-picked_none : {B : Type 0} (found : Option B) → is_some found ≡ false → found ≡ None
-picked_none None is = refl
-picked_none (Some x) is = absurd (cc)
-
-picked_some : {B : Type 0} (found : Option B) → is_some found ≡ true → (x : B) × (found ≡ Some x)
-picked_some None is = absurd (cc)
-picked_some (Some x) is = (x, refl)
-
 numbered_joined : {B : Type 0} (n : ℕ) (xs ys : List B) → enumerate_from n (xs ++ ys) ≡ enumerate_from n xs ++ enumerate_from (n + length xs) ys
 numbered_joined n [] ys =
     let same : n ≡ n + 0 = omega arith in
@@ -40,10 +35,6 @@ numbered_joined n [] ys =
 numbered_joined n (x ∷ xs) ys =
     let next : n + 1 + length xs ≡ n + suc (length xs) = omega arith in
     ap (λ t. (n, x) ∷ t) (numbered_joined (n + 1) xs ys ∙ ap (λ k. enumerate_from (n + 1) xs ++ enumerate_from k ys) next)
-
-numbered_length : {B : Type 0} (n : ℕ) (xs : List B) → length (enumerate_from n xs) ≡ length xs
-numbered_length n [] = refl
-numbered_length n (x ∷ xs) = ap suc (numbered_length (n + 1) xs)
 
 appended : {B : Type 0} (xs ys : List B) (k : ℕ) → length xs ≤ k → slice_get (xs ++ ys) k ≡ slice_get ys (k - length xs)
 appended [] ys k past =
@@ -54,18 +45,9 @@ appended (x ∷ xs) ys (suc k) past =
     let less : k - length xs ≡ suc k - suc (length xs) = omega arith in
     appended xs ys k (omega arith) ∙ ap (slice_get ys) less
 
-pub got_mapped : {A B : Type 0} (g : A → B) (xs : List A) (k : ℕ) → slice_get (map g xs) k ≡ option_map g (slice_get xs k)
-got_mapped g [] k = refl
-got_mapped g (x ∷ xs) zero = refl
-got_mapped g (x ∷ xs) (suc k) = got_mapped g xs k
-
 last_over : {A : Type 0} (o : Option A) (xs : List A) (x : A) → last_or None xs ≡ Some x → last_or o xs ≡ Some x
 last_over o [] x is = absurd (cc)
 last_over o (y ∷ xs) x is = is
-
-last_there : {A : Type 0} (y : A) (xs : List A) → last_or (Some y) xs ≡ None → ⊥
-last_there y [] is = cc
-last_there y (x ∷ xs) is = last_there x xs is
 
 last_none : {A : Type 0} (xs : List A) → last_or None xs ≡ None → xs ≡ []
 last_none [] is = refl
@@ -77,10 +59,6 @@ last_got o (x ∷ []) zero long = refl
 last_got o (x ∷ []) (suc k) long = absurd (omega (arith, long))
 last_got o (x ∷ (y ∷ xs)) zero long = absurd (omega (arith, long))
 last_got o (x ∷ (y ∷ xs)) (suc k) long = last_got (Some x) (y ∷ xs) k (omega (arith, long))
-
-none_left : {A : Type 0} (xs : List A) → length xs ≡ 0 → xs ≡ []
-none_left [] none = refl
-none_left (x ∷ xs) none = absurd (omega (arith, none))
 
 -- ---- the bounds of a run
 
@@ -110,7 +88,7 @@ module _ {X A B : Type 0} (view : X → A) (pick : A → Option B) (f : X → Bo
   in_run ordinal position (suc first) count k tail [] e inside = absurd (cc)
   in_run ordinal position (suc first) count k tail (x ∷ items) e inside =
       let other : f x ≡ false = cc in
-      let none = picked_none (pick (view x)) (agrees x ∙ other) in
+      let none = none_is (pick (view x)) (agrees x ∙ other) in
       let next : suc first + k ≡ suc (first + k) = omega arith in
       let at : position + 1 + (first + k) ≡ position + (suc first + k) = omega arith in
       let rest = filter_map (with_position pick) (enumerate_from (position + 1) (map view items)) in
@@ -122,7 +100,7 @@ module _ {X A B : Type 0} (view : X → A) (pick : A → Option B) (f : X → Bo
       let same : ordinal ≡ ordinal + 0 = omega arith in
       let at : position ≡ position + (0 + 0) = omega arith in
       let one : f x ≡ true = cc in
-      let some = picked_some (pick (view x)) (agrees x ∙ one) in
+      let some = some_is (pick (view x)) (agrees x ∙ one) in
       let rest = filter_map (with_position pick) (enumerate_from (position + 1) (map view items)) in
       ap (λ o. slice_get (enumerate_from ordinal (cons_option (option_map (λ found. (position, found)) o) rest)) 0) some.1
       ∙ ap (λ o. Some (o, (position, some.0))) same
@@ -133,7 +111,7 @@ module _ {X A B : Type 0} (view : X → A) (pick : A → Option B) (f : X → Bo
       let at : position + 1 + (0 + k) ≡ position + (0 + suc k) = omega arith in
       let next : 0 + suc k ≡ suc (0 + k) = omega arith in
       let one : f x ≡ true = cc in
-      let some = picked_some (pick (view x)) (agrees x ∙ one) in
+      let some = some_is (pick (view x)) (agrees x ∙ one) in
       let rest = filter_map (with_position pick) (enumerate_from (position + 1) (map view items)) in
       ap (λ o. slice_get (enumerate_from ordinal (cons_option (option_map (λ found. (position, found)) o) rest)) (suc k)) some.1
       ∙ in_run (ordinal + 1) (position + 1) zero count k tail items (ap (drop 1) e) (omega arith)
@@ -145,14 +123,14 @@ module _ {X A B : Type 0} (view : X → A) (pick : A → Option B) (f : X → Bo
   count_in first count following [] e = omega (arith, ap length e, run_length first count following)
   count_in (suc first) count following (x ∷ items) e =
       let other : f x ≡ false = cc in
-      ap (λ o. length (cons_option o (filter_map pick (map view items)))) (picked_none (pick (view x)) (agrees x ∙ other)) ∙ count_in first count following items (ap (drop 1) e)
+      ap (λ o. length (cons_option o (filter_map pick (map view items)))) (none_is (pick (view x)) (agrees x ∙ other)) ∙ count_in first count following items (ap (drop 1) e)
   count_in zero (suc count) following (x ∷ items) e =
       let one : f x ≡ true = cc in
-      ap (λ o. length (cons_option o (filter_map pick (map view items)))) (picked_some (pick (view x)) (agrees x ∙ one)).1 ∙ ap suc (count_in zero count following items (ap (drop 1) e))
+      ap (λ o. length (cons_option o (filter_map pick (map view items)))) (some_is (pick (view x)) (agrees x ∙ one)).1 ∙ ap suc (count_in zero count following items (ap (drop 1) e))
   count_in zero zero zero (x ∷ items) e = absurd (cc)
   count_in zero zero (suc following) (x ∷ items) e =
       let other : f x ≡ false = cc in
-      ap (λ o. length (cons_option o (filter_map pick (map view items)))) (picked_none (pick (view x)) (agrees x ∙ other)) ∙ count_in zero zero following items (ap (drop 1) e)
+      ap (λ o. length (cons_option o (filter_map pick (map view items)))) (none_is (pick (view x)) (agrees x ∙ other)) ∙ count_in zero zero following items (ap (drop 1) e)
 
   -- what is found is what is found in the part that is known, and then what is found after that
   split : (run : Run) (items : List X) → IsRunOf f run items
@@ -176,7 +154,7 @@ module _ {X A B : Type 0} (view : X → A) (pick : A → Option B) (f : X → Bo
             ∙ ap (enumerate_from 0) (filter_map-append (with_position pick) (enumerate_from 0 (map view known)) (enumerate_from run.until (drop run.until (map view items))))
             ∙ numbered_joined 0 front back
             ∙ ap (λ n. enumerate_from 0 front ++ enumerate_from n back) ordinal,
-        numbered_length 0 front ∙ count,
+        length-enumerate_from 0 front ∙ count,
       )
 
   none_picked : (n position : ℕ) (items : List X) → map f items ≡ replicate n false → filter_map (with_position pick) (enumerate_from position (map view items)) ≡ []
@@ -185,7 +163,7 @@ module _ {X A B : Type 0} (view : X → A) (pick : A → Option B) (f : X → Bo
   none_picked (suc n) position (x ∷ items) e =
       let other : f x ≡ false = cc in
       let rest = filter_map (with_position pick) (enumerate_from (position + 1) (map view items)) in
-      ap (λ o. cons_option (option_map (λ found. (position, found)) o) rest) (picked_none (pick (view x)) (agrees x ∙ other))
+      ap (λ o. cons_option (option_map (λ found. (position, found)) o) rest) (none_is (pick (view x)) (agrees x ∙ other))
       ∙ none_picked n (position + 1) items (ap (drop 1) e)
 
   none_over : (n position : ℕ) (part back : List X) → map f part ≡ replicate n false → filter_map (with_position pick) (enumerate_from position (map view (part ++ back))) ≡ filter_map (with_position pick) (enumerate_from (position + n) (map view back))
@@ -198,7 +176,7 @@ module _ {X A B : Type 0} (view : X → A) (pick : A → Option B) (f : X → Bo
       let other : f x ≡ false = cc in
       let next : position + 1 + n ≡ position + suc n = omega arith in
       let rest = filter_map (with_position pick) (enumerate_from (position + 1) (map view (part ++ back))) in
-      ap (λ o. cons_option (option_map (λ found. (position, found)) o) rest) (picked_none (pick (view x)) (agrees x ∙ other))
+      ap (λ o. cons_option (option_map (λ found. (position, found)) o) rest) (none_is (pick (view x)) (agrees x ∙ other))
       ∙ none_over n (position + 1) part back (ap (drop 1) e)
       ∙ ap (λ p. filter_map (with_position pick) (enumerate_from p (map view back))) next
 
@@ -248,7 +226,7 @@ module _ {X A B : Type 0} (view : X → A) (pick : A → Option B) (f : X → Bo
       let C = replicate run.count true in
       let B' = replicate h.following false in
       let known = one_run run.first run.count h.following in
-      let nothing : h.rest ≡ [] = none_left h.rest (omega (arith, length-map items f, ap length h.is, length-append known h.rest, run_length run.first run.count h.following, h.until, all)) in
+      let nothing : h.rest ≡ [] = nil_from_length h.rest (omega (arith, length-map items f, ap length h.is, length-append known h.rest, run_length run.first run.count h.following, h.until, all)) in
       let long : length (F ++ C) ≡ end = omega (arith, length-append F C, length-replicate run.first false, length-replicate run.count true) in
       let values : map f back ≡ B' =
       sym (drop-map f end items) ∙ ap (drop end) (h.is ∙ ap (λ rest. known ++ rest) nothing ∙ append-nil known ∙ sym (append_assoc F C B')) ∙ drop_at (F ++ C) B' end long in
@@ -303,7 +281,7 @@ module _ {X A B : Type 0} (view : X → A) (pick : A → Option B) (f : X → Bo
   pub run_no_last : (run : Run) (items : List X) → IsRunOf f run items → last_or None (found_from pick run.count run.until (map view items)) ≡ None → run.count ≡ 0 → last_or None (found_in pick (map view items)) ≡ None
   run_no_last run items h none count =
       let following = ap length (last_none (found_from pick run.count run.until (map view items)) none) in
-      ap (last_or None) (none_left (found_in pick (map view items)) (omega (arith, run_total run items h, following, count)))
+      ap (last_or None) (nil_from_length (found_in pick (map view items)) (omega (arith, run_total run items h, following, count)))
 
 -- ---- features, and entries
 
@@ -327,7 +305,7 @@ is_found_entry number (in_layer.Plain field) = entry_is _ field.body
 pub entries_total : (number : ℕ) (run : Run) (items : List LayerItem) → IsRunOf (is_entry number) run items → length (found_in (entry_in number) (map layer_item_of items)) ≡ run.count + length (placed_from (entry_in number) run.until (map layer_item_of items))
 entries_total number run items h =
     run_total layer_item_of (entry_in number) (is_entry number) (is_found_entry number) run items h
-    ∙ ap (λ n. run.count + n) (numbered_length run.count (placed_from (entry_in number) run.until (map layer_item_of items)))
+    ∙ ap (λ n. run.count + n) (length-enumerate_from run.count (placed_from (entry_in number) run.until (map layer_item_of items)))
 
 -- the entries of a number are the contents of that number
 entry_contents : (number : ℕ) (items : List plain.LayerItem) → filter_map (entry_in number) items ≡ contents number (plain_fields items)
@@ -341,7 +319,7 @@ found_contents number items = found_items (entry_in number) items ∙ entry_cont
 -- as many are placed as there are
 pub placed_contents : (number : ℕ) (items : List plain.LayerItem) → length (placed_from (entry_in number) 0 items) ≡ length (contents number (plain_fields items))
 placed_contents number items =
-    sym (numbered_length 0 (placed_from (entry_in number) 0 items))
+    sym (length-enumerate_from 0 (placed_from (entry_in number) 0 items))
     ∙ sym (length-map (found_in (entry_in number) items) (λ (found : ℕ × (ℕ × List ℕ)). found.1.1))
     ∙ ap length (found_contents number items)
 

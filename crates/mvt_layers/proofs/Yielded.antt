@@ -1,5 +1,6 @@
 -- What results from the items of an iterator.
 use Rattle.std.proofs.Common.{◌≡◌, ◌≤◌, ◌<◌, ◌^◌, ℕ, suc, Option, Some, None, List, [], ◌∷◌, ◌++◌, length, map, option_map, refl, ap, ◌∙◌, arith}
+use Rattle.mvt_document.proofs.Lists.{cons_no_more}
 use Rattle.std.proofs.lemmas.List.{length-map}
 use Rattle.std.proofs.lemmas.Iterator.{YieldsList, items_from_drains}
 use Rattle.std.specs.Iterator.{AlwaysYields, Drains}
@@ -16,14 +17,10 @@ last_from_yields_List {v = v} r ran e =
     let items = items_from_drains ran.0 (drained.1.0, drained.1.1, λ _. (drained.0, drained.1.2)) e in
     ap (option_map v) ran.2 ∙ map_last v None ran.0 ∙ ap (last_or None) items
 
-cons_length : {B : Type 0} (o : Option B) (ys : List B) (n : ℕ) → length ys ≤ n → length (cons_option o ys) ≤ suc n
-cons_length None ys n h = omega arith
-cons_length (Some y) ys n h = omega arith
-
 -- no more is picked than there are items
 pub length-filter_map : {A B : Type 0} (h : A → Option B) (xs : List A) → length (filter_map h xs) ≤ length xs
 length-filter_map h [] = omega arith
-length-filter_map h (x ∷ xs) = cons_length (h x) (filter_map h xs) (length xs) (length-filter_map h xs)
+length-filter_map h (x ∷ xs) = cons_no_more (h x) (filter_map h xs) (length xs) (length-filter_map h xs)
 
 pub picked_fit : {X A B : Type 0} (view : X → A) (h : A → Option B) (xs : List X) → length xs < 2 ^ 64 → length (filter_map h (map view xs)) < 2 ^ 64
 picked_fit view h xs fits = omega (arith, length-filter_map h (map view xs), length-map xs view, fits)

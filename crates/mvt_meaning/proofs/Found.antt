@@ -8,6 +8,7 @@ use Rattle.mvt_document.specs.Plain.{Field, Feature, LayerItem, OfFeature, Plain
 use Rattle.mvt_messages.specs.Views.{layer_in, layers}
 use Rattle.mvt_document.specs.Lists.{change_at}
 use Rattle.mvt_document.specs.Places.{change_fields, change_items, fields_at, fields_in, fields_in_at, in_feature, in_layer, items_at, items_in}
+use Rattle.mvt_document.proofs.Placing.{changed_alike}
 use Rattle.mvt_command.specs.Command.{FeatureChoice}
 use Rattle.mvt_meaning.specs.Ordinals.{change_first, change_nth, from_nth}
 use Rattle.mvt_meaning.specs.Selection.{feature_positions, is_feature, is_layer, layer_positions, selected_feature, selected_in}
@@ -81,10 +82,10 @@ get_following : {A : Type 0} (n : ℕ) (x : A) (xs ys : List A) (ordinal k j : �
 get_following n x xs ys ordinal k zero low at more = absurd (omega arith)
 get_following n x xs ys ordinal k (suc i) low at more = more i (omega arith)
 
-filtered_pass : {A : Type 0} (passes : A → Bool) (x : A) (xs : List A) → passes x ≡ true → filter passes (x ∷ xs) ≡ x ∷ filter passes xs
+pub filtered_pass : {A : Type 0} (passes : A → Bool) (x : A) (xs : List A) → passes x ≡ true → filter passes (x ∷ xs) ≡ x ∷ filter passes xs
 filtered_pass passes x xs pass = rw pass refl
 
-filtered_skip : {A : Type 0} (passes : A → Bool) (x : A) (xs : List A) → passes x ≡ false → filter passes (x ∷ xs) ≡ filter passes xs
+pub filtered_skip : {A : Type 0} (passes : A → Bool) (x : A) (xs : List A) → passes x ≡ false → filter passes (x ∷ xs) ≡ filter passes xs
 filtered_skip passes x xs skip = rw skip refl
 
 pub filtered_at : {A : Type 0} (passes : A → Bool) (n : ℕ) (xs : List A) (ordinal k j : ℕ) → slice_get (positions_from passes n xs) ordinal ≡ Some k → k ≡ n + j → slice_get (filter passes xs) ordinal ≡ slice_get xs j
@@ -155,22 +156,16 @@ module _ (document : Document) (ordinal position : ℕ) (layer : Layer) (placed 
   pub change_layer_found : (change : List LayerItem → List LayerItem) → change_layer change ordinal document ≡ change_items change position document
   change_layer_found change = change_nth_found is_layer (in_layer change) document ordinal position placed
 
--- the same change of an item that is there
-change_at_same : {A : Type 0} (f g : A → A) (position : ℕ) (xs : List A) (x : A) → slice_get xs position ≡ Some x → f x ≡ g x → change_at f position xs ≡ change_at g position xs
-change_at_same f g position [] x is same = refl
-change_at_same f g zero (y ∷ xs) x is same = let here : y ≡ x = cc in ap (λ z. z ∷ xs) (ap f here ∙ same ∙ sym (ap g here))
-change_at_same f g (suc position) (y ∷ xs) x is same = ap (λ ys. y ∷ ys) (change_at_same f g position xs x is same)
-
 pub change_items_same : (f g : List LayerItem → List LayerItem) (position : ℕ) (document : Document) (layer : Layer) → slice_get document position ≡ Some (OfLayer layer) → f layer.items ≡ g layer.items → change_items f position document ≡ change_items g position document
 change_items_same f g position document layer there same =
     let with_items : List LayerItem → TileItem = λ items. OfLayer (record { tag = layer.tag; width = layer.width; items = items }) in
-    change_at_same (in_layer f) (in_layer g) position document (OfLayer layer) there (ap with_items same)
+    changed_alike (in_layer f) (in_layer g) position document (OfLayer layer) there (ap with_items same)
 
 pub change_fields_same : (f g : List Field → List Field) (position item : ℕ) (document : Document) (layer : Layer) (feature : Feature) → slice_get document position ≡ Some (OfLayer layer) → slice_get layer.items item ≡ Some (OfFeature feature) → f feature.fields ≡ g feature.fields → change_fields f position item document ≡ change_fields g position item document
 change_fields_same f g position item document layer feature there within same =
     let with_fields : List Field → LayerItem = λ fields. OfFeature (record { tag = feature.tag; width = feature.width; fields = fields }) in
     change_items_same (change_at (in_feature f) item) (change_at (in_feature g) item) position document layer there
-    (change_at_same (in_feature f) (in_feature g) item layer.items (OfFeature feature) within (ap with_fields same))
+    (changed_alike (in_feature f) (in_feature g) item layer.items (OfFeature feature) within (ap with_fields same))
 
 module _ (document : Document) (ordinal position : ℕ) (layer : Layer) (placed : slice_get (layer_positions document) ordinal ≡ Some position) (there : slice_get document position ≡ Some (OfLayer layer)) (selects item : ℕ) (feature : Feature) (feature_placed : slice_get (feature_positions layer.items) selects ≡ Some item) (feature_there : slice_get layer.items item ≡ Some (OfFeature feature)) where
   pub fields_at_found : fields_at position item document ≡ Some feature.fields

@@ -11,3 +11,4 @@ pub mod Moving
 pub mod Elements
 pub mod Found
 pub mod NeverOutOfMemory
+pub mod PutOnce

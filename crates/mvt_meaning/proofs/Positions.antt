@@ -1,5 +1,6 @@
 -- Positions of the items that pass, one item after the other.
 use Rattle.std.proofs.Common.{◌≡◌, ℕ, zero, suc, ◌+◌, ◌<◌, ◌≤◌, Bool, true, false, ◌&&◌, not, Option, Some, None, List, [], ◌∷◌, length, map, filter, slice_get, refl, ◌∙◌, inl, inr, arith}
+use Rattle.mvt_document.proofs.Lists.{last_there}
 use Rattle.std.proofs.lemmas.Bool.{cases_Bool, or_parts, or_from, and_right, and_from, not_from_true, not_from_false}
 use Rattle.std.specs.List.{enumerate_from, list_any, last_or}
 use Rattle.mvt_meaning.specs.Ordinals.{change_last}
@@ -35,16 +36,12 @@ no_positions passes n (x ∷ xs) e =
 
 -- ---- the last position
 
-last_some : {A : Type 0} (x : A) (xs : List A) → last_or (Some x) xs ≡ None → ⊥
-last_some x [] e = cc
-last_some x (y ∷ xs) e = last_some y xs e
-
 -- none passes if there is no last one
 pub no_last : {A : Type 0} (passes : A → Bool) (n : ℕ) (xs : List A) → last_or None (positions_from passes n xs) ≡ None → list_any passes xs ≡ false
 no_last passes n [] e = refl
 no_last passes n (x ∷ xs) e =
     elim (cases_Bool (passes x)) [
-      | inl pass ↦ absurd (last_some n (positions_from passes (n + 1) xs) (rw (positions_pass passes n x xs pass) at e))
+      | inl pass ↦ absurd (last_there n (positions_from passes (n + 1) xs) (rw (positions_pass passes n x xs pass) at e))
       | inr skip ↦ or_from (passes x) (list_any passes xs) skip (no_last passes (n + 1) xs (rw (positions_skip passes n x xs skip) at e))
     ]
 

@@ -5,6 +5,7 @@ use Rattle.std.proofs.lemmas.Bool.{and_parts, cases_Bool, ltb-true}
 use Rattle.std.proofs.lemmas.Simd.{map-map}
 use Rattle.std.specs.List.{flat_map, list_all}
 use Rattle.std.specs.Option.{option_and_then, option_map_or}
+use Rattle.std.proofs.lemmas.Option.{same_Some}
 use Rattle.mvt_document.specs.Plain.{Number, Field, LayerItem}
 use Rattle.mvt_renumber.specs.Laws.{AreShort, NoneIsNew}
 use Rattle.mvt_numbers.specs.Numbers.{Placed, all_good, and_more, numbers}
@@ -27,16 +28,13 @@ pub record MakePairs (key_count value_count : ℕ) (chunks : List (Result Placed
   pub values : map (λ (p : Placed). p.number.value) placed ≡ flat pairs
   pub each : list_all (is_pair key_count value_count) pairs ≡ true
 
-some_is : {A : Type 0} (x y : A) → Some x ≡ Some y → x ≡ y
-some_is x y e = cc
-
 flat_more : (key value : ℕ) (more : List ℕ) (found : Option (List (ℕ × ℕ))) (pairs : List (ℕ × ℕ)) → ((rest : List (ℕ × ℕ)) → found ≡ Some rest → more ≡ flat rest) → and_more (key, value) found ≡ Some pairs → key ∷ value ∷ more ≡ flat pairs
 flat_more key value more None pairs rests is = absurd cc
 flat_more key value more (Some rest) pairs rests is =
-    ap (λ list. key ∷ value ∷ list) (rests rest refl) ∙ ap flat (some_is ((key, value) ∷ rest) pairs is)
+    ap (λ list. key ∷ value ∷ list) (rests rest refl) ∙ ap flat (same_Some ((key, value) ∷ rest) pairs is)
 
 in_pairs_flat : (values : List ℕ) (pairs : List (ℕ × ℕ)) → in_pairs values ≡ Some pairs → values ≡ flat pairs
-in_pairs_flat [] pairs is = ap flat (some_is [] pairs is)
+in_pairs_flat [] pairs is = ap flat (same_Some [] pairs is)
 in_pairs_flat (key ∷ []) pairs is = absurd cc
 in_pairs_flat (key ∷ value ∷ more) pairs is = flat_more key value more (in_pairs more) pairs (in_pairs_flat more) is
 
@@ -45,7 +43,7 @@ checked key_count value_count None pairs is = absurd cc
 checked key_count value_count (Some list) pairs is =
     elim (cases_Bool (list_all (is_pair key_count value_count) list)) [
       | inl pass ↦ (
-          let same : list ≡ pairs = some_is list pairs (rw pass at is) in
+          let same : list ≡ pairs = same_Some list pairs (rw pass at is) in
           (ap Some same, ap (list_all (is_pair key_count value_count)) (sym same) ∙ pass)
           )
       | inr skip ↦ absurd (let none = rw skip at is in cc)

@@ -8,10 +8,10 @@ use Rattle.mvt_meaning.specs.Selection.{is_layer, layer_positions, selected, sel
 use Rattle.mvt_meaning.specs.declared.refusal.Refusal.TheVariants.{AmbiguousFeature, AmbiguousLayer, NoFeature, NoLayer}
 use Rattle.mvt_meaning.proofs.Positions.{positions_within}
 
-the_one_first : {E : Type 0} (none several : E) (ordinals : List ℕ) (ordinal : ℕ) → the_one none several ordinals ≡ Ok ordinal → slice_get ordinals 0 ≡ Some ordinal
-the_one_first none several [] ordinal e = absurd cc
-the_one_first none several (x ∷ []) ordinal e = let same : x ≡ ordinal = cc in ap (λ y. Some y) same
-the_one_first none several (x ∷ y ∷ more) ordinal e = absurd cc
+pub the_one_first : {A E : Type 0} (none several : E) (list : List A) (one : A) → the_one none several list ≡ Ok one → slice_get list 0 ≡ Some one
+the_one_first none several [] one e = absurd cc
+the_one_first none several (x ∷ []) one e = let same : x ≡ one = cc in ap (λ y. Some y) same
+the_one_first none several (x ∷ y ∷ more) one e = absurd cc
 
 pub selected_within : (choice : LayerChoice) (document : Document) (ordinal : ℕ) → selected choice document ≡ Ok ordinal → ordinal < length (layers document)
 selected_within (AtOrdinal n) document ordinal e = grind (arith, nat_tests)

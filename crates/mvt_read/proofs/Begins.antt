@@ -9,8 +9,8 @@ use Rattle.mvt_document.specs.Begins.{Begins}
 use Rattle.mvt_document.specs.Groups.{IsNumber, StoresField, IsFlatBody, IsGroup}
 use Rattle.mvt_document.specs.Opens.{IsField}
 use Rattle.mvt_document.specs.Parts.{IsWholeBody}
-use Rattle.mvt_document.proofs.Spelling.{one_spelling, spelling_some}
-use Rattle.mvt_document.proofs.Prefixes.{number_with, delimited-bytes, field-bytes, stored_width, whole_body}
+use Rattle.mvt_document.proofs.Spelling.{one_spelling, spelling_some, max_spelling}
+use Rattle.mvt_document.proofs.Prefixes.{number_with, delimited-bytes, field-bytes, whole_body}
 
 -- the bytes from a place on, as the program cuts them
 abbrev pub from : ℕ → List ℕ → List ℕ
@@ -44,7 +44,7 @@ content_taken n w bytes s enough =
     take-add w (length (take n (from w bytes))) bytes
     ∙ ap (λ (x : List ℕ). x ++ take (length (take n (from w bytes))) (drop w bytes)) fronts
     ∙ ap (λ (x : List ℕ). spell (length (take n (from w bytes))) w ++ x) contents
-    ∙ ap (λ (k : ℕ). spell (length (take n (from w bytes))) k ++ take n (from w bytes)) (sym (stored_width (length (take n (from w bytes))) w t))
+    ∙ ap (λ (k : ℕ). spell (length (take n (from w bytes))) k ++ take n (from w bytes)) (sym (max_spelling (length (take n (from w bytes))) w t))
 
 pub content_whole : (n w : ℕ) (bytes : List ℕ) → IsNumberAt n w bytes → n ≤ length (from w bytes) → IsFlatBody 2 (Delimited w (take n (from w bytes)))
 content_whole n w bytes s enough =

@@ -90,7 +90,7 @@ turned number first second once field old short read own (and_more a b c n f s o
 
 -- ---- a message
 
-short_after : (n : ℕ) (decisions : List (Option ℕ)) → AreShort decisions → AreShort (drop n decisions)
+pub short_after : (n : ℕ) (decisions : List (Option ℕ)) → AreShort decisions → AreShort (drop n decisions)
 short_after n decisions short = all_dropped (λ decision. IfSome decision (λ value. value < 2 ^ 64)) n decisions short
 
 -- what is read from the first field of some

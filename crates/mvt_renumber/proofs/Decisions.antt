@@ -7,6 +7,7 @@ use Rattle.std.proofs.lemmas.List.{take-append-drop}
 use Rattle.mvt_document.specs.Plain.{Number}
 use Rattle.mvt_document.specs.Wire.{spelling, minimal}
 use Rattle.mvt_document.specs.Groups.{IsNumber}
+use Rattle.mvt_document.proofs.Lists.{cons_no_more}
 use Rattle.mvt_numbers.specs.Numbers.{Placed, pieces, number_in, chunk_at, unpacked, all_good, and_more}
 use Rattle.mvt_renumber.specs.Renumbering.{with_number, decided, renumbered, some_changed}
 use Rattle.mvt_renumber.specs.Deciding.{packed_numbers}
@@ -32,17 +33,13 @@ none_changed (number ∷ more) = refl
 pub with_number-same : (value : ℕ) (number : Number) → number.value ≡ value → with_number value number ≡ number
 with_number-same value number e = cond-true (eqb number.value value) number (minimal value) (eq-eqb number.value value e)
 
-cons_option-no_more : {A : Type 0} (item : Option A) (list : List A) (n : ℕ) → length list ≤ n → length (cons_option item list) ≤ suc n
-cons_option-no_more None list n h = omega arith
-cons_option-no_more (Some item) list n h = omega arith
-
 -- no more numbers are left than there were
 pub renumbered-no_more : (decisions : List (Option ℕ)) (numbers : List Number) → length (renumbered decisions numbers) ≤ length numbers
 renumbered-no_more [] numbers = omega arith
 renumbered-no_more (decision ∷ decisions) [] = omega arith
 renumbered-no_more (decision ∷ decisions) (number ∷ more) =
     let e = renumbered_more decision decisions number more in
-    let h = cons_option-no_more (decided (decision, number)) (renumbered decisions more) (length more) (renumbered-no_more decisions more) in
+    let h = cons_no_more (decided (decision, number)) (renumbered decisions more) (length more) (renumbered-no_more decisions more) in
     omega (arith, ap length e, h)
 
 -- ---- the numbers of pieces, wherever they are
@@ -107,5 +104,3 @@ packed-spellings [] p = refl
 packed-spellings (number ∷ more) p =
     packed-more number (flat_map spelling more) p.0
     ∙ ap (option_map (λ (rest : List Number). number ∷ rest)) (packed-spellings more p.1)
-
--- ---- what is left where some numbers are decided on

@@ -12,6 +12,7 @@ use Rattle.mvt_renumber.specs.Deciding.{packed_numbers, StaysBefore, IsLeft}
 use Rattle.mvt_document.specs.Bodies.{number_of}
 use Rattle.mvt_document.specs.declared.varint.Varint.{Varint}
 use Rattle.mvt_document.proofs.EachItem.{all_joined}
+use Rattle.mvt_document.proofs.Lists.{take_sum}
 use Rattle.mvt_renumber.specs.Fates.{left_of_fate}
 use Rattle.mvt_renumber.specs.declared.fate.Fate.{Fate}
 use Rattle.mvt_renumber.specs.declared.fate.Fate.TheVariants.{Stays, Goes, Becomes}
@@ -19,18 +20,12 @@ use Rattle.mvt_renumber.proofs.Decisions.{packed-first}
 
 -- ---- a part of bytes and the part after it
 
-pub take_apart : {A : Type 0} (n m : ℕ) (xs : List A) → take (n + m) xs ≡ take n xs ++ take m (drop n xs)
-take_apart n m xs =
-    sym (take-append-drop n (take (n + m) xs))
-    ∙ ap (λ t. t ++ drop n (take (n + m) xs)) (take-take n (n + m) xs (omega arith))
-    ∙ ap (λ t. take n xs ++ t) (drop-take n m xs)
-
 pub range_more : {A : Type 0} (from to more : ℕ) (xs : List A) → from ≤ to → slice_range xs from (to + more) ≡ slice_range xs from to ++ take more (drop to xs)
 range_more from to more xs within =
     let ahead : to + more - from ≡ (to - from) + more = omega arith in
     let there : from + (to - from) ≡ to = omega arith in
     ap (λ n. take n (drop from xs)) ahead
-    ∙ take_apart (to - from) more (drop from xs)
+    ∙ take_sum (to - from) more (drop from xs)
     ∙ ap (λ rest. take (to - from) (drop from xs) ++ take more rest) (drop-drop (to - from) from xs ∙ ap (λ n. drop n xs) there)
 
 -- ---- numbers that stay
@@ -63,7 +58,7 @@ stays_more bytes decisions place left following number s valid at same dropped u
           ∙ ap Some (sym (append_assoc s.read (number ∷ []) more));
       bad = λ e. s.bad (first ∙ ap (option_map (λ (more : List Number). number ∷ more)) e);
       spelled =
-          take_apart place number.width bytes
+          take_sum place number.width bytes
           ∙ ap (λ b. b ++ take number.width rest) s.spelled
           ∙ ap (λ b. flat_map spelling s.read ++ b) (at ∙ sym (append-nil (spelling number)))
           ∙ sym (flat_map-append spelling s.read (number ∷ []));

@@ -13,6 +13,7 @@ use Rattle.mvt_document.specs.Groups.{IsNumber, IsGroup, IsBodyWith, wire_type}
 use Rattle.mvt_document.specs.Opens.{IsField}
 use Rattle.mvt_document.proofs.EachItem.{all_dropped, all_joined}
 use Rattle.mvt_document.proofs.Spelling.{minimal_spelling, length-spell, width_within_grows}
+use Rattle.mvt_document.proofs.Sizes.{length-delimited}
 use Rattle.mvt_numbers.specs.Numbers.{Placed, pieces, unpacked, numbers_of, all_good}
 use Rattle.mvt_renumber.specs.Renumbering.{with_number, decided, renumbered, with_numbers, field_numbers, with_left, renumbered_field, renumber}
 use Rattle.mvt_renumber.specs.Deciding.{packed_numbers, packed_field}
@@ -39,7 +40,7 @@ renumbered-append (decision ∷ decisions) (x ∷ xs) ys =
 
 -- ---- decided numbers are numbers
 
-with_number-valid : (value : ℕ) (old : Number) → value < 2 ^ 64 → IsNumber old → IsNumber (with_number value old)
+pub with_number-valid : (value : ℕ) (old : Number) → value < 2 ^ 64 → IsNumber old → IsNumber (with_number value old)
 with_number-valid value old short valid =
     cond_both (eqb old.value value) old (minimal value) IsNumber (λ _. valid) (λ _. minimal_spelling value short)
 
@@ -169,7 +170,7 @@ kept_numbers (number ∷ more) decisions =
     ∙ ap (λ (n : Number). n ∷ renumbered (keeping more ++ decisions) more) (with_number-same number.value number refl)
     ∙ ap (λ (list : List Number). number ∷ list) (kept_numbers more decisions)
 
-own_left : (number : ℕ) (field : Field) (old : List Number) → field_numbers number field ≡ old → with_left field old old ≡ field ∷ []
+pub own_left : (number : ℕ) (field : Field) (old : List Number) → field_numbers number field ≡ old → with_left field old old ≡ field ∷ []
 own_left number field [] e = refl
 own_left number field (first ∷ more) e =
     let r = numbers_reads number field first more e in
@@ -230,11 +231,6 @@ shorter (decision ∷ decisions) [] narrow = omega arith
 shorter (decision ∷ decisions) (number ∷ more) narrow =
     let e = ap (λ (list : List Number). length (flat_map spelling list)) (renumbered_more decision decisions number more) in
     omega (arith, e, cons_shorter decision number (renumbered decisions more) narrow.0, shorter decisions more narrow.1, length-append (spelling number) (flat_map spelling more))
-
-length-delimited : (width : ℕ) (bytes : List ℕ) → length (delimited width bytes) ≡ max width (minimal_width (length bytes)) + length bytes
-length-delimited width bytes =
-    length-append (spell (length bytes) (max width (minimal_width (length bytes)))) bytes
-    ∙ ap (λ (n : ℕ). n + length bytes) (length-spell (length bytes) (max width (minimal_width (length bytes))))
 
 delimited_shorter : (width : ℕ) (bytes others : List ℕ) → length bytes ≤ length others → length (delimited width bytes) ≤ length (delimited width others)
 delimited_shorter width bytes others short =

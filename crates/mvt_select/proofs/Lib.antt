@@ -1,4 +1,4 @@
 pub mod Selected
-mod Named
+pub mod Named
 pub mod Chosen
 mod Names

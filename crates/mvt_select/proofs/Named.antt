@@ -22,7 +22,7 @@ use Rattle.mvt_meaning.proofs.SelectionLemmas.{one_layer, two_apart}
 
 -- ---- whether a text is this name
 
-bytes_eq-flip : (xs ys : List ℕ) → bytes_eq xs ys ≡ bytes_eq ys xs
+pub bytes_eq-flip : (xs ys : List ℕ) → bytes_eq xs ys ≡ bytes_eq ys xs
 bytes_eq-flip xs ys =
     elim (cases_Bool (bytes_eq ys xs)) [
       | inl same ↦ (bytes_eq-Decides xs ys).1 (sym ((bytes_eq-Decides ys xs).0 same)) ∙ sym same

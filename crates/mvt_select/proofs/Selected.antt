@@ -20,6 +20,7 @@ use Rattle.mvt_meaning.specs.declared.refusal.Refusal.{Refusal}
 use Rattle.mvt_meaning.specs.declared.refusal.Refusal.TheVariants.{AmbiguousFeature, AmbiguousLayer, NoFeature, NoLayer}
 use Rattle.mvt_meaning.proofs.Found.{picked_found}
 use Rattle.mvt_meaning.proofs.Positions.{positions_from, positions_pass, positions_skip}
+use Rattle.mvt_meaning.proofs.Selecting.{the_one_first}
 use Rattle.mvt_select.specs.Found.{IsFoundFeature, IsFoundLayer}
 
 -- ---- where each is
@@ -115,11 +116,6 @@ filtered_at {A} test (x ∷ list) index found e =
       | inr skip ↦ (let later = filtered_at test list index found (rw skip at e) in (suc later.0, later.1))
     ]
 
-one_at : {A E : Type 0} (none several : E) (list : List A) (found : A) → the_one none several list ≡ Ok found → slice_get list 0 ≡ Some found
-one_at none several [] found e = absurd cc
-one_at none several (x ∷ []) found e = let same : x ≡ found = cc in ap (λ y. Some y) same
-one_at none several (x ∷ y ∷ more) found e = absurd cc
-
 -- the one ordinal of those that pass is that of the one that passes
 pub one_ordinal : {A B : Type 0} (pick : A → Option B) (passes : B → Bool) (none several : Refusal) (items : List A) → the_one none several (ordinals_of passes (filter_map pick items)) ≡ result_map_both (λ (f : ℕ × (ℕ × B)). f.0) (λ refusal. refusal) (the_one none several (filter (λ (f : ℕ × (ℕ × B)). passes f.1.1) (found_in pick items)))
 one_ordinal {A} {B} pick passes none several items =
@@ -130,7 +126,7 @@ one_ordinal {A} {B} pick passes none several items =
 -- and it is where its position says
 pub one_stands : {A B : Type 0} (pick : A → Option B) (passes : B → Bool) (none several : Refusal) (items : List A) (found : ℕ × (ℕ × B)) → the_one none several (filter (λ (f : ℕ × (ℕ × B)). passes f.1.1) (found_in pick items)) ≡ Ok found → (index : ℕ) × Stands pick items index found
 one_stands {A} {B} pick passes none several items found e =
-    let among = filtered_at (λ (f : ℕ × (ℕ × B)). passes f.1.1) (found_in pick items) 0 found (one_at none several (filter (λ (f : ℕ × (ℕ × B)). passes f.1.1) (found_in pick items)) found e) in
+    let among = filtered_at (λ (f : ℕ × (ℕ × B)). passes f.1.1) (found_in pick items) 0 found (the_one_first none several (filter (λ (f : ℕ × (ℕ × B)). passes f.1.1) (found_in pick items)) found e) in
     (among.0, stands pick items among.0 found among.1)
 
 -- ---- a layer

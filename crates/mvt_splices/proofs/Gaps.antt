@@ -2,21 +2,13 @@
 use Rattle.std.proofs.Common.{◌≡◌, ℕ, zero, suc, ◌+◌, ◌-◌, ◌≤◌, List, [], ◌∷◌, ◌++◌, length, length-append, length-drop, length-take, take, drop, append_assoc, take-append-drop, refl, sym, ap, ◌∙◌, arith}
 use Rattle.std.proofs.lemmas.List.{drop-append-le, drop-drop, drop_at, length-take-le, take_all, take_at, take-append-le, take-take}
 use Rattle.mvt_document.specs.Splicing.{part, splice}
+use Rattle.mvt_document.proofs.Lists.{take_sum}
 
 -- ---- the gap goes to an index
 
 -- the list of a ring whose first `following` items are after the gap
 abbrev pub unrolled : {A : Type 0} → ℕ → List A → List A
 unrolled following ring = drop following ring ++ take following ring
-
-take_sum : {A : Type 0} (n m : ℕ) (xs : List A) → take (n + m) xs ≡ take n xs ++ take m (drop n xs)
-take_sum zero m xs = ap (λ k. take k xs) (omega arith)
-take_sum (suc n) m [] =
-    let more : suc n + m ≡ suc (n + m) = omega arith in
-    ap (λ k. take k []) more ∙ sym (take_all m [] (omega arith))
-take_sum (suc n) m (x ∷ xs) =
-    let more : suc n + m ≡ suc (n + m) = omega arith in
-    ap (λ k. take k (x ∷ xs)) more ∙ ap (λ rest. x ∷ rest) (take_sum n m xs)
 
 take_past : {A : Type 0} (n : ℕ) (xs ys : List A) → take (length xs + n) (xs ++ ys) ≡ xs ++ take n ys
 take_past n [] ys = ap (λ k. take k ys) (omega arith)

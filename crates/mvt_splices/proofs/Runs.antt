@@ -40,11 +40,11 @@ pub zip_same : {A : Type 0} (R : A → A → Type 0) → ((x : A) → R x x) →
 zip_same R same [] = tt
 zip_same R same (x ∷ xs) = (same x, zip_same R same xs)
 
-zip_joined : {A : Type 0} (R : A → A → Type 0) (xs ys zs ws : List A) → AllZip R xs ys → AllZip R zs ws → AllZip R (xs ++ zs) (ys ++ ws)
-zip_joined R [] [] zs ws first second = second
-zip_joined R [] (y ∷ ys) zs ws first second = absurd first
-zip_joined R (x ∷ xs) [] zs ws first second = absurd first
-zip_joined R (x ∷ xs) (y ∷ ys) zs ws first second = (first.0, zip_joined R xs ys zs ws first.1 second)
+pub zip_append : {A : Type 0} (R : A → A → Type 0) (xs ys zs ws : List A) → AllZip R xs ys → AllZip R zs ws → AllZip R (xs ++ zs) (ys ++ ws)
+zip_append R [] [] zs ws first second = second
+zip_append R [] (y ∷ ys) zs ws first second = absurd first
+zip_append R (x ∷ xs) [] zs ws first second = absurd first
+zip_append R (x ∷ xs) (y ∷ ys) zs ws first second = (first.0, zip_append R xs ys zs ws first.1 second)
 
 same_at : {A : Type 0} (xs ys : List A) (i : ℕ) (d : A) → drop i xs ≡ drop i ys → get_or xs i d ≡ get_or ys i d
 same_at xs ys i d same =
@@ -182,7 +182,7 @@ module _ {S T : Type 0} (on : S → Type 0) (splice_of : S → Splice T) (turned
                 (longest_more splice_of front step list.items (length made.items + made.room) (run_fits splice_of on n given (length list.items) fit so_far.run) (omega (arith, so_far.greatest, room)) (omega (arith, count, reached)));
             are_turned = (
               roomys,
-              subst (λ xs. AllZip roomier xs roomys) (sym first) (zip_joined roomier front old.0 (step ∷ []) (turns.0 ∷ []) old.1 (turns.1, tt)),
+              subst (λ xs. AllZip roomier xs roomys) (sym first) (zip_append roomier front old.0 (step ∷ []) (turns.0 ∷ []) old.1 (turns.1, tt)),
               all_joined (λ s. FindsRoom (splice_of s)) old.0 (turns.0 ∷ []) old.2 (turns.2, tt),
               take_more_set steps n next inside
                   ∙ ap (λ xs. xs ++ next ∷ []) old.3
@@ -211,7 +211,7 @@ module _ {S T : Type 0} (on : S → Type 0) (splice_of : S → Splice T) (turned
             let front = take n given in
             let following : given ≡ front ++ step ∷ drop (n + 1) given = sym (take-append-drop n given) ∙ ap (λ xs. front ++ xs) (drop_more given n d within ∙ ap (λ s. s ∷ drop (n + 1) given) (sym same_step)) in
             let left : drop n (set steps n next) ≡ next ∷ drop (n + 1) given = drop-set steps n next inside ∙ ap (λ xs. next ∷ xs) (sym (drop-set-lt (n + 1) steps n next (omega arith)) ∙ rest_more next) in
-            let all = zip_joined roomier front so_far.are_turned.0 (step ∷ drop (n + 1) given) (next ∷ drop (n + 1) given) so_far.are_turned.1 (more, zip_same roomier as_roomy (drop (n + 1) given)) in
+            let all = zip_append roomier front so_far.are_turned.0 (step ∷ drop (n + 1) given) (next ∷ drop (n + 1) given) so_far.are_turned.1 (more, zip_same roomier as_roomy (drop (n + 1) given)) in
             record { items = same; room = omega (arith, room, so_far.room, capacity); are_roomier = subst (λ xs. AllZip roomier xs (back ++ drop n (set steps n next))) (sym following) (rw (were, left) all) }
 
     -- the next step, if there is one, is not on the list

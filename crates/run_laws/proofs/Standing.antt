@@ -16,7 +16,7 @@ use Rattle.mvt_history_steps.proofs.Sound.{or_before_has}
 use Rattle.mvt_history_steps.specs.declared.TheConstants.{MAX_MARKS}
 use Rattle.mvt_history_error.specs.declared.HistoryError.{HistoryError}
 use Rattle.mvt_history_error.specs.declared.HistoryError.TheVariants.{NothingToUndo, NothingToRedo, NoMark, TooManyMarks, NoGroup}
-use Rattle.mvt_history_steps.proofs.Joined.{after_accepted}
+use Rattle.mvt_history_steps.proofs.Joined.{after_accepted, commands_of, commands_of_last}
 use Rattle.tile_lines.specs.Lines.{lines_of}
 use Rattle.tile_course.specs.Run.{at_first, ran}
 use Rattle.run_laws.specs.RunLaws.{Makes, standing_commands, IsHistoryOf, StandingCommands}
@@ -42,12 +42,6 @@ makes_parts document (command ∷ commands) more made (next, accepted, makes) =
     rw (after_accepted command document next accepted) ((next, accepted, parts.0), parts.1)
 
 -- ---- steps whose commands are all accepted
-
-abbrev commands_of : List (List Command) → List Command
-commands_of steps = flat_map (λ step. step) steps
-
-one_more : (steps : List (List Command)) (step : List Command) → commands_of (steps ++ step ∷ []) ≡ commands_of steps ++ step
-one_more steps step = flat_map-append (λ step. step) steps (step ∷ []) ∙ ap (λ rest. commands_of steps ++ rest) (append-nil step)
 
 -- the first `count` of them
 makes_first : (count : ℕ) (document : Document) (steps : List (List Command)) (made : Document) → Makes document (commands_of steps) made → Makes document (commands_of (take count steps)) (after_steps (take count steps) document)
@@ -95,7 +89,7 @@ module _ (document : Document) (depth : ℕ) where
         start = is_made.start;
         keeps_depth = is_made.keeps_depth;
         made = made;
-        steps = subst (λ commands. Makes history.start commands made) (sym (one_more prefix step)) all;
+        steps = subst (λ commands. Makes history.start commands made) (sym (commands_of_last prefix step)) all;
         group = refl;
       }
 

@@ -5,7 +5,7 @@ use Rattle.std.specs.Str.{all_ascii_digits}
 use Rattle.std.specs.Str.Parse.{digits_value}
 use Rattle.std.specs.Char.{is_ascii_digit, digit_value}
 use Rattle.std.specs.Int.Digits.{number_from_digits, number_from_digits_after}
-use Rattle.std.proofs.lemmas.Bool.{ltb-true, ltb-false, lt-ltb, le-leb, lt-leb}
+use Rattle.std.proofs.lemmas.Bool.{ltb-true, ltb-false, lt-ltb, le-leb, lt-leb, and_parts}
 use Rattle.std.proofs.lemmas.Bool.Decides.{nat_tests}
 use Rattle.std.proofs.lemmas.List.{take-append-drop, map-append}
 use Rattle.std.proofs.lemmas.Int.Digits.{digits_value_is, digits_value_more, number_after_append, number_after_ge}
@@ -27,14 +27,10 @@ pub all_digits : (bytes : List ℕ) → ((k : ℕ) → k < length bytes → is_a
 all_digits [] each = refl
 all_digits (b ∷ bytes) each = rw (each 0 (omega arith), all_digits bytes (λ k lt. each (suc k) (omega arith))) refl
 
-pub both_true : (a b : Bool) → (a && b) ≡ true → (a ≡ true) × (b ≡ true)
-both_true true b e = (refl, e)
-both_true false b e = absurd cc
-
 pub digit_among : (bytes : List ℕ) (k : ℕ) → k < length bytes → all_ascii_digits bytes ≡ true → is_ascii_digit (get_or bytes k 0) ≡ true
 digit_among [] k lt e = absurd (omega arith)
-digit_among (b ∷ bytes) zero lt e = (both_true (is_ascii_digit b) (all_ascii_digits bytes) e).0
-digit_among (b ∷ bytes) (suc k) lt e = digit_among bytes k (omega arith) (both_true (is_ascii_digit b) (all_ascii_digits bytes) e).1
+digit_among (b ∷ bytes) zero lt e = (and_parts (is_ascii_digit b) (all_ascii_digits bytes) e).0
+digit_among (b ∷ bytes) (suc k) lt e = digit_among bytes k (omega arith) (and_parts (is_ascii_digit b) (all_ascii_digits bytes) e).1
 
 pub no_number : (bytes : List ℕ) → (is_number bytes ≡ true → ⊥) → number_of bytes ≡ Err BadNumber
 unfolding number_of
@@ -46,8 +42,8 @@ no_number bytes never = refuted (is_number bytes) refl
 
 pub is_number_parts : (bytes : List ℕ) → is_number bytes ≡ true → (0 < length bytes) × (all_ascii_digits bytes ≡ true) × (digits_value 10 bytes < 2 ^ 64)
 is_number_parts bytes e =
-    let outer = both_true (not (eqb (length bytes) 0) && all_ascii_digits bytes) (ltb (digits_value 10 bytes) (2 ^ 64)) e in
-    let inner = both_true (not (eqb (length bytes) 0)) (all_ascii_digits bytes) outer.0 in
+    let outer = and_parts (not (eqb (length bytes) 0) && all_ascii_digits bytes) (ltb (digits_value 10 bytes) (2 ^ 64)) e in
+    let inner = and_parts (not (eqb (length bytes) 0)) (all_ascii_digits bytes) outer.0 in
     let some : not (eqb (length bytes) 0) ≡ true = inner.0 in
     (grind (arith, nat_tests), inner.1, ltb-true _ _ outer.1)
 
@@ -95,7 +91,7 @@ pub within_limit : (most : ℕ) (bytes : List ℕ) (n : ℕ) → number_of bytes
 unfolding number_up_to
 within_limit most bytes n e le =
     let ok = number_ok bytes n e in
-    let are : are_digits bytes ≡ true = (both_true (are_digits bytes) (ltb (digits_value 10 bytes) (2 ^ 64)) ok.0).0 in
+    let are : are_digits bytes ≡ true = (and_parts (are_digits bytes) (ltb (digits_value 10 bytes) (2 ^ 64)) ok.0).0 in
     let small : leb (digits_value 10 bytes) most ≡ true = le-leb _ _ (omega (arith, ok.1)) in
     rw (are, small, ok.1) refl
 
@@ -103,7 +99,7 @@ pub past_limit : (most : ℕ) (bytes : List ℕ) (n : ℕ) → number_of bytes �
 unfolding number_up_to
 past_limit most bytes n e lt =
     let ok = number_ok bytes n e in
-    let are : are_digits bytes ≡ true = (both_true (are_digits bytes) (ltb (digits_value 10 bytes) (2 ^ 64)) ok.0).0 in
+    let are : are_digits bytes ≡ true = (and_parts (are_digits bytes) (ltb (digits_value 10 bytes) (2 ^ 64)) ok.0).0 in
     let large : leb (digits_value 10 bytes) most ≡ false = lt-leb _ _ (omega (arith, ok.1)) in
     rw (are, large) refl
 

@@ -3,7 +3,7 @@ use Rattle.std.proofs.Common.{◌≡◌, ℕ, zero, suc, ◌≤◌, Bool, true, 
 use Rattle.std.specs.Prelude.{◌&&◌, ◌==◌, codes, option_map, option_and_then, ok_or, unsigned_abs}
 use Rattle.std.specs.List.{AllByRecursion, before_first, after_first, list_all, slice_split}
 use Rattle.std.specs.Str.Parse.{digits_value}
-use Rattle.std.proofs.lemmas.Bool.{leb-true, le-leb}
+use Rattle.std.proofs.lemmas.Bool.{leb-true, le-leb, and_parts}
 use Rattle.mvt_geometry.specs.Shapes.{Geometry, least_points, IsPlaced, IsPart, IsGeometry}
 use Rattle.mvt_geometry.specs.declared.shapes.Point.{Point}
 use Rattle.mvt_geometry.specs.declared.shapes.Kind.{Kind}
@@ -14,7 +14,6 @@ use Rattle.tile_words.specs.declared.parse_error.ParseError.TheVariants.{BadGeom
 use Rattle.mvt_geometry.specs.Checks.{is_part_count}
 use Rattle.mvt_geometry.proofs.Checks.{counted-Decides}
 use Rattle.tile_arguments.specs.Arguments.{after_mark, are_digits, number_up_to, signed_by, signed_of, delta_of, each, point_at, point_in, bare_in, point_of, part_of, is_bar, parts_of, are_parts, shaped}
-use Rattle.tile_arguments.proofs.Digits.{both_true}
 
 -- ---- coordinates
 
@@ -25,7 +24,7 @@ up_to_le most bytes n e = tested (are_digits bytes && leb (digits_value 10 bytes
     tested : (b : Bool) → (are_digits bytes && leb (digits_value 10 bytes) most) ≡ b → cond b (Some (digits_value 10 bytes)) None ≡ Some n → n ≤ most
     tested true is e =
         let same : digits_value 10 bytes ≡ n = cc in
-        omega (arith, same, leb-true _ _ (both_true (are_digits bytes) (leb (digits_value 10 bytes) most) is).1)
+        omega (arith, same, leb-true _ _ (and_parts (are_digits bytes) (leb (digits_value 10 bytes) most) is).1)
     tested false is e = absurd cc
 
 abs_neg : (n : ℕ) → unsigned_abs (neg_ℤ (pos n)) ≡ n
@@ -103,16 +102,16 @@ parts_placed words parts e = each_all part_of (AllByRecursion IsPlaced) part_pla
 enough_each : (kind : Kind) (parts : List (List Point)) → list_all (λ points. leb (least_points kind) (length points)) parts ≡ true → AllByRecursion (AllByRecursion IsPlaced) parts → AllByRecursion (IsPart kind) parts
 enough_each kind [] e placed = tt
 enough_each kind (points ∷ parts) e placed =
-    let both = both_true (leb (least_points kind) (length points)) (list_all (λ points. leb (least_points kind) (length points)) parts) e in
+    let both = and_parts (leb (least_points kind) (length points)) (list_all (λ points. leb (least_points kind) (length points)) parts) e in
     (record { enough = leb-true _ _ both.0; placed = placed.0 }, enough_each kind parts both.1 placed.1)
 
-each_enough : (kind : Kind) (parts : List (List Point)) → AllByRecursion (IsPart kind) parts → list_all (λ points. leb (least_points kind) (length points)) parts ≡ true
+pub each_enough : (kind : Kind) (parts : List (List Point)) → AllByRecursion (IsPart kind) parts → list_all (λ points. leb (least_points kind) (length points)) parts ≡ true
 each_enough kind [] all = refl
 each_enough kind (points ∷ parts) all = rw (le-leb _ _ all.0.enough, each_enough kind parts all.1) refl
 
 is_shaped : (kind : Kind) (parts : List (List Point)) → AllByRecursion (AllByRecursion IsPlaced) parts → are_parts kind parts ≡ true → IsGeometry (record { kind = kind; parts = parts })
 is_shaped kind parts placed e =
-    let both = both_true (is_part_count kind (length parts)) (list_all (λ points. leb (least_points kind) (length points)) parts) e in
+    let both = and_parts (is_part_count kind (length parts)) (list_all (λ points. leb (least_points kind) (length points)) parts) e in
     record { counted = (counted-Decides kind (length parts)).0 both.0; parts = enough_each kind parts both.1 placed }
 
 has_shape : (kind : Kind) (parts : List (List Point)) → IsGeometry (record { kind = kind; parts = parts }) → are_parts kind parts ≡ true

@@ -3,7 +3,7 @@ use Rattle.std.proofs.Common.{◌≡◌, ◌≢◌, ℕ, ◌==◌, Bool, true, f
 use Rattle.std.specs.Prelude.{◌&&◌, not, slice_index, if◌then◌else◌}
 use Rattle.std.specs.List.{AllByRecursion, enumerate_from, find}
 use Rattle.std.specs.Option.{option_and_then, option_map_or}
-use Rattle.std.proofs.lemmas.Bool.{and_parts, false≢true}
+use Rattle.std.proofs.lemmas.Bool.{and_parts, false≢true, not-true}
 use Rattle.mvt_document.specs.Plain.{Document, Feature, Layer}
 use Rattle.mvt_value.specs.Values.{Value}
 use Rattle.mvt_value.proofs.Fields.{read_in_range}
@@ -23,7 +23,7 @@ use Rattle.tile_lines.specs.Lines.{is_line_feed, HasNoLineFeed}
 use Rattle.mvt_meaning.specs.Geometries.{geometry_among}
 use Rattle.tile_listing.specs.Listing.{absent, attribute_line, attribute_lines, feature_line, geometry_line, id_word, key_line, kind_form, layer_line, layer_numbers, layers_line, lines_of_feature, lines_of_layer, lines_of_tile, name_word, numbered, spaced, value_line, value_shown}
 use Rattle.tile_listing.specs.Printed.{MayBePrinted}
-use Rattle.tile_listing.proofs.Printing.{uncut-append, decimal_uncut}
+use Rattle.tile_listing.proofs.Printing.{uncut-append, decimal_uncut, one_of}
 
 -- ---- words without a line feed
 
@@ -32,13 +32,9 @@ abbrev feedless : List ℕ → Bool
 feedless [] = true
 feedless (b ∷ bytes) = not (is_line_feed b) && feedless bytes
 
-not_true : (b : Bool) → not b ≡ true → b ≡ false
-not_true true e = absurd cc
-not_true false e = refl
-
 tested : (bytes : List ℕ) → feedless bytes ≡ true → HasNoLineFeed bytes
 tested [] e = tt
-tested (b ∷ bytes) e = let parts = and_parts (not (is_line_feed b)) (feedless bytes) e in (not_true (is_line_feed b) parts.0, tested bytes parts.1)
+tested (b ∷ bytes) e = let parts = and_parts (not (is_line_feed b)) (feedless bytes) e in (not-true (is_line_feed b) parts.0, tested bytes parts.1)
 
 spaced_uncut : (words : List (List ℕ)) → AllByRecursion HasNoLineFeed words → HasNoLineFeed (spaced words)
 spaced_uncut [] h = tt
@@ -60,17 +56,13 @@ found_value_uncut bytes (Some value) e = value_form_feedless value (read_in_rang
 value_uncut : (bytes : List ℕ) → HasNoLineFeed (value_shown bytes)
 value_uncut bytes = found_value_uncut bytes (value_in bytes) refl
 
-either_uncut : (b : Bool) (xs ys : List ℕ) → HasNoLineFeed xs → HasNoLineFeed ys → HasNoLineFeed (if b then xs else ys)
-either_uncut true xs ys h k = h
-either_uncut false xs ys h k = k
-
 found_kind_uncut : (found : Option Kind) (other : List ℕ) → HasNoLineFeed other → HasNoLineFeed (option_map_or kind_word found other)
 found_kind_uncut None other h = h
 found_kind_uncut (Some kind) other h = kind_feedless kind
 
 kind_uncut : (kind : ℕ) → HasNoLineFeed (kind_form kind)
 kind_uncut kind =
-    either_uncut (kind == 0) (codes "unknown") _ (tested (codes "unknown") refl)
+    one_of (kind == 0) (codes "unknown") _ (tested (codes "unknown") refl)
     (found_kind_uncut (find (λ k. kind_number k == kind) kinds) _ (spaced_uncut (codes "kind" ∷ decimal kind ∷ []) (tested (codes "kind") refl, (decimal_uncut kind, tt))))
 
 found_is_geometry : (kind : ℕ) (read : Option (List ℕ)) (geometry : Geometry) → option_and_then (geometry_in kind) read ≡ Some geometry → IsGeometry geometry

@@ -16,7 +16,7 @@ uncut-append (x ∷ xs) ys (other, none) others = (other, uncut-append xs ys non
 digit_other : (n : ℕ) → is_line_feed (digit_glyph false (n % 10)) ≡ false
 digit_other n = let low : nat_lt (n % 10) 10 ≡ true = grind (arith, nat_tests) in rw low (grind (arith, nat_tests))
 
-one_of : (q : Bool) (xs ys : List ℕ) → HasNoLineFeed xs → HasNoLineFeed ys → HasNoLineFeed (if q then xs else ys)
+pub one_of : (q : Bool) (xs ys : List ℕ) → HasNoLineFeed xs → HasNoLineFeed ys → HasNoLineFeed (if q then xs else ys)
 one_of true xs ys first second = first
 one_of false xs ys first second = second
 

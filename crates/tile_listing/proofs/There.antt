@@ -10,7 +10,7 @@ use Rattle.mvt_meaning.specs.Selection.{selected, selected_feature}
 use Rattle.mvt_meaning.specs.declared.refusal.Refusal.{Refusal}
 use Rattle.mvt_meaning.specs.declared.refusal.Refusal.TheVariants.{NoFeature, AmbiguousFeature, NoLayer}
 use Rattle.mvt_meaning.proofs.Positions.{positions_within}
-use Rattle.mvt_meaning.proofs.Selecting.{selected_within}
+use Rattle.mvt_meaning.proofs.Selecting.{selected_within, selected_feature_within}
 use Rattle.tile_listing.specs.Listing.{with_ordinal}
 use Rattle.tile_listing.specs.Laws.{SelectedFeatureIsThere, SelectedLayerIsThere}
 
@@ -25,14 +25,5 @@ found_at none items i found e lt = let at = item_at items i lt in (at.0, rw (e, 
 pub layer_is_there : SelectedLayerIsThere
 layer_is_there choice document ordinal e = found_at NoLayer (layers document) ordinal (selected choice document) e (selected_within choice document ordinal e)
 
-the_one_first : (ordinals : List ℕ) (ordinal : ℕ) → the_one NoFeature AmbiguousFeature ordinals ≡ Ok ordinal → slice_get ordinals 0 ≡ Some ordinal
-the_one_first [] ordinal e = absurd cc
-the_one_first (x ∷ []) ordinal e = let same : x ≡ ordinal = cc in ap (λ (y : ℕ). Some y) same
-the_one_first (x ∷ y ∷ more) ordinal e = absurd cc
-
-feature_within : (choice : FeatureChoice) (layer : Layer) (ordinal : ℕ) → selected_feature choice layer ≡ Ok ordinal → ordinal < length (features layer)
-feature_within (FeatureAtOrdinal n) layer ordinal e = grind (arith, nat_tests)
-feature_within (WithId id) layer ordinal e = let bounds = positions_within (has_id id) 0 (features layer) 0 ordinal (the_one_first (ordinals_of (has_id id) (features layer)) ordinal e) in omega arith
-
 pub feature_is_there : SelectedFeatureIsThere
-feature_is_there choice layer ordinal e = found_at NoFeature (features layer) ordinal (selected_feature choice layer) e (feature_within choice layer ordinal e)
+feature_is_there choice layer ordinal e = found_at NoFeature (features layer) ordinal (selected_feature choice layer) e (selected_feature_within choice layer ordinal e)

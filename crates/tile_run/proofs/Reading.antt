@@ -3,7 +3,7 @@ use Rattle.std.proofs.Common.{◌≡◌, ◌≢◌, ℕ, ◌+◌, ◌-◌, ◌<�
 use Rattle.std.specs.Prelude.{Result, Ok, Err, nat_lt}
 use Rattle.std.proofs.lemmas.Bool.Decides.{nat_tests}
 use Rattle.std.proofs.Math.Seq.{take-append-add}
-use Rattle.std.proofs.lemmas.Bool.{cases_lt}
+use Rattle.std.proofs.lemmas.Bool.{cases_lt, and_right}
 use Rattle.std.proofs.lemmas.List.{take_all, take-append-le, take-append-drop}
 use Rattle.mvt_document.specs.Plain.{Document}
 use Rattle.tile_device.specs.Seen.{Seen, Intake, Reads, Receives, Sends, Supplies, written}
@@ -36,10 +36,6 @@ pub record SoFar (strict : Bool) (start : Progress) (before now : Moment) (room 
   pub share : allowed + retries ≡ before.retries
   pub comes : ComesTo strict start (whole_lines bytes) (record before { retries = allowed }) now editor
 
-not_over : (strict : Bool) → (strict && false) ≡ false
-not_over true = refl
-not_over false = refl
-
 pub so_far_none : (strict : Bool) (document : Document) (depth : ℕ) (now : Moment) (editor : Editor) (cutter : Holding) → cutter ≡ nothing_held
     → IsAt editor strict (at_first document depth) → SoFar strict (at_first document depth) now now MAX_SCRIPT editor cutter
 so_far_none strict document depth now editor cutter empty at = record {
@@ -51,7 +47,7 @@ so_far_none strict document depth now editor cutter empty at = record {
   allowed = now.retries;
   share = omega arith;
   comes = record {
-    comes = record { progress = at_first document depth; walk = refl; over = not_over strict; sends = sends_nothing now.replies now.retries };
+    comes = record { progress = at_first document depth; walk = refl; over = and_right strict false refl; sends = sends_nothing now.replies now.retries };
     at = at;
   };
 }

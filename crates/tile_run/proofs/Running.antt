@@ -2,6 +2,7 @@
 use Rattle.std.proofs.Common.{◌≡◌, ℕ, ◌+◌, ◌-◌, Bool, true, false, ◌||◌, ◌&&◌, List, [], ◌∷◌, ◌++◌, Some, None, refl, sym, ap, ap₂, subst, ◌∙◌, append-nil}
 use Rattle.std.specs.Prelude.{Result, Ok, Err, is_err}
 use Rattle.std.proofs.Math.Bool.{or-true, or-false}
+use Rattle.std.proofs.lemmas.Bool.{and_right}
 use Rattle.mvt_document.specs.Held.{Held}
 use Rattle.tile_device.specs.Device.{trouble_of}
 use Rattle.tile_device.specs.Seen.{Output, Writes}
@@ -73,10 +74,6 @@ advances a b strict over p line number answer seen session editor r on carries s
   sends = subst (Replies a b (reply_to number (printed_in answer))) (none_met r went) (subst (λ (printed : Result (List ℕ) Refused). Replies a b (reply_to number printed) (trouble_of r)) shown sends);
 }
 
-and_false : (b : Bool) → (b && false) ≡ false
-and_false true = refl
-and_false false = refl
-
 and_true : (b : Bool) → (b && true) ≡ b
 and_true true = refl
 and_true false = refl
@@ -88,7 +85,7 @@ advances_accepted : (a b : Moment) (strict : Bool) (p : Progress) (line : List �
     → is_err r ≡ false → seen ≡ printed_in answer → Replies a b (reply_to number seen) (trouble_of r) → Advances a b editor strict line p false
 advances_accepted a b strict p line number answer seen session editor r on carries same strictly lines counted refused good went shown sends =
     advances a b strict false p line number answer seen session editor r on carries same strictly lines counted
-    (refused ∙ sym (ap (λ (q : Bool). p.any_refused || q) good ∙ or-false p.any_refused)) (ap (λ (q : Bool). strict && q) good ∙ and_false strict) went shown sends
+    (refused ∙ sym (ap (λ (q : Bool). p.any_refused || q) good ∙ or-false p.any_refused)) (ap (λ (q : Bool). strict && q) good ∙ and_right strict false refl) went shown sends
 
 -- a line that was refused
 advances_refused : (a b : Moment) (strict over : Bool) (p : Progress) (line : List ℕ) (number : ℕ) (answer : Result (Held ℕ) Refused) (seen : Result (List ℕ) Refused) (session : Session) (editor : Editor) (r : Result (Unit {0}) Trouble)

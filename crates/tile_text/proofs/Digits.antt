@@ -4,12 +4,11 @@ use Rattle.std.specs.Prelude.{◌&&◌, slice_index, decimal, FitsSigned}
 use Rattle.std.specs.Int.{w64}
 use Rattle.std.specs.Fmt.{signed_decimal}
 use Rattle.std.specs.List.{AllByRecursion}
-use Rattle.std.proofs.lemmas.Bool.{and_parts, cases_lt}
+use Rattle.std.proofs.lemmas.Bool.{and_parts, cases_lt, not-true}
 use Rattle.std.proofs.lemmas.Fmt.{decimal_by_steps}
 use Rattle.std.proofs.lemmas.List.{get_or_past}
 use Rattle.mvt_document.proofs.EachItem.{all_joined}
 use Rattle.hex.specs.Hex.{encode_with, encode_lower, lower_digits}
-use Rattle.tile_text.proofs.Lists.{not_true}
 
 -- ---- tests of the numbers below a number, which compute
 
@@ -34,7 +33,7 @@ passes_at p (suc n) k h lt =
 pub hex_digit_fails : (p : ℕ → Bool) → passes_below (λ d. not (p (slice_index lower_digits d))) 16 ≡ true → p 0 ≡ false → (d : ℕ) → p (slice_index lower_digits d) ≡ false
 hex_digit_fails p digits past d =
     elim (cases_lt d 16) [
-      | inl below ↦ not_true _ (passes_at (λ k. not (p (slice_index lower_digits k))) 16 d digits below)
+      | inl below ↦ not-true _ (passes_at (λ k. not (p (slice_index lower_digits k))) 16 d digits below)
       | inr over ↦ ap p (get_or_past lower_digits d 0 over) ∙ past
     ]
 

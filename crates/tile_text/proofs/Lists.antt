@@ -2,21 +2,17 @@
 use Rattle.std.proofs.Common.{◌≡◌, ℕ, Bool, true, false, not, refl, List, [], ◌∷◌, ◌++◌, map}
 use Rattle.std.specs.Prelude.{codes}
 use Rattle.std.specs.List.{AllByRecursion, flat_map, list_all}
-use Rattle.std.proofs.lemmas.Bool.{and_parts}
+use Rattle.std.proofs.lemmas.Bool.{and_parts, not-true}
 use Rattle.mvt_document.proofs.EachItem.{all_joined, all_of_map}
 use Rattle.mvt_geometry.specs.declared.shapes.Point.{Point}
 use Rattle.tile_text.specs.Texts.{point_form, part_words}
-
-pub not_true : (b : Bool) → not b ≡ true → b ≡ false
-not_true true e = absurd cc
-not_true false e = refl
 
 -- what a test says of each, where it computes
 pub none_passes : (p : ℕ → Bool) (xs : List ℕ) → list_all (λ x. not (p x)) xs ≡ true → AllByRecursion (λ x. p x ≡ false) xs
 none_passes p [] e = tt
 none_passes p (x ∷ xs) e =
     let parts = and_parts (not (p x)) (list_all (λ y. not (p y)) xs) e in
-    (not_true (p x) parts.0, none_passes p xs parts.1)
+    (not-true (p x) parts.0, none_passes p xs parts.1)
 
 -- ---- the words of a geometry's parts: points and bars
 

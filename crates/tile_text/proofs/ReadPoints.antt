@@ -22,6 +22,7 @@ use Rattle.tile_words.specs.declared.parse_error.ParseError.{ParseError}
 use Rattle.tile_words.specs.declared.parse_error.ParseError.TheVariants.{BadGeometryText}
 use Rattle.mvt_geometry.proofs.Checks.{counted-Decides}
 use Rattle.tile_arguments.specs.Arguments.{delta_of, each, point_at, point_in, point_of, part_of, is_bar, parts_of, kind_word, kind_of, shaped, geometry_of}
+use Rattle.tile_arguments.proofs.Shaped.{each_enough}
 use Rattle.tile_text.specs.Texts.{point_form, part_words, geometry_words}
 use Rattle.tile_text.specs.TextStands.{with_leading_spaces}
 use Rattle.tile_text.specs.ReadBack.{IsNear, IsReadAsGeometry}
@@ -141,18 +142,11 @@ some_part Dots count h = omega (arith, h)
 some_part Lines count h = h
 some_part Areas count h = h
 
-all_enough : (kind : Kind) (parts : List (List Point)) → AllByRecursion (IsPart kind) parts → list_all (λ points. leb (least_points kind) (length points)) parts ≡ true
-all_enough kind [] h = refl
-all_enough kind (part ∷ parts) h =
-    let first = le-leb (least_points kind) (length part) h.0.enough in
-    let others = all_enough kind parts h.1 in
-    rw (first, others) refl
-
 shape_reads : (g : Geometry) → IsGeometry g → shaped g.kind g.parts ≡ Ok g
 unfolding shaped
 shape_reads g valid =
     let count = (counted-Decides g.kind (length g.parts)).1 valid.counted in
-    let enough = all_enough g.kind g.parts valid.parts in
+    let enough = each_enough g.kind g.parts valid.parts in
     rw (count, enough) refl
 
 geometry_reads : (g : Geometry) → IsGeometry g → AllByRecursion (AllByRecursion IsNear) g.parts → geometry_of (map Bare (geometry_words g)) ≡ Ok g

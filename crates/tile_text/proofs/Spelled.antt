@@ -3,7 +3,7 @@ use Rattle.std.proofs.Common.{◌≡◌, ◌≢◌, ◌⊎◌, inl, inr, ℕ, �
 use Rattle.std.specs.Prelude.{slice_index, codes}
 use Rattle.std.specs.Char.{digit_value, is_ascii_control}
 use Rattle.std.specs.List.{flat_map}
-use Rattle.std.proofs.lemmas.Bool.{eqb-true}
+use Rattle.std.proofs.lemmas.Bool.{eqb-true, or_cases}
 use Rattle.std.proofs.lemmas.Bool.Decides.{nat_tests}
 use Rattle.hex.specs.Hex.{encode_with, encode_lower, lower_digits}
 use Rattle.tile_words.specs.Words.{Bare, Quoted, ends_bare}
@@ -21,12 +21,8 @@ hex_is_bare d = hex_digit_fails ends_bare refl refl d
 
 -- ---- a byte of a quoted text
 
-either : (a b : Bool) → (a || b) ≡ true → (a ≡ true) ⊎ (b ≡ true)
-either true b e = inl refl
-either false b e = inr e
-
 pub mark_is : (c : ℕ) → is_mark c ≡ true → (c ≡ 34) ⊎ (c ≡ 92)
-mark_is c e = elim (either (eqb c 34) (eqb c 92) e) [ inl quote ↦ inl (eqb-true c 34 quote) | inr slash ↦ inr (eqb-true c 92 slash) ]
+mark_is c e = elim (or_cases (eqb c 34) (eqb c 92) e) [ inl quote ↦ inl (eqb-true c 34 quote) | inr slash ↦ inr (eqb-true c 92 slash) ]
 
 control_below : (c : ℕ) → is_ascii_control c ≡ true → c < 128
 control_below c e = grind (arith, nat_tests)

@@ -7,6 +7,7 @@ use Rattle.std.proofs.lemmas.List.Sums.{prefix_len_stops}
 use Rattle.std.proofs.lemmas.List.{append-nil, nil_from_length, take_all, take_more, length-drop, get_or-drop, flat_map_more}
 use Rattle.std.proofs.lemmas.List.Concat.{flat_map-append}
 use Rattle.std.proofs.lemmas.List.Folds.{flat_map-map}
+use Rattle.std.proofs.lemmas.Bool.{not-false, or_parts}
 use Rattle.hex.specs.Hex.{encode_with, encode_lower, lower_digits}
 use Rattle.tile_text.specs.Extends.{Extends}
 use Rattle.tile_text.specs.Texts.{is_mark, is_escaped, quoted_byte, raw_form, point_form, part_words}
@@ -66,13 +67,9 @@ one_more_point line so_far spaced new points i d low written space added =
 abbrev StandsAlone : List ℕ → ℕ → Type 0
 StandsAlone bytes n = flat_map quoted_byte bytes ≡ take n bytes ++ flat_map quoted_byte (drop n bytes)
 
-neither : (a b : Bool) → (a || b) ≡ false → (a ≡ false) × (b ≡ false)
-neither true b e = absurd cc
-neither false b e = (refl, e)
-
 pub plain_form : (b : ℕ) → is_escaped b ≡ false → quoted_byte b ≡ b ∷ []
 plain_form b e =
-    let parts = neither (is_mark b) (is_ascii_control b) e in
+    let parts = or_parts (is_mark b) (is_ascii_control b) e in
     rw (parts.0, parts.1) refl
 
 plain_first : (b : ℕ) (bytes : List ℕ) (n : ℕ) (escaped : Bool) → is_escaped b ≡ escaped → StandsAlone bytes n → StandsAlone (b ∷ bytes) (cond (not (is_escaped b)) (1 + n) 0)
@@ -99,10 +96,6 @@ first_and_rest {X} (x ∷ xs) d le =
     let n : suc (length xs) - 1 ≡ length xs = omega arith in
     rw n (ap (λ (ys : List X). x ∷ ys) (sym (take_all (length xs) xs (omega arith))))
 
-not_not : (b : Bool) → not b ≡ false → b ≡ true
-not_not true e = refl
-not_not false e = absurd cc
-
 -- the first byte after the plain ones is escaped
 pub first_is_escaped : (bytes following : List ℕ) (n : ℕ) → n ≡ position_or_len is_escaped bytes → following ≡ drop n bytes → 1 ≤ length following → is_escaped (get_or following 0 0) ≡ true
 first_is_escaped bytes following n place is_after some =
@@ -110,7 +103,7 @@ first_is_escaped bytes following n place is_after some =
     let lt : n < length bytes = omega (arith, length-drop n bytes) in
     let front : n + 0 ≡ n = omega arith in
     let at : get_or following 0 0 ≡ get_or bytes n 0 = ap (λ (xs : List ℕ). get_or xs 0 0) is_after ∙ get_or-drop n bytes 0 0 ∙ ap (λ (k : ℕ). get_or bytes k 0) front in
-    rw (at, place) (not_not _ (prefix_len_stops (λ x. not (is_escaped x)) bytes 0 (rw (← place) lt)))
+    rw (at, place) (not-false _ (prefix_len_stops (λ x. not (is_escaped x)) bytes 0 (rw (← place) lt)))
 
 pub first_written : (line new following : List ℕ) → 1 ≤ length following → new ≡ line ++ quoted_byte (get_or following 0 0)
     → new ++ flat_map quoted_byte (take (length following - 1) (drop 1 following)) ≡ line ++ flat_map quoted_byte following

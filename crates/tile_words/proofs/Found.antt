@@ -4,7 +4,7 @@ use Rattle.std.specs.Prelude.{◌&&◌, option_map}
 use Rattle.std.specs.Char.{digit_value}
 use Rattle.std.specs.List.{AllByRecursion, position_or_len}
 use Rattle.std.specs.Option.{option_map_or}
-use Rattle.std.proofs.lemmas.Bool.{ltb-true, eqb-true}
+use Rattle.std.proofs.lemmas.Bool.{ltb-true, eqb-true, not-false, and_parts, or_from}
 use Rattle.std.proofs.lemmas.Bool.Decides.{nat_tests}
 use Rattle.std.proofs.lemmas.List.{append-nil, nil_from_length, take-append-drop}
 use Rattle.std.proofs.lemmas.List.Folds.{length-prefix_len}
@@ -19,13 +19,6 @@ Front bytes c more = (first : List ℕ) × (bytes ≡ first ++ more) × SpellsBy
 
 apart : (b c k : ℕ) → b ≡ c → eqb b k ≡ false → c ≢ k
 apart b c k e ne = λ is. absurd (grind (arith, nat_tests))
-
-both : (a b : Bool) → (a && b) ≡ true → (a ≡ true) × (b ≡ true)
-both true b e = (refl, e)
-both false b e = absurd cc
-
-neither : (a b : Bool) → a ≡ false → b ≡ false → (a || b) ≡ false
-neither a b p q = rw (p, q) refl
 
 one_of : (b c : ℕ) → b ≡ c → (eqb b 34 || eqb b 92) ≡ true → (c ≡ 34) ⊎ (c ≡ 92)
 one_of b c e test = by_first (eqb b 34) refl
@@ -46,7 +39,7 @@ hex_spelled b x (high ∷ low ∷ bytes) c more e e' read = tested (ltb (digit_v
     tested : (q : Bool) → (ltb (digit_value high) 8 && ltb (digit_value low) 16) ≡ q → option_map {U = ℕ × List ℕ} (λ v. (v, bytes)) (cond q (Some (16 * digit_value high + digit_value low)) None) ≡ Some (c, more) → Front (b ∷ x ∷ high ∷ low ∷ bytes) c more
     tested true is got =
         let p = some_pair_parts (16 * digit_value high + digit_value low) c bytes more got in
-        let t = both (ltb (digit_value high) 8) (ltb (digit_value low) 16) is in
+        let t = and_parts (ltb (digit_value high) 8) (ltb (digit_value low) 16) is in
         (b ∷ x ∷ high ∷ low ∷ [], ap (λ (rest : List ℕ). b ∷ x ∷ high ∷ low ∷ rest) p.1, (e, e', ltb-true (digit_value high) 8 t.0, ltb-true (digit_value low) 16 t.1, sym p.0))
     tested false is got = absurd cc
 
@@ -97,7 +90,7 @@ closed_parts text (b ∷ rest) word more read = tested (eqb b 34 && ends_word re
     tested : (q : Bool) → (eqb b 34 && ends_word rest) ≡ q → cond {A = Option (Word × List ℕ)} q (Some (Quoted text, rest)) None ≡ Some (word, more) → (b ∷ rest ≡ 34 ∷ more) × (Quoted text ≡ word) × (ends_word more ≡ true)
     tested true is got =
         let p = some_pair_parts (Quoted text) word rest more got in
-        let t = both (eqb b 34) (ends_word rest) is in
+        let t = and_parts (eqb b 34) (ends_word rest) is in
         (ap (λ (x : ℕ). x ∷ rest) (eqb-true b 34 t.0) ∙ ap (λ (xs : List ℕ). 34 ∷ xs) p.1, p.0, ap ends_word (sym p.1) ∙ t.1)
     tested false is got = absurd cc
 
@@ -139,15 +132,11 @@ first_spelled (b ∷ bytes) word rest no_blank read = tested (eqb b 34) refl rea
   where
     tested : (q : Bool) → eqb b 34 ≡ q → cond q (quoted_at bytes) (bare_at (b ∷ bytes)) ≡ Some (word, rest) → Begins (b ∷ bytes) word rest
     tested true is got = quoted_spelled b bytes word rest (eqb-true b 34 is) got
-    tested false is got = bare_spelled b bytes word rest (neither (is_blank b) (eqb b 34) (no_blank b bytes refl) is) got
-
-true_from_not : (b : Bool) → not b ≡ false → b ≡ true
-true_from_not true e = refl
-true_from_not false e = absurd cc
+    tested false is got = bare_spelled b bytes word rest (or_from (is_blank b) (eqb b 34) (no_blank b bytes refl) is) got
 
 blanks_from : (bytes : List ℕ) → AllByRecursion (λ b. not (is_blank b) ≡ false) bytes → AreBlanks bytes
 blanks_from [] each = tt
-blanks_from (b ∷ bytes) each = (true_from_not (is_blank b) each.0, blanks_from bytes each.1)
+blanks_from (b ∷ bytes) each = (not-false (is_blank b) each.0, blanks_from bytes each.1)
 
 -- the blanks at the front of a line
 abbrev gap_of : List ℕ → List ℕ

@@ -4,6 +4,7 @@ use Rattle.std.specs.Prelude.{IfSome, ◌&&◌, option_map}
 use Rattle.std.specs.List.{position_or_len, before_first}
 use Rattle.std.proofs.lemmas.List.{length-drop, get_or-drop}
 use Rattle.std.proofs.lemmas.List.Sums.{prefix_len_stops}
+use Rattle.std.proofs.lemmas.Bool.{or_from}
 use Rattle.tile_words.specs.Words.{Bare, Quoted, is_blank, ends_bare, after_blanks, ends_word, hex_byte, hex_at, escape_at, byte_at, text_at, closed_word, quoted_at, bare_at, first_word, word_at}
 use Rattle.tile_words.proofs.Repeats.{Shortens, rest_le}
 
@@ -60,9 +61,6 @@ head_after bytes b more e =
     let at : get_or bytes n 0 ≡ b = ap (λ (k : ℕ). get_or bytes k 0) front ∙ sym (get_or-drop n bytes 0 0) ∙ ap (λ (xs : List ℕ). get_or xs 0 0) e in
     twice (is_blank b) (subst (λ (x : ℕ). not (not (is_blank x)) ≡ false) at (prefix_len_stops (λ x. not (not (is_blank x))) bytes 0 lt))
 
-none_of_two : (a b : Bool) → a ≡ false → b ≡ false → (a || b) ≡ false
-none_of_two a b p q = rw (p, q) refl
-
 pub bare_long : (b : ℕ) (more : List ℕ) → ends_bare b ≡ false → 1 ≤ position_or_len ends_bare (b ∷ more)
 bare_long b more e = rw e (omega arith)
 
@@ -78,7 +76,7 @@ first_short (b ∷ more) n le no_blank = quote_or_not (eqb b 34) refl
   where
     quote_or_not : (q : Bool) → eqb b 34 ≡ q → IfSome (cond q (quoted_at more) (bare_at (b ∷ more))) (λ found. length found.1 < n)
     quote_or_not true e = quoted_short more n (omega arith)
-    quote_or_not false e = bare_short b more n le (none_of_two (is_blank b) (eqb b 34) (no_blank b more refl) e)
+    quote_or_not false e = bare_short b more n le (or_from (is_blank b) (eqb b 34) (no_blank b more refl) e)
 
 pub word_short : Shortens word_at
 unfolding word_at

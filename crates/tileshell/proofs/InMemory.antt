@@ -4,6 +4,7 @@ use Rattle.std.specs.declared.option.Option.{Option}
 use Rattle.std.specs.declared.vec.Vec.{Vec}
 use Rattle.std.specs.declared.alloc.Global.{Global}
 use Rattle.std.proofs.lemmas.List.{drop_at}
+use Rattle.std.proofs.lemmas.Bool.{cases_eq}
 use Rattle.mvt_document.specs.Opens.{OpensAs, OpensAsNothing}
 use Rattle.mvt_document.specs.Plain.{Document}
 use Rattle.tile_device.specs.Seen.{Seen, Intake, Supplies}
@@ -48,12 +49,9 @@ from_new options tile script replies out replies_failures out_failures last outc
     let same : devices_with tile script (held replies replies_failures) (held out out_failures) ≡ devices_with tile script (held [] 0) (held [] 0) = cc in
     subst (λ (first : Devices). Runs options first last outcome) same runs
 
-same_or_not : (m n : ℕ) → (m ≡ n) ⊎ (m ≡ n → ⊥)
-same_or_not m n = grind arith
-
 -- a count that did not change, since a device that failed would be named
 unfailed : (A : Type 0) (m n : ℕ) → (m ≢ n → A) → (A → ⊥) → m ≡ n
-unfailed A m n named other = elim (same_or_not m n) [
+unfailed A m n named other = elim (cases_eq m n) [
   | inl same ↦ same
   | inr different ↦ absurd (other (named different))
 ]

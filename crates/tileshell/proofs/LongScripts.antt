@@ -1,5 +1,5 @@
 -- What an edit of a tile in memory returns for a script that is too long.
-use Rattle.std.proofs.Common.{◌≡◌, ◌≢◌, ℕ, zero, suc, ◌<◌, ◌≤◌, ◌⊎◌, Bool, true, false, List, [], ◌∷◌, ◌++◌, length, take, Some, None, refl, sym, ap, subst, ◌∙◌, inl, inr, arith, append-nil, length-append}
+use Rattle.std.proofs.Common.{◌≡◌, ◌≢◌, ℕ, zero, suc, ◌<◌, ◌≤◌, ◌⊎◌, Bool, true, false, List, [], ◌∷◌, ◌++◌, length, take, None, refl, sym, ap, subst, ◌∙◌, inl, inr, arith, append-nil, length-append}
 use Rattle.std.specs.Prelude.{IsSome, is_some}
 use Rattle.std.specs.declared.option.Option.{Option}
 use Rattle.std.specs.declared.vec.Vec.{Vec}
@@ -8,10 +8,7 @@ use Rattle.std.proofs.lemmas.List.{take-append-le}
 use Rattle.mvt_document.specs.Opens.{OpensAs}
 use Rattle.mvt_document.specs.Plain.{Document}
 use Rattle.mvt_document.proofs.SameBytes.{one_document_by_bytes}
-use Rattle.tile_device.specs.Device.{interruptions_in, failures_in}
 use Rattle.tile_device.specs.Seen.{Intake, Supplies}
-use Rattle.tile_device.specs.declared.device.Trouble.{Trouble}
-use Rattle.tile_device.specs.declared.device.Trouble.TheVariants.{Interrupted, Failed}
 use Rattle.tile_lines.specs.Lines.{whole_lines}
 use Rattle.tile_lines.proofs.WholeLines.{whole_lines-front}
 use Rattle.tile_course.specs.Course.{start_of, lines_in, IsFaulty, IsOpened, IsWritten, CarriesThrough}
@@ -29,6 +26,7 @@ use Rattle.tileshell.proofs.InMemory.{held, RunsInMemory}
 use Rattle.tile_course.proofs.Prefixes.{after_lines-append}
 use Rattle.tile_course.proofs.Overs.{over_stays}
 use Rattle.tile_course.proofs.Replying.{walks_are_runs}
+use Rattle.tile_course.proofs.Headlines.{none_counted}
 
 -- ---- what a source in memory gives
 
@@ -47,12 +45,7 @@ given_bytes all left intake supplies whole =
     sym (given all left intake supplies ∙ ap (λ (t : List ℕ). intake.bytes ++ t) none ∙ append-nil intake.bytes)
 
 no_trouble : (all left : List ℕ) (intake : Intake) → Supplies (held all 0) (held left 0) intake → intake.trouble ≡ None
-no_trouble all left intake supplies = none_met intake.trouble (omega (arith, supplies.meets.interruptions)) (omega (arith, supplies.meets.failures))
-  where
-    none_met : (trouble : Option Trouble) → interruptions_in trouble ≡ 0 → failures_in trouble ≡ 0 → trouble ≡ None
-    none_met None interruptions failures = refl
-    none_met (Some Interrupted) interruptions failures = absurd (omega (arith, interruptions))
-    none_met (Some Failed) interruptions failures = absurd (omega (arith, failures))
+no_trouble all left intake supplies = none_counted intake.trouble (omega (arith, supplies.meets.interruptions)) (omega (arith, supplies.meets.failures))
 
 -- ---- the lines of a prefix
 

@@ -1,6 +1,7 @@
 use Rattle.std.proofs.Common.{◌++◌, [], length, map, nat_lt, not, option_map, inl, inr, subst, sym, ap, ◌∙◌}
 use Rattle.std.proofs.lemmas.Result.{err_from_is_err_and}
 use Rattle.std.specs.List.{cons_option}
+use Rattle.std.proofs.lemmas.Bool.{not-true, not-false}
 use Rattle.mvt_document.specs.declared.TheConstants.{MAX_FILE}
 use Rattle.mvt_document.specs.Lists.{change_at}
 use Rattle.mvt_document.specs.Places.{change_items, in_feature}
@@ -15,7 +16,6 @@ use Rattle.mvt_edit_steps.specs.Fates.{seen, splice_of}
 use Rattle.mvt_edit_steps.proofs.Carrying.{in_feature_at}
 use Rattle.mvt_edit_attributes.specs.Attribute.{AreFound, appended, entries_for}
 use Rattle.mvt_edit_attributes.proofs.AttributeSet.{attribute_set, attributed_at, entries_lacked, no_feature_gets, set_too_large, tags_refused}
-use Rattle.mvt_edit_steps.proofs.Limits.{not_false, not_true}
 use Rattle.mvt_edit_attributes.proofs.set_attribute.set_attribute.Goals as goal
 
 pub returns-in_err-found : goal.returns-in_err-found
@@ -57,7 +57,7 @@ returns-then-not-fits_with c =
     let entries = c.in_ok-entries.ensures ∙ ap (λ b. entries_for key b c.look_for-ordinals.result) c.in_ok-value.ensures.bytes ∙ entries_lacked key bytes layer c.look_for-ordinals.result are in
     let answered = c.fits_with.ensures (with_attribute key bytes layer.items) (sym gives.makes)
     ∙ ap (λ more. not (nat_lt MAX_FILE (length (bytes_of (change_items (λ items. change_at (in_feature (with_attribute key bytes layer.items)) found.position items ++ more) holder.position document))))) (ap (map layer_item_of) c.as_slice-2.ensures.value ∙ entries) in
-    inr (set_too_large choice key value document holder.ordinal holder.position layer is.selects is.placed is.there (feature_choice_of c.args.feature.now) found.ordinal found.position feature here.selects here.placed here.there c.in_ok-run.ensures.checked (not_false (nat_lt MAX_FILE (length (bytes_of (change_items (attributed_at key bytes layer.items found.position) holder.position document)))) (sym answered ∙ c.if-not-fits_with.true)))
+    inr (set_too_large choice key value document holder.ordinal holder.position layer is.selects is.placed is.there (feature_choice_of c.args.feature.now) found.ordinal found.position feature here.selects here.placed here.there c.in_ok-run.ensures.checked (not-false (nat_lt MAX_FILE (length (bytes_of (change_items (attributed_at key bytes layer.items found.position) holder.position document)))) (sym answered ∙ c.if-not-fits_with.true)))
 
 pub returns : goal.returns
 returns c =
@@ -78,5 +78,5 @@ returns c =
     let answered = c.fits_with.ensures (with_attribute key bytes layer.items) (sym gives.makes)
     ∙ ap (λ more. not (nat_lt MAX_FILE (length (bytes_of (change_items (λ items. change_at (in_feature (with_attribute key bytes layer.items)) found.position items ++ more) holder.position document))))) (ap (map layer_item_of) c.as_slice-2.ensures.value ∙ entries) in
     attribute_set choice key value document holder.ordinal holder.position layer is.selects is.placed is.there (feature_choice_of c.args.feature.now) found.ordinal found.position feature here.selects here.placed here.there c.in_ok-run.ensures.checked
-    (not_true (nat_lt MAX_FILE (length (bytes_of (change_items (attributed_at key bytes layer.items found.position) holder.position document)))) (sym answered ∙ c.if-not-fits_with.false)) _ gives _
+    (not-true (nat_lt MAX_FILE (length (bytes_of (change_items (attributed_at key bytes layer.items found.position) holder.position document)))) (sym answered ∙ c.if-not-fits_with.false)) _ gives _
     (c.in_ok-steps_of.ensures ∙ ap (λ list. map (in_feature_at holder.position found.position) (cons_option (option_map (λ run. seen field_of (splice_of run)) c.in_ok-run.run') []) ++ appended holder.position layer.items list) entries)

@@ -1,7 +1,8 @@
 use Rattle.std.proofs.Common.{◌+◌, ap, arith}
+use Rattle.std.proofs.lemmas.List.{take_rest}
 use Rattle.mvt_document.specs.declared.TheConstants.{MAX_FILE}
 use Rattle.mvt_document.proofs.Sizes.{same_size}
-use Rattle.mvt_edit_geometry.proofs.Drawn.{all_following, drawn_weighs, others_weigh}
+use Rattle.mvt_edit_geometry.proofs.Drawn.{drawn_weighs, others_weigh}
 use Rattle.mvt_edit_geometry.proofs.set_geometry.size_drawn.Goals as goal
 
 pub returns-in_err-size : goal.returns-in_err-size
@@ -33,5 +34,5 @@ returns c =
     let first = c.in_ok-size.ensures.1 in
     let second = c.in_ok-size-2.ensures.1 in
     let third = rw c.as_slice.ensures.value at c.in_ok-size-3.ensures.1 in
-    let rest = ap others_weigh (all_following (kind.index + kind.take) c.args.fields.now) in
+    let rest = ap others_weigh (take_rest c.args.fields.now (kind.index + kind.take)) in
     same_size MAX_FILE c.and_others-3.result _ _ (omega (arith, whole, first, second, third, rest)) c.and_others-3.ensures

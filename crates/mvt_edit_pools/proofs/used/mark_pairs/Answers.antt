@@ -1,6 +1,7 @@
 use Rattle.std.proofs.Common.{◌≡◌, [], ◌∷◌, ◌++◌, Ok, Err, Some, is_some, map, option_map, refl, sym, ap, ◌∙◌}
+use Rattle.mvt_document.proofs.Options.{none_is}
 use Rattle.std.proofs.lemmas.List.{append-nil, map-append}
-use Rattle.mvt_edit_steps.proofs.Deciding.{more_some, none_is}
+use Rattle.mvt_edit_steps.proofs.Deciding.{more_some}
 use Rattle.mvt_numbers.specs.Numbers.{and_more}
 use Rattle.mvt_numbers.specs.Seen.{placed_of}
 use Rattle.mvt_layers.specs.Seen.{pair_seen}

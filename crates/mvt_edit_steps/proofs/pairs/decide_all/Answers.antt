@@ -1,4 +1,5 @@
 use Rattle.std.proofs.Common.{◌≡◌, ℕ, ◌+◌, ◌≤◌, Bool, List, [], ◌∷◌, ◌++◌, Option, Some, Ok, Err, cond, is_some, length, length-append, option_map, append_assoc, inl, inr, refl, sym, ap, ◌∙◌, arith}
+use Rattle.mvt_document.proofs.Options.{none_is}
 use Rattle.std.proofs.lemmas.Bool.{cases_Bool}
 use Rattle.std.proofs.lemmas.Fn.{says}
 use Rattle.std.proofs.lemmas.List.{append-nil}
@@ -8,7 +9,7 @@ use Rattle.mvt_layers.specs.Seen.{pair_seen}
 use Rattle.mvt_messages.specs.Tags.{plain_pairs}
 use Rattle.mvt_layers.proofs.Pairing.{plain_more}
 use Rattle.mvt_edit_steps.specs.Decided.{counted_by, decided_by}
-use Rattle.mvt_edit_steps.proofs.Deciding.{counted_after, counted_more, counted_none, decided_after, decided_more, decided_none, more_some, none_is}
+use Rattle.mvt_edit_steps.proofs.Deciding.{counted_after, counted_more, counted_none, decided_after, decided_more, decided_none, more_some}
 use Rattle.mvt_edit_steps.proofs.pairs.decide_all.Goals as goal
 
 pub loop-tags-init : goal.loop-tags-init

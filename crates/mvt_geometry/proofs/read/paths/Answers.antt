@@ -1,6 +1,6 @@
 use Rattle.std.proofs.Common.{◌≡◌, ℕ, ◌≤◌, List, [], ◌∷◌, ◌++◌, length, map, refl, subst, arith}
 use Rattle.std.proofs.lemmas.Result.{err_from_is_err_and}
-use Rattle.std.proofs.lemmas.List.{map_push}
+use Rattle.std.proofs.lemmas.List.{map_push, nil_from_length}
 use Rattle.mvt_geometry.specs.Shapes.{least_points}
 use Rattle.mvt_geometry.specs.Integers.{closing_of, origin}
 use Rattle.mvt_geometry.specs.Stands.{points_of}
@@ -28,10 +28,6 @@ loop-rest-preserved c =
     let pushed : map points_of c.push.new.self.items ≡ read ++ front.points.items ∷ [] = rw (c.in_ok-push.ensures.items, map_push, c.from_vec.ensures.items) refl in
     rw (c.in_ok-points.ensures.last, pushed) more
 
-no_length : (s : List ℕ) → length s ≡ 0 → s ≡ []
-no_length [] e = refl
-no_length (x ∷ s) e = absurd (omega arith)
-
 pub returns-clause-found : goal.returns-clause-found
 returns-clause-found c =
     let kind = c.args.kind in
@@ -39,6 +35,6 @@ returns-clause-found c =
     let read = map points_of c.loop-rest.parts.items in
     let some : 1 ≤ length numbers = grind arith in
     let none : length c.loop-rest.rest.now ≡ 0 = grind arith in
-    let whole : PartsRead (least_points kind) (closing_of kind) origin numbers c.loop-rest.from [] read = subst (λ (s : List ℕ). PartsRead (least_points kind) (closing_of kind) origin numbers c.loop-rest.from s read) (no_length c.loop-rest.rest.now none) c.loop-rest.invariant in
+    let whole : PartsRead (least_points kind) (closing_of kind) origin numbers c.loop-rest.from [] read = subst (λ (s : List ℕ). PartsRead (least_points kind) (closing_of kind) origin numbers c.loop-rest.from s read) (nil_from_length c.loop-rest.rest.now none) c.loop-rest.invariant in
     let goes = parts_end (least_points kind) (closing_of kind) origin numbers c.loop-rest.from read whole in
     has_geometry kind numbers read c.requires (goes_some _ _ _ numbers read some goes) goes

@@ -1,5 +1,5 @@
 use Rattle.std.proofs.Common.{◌≡◌, ℕ, List, [], ◌∷◌, length, drop, get_or, refl, subst, arith}
-use Rattle.std.proofs.lemmas.List.{take_rest}
+use Rattle.std.proofs.lemmas.List.{take_rest, nil_from_length}
 use Rattle.mvt_geometry.proofs.Moves.{ReadOn, read_more, read_no_more, read_odd, read_end, first_two}
 use Rattle.mvt_geometry.proofs.steps.points_from.Goals as goal
 
@@ -22,11 +22,7 @@ pub returns-then-not-is_empty-clause-bad : goal.returns-then-not-is_empty-clause
 returns-then-not-is_empty-clause-bad c =
     λ e. read_odd c.args.first c.args.parameters.now c.loop-rest.last c.loop-rest.rest.now c.loop-rest.points.items c.loop-rest.invariant (grind arith) (omega (arith, c.in_default.len_below))
 
-no_length : (s : List ℕ) → length s ≡ 0 → s ≡ []
-no_length [] e = refl
-no_length (x ∷ s) e = absurd (omega arith)
-
 pub returns-clause-points : goal.returns-clause-points
 returns-clause-points c =
-    let empty = no_length c.loop-rest.rest.now (grind arith) in
+    let empty = nil_from_length c.loop-rest.rest.now (grind arith) in
     read_end c.args.first c.args.parameters.now c.loop-rest.last c.loop-rest.points.items (subst (λ (r : List ℕ). ReadOn c.args.first c.args.parameters.now c.loop-rest.last r c.loop-rest.points.items) empty c.loop-rest.invariant)

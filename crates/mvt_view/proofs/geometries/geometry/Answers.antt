@@ -1,12 +1,9 @@
 use Rattle.std.proofs.Common.{◌≡◌, Option, Some, None, false, is_some, refl, sym, ◌∙◌}
+use Rattle.mvt_document.proofs.Options.{none_is}
 use Rattle.mvt_view.specs.FeatureGeometry.{integers_in}
 use Rattle.mvt_layers.specs.Seen.{feature_seen}
 use Rattle.mvt_view.proofs.Integers.{no_geometry}
 use Rattle.mvt_view.proofs.geometries.geometry.Goals as goal
-
-none_is : {A : Type 0} (found : Option A) → is_some found ≡ false → found ≡ None
-none_is None e = refl
-none_is (Some x) e = absurd (cc)
 
 pub returns-then-not-are_integers-clause-bad : goal.returns-then-not-are_integers-clause-bad
 returns-then-not-are_integers-clause-bad c =
