@@ -11,6 +11,7 @@ use crate::message_tag::MessageTag;
 use crate::tag::Tag;
 use crate::tags::ID;
 use crate::values::last_value;
+use std::fmt;
 use std::marker::Model;
 
 /// What stands for an id that is not known: the largest number of five bytes.
@@ -35,7 +36,7 @@ pub struct FeatureParts {
 
 /// The id of a feature, or that it has none, in five bytes. An id that takes more, or is one of the two numbers that
 /// stand for something else, counts as not known.
-#[derive(Clone, Copy, Debug)]
+#[derive(Clone, Copy)]
 struct StoredId {
     high: u8,
     low: u32,
@@ -43,7 +44,7 @@ struct StoredId {
 
 /// A feature of a layer, in four words. Its id is kept, so that a feature is found by its id without a look at
 /// the fields of any. Contracts see the parts that it was made of.
-#[derive(Debug, Drop)]
+#[derive(Drop)]
 pub struct Feature {
     tag: MessageTag,
     width: u8,
@@ -66,6 +67,16 @@ impl Model for Feature {
     ghost view = { λ f. record { tag = f.tag; width = f.width; fields = f.fields; is_feature = f.is_feature; is_width = f.is_width } };
 
     ghost invariant = { λ f. IfSome (known_id (record { high = f.id_high; low = f.id_low })) (λ id. id ≡ last_value 1 (map field_of f.fields.items)) };
+}
+
+impl fmt::Debug for Feature {
+    fn fmt<W: fmt::Write>(&self, f: &mut fmt::Formatter<W>) -> fmt::Result {
+        f.debug_struct("Feature")
+            .field("tag", &self.tag)
+            .field("width", &self.width)
+            .field("fields", &self.fields)
+            .finish()
+    }
 }
 
 impl StoredId {

@@ -8,7 +8,7 @@ use std::marker::Model;
 const MOST: usize = 23;
 
 /// At most 23 bytes, with no memory of their own. Contracts see the list of them.
-#[derive(Debug, Drop)]
+#[derive(Drop)]
 pub(crate) struct Few {
     count: u8,
     room: [u8; MOST],

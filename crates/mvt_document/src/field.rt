@@ -14,6 +14,7 @@ use crate::items::Items;
 use crate::tag::Tag;
 use crate::varint::Varint;
 use std::alloc::{AllocError, Global};
+use std::fmt;
 use std::marker::Model;
 
 /// A tag and the body after it, which together make a field.
@@ -28,7 +29,7 @@ pub struct FieldParts {
 
 /// The forms in which a field is held. Each of them has the tag and its width where the form leaves room
 /// before its body.
-#[derive(Debug, Drop)]
+#[derive(Drop)]
 enum Form {
     Number {
         tag_width: u8,
@@ -71,7 +72,7 @@ enum Form {
 
 /// A tag and its body, in four words. Most values, names and points that are read have few bytes, which then
 /// take no memory of their own. Contracts see the parts that it was made of.
-#[derive(Debug, Drop)]
+#[derive(Drop)]
 pub struct Field {
     form: Form,
     ghost spelled: { IsSpelling (tag_in form) (tag_width_in form) },
@@ -87,6 +88,15 @@ impl Model for Field {
     ghost Value = { TheParts };
 
     ghost view = { λ f. record { tag = record { value = tag_in f.form; width = tag_width_in f.form; spelled = f.spelled }; body = body_in f.form; is_tag = f.is_tag; is_width = f.is_width; is_group = f.is_group } };
+}
+
+impl fmt::Debug for Field {
+    fn fmt<W: fmt::Write>(&self, f: &mut fmt::Formatter<W>) -> fmt::Result {
+        f.debug_struct("Field")
+            .field("tag", &self.tag())
+            .field("body", &self.body())
+            .finish()
+    }
 }
 
 impl Field {

@@ -17,13 +17,13 @@ const UNKNOWN: u32 = u32::MAX;
 
 /// How many bytes the items of a list take, if that is known. Half a word is enough for every size
 /// that a file can have; a greater one counts as not known.
-#[derive(Clone, Copy, Debug)]
+#[derive(Clone, Copy)]
 struct StoredSize {
     bytes: u32,
 }
 
 /// The runs of a list, and the hashes of the ids of the items at its front.
-#[derive(Debug, Drop)]
+#[derive(Drop)]
 struct Beside {
     runs: Runs,
     hashes: Vec<u32>,
@@ -31,14 +31,14 @@ struct Beside {
 
 /// A list of many items has runs and hashes too. One of few items has none, since going through it is just as
 /// fast, and no memory is asked for.
-#[derive(Debug, Drop)]
+#[derive(Drop)]
 enum Form {
     Size(StoredSize),
     WithRuns(StoredSize, Box<Beside>),
 }
 
 /// The size of a list, its runs and its hashes, in two words: the size is next to the tag of the form.
-#[derive(Debug, Drop)]
+#[derive(Drop)]
 pub(crate) struct Kept {
     form: Form,
 }

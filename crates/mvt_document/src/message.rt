@@ -18,6 +18,7 @@ use crate::measure::{Measured, size_beside_part, size_of_all, sum_within};
 use crate::put::Put;
 use crate::run::{Kind, Run, Runs, runs_of};
 use std::alloc::{AllocError, AllocFailed};
+use std::fmt;
 use std::marker::Model;
 
 /// The least number of items of a list that keeps its runs.
@@ -25,7 +26,7 @@ const MANY_ITEMS: usize = 32;
 
 /// The items of a message, how many bytes they take where that is known, and in which runs those of a
 /// kind stand, as far as that is known. Contracts see the items and the room for more.
-#[derive(Debug, Drop)]
+#[derive(Drop)]
 pub struct Message<T: Measured> {
     inner: Vec<T>,
     kept: Kept,
@@ -43,6 +44,12 @@ impl<T: Measured> Model for Message<T> {
     ghost view = { λ l. record { items = l.inner.items; room = vec_capacity l.inner - vec_len l.inner } };
 
     ghost invariant = { λ l. IsKept T.bytes l.inner.items l.kept.size × IfSome l.kept.runs (λ runs. AreRunsOf T.of_kind runs l.inner.items) × AreHashes T.id_hash l.kept.hashes l.inner.items };
+}
+
+impl<T: Measured + fmt::Debug> fmt::Debug for Message<T> {
+    fn fmt<W: fmt::Write>(&self, f: &mut fmt::Formatter<W>) -> fmt::Result {
+        f.debug_list().entries(self.as_slice()).finish()
+    }
 }
 
 impl<T: Measured> Message<T> {

@@ -12,7 +12,7 @@ const PART: usize = 256;
 
 /// What an item of a list can be. A layer has names, features as its messages, keys and values; a tile has
 /// layers as its messages, and none of the others.
-#[derive(Clone, Copy, Debug)]
+#[derive(Clone, Copy)]
 pub enum Kind {
     Name,
     Message,
@@ -30,7 +30,7 @@ pub struct Run {
 }
 
 /// The run of each kind.
-#[derive(Clone, Copy, Debug)]
+#[derive(Clone, Copy)]
 pub struct Runs {
     pub names: Run,
     pub messages: Run,

@@ -23,7 +23,7 @@ const VALUE_TAG: u64 = 8 * VALUES + LEN;
 
 /// The ordinal of the first entry that is some bytes, or that of a further one if there is none; whether
 /// there is one; and how many entries there are.
-#[derive(Clone, Copy, Debug)]
+#[derive(Clone, Copy)]
 pub(crate) struct Sought {
     pub(crate) ordinal: u64,
     pub(crate) is_there: bool,
@@ -31,7 +31,7 @@ pub(crate) struct Sought {
 }
 
 /// A key and a value that were looked up in a layer.
-#[derive(Clone, Copy, Debug)]
+#[derive(Clone, Copy)]
 pub(crate) struct Ordinals {
     pub(crate) key: Sought,
     pub(crate) value: Sought,

@@ -25,7 +25,7 @@ use mvt_select::{FoundLayer, LayersChoice, Refusal, find_layers};
 use std::alloc::{AllocError, Global};
 
 /// Which entries of a layer go if no feature uses them.
-#[derive(Clone, Copy, Debug, PartialEq, Eq)]
+#[derive(Clone, Copy)]
 pub enum Pools {
     /// Only keys.
     Keys,

@@ -23,7 +23,7 @@ const MOST_NAMED: usize = 1 << 32;
 
 /// What was read of the tags of a layer: for each of its keys and values, in order, whether it stays;
 /// the pairs of its features, one feature after the other; and how many each feature has.
-#[derive(Debug, Drop)]
+#[derive(Drop)]
 pub(crate) struct Marks {
     pub(crate) keys: Vec<bool>,
     pub(crate) values: Vec<bool>,

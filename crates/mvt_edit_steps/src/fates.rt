@@ -29,7 +29,7 @@ pub fn goes_if<T>(picked: bool) -> Fate<T>
 }
 
 /// `take` items from `index` of a list are taken out, and those of `put` go there.
-#[derive(Debug, Drop)]
+#[derive(Drop)]
 pub struct Run<T> {
     pub index: usize,
     pub take: usize,
@@ -237,7 +237,7 @@ fn end_run<T: Drop>(
 
 /// How far a walk over the items of a list has come: the run that is open, the index of the next
 /// item in the list that is made, and how many items change.
-#[derive(Debug, Drop)]
+#[derive(Drop)]
 struct Walk<T> {
     last: Option<Run<T>>,
     at: usize,

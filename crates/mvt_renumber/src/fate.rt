@@ -1,7 +1,7 @@
 //! What becomes of an item of a list.
 
 /// What becomes of an item of a list.
-#[derive(Debug, Drop)]
+#[derive(Drop)]
 pub enum Fate<T> {
     Stays,
     Goes,

@@ -114,7 +114,7 @@ fn packed_fate(tag: Tag, width: u8, left: Vec<u8>) -> Fate<Field>
 }
 
 /// What was found in a packed body by decisions on its numbers.
-#[derive(Clone, Copy, Debug)]
+#[derive(Clone, Copy)]
 enum Scan<'a> {
     /// All its numbers stay, or it packs something else. These decisions are left after it.
     AllStay(&'a [Option<u64>]),
@@ -201,7 +201,7 @@ fn first_fate<'a>(number: Varint, decisions: &'a [Option<u64>]) -> (Fate<Varint>
 }
 
 /// A packed body that is made from another.
-#[derive(Debug, Drop)]
+#[derive(Drop)]
 struct Making {
     made: Vec<u8>,
     // The place in the other up to which its bytes are made or left out.

@@ -13,7 +13,7 @@ use mvt_layers::{FoundLayer, LayerViews, layers};
 use mvt_meaning::Refusal;
 
 /// The selected layers, in order, each with its ordinal and its position.
-#[derive(Clone, Debug, Drop)]
+#[derive(Drop)]
 pub enum SelectedLayers<'a> {
     /// The selected one, until it has been yielded.
     One(Option<FoundLayer<'a>>),

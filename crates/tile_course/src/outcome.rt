@@ -73,7 +73,7 @@ impl Outcome {
 }
 
 /// Why the tile was not opened.
-#[derive(Clone, Copy, Debug, PartialEq, Eq)]
+#[derive(Clone, Copy)]
 pub enum Unopened {
     Device,
     Refused(TileFault),
@@ -104,7 +104,7 @@ impl From<Unopened> for Outcome {
 }
 
 /// How a line ends the run.
-#[derive(Clone, Copy, Debug, PartialEq, Eq)]
+#[derive(Clone, Copy)]
 pub enum LineStop {
     /// The reply to it met trouble.
     Replies,
@@ -113,7 +113,7 @@ pub enum LineStop {
 }
 
 /// How the run ends before all lines of the script are carried out.
-#[derive(Clone, Copy, Debug, PartialEq, Eq)]
+#[derive(Clone, Copy)]
 pub enum ScriptStop {
     /// The script met trouble, or is too long.
     Script,
@@ -155,7 +155,7 @@ impl From<ScriptStop> for Outcome {
 }
 
 /// Why the edited tile was not written.
-#[derive(Clone, Copy, Debug, PartialEq, Eq)]
+#[derive(Clone, Copy)]
 pub enum Unwritten {
     Device,
     NoMemory,

@@ -9,7 +9,7 @@ use std::alloc::{AllocError, Global};
 use std::marker::Model;
 
 /// A line that was cut from a script, without its line feed.
-#[derive(Clone, Copy, Debug)]
+#[derive(Clone, Copy)]
 pub enum Cut<'a> {
     Line(&'a [u8]),
     /// The line has more bytes than a line may have.
@@ -17,7 +17,7 @@ pub enum Cut<'a> {
 }
 
 /// Takes a script byte by byte, and holds the line that its last byte belongs to.
-#[derive(Debug, Drop)]
+#[derive(Drop)]
 pub struct LineCutter {
     line: Vec<u8>,
     is_too_long: bool,

@@ -11,7 +11,7 @@ use crate::parse_error::ParseError;
 use std::alloc::{AllocError, Global};
 
 /// A word of a line, which it borrows.
-#[derive(Clone, Copy, Debug)]
+#[derive(Clone, Copy)]
 pub enum Word<'a> {
     /// The bytes of a bare word.
     Bare(&'a [u8]),

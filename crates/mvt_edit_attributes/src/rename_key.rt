@@ -59,7 +59,7 @@ pub fn rename_key(
 /// What a walk over the items of a layer finds of an old key and of a new one: whether they are
 /// there, and how many bytes the items take with the new one in place of the old one, if that is
 /// within the limit of a file.
-#[derive(Clone, Copy, Debug)]
+#[derive(Clone, Copy)]
 struct Keys {
     there: bool,
     taken: bool,

@@ -1,2 +1,0 @@
-pub mod EachFeature
-pub mod KeyFates

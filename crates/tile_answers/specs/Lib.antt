@@ -1,3 +1,0 @@
-pub mod Answering
-pub mod Answers
-pub mod Laws
