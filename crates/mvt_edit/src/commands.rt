@@ -6,7 +6,11 @@ ghost use Rattle.mvt_edit_steps.specs.Prepared.{Prepares};
 
 use mvt_change::Change;
 use mvt_document::Document;
+use mvt_edit_attributes::exclude::exclude;
+use mvt_edit_attributes::exclude_all::exclude_all;
+use mvt_edit_attributes::rename_key::rename_key;
 use mvt_edit_attributes::set_attribute::set_attribute;
+use mvt_edit_attributes::unset::unset;
 use mvt_edit_geometry::set_geometry::set_geometry;
 use mvt_edit_geometry::shift::shift;
 use mvt_edit_lists::clear_id::clear_id;
@@ -19,10 +23,6 @@ use mvt_edit_lists::move_layer::move_layer;
 use mvt_edit_lists::rename_layer::rename_layer;
 use mvt_edit_lists::set_id::set_id;
 use mvt_edit_pools::compact::{Pools, compact};
-use mvt_edit_tags::exclude::exclude;
-use mvt_edit_tags::exclude_all::exclude_all;
-use mvt_edit_tags::rename_key::rename_key;
-use mvt_edit_tags::unset::unset;
 use mvt_meaning::{Command, Refusal};
 use std::alloc::Global;
 

@@ -24,9 +24,9 @@ use Rattle.mvt_edit_steps.proofs.CarriedOut.{put_all, taken_all}
 use Rattle.mvt_edit_steps.proofs.EachFeature.{joined_each, mapped_each, of_features}
 use Rattle.mvt_edit_steps.proofs.FieldsLeft.{fields_left, fields_put, fields_taken}
 use Rattle.mvt_edit_steps.specs.EachFeature.{layer_steps}
-use Rattle.mvt_edit_tags.specs.EachFeature.{pairs_go}
+use Rattle.mvt_edit_attributes.specs.EachFeature.{pairs_go}
 use Rattle.mvt_edit_steps.proofs.Come.{Carries, CarriesIn, puts_in, takes_in}
-use Rattle.mvt_edit_tags.proofs.EachFeature.{CarriesInTile, layers_made}
+use Rattle.mvt_edit_attributes.proofs.EachFeature.{CarriesInTile, layers_made}
 
 module _ (key : List ℕ) where
   -- ---- the fields of each feature

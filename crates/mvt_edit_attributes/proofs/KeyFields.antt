@@ -19,7 +19,7 @@ use Rattle.mvt_meaning.specs.Fields.{with_content, with_text}
 use Rattle.mvt_meaning.specs.Tagging.{is_key}
 use Rattle.mvt_edit_steps.proofs.CarriedOut.{new_in}
 use Rattle.mvt_edit_steps.proofs.Heavy.{tag_and_content}
-use Rattle.mvt_edit_tags.specs.KeyFates.{key_fate}
+use Rattle.mvt_edit_attributes.specs.KeyFates.{key_fate}
 
 module _ (old new : List ℕ) where
   -- a key field, valid and of two bytes, and valid with the new bytes

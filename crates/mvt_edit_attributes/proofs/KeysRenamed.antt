@@ -26,7 +26,7 @@ use Rattle.mvt_edit_steps.specs.Fates.{splices_of}
 use Rattle.mvt_edit_steps.specs.Prepared.{IsPrepared}
 use Rattle.mvt_edit_steps.proofs.CarriedOut.{carries_out, new_in}
 use Rattle.mvt_edit_steps.proofs.Carrying.{carried, in_layer_at, in_the_layer, makes_alike}
-use Rattle.mvt_edit_tags.specs.KeyFates.{key_fate}
+use Rattle.mvt_edit_attributes.specs.KeyFates.{key_fate}
 
 -- ---- a key that gets other bytes
 

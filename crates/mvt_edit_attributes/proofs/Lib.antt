@@ -4,3 +4,11 @@ mod OneDiffers
 mod PairPut
 mod AttributeGiven
 mod AttributeSet
+mod NoneLost
+mod EachFeature
+mod Untagged
+mod KeyFields
+mod KeysRenamed
+mod Deciding
+mod PairsLost
+mod Excluded

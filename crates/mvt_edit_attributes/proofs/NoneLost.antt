@@ -16,7 +16,7 @@ use Rattle.mvt_edit_steps.specs.Decided.{is_any_gone}
 use Rattle.mvt_edit_steps.specs.EachFeature.{feature_steps, layer_steps}
 use Rattle.mvt_edit_steps.proofs.Carrying.{in_feature_at}
 use Rattle.mvt_edit_steps.proofs.StepsPassed.{no_splices}
-use Rattle.mvt_edit_tags.specs.EachFeature.{pairs_go}
+use Rattle.mvt_edit_attributes.specs.EachFeature.{pairs_go}
 
 pub no_steps : (key : List ℕ) (items : List LayerItem) (layer : ℕ) (found : ℕ × (ℕ × Feature)) → is_any_gone (removals key items found.1.1.fields) ≡ false → feature_steps (pairs_go key items) layer found ≡ []
 no_steps key items layer found none =

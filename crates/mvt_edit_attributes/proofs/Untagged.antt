@@ -32,9 +32,9 @@ use Rattle.mvt_edit_steps.proofs.CarriedOut.{put_all, taken_all}
 use Rattle.mvt_edit_steps.proofs.Going.{takes_out}
 use Rattle.mvt_edit_steps.proofs.Heavy.{heavy, number_has_bytes}
 use Rattle.mvt_edit_steps.specs.EachFeature.{layer_steps}
-use Rattle.mvt_edit_tags.specs.EachFeature.{tags_go}
+use Rattle.mvt_edit_attributes.specs.EachFeature.{tags_go}
 use Rattle.mvt_edit_steps.proofs.Come.{Carries, CarriesIn, puts_in, takes_in}
-use Rattle.mvt_edit_tags.proofs.EachFeature.{CarriesInTile, layers_made, none_made}
+use Rattle.mvt_edit_attributes.proofs.EachFeature.{CarriesInTile, layers_made, none_made}
 
 -- ---- tags fields have at least two bytes
 

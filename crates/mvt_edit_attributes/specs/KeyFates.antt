@@ -8,7 +8,7 @@ use Rattle.mvt_meaning.specs.Fields.{with_text}
 use Rattle.mvt_meaning.specs.Tagging.{is_key, renamed_keys}
 use Rattle.mvt_renumber.specs.declared.fate.Fate.{Fate}
 use Rattle.mvt_renumber.specs.declared.fate.Fate.TheVariants.{Stays, Becomes}
-use Rattle.mvt_edit_tags.specs.declared.rename_key.Keys.{Keys}
+use Rattle.mvt_edit_attributes.specs.declared.rename_key.Keys.{Keys}
 
 -- a key of the old bytes becomes one of the new bytes, and other items stay (tiles 4.1)
 abbrev pub key_fate : List ℕ → List ℕ → LayerItem → Fate LayerItem

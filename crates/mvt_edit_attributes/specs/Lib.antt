@@ -1,1 +1,3 @@
 pub mod Attribute
+pub mod EachFeature
+pub mod KeyFates

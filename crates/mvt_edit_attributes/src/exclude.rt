@@ -15,7 +15,7 @@ ghost use Rattle.mvt_messages.specs.Tags.{plain_pairs, tag_pairs};
 ghost use Rattle.mvt_messages.specs.Views.{keys, values};
 ghost use Rattle.mvt_edit_steps.specs.Prepared.{Prepares};
 ghost use Rattle.mvt_edit_steps.specs.EachFeature.{feature_steps, layer_steps};
-ghost use Rattle.mvt_edit_tags.specs.EachFeature.{pairs_go};
+ghost use Rattle.mvt_edit_attributes.specs.EachFeature.{pairs_go};
 
 use crate::unset::is_any;
 use mvt_change::{Change, Step};

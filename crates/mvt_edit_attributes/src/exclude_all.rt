@@ -8,7 +8,7 @@ ghost use Rattle.mvt_command.specs.CommandStands.{layers_choice_of};
 ghost use Rattle.mvt_layers.specs.Seen.{found_feature_seen, found_layer_seen};
 ghost use Rattle.mvt_edit_steps.specs.Prepared.{Prepares};
 ghost use Rattle.mvt_edit_steps.specs.EachFeature.{feature_steps, layer_steps};
-ghost use Rattle.mvt_edit_tags.specs.EachFeature.{tags_go};
+ghost use Rattle.mvt_edit_attributes.specs.EachFeature.{tags_go};
 
 use mvt_change::{Change, Step};
 use mvt_document::Document;

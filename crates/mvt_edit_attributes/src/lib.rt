@@ -1,9 +1,14 @@
-//! The change by which a feature gets an attribute: its tags, and the key and the value in its layer.
+//! The changes by which features get and lose attributes, and by which the keys of a layer are renamed.
 //!
-//! - For every document: if the command is not refused, it is given the change that carries it out,
-//!   and otherwise the first of its refusals, by the definition `Prepares`: `set_attribute`.
+//! - For each of these commands and every document: a command that is not refused is given the
+//!   change that carries it out, and a refused one the first of its refusals, by the definition
+//!   `Prepares`: `set_attribute`, `unset`, `exclude`, `exclude_all`, `rename_key`.
 #![tactic(auto)]
 
+pub mod exclude;
+pub mod exclude_all;
 mod pools;
+pub mod rename_key;
 pub mod set_attribute;
 mod tags_run;
+pub mod unset;

@@ -15,7 +15,7 @@ ghost use Rattle.mvt_meaning.specs.Tagging.{is_key, renamed_keys};
 ghost use Rattle.mvt_renumber.specs.Fates.{fate_seen};
 ghost use Rattle.mvt_edit_steps.specs.Fates.{splices_of};
 ghost use Rattle.mvt_edit_steps.specs.Prepared.{Prepares};
-ghost use Rattle.mvt_edit_tags.specs.KeyFates.{FindsKeys, key_fate};
+ghost use Rattle.mvt_edit_attributes.specs.KeyFates.{FindsKeys, key_fate};
 
 use mvt_change::{Change, fits_with_items};
 use mvt_document::tags::KEYS;

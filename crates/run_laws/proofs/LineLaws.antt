@@ -7,8 +7,8 @@ use Rattle.tile_script.specs.Line.{answer_to}
 use Rattle.tile_lines.specs.Lines.{lines_of, with_feed, EndsWithALine}
 use Rattle.mvt_document.specs.Wire.{bytes_of}
 use Rattle.mvt_history_steps.specs.History.{History, standing_document}
-use Rattle.tile_answers.specs.Answering.{Answer, carried_out}
-use Rattle.tile_answers.proofs.AnswerLaws.{looks_leave_history}
+use Rattle.tile_course.specs.Answering.{Answer, carried_out}
+use Rattle.tile_course.proofs.AnswerLaws.{looks_leave_history}
 use Rattle.tile_reply.specs.Replies.{accepted_reply, refused_reply, IsOutOfMemory, NoneIsOutOfMemory}
 use Rattle.tile_course.specs.Run.{Progress, ran, tile_of, settled_by, answered_by, after_line, is_over, after_lines, MayFollow, Walk}
 use Rattle.mvt_history_error.specs.declared.HistoryError.TheVariants.{Stopped}

@@ -14,7 +14,7 @@ use Rattle.tile_lines.specs.Lines.{lines_of}
 use Rattle.tile_listing.specs.Listing.{listed}
 use Rattle.tile_reply.specs.declared.refused.Refused.{Refused}
 use Rattle.tile_reply.specs.declared.refused.Refused.TheVariants as refused
-use Rattle.tile_answers.specs.Answering.{answer_of_change, answer_of_look, mark_lines, history_lines, size_line, carried_out}
+use Rattle.tile_course.specs.Answering.{answer_of_change, answer_of_look, mark_lines, history_lines, size_line, carried_out}
 use Rattle.tile_course.specs.Run.{Progress, at_first, ran, settled_by, answered_by, after_line, is_over, after_lines}
 use Rattle.run_laws.specs.RunLaws.{asked_of, asked_in, requests_of, LinesAreRequests}
 use Rattle.tile_course.specs.declared.outcome.Options.{Options}

@@ -12,8 +12,8 @@ use Rattle.tile_lines.proofs.LineCuts.{none_of_none}
 use Rattle.tile_lines.proofs.LineLaws.{lines_only}
 use Rattle.tile_listing.specs.Printed.{MayBePrinted, AreLinesToPrint}
 use Rattle.tile_listing.proofs.Printing.{uncut-append, decimal_uncut}
-use Rattle.tile_answers.specs.Answering.{Answer, carried_out}
-use Rattle.tile_answers.proofs.AnswerLaws.{requests_print_lines, no_request_is_out_of_memory}
+use Rattle.tile_course.specs.Answering.{Answer, carried_out}
+use Rattle.tile_course.proofs.AnswerLaws.{requests_print_lines, no_request_is_out_of_memory}
 use Rattle.tile_reply.specs.Replies.{accepted_reply, refused_front, refused_reply, refusal_number, refusal_name, place_text, after_name, IsOutOfMemory, NoneIsOutOfMemory}
 use Rattle.tile_course.specs.Run.{Progress, at_first, ran, settled_by, answered_by, after_line, is_over, after_lines}
 use Rattle.run_laws.specs.RunLaws.{NoRunIsOutOfMemory}

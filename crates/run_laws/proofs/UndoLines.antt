@@ -8,7 +8,7 @@ use Rattle.tile_script.specs.Line.{answer_to}
 use Rattle.tile_lines.specs.Lines.{lines_of, HasNoLineFeed, with_feed, EndsWithALine}
 use Rattle.mvt_history_steps.specs.History.{History, with_command, edited_to, edited}
 use Rattle.tile_reply.specs.declared.refused.Refused.TheVariants as refused
-use Rattle.tile_answers.specs.Answering.{Answer, answer_of_change, carried_out}
+use Rattle.tile_course.specs.Answering.{Answer, answer_of_change, carried_out}
 use Rattle.tile_course.specs.Run.{Progress, accepted, answered_by, settled_by, after_line, is_over, after_lines, ran, tile_of}
 use Rattle.run_laws.specs.RunLaws.{UndoInARun, UndoInAScript}
 use Rattle.tile_course.specs.declared.outcome.Options.{Options}

@@ -11,7 +11,7 @@ use Rattle.tile_lines.specs.Lines.{lines_of, HasNoLineFeed, with_feed, EndsWithA
 use Rattle.mvt_history_steps.specs.History.{History, IsSound, commands_in, standing_document, marked, gone_back}
 use Rattle.mvt_history_steps.specs.Requests.{SetsOther, LeavesOpen, asked_all}
 use Rattle.tile_words.specs.declared.parse_error.ParseError.{ParseError}
-use Rattle.tile_answers.specs.Laws.{Looks}
+use Rattle.tile_course.specs.AnswerLaws.{Looks}
 use Rattle.tile_reply.specs.Replies.{accepted_reply, refused_reply, NoneIsOutOfMemory}
 use Rattle.tile_course.specs.Run.{Progress, after_line, after_lines, is_over, ran, tile_of, Walk}
 use Rattle.tile_course.specs.declared.outcome.Options.{Options}

@@ -11,7 +11,7 @@ pub use history_laws::{
     history_fits, history_of_documents, kept_within, redos_undo_undos, stays_sound, stays_valid,
     step_undoes_whole, stopped_goes_on, undo_after_end, undo_at_once, undos_undo_redos,
 };
-pub use tile_answers::laws::{
+pub use tile_course::laws::{
     looks_leave_history, no_request_is_out_of_memory, requests_print_lines,
 };
 

@@ -29,8 +29,8 @@ use Rattle.mvt_history_error.specs.declared.HistoryError.TheVariants as history_
 use Rattle.tile_reply.specs.Replies.{IsOutOfMemory}
 use Rattle.tile_reply.specs.declared.refused.Refused.{Refused}
 use Rattle.tile_reply.specs.declared.refused.Refused.TheVariants as refused
-use Rattle.tile_answers.specs.Answering.{Answer, answer_of_change, answer_of_look, mark_line, mark_lines, reach_line, open_line, history_lines, size_line}
-use Rattle.tile_answers.specs.Laws.{RequestsPrintLines, NoRequestIsOutOfMemory, LooksLeaveHistory}
+use Rattle.tile_course.specs.Answering.{Answer, answer_of_change, answer_of_look, mark_line, mark_lines, reach_line, open_line, history_lines, size_line}
+use Rattle.tile_course.specs.AnswerLaws.{RequestsPrintLines, NoRequestIsOutOfMemory, LooksLeaveHistory}
 
 -- ---- lines
 

@@ -1,3 +1,4 @@
+pub mod AnswerLaws
 pub mod Overs
 pub mod Prefixes
 pub mod ReplyEnds

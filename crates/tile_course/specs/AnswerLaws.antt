@@ -5,7 +5,7 @@ use Rattle.tile_listing.specs.Printed.{AreLinesToPrint}
 use Rattle.mvt_history_steps.specs.History.{History}
 use Rattle.tile_reply.specs.Replies.{IsOutOfMemory}
 use Rattle.tile_reply.specs.declared.refused.Refused.{Refused}
-use Rattle.tile_answers.specs.Answering.{Answer, carried_out}
+use Rattle.tile_course.specs.Answering.{Answer, carried_out}
 
 -- what a request prints is whole lines, and none of them looks like a refusal
 abbrev pub RequestsPrintLines : Type 0

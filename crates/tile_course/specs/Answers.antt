@@ -10,7 +10,7 @@ use Rattle.mvt_history_error.specs.declared.HistoryError.TheVariants.{Stopped}
 use Rattle.tile_reply.specs.Replies.{refusal_number}
 use Rattle.tile_reply.specs.declared.refused.Refused.{Refused}
 use Rattle.tile_reply.specs.declared.refused.Refused.TheVariants as refused
-use Rattle.tile_answers.specs.Answering.{carried_out}
+use Rattle.tile_course.specs.Answering.{carried_out}
 
 -- the request may be refused with 60, out of memory: not one that takes no memory (to remove a mark, to open a step),
 -- nor one that is stopped instead (to go back, to cancel); any other one, except for a command and a listing, only

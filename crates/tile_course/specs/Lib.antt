@@ -1,3 +1,6 @@
+pub mod Answering
+pub mod Answers
+pub mod AnswerLaws
 pub mod Run
 pub mod RunLaws
 pub mod Course

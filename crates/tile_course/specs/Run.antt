@@ -8,8 +8,8 @@ use Rattle.tile_lines.specs.Lines.{lines_of}
 use Rattle.mvt_history_steps.specs.History.{History, begun, standing_document}
 use Rattle.mvt_history_error.specs.declared.HistoryError.TheVariants.{Stopped}
 use Rattle.tile_reply.specs.Replies.{accepted_reply, refused_reply}
-use Rattle.tile_answers.specs.Answering.{Answer, carried_out}
-use Rattle.tile_answers.specs.Answers.{MayStop, NeedsMemory}
+use Rattle.tile_course.specs.Answering.{Answer, carried_out}
+use Rattle.tile_course.specs.Answers.{MayStop, NeedsMemory}
 use Rattle.tile_course.specs.declared.outcome.Options.{Options}
 use Rattle.tile_words.specs.declared.parse_error.ParseError.{ParseError}
 use Rattle.tile_words.specs.declared.parse_error.ParseError.TheVariants as parse

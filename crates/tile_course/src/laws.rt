@@ -1,6 +1,6 @@
 //! Laws of how requests are answered. Each function does nothing: its contract is the law.
 
-ghost use Rattle.tile_answers.specs.Laws.{RequestsPrintLines, NoRequestIsOutOfMemory, LooksLeaveHistory};
+ghost use Rattle.tile_course.specs.AnswerLaws.{RequestsPrintLines, NoRequestIsOutOfMemory, LooksLeaveHistory};
 
 /// What a request prints before `ok` is whole lines, and none of them begins as a refusal does.
 pub fn requests_print_lines()

@@ -1,5 +1,9 @@
-//! What a run comes to, as definitions, and how it ends.
+//! What requests print and make of a history, what a run comes to, as definitions, and how it ends.
 //!
+//! - What a request prints and makes of a history is a definition (`Answering`), and so is how a
+//!   session may answer it (`Answers`). What is printed is whole lines, none of which looks like a
+//!   refusal; none is refused as out of memory by its definition; and a look leaves the history as it
+//!   was: `laws`.
 //! - A run over a document is a definition (`Run`): what each line of a script replies and makes of
 //!   a history, and the outcome. So is what may result where devices fail or memory runs out
 //!   (`Course`), and the headline that follows from this (`Headline`, `DeviceLaws`).
@@ -7,6 +11,7 @@
 //!   stop becomes the outcome of its definition (`Outcomes`).
 #![tactic(auto)]
 
+pub mod laws;
 mod limits;
 mod outcome;
 

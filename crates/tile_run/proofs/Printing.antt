@@ -12,7 +12,7 @@ use Rattle.mvt_history_steps.specs.Marks.{Mark, counted_from}
 use Rattle.mvt_history_steps.specs.History.{History}
 use Rattle.mvt_history_steps.specs.Standing.{Standing}
 use Rattle.mvt_history_steps.specs.Session.{StandsFor, SeesMark}
-use Rattle.tile_answers.specs.Answering.{offset_line, mark_line, mark_lines}
+use Rattle.tile_course.specs.Answering.{offset_line, mark_line, mark_lines}
 
 -- a point and the present one, both counted from the same floor
 pub same_offset : (floor point present : ℕ) → pos (floor + point) -ℤ pos (floor + present) ≡ pos point -ℤ pos present

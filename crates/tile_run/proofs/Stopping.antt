@@ -7,8 +7,8 @@ use Rattle.mvt_history_error.specs.declared.HistoryError.{HistoryError}
 use Rattle.mvt_command.specs.Requests.{GoBack, Cancel}
 use Rattle.tile_request.specs.Request.{OnHistory}
 use Rattle.tile_reply.specs.declared.refused.Refused.TheVariants as refused
-use Rattle.tile_answers.specs.Answering.{answer_of_change}
-use Rattle.tile_answers.specs.Answers.{IsAnswered}
+use Rattle.tile_course.specs.Answering.{answer_of_change}
+use Rattle.tile_course.specs.Answers.{IsAnswered}
 
 pub back_refused : (name : List ℕ) (history : History) (error : HistoryError) (new : Standing) → AnswersBack name history (Err error) new → IsAnswered (OnHistory (GoBack name)) history (Err (refused.History error)) new
 back_refused name history error new (inl answers) = inl (inr (ap (answer_of_change refused.History) answers.0), answers.1)

@@ -5,7 +5,7 @@ use Rattle.mvt_document.specs.Held.{Held}
 use Rattle.tile_request.specs.Request.{Request}
 use Rattle.tile_words.specs.Answers.{Refuses}
 use Rattle.tile_script.specs.Line.{answer_to, TakesMemory}
-use Rattle.tile_answers.specs.Answers.{IsAnswered}
+use Rattle.tile_course.specs.Answers.{IsAnswered}
 use Rattle.tile_reply.specs.Replies.{refusal_number}
 use Rattle.tile_course.specs.Run.{Progress, refused_for, settled_by, answered_by, without_memory}
 use Rattle.mvt_history_steps.specs.Session.{StandsFor}

@@ -5,7 +5,7 @@ ghost use Rattle.mvt_history_steps.specs.History.{History};
 ghost use Rattle.mvt_history_steps.specs.Session.{StandsFor};
 ghost use Rattle.tile_request.specs.RequestStands.{request_of};
 ghost use Rattle.tile_reply.specs.Replies.{refusal_number};
-ghost use Rattle.tile_answers.specs.Answers.{IsAnswered};
+ghost use Rattle.tile_course.specs.Answers.{IsAnswered};
 
 use crate::printed::{history_lines, mark_lines, size_line};
 use mvt_document::Items;

@@ -5,7 +5,7 @@ ghost use Rattle.mvt_document.specs.Stands.{document_of};
 ghost use Rattle.mvt_history_steps.specs.History.{History};
 ghost use Rattle.mvt_history_steps.specs.Session.{StandsFor};
 ghost use Rattle.mvt_meaning.specs.declared.refusal.Refusal.TheVariants.{NoMemory};
-ghost use Rattle.tile_answers.specs.Answering.{history_lines, mark_lines, offset_line, open_line, reach_line, size_line};
+ghost use Rattle.tile_course.specs.Answering.{history_lines, mark_lines, offset_line, open_line, reach_line, size_line};
 
 use mvt_document::{Document, Items};
 use mvt_history::Session;

@@ -6,9 +6,9 @@ use Rattle.mvt_command.specs.CommandStands.{layers_choice_of}
 use Rattle.mvt_meaning.specs.Tagging.{unreadable}
 use Rattle.mvt_select.specs.Found.{layers_left}
 use Rattle.mvt_edit_steps.specs.EachFeature.{layer_steps}
-use Rattle.mvt_edit_tags.specs.EachFeature.{pairs_go}
-use Rattle.mvt_edit_tags.proofs.Excluded.{excludes}
-use Rattle.mvt_edit_tags.proofs.exclude.exclude.Goals as goal
+use Rattle.mvt_edit_attributes.specs.EachFeature.{pairs_go}
+use Rattle.mvt_edit_attributes.proofs.Excluded.{excludes}
+use Rattle.mvt_edit_attributes.proofs.exclude.exclude.Goals as goal
 
 pub returns : goal.returns
 returns c =

@@ -4,8 +4,8 @@ use Rattle.mvt_change.specs.ChangeStands.{step_of}
 use Rattle.mvt_meaning.specs.Tagging.{unreadable}
 use Rattle.mvt_select.specs.Found.{layers_left}
 use Rattle.mvt_edit_steps.specs.EachFeature.{layer_steps}
-use Rattle.mvt_edit_tags.specs.EachFeature.{pairs_go}
-use Rattle.mvt_edit_tags.proofs.exclude.exclude.Given as goal
+use Rattle.mvt_edit_attributes.specs.EachFeature.{pairs_go}
+use Rattle.mvt_edit_attributes.proofs.exclude.exclude.Given as goal
 
 abbrev pub invariant-loop-found : goal.invariant-loop-found
 invariant-loop-found l = record {

@@ -7,11 +7,11 @@ use Rattle.mvt_change.specs.ChangeStands.{step_of}
 use Rattle.mvt_layers.specs.Seen.{found_feature_seen, found_layer_seen}
 use Rattle.mvt_messages.specs.Views.{keys, values}
 use Rattle.mvt_edit_steps.specs.EachFeature.{feature_steps}
-use Rattle.mvt_edit_tags.specs.EachFeature.{pairs_go}
+use Rattle.mvt_edit_attributes.specs.EachFeature.{pairs_go}
 use Rattle.mvt_edit_steps.proofs.StepsPassed.{steps_more}
-use Rattle.mvt_edit_tags.proofs.NoneLost.{named_each, none_named, of_any}
+use Rattle.mvt_edit_attributes.proofs.NoneLost.{named_each, none_named, of_any}
 use Rattle.mvt_edit_steps.proofs.Unreadable.{bad_among, feature_refused, readable_more, unreadable_in}
-use Rattle.mvt_edit_tags.proofs.exclude.exclude_from.Goals as goal
+use Rattle.mvt_edit_attributes.proofs.exclude.exclude_from.Goals as goal
 
 pub see_layer-requires-clause-keys : goal.see_layer-requires-clause-keys
 see_layer-requires-clause-keys c = c.len.ensures ∙ named_each c.args.key.now _ _ c.name_keys.new.named c.in_ok-name_keys.ensures c.view-layer.ensures

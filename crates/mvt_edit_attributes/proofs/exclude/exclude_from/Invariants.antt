@@ -5,9 +5,9 @@ use Rattle.mvt_change.specs.ChangeStands.{step_of}
 use Rattle.mvt_messages.specs.Found.{found_features}
 use Rattle.mvt_layers.specs.Seen.{found_layer_seen}
 use Rattle.mvt_edit_steps.specs.EachFeature.{feature_steps, layer_steps}
-use Rattle.mvt_edit_tags.specs.EachFeature.{pairs_go}
+use Rattle.mvt_edit_attributes.specs.EachFeature.{pairs_go}
 use Rattle.mvt_edit_steps.proofs.Unreadable.{bad_among}
-use Rattle.mvt_edit_tags.proofs.exclude.exclude_from.Given as goal
+use Rattle.mvt_edit_attributes.proofs.exclude.exclude_from.Given as goal
 
 abbrev pub invariant-loop-feature : goal.invariant-loop-feature
 invariant-loop-feature l = record {

@@ -10,9 +10,9 @@ use Rattle.mvt_messages.specs.Tags.{plain_pairs, tag_pairs}
 use Rattle.mvt_edit_steps.specs.Decided.{field_fates, is_any_gone}
 use Rattle.mvt_edit_steps.specs.EachFeature.{feature_steps}
 use Rattle.mvt_edit_steps.proofs.Deciding.{no_pairs}
-use Rattle.mvt_edit_tags.proofs.Deciding.{decided_readable, on_pairs}
-use Rattle.mvt_edit_tags.proofs.NoneLost.{no_steps, none_counted}
-use Rattle.mvt_edit_tags.proofs.exclude.exclude_pairs.Goals as goal
+use Rattle.mvt_edit_attributes.proofs.Deciding.{decided_readable, on_pairs}
+use Rattle.mvt_edit_attributes.proofs.NoneLost.{no_steps, none_counted}
+use Rattle.mvt_edit_attributes.proofs.exclude.exclude_pairs.Goals as goal
 
 pub returns-in_err-lost-clause-refused : goal.returns-in_err-lost-clause-refused
 returns-in_err-lost-clause-refused c =

@@ -5,8 +5,8 @@ use Rattle.mvt_layers.specs.Seen.{found_feature_seen}
 use Rattle.mvt_messages.specs.Attributes.{pairs_of}
 use Rattle.mvt_messages.specs.Tags.{plain_pairs, tag_pairs}
 use Rattle.mvt_edit_steps.proofs.Unreadable.{bad_among, feature_refused, readable_more, unreadable_in}
-use Rattle.mvt_edit_tags.proofs.Deciding.{pairs_by_sizes}
-use Rattle.mvt_edit_tags.proofs.exclude.see_layer.Goals as goal
+use Rattle.mvt_edit_attributes.proofs.Deciding.{pairs_by_sizes}
+use Rattle.mvt_edit_attributes.proofs.exclude.see_layer.Goals as goal
 
 pub returns-then-not-makes_pairs-clause-refused : goal.returns-then-not-makes_pairs-clause-refused
 returns-then-not-makes_pairs-clause-refused c =

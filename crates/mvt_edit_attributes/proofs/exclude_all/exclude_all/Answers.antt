@@ -6,9 +6,9 @@ use Rattle.mvt_command.specs.CommandStands.{layers_choice_of}
 use Rattle.mvt_layers.specs.Seen.{found_layer_seen}
 use Rattle.mvt_select.specs.Found.{layers_left}
 use Rattle.mvt_edit_steps.specs.EachFeature.{layer_steps}
-use Rattle.mvt_edit_tags.specs.EachFeature.{tags_go}
-use Rattle.mvt_edit_tags.proofs.Untagged.{untags}
-use Rattle.mvt_edit_tags.proofs.exclude_all.exclude_all.Goals as goal
+use Rattle.mvt_edit_attributes.specs.EachFeature.{tags_go}
+use Rattle.mvt_edit_attributes.proofs.Untagged.{untags}
+use Rattle.mvt_edit_attributes.proofs.exclude_all.exclude_all.Goals as goal
 
 pub returns : goal.returns
 returns c =

@@ -7,7 +7,7 @@ use Rattle.mvt_meaning.specs.Tagging.{is_tags}
 use Rattle.mvt_edit_steps.specs.Fates.{splices_of}
 use Rattle.mvt_edit_steps.proofs.Carrying.{in_feature_at}
 use Rattle.mvt_edit_steps.proofs.Going.{out, out_seen, seen}
-use Rattle.mvt_edit_tags.proofs.exclude_all.untag.Goals as goal
+use Rattle.mvt_edit_attributes.proofs.exclude_all.untag.Goals as goal
 
 pub returns : goal.returns
 returns c =

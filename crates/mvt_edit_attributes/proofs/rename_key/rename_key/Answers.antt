@@ -16,10 +16,10 @@ use Rattle.mvt_command.specs.CommandStands.{layer_choice_of}
 use Rattle.mvt_meaning.specs.Tagging.{is_key, renamed_keys}
 use Rattle.mvt_edit_steps.specs.Prepared.{IsPrepared}
 use Rattle.mvt_edit_steps.proofs.Heavy.{heavy}
-use Rattle.mvt_edit_tags.proofs.KeyFields.{key_has_bytes, keys_valid}
-use Rattle.mvt_edit_tags.proofs.KeysRenamed.{key_missing, key_taken, keys_renamed, keys_stay, keys_too_large}
-use Rattle.mvt_edit_tags.proofs.rename_key.rename_key.Goals as goal
-use Rattle.mvt_edit_tags.proofs.rename_key.rename_key.Goals.{else-keys-via-then-keys+else-ne, else-keys-via-else-keys}
+use Rattle.mvt_edit_attributes.proofs.KeyFields.{key_has_bytes, keys_valid}
+use Rattle.mvt_edit_attributes.proofs.KeysRenamed.{key_missing, key_taken, keys_renamed, keys_stay, keys_too_large}
+use Rattle.mvt_edit_attributes.proofs.rename_key.rename_key.Goals as goal
+use Rattle.mvt_edit_attributes.proofs.rename_key.rename_key.Goals.{else-keys-via-then-keys+else-ne, else-keys-via-else-keys}
 
 pub returns-then-not-keys : goal.returns-then-not-keys
 returns-then-not-keys c =

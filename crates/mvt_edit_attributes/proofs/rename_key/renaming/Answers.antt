@@ -7,8 +7,8 @@ use Rattle.mvt_edit_steps.specs.Fates.{seen, splices_of}
 use Rattle.mvt_edit_steps.proofs.Carrying.{in_layer_at}
 use Rattle.mvt_edit_steps.proofs.Following.{alone}
 use Rattle.mvt_edit_steps.proofs.Planned.{splices_planned}
-use Rattle.mvt_edit_tags.specs.KeyFates.{key_fate}
-use Rattle.mvt_edit_tags.proofs.rename_key.renaming.Goals as goal
+use Rattle.mvt_edit_attributes.specs.KeyFates.{key_fate}
+use Rattle.mvt_edit_attributes.proofs.rename_key.renaming.Goals as goal
 
 pub returns : goal.returns
 returns c =

@@ -7,7 +7,7 @@ use Rattle.mvt_document.specs.Wire.{layer_item_bytes, minimal_width}
 use Rattle.mvt_document.proofs.Sizes.{length-message, same_size}
 use Rattle.mvt_meaning.specs.Fields.{with_text}
 use Rattle.mvt_meaning.specs.Tagging.{is_key}
-use Rattle.mvt_edit_tags.proofs.rename_key.size_renamed.Goals as goal
+use Rattle.mvt_edit_attributes.proofs.rename_key.size_renamed.Goals as goal
 
 -- a LEN field of a layer takes its tag, the length and as many bytes as the new ones are
 length-renamed : (value wide width : ℕ) (item : LayerItem) (old new : List ℕ) → item ≡ PlainInLayer (record { tag = record { value = value; width = wide }; body = Delimited width old }) → wide + (max width (minimal_width (length new)) + length new) ≡ length (flat_map layer_item_bytes (with_text new item ∷ []))

@@ -5,8 +5,8 @@ use Rattle.std.specs.Str.{bytes_eq}
 use Rattle.mvt_document.specs.Stands.{feature_of, layer_of}
 use Rattle.mvt_messages.specs.Views.{keys, values}
 use Rattle.mvt_edit_steps.proofs.Deciding.{no_pairs}
-use Rattle.mvt_edit_tags.proofs.Deciding.{has_named, on_pairs}
-use Rattle.mvt_edit_tags.proofs.unset.decide.Goals as goal
+use Rattle.mvt_edit_attributes.proofs.Deciding.{has_named, on_pairs}
+use Rattle.mvt_edit_attributes.proofs.unset.decide.Goals as goal
 
 pub returns-then-not-is_any-clause-refused : goal.returns-then-not-is_any-clause-refused
 returns-then-not-is_any-clause-refused c =

@@ -3,7 +3,7 @@ use Rattle.mvt_change.specs.ChangeStands.{step_of}
 use Rattle.mvt_layers.specs.Seen.{found_feature_seen}
 use Rattle.mvt_edit_steps.specs.Decided.{field_fates}
 use Rattle.mvt_edit_steps.specs.EachFeature.{feature_steps}
-use Rattle.mvt_edit_tags.proofs.unset.removing.Goals as goal
+use Rattle.mvt_edit_attributes.proofs.unset.removing.Goals as goal
 
 pub returns : goal.returns
 returns c =

@@ -8,8 +8,8 @@ use Rattle.mvt_layers.specs.Seen.{found_feature_seen}
 use Rattle.mvt_edit_steps.specs.Decided.{field_fates}
 use Rattle.mvt_edit_steps.proofs.FieldsLeft.{fields_left}
 use Rattle.mvt_edit_steps.specs.EachFeature.{feature_steps}
-use Rattle.mvt_edit_tags.proofs.PairsLost.{key_lacks, no_feature_loses, pairs_lack, tags_lose}
-use Rattle.mvt_edit_tags.proofs.unset.unset.Goals as goal
+use Rattle.mvt_edit_attributes.proofs.PairsLost.{key_lacks, no_feature_loses, pairs_lack, tags_lose}
+use Rattle.mvt_edit_attributes.proofs.unset.unset.Goals as goal
 
 pub returns-in_err-found : goal.returns-in_err-found
 returns-in_err-found c =

@@ -1,5 +1,5 @@
-use Rattle.tile_answers.proofs.AnswerLaws.{looks_leave_history}
-use Rattle.tile_answers.proofs.laws.looks_leave_history.Goals as goal
+use Rattle.tile_course.proofs.AnswerLaws.{looks_leave_history}
+use Rattle.tile_course.proofs.laws.looks_leave_history.Goals as goal
 
 pub returns : goal.returns
 returns c = looks_leave_history

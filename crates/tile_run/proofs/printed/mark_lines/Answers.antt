@@ -1,7 +1,7 @@
 use Rattle.std.proofs.Common.{rules, ◌≡◌, ℤ, ◌++◌, ◌∙◌, ap, sym, refl, length, w64, arith}
 use mir.Val.{SFits}
 use Rattle.std.proofs.lemmas.Int.{to_z-of_z}
-use Rattle.tile_answers.specs.Answering.{offset_line}
+use Rattle.tile_course.specs.Answering.{offset_line}
 use Rattle.tile_run.proofs.Printing.{mark_there, none_after, lines_of_marks, all_printed}
 use Rattle.tile_run.proofs.printed.mark_lines.Goals as goal
 use Rattle.tile_run.proofs.printed.mark_lines.Goals.{else-loop-index-test, then-loop-index-test+in_default}
