@@ -20,7 +20,7 @@ ghost use Rattle.mvt_change.specs.FileSizes.{IsFileSize};
 
 use crate::change::Step;
 use mvt_document::{
-    Document, Feature, Field, Layer, LayerItem, MAX_FILE, Measured, Message, TileItem,
+    Document, Feature, Field, Item, Layer, LayerItem, MAX_FILE, Measured, Message, TileItem,
     message_size, size_beside_part, size_of_all, sum_within,
 };
 
@@ -158,7 +158,7 @@ fn items_size(layer: &Layer, item: usize, fields: Option<usize>) -> Option<usize
 
 /// How many bytes the items take once the one at this index takes `size`, if that is within the
 /// limit of a file.
-fn size_with<T: Measured>(items: &Message<T>, index: usize, size: usize) -> Option<usize>
+fn size_with<T: Item>(items: &Message<T>, index: usize, size: usize) -> Option<usize>
     requires { index < length items.now.items }
     ensures { IsFileSize result (bytes_beside T.bytes index items.now.items + size) }
 {

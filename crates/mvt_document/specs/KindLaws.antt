@@ -10,10 +10,6 @@ use Rattle.mvt_document.specs.declared.run.Kind.{Kind}
 use Rattle.mvt_document.specs.declared.run.Kind.TheVariants as kind
 use Rattle.mvt_document.specs.Kinds.{is_delimited_field, is_entry, in_layer_of_kind, in_tile_of_kind}
 
--- what is of no kind is not of two
-pub of_none : {T : Type 0} (is other : Kind) (x : T) → IsTrue false → IsTrue false → is ≡ other
-of_none is other x first second = absurd cc
-
 -- where both hold, the first does
 both_hold : (first second : Bool) → IsTrue (if first then second else false) → IsTrue first
 both_hold true second both = refl

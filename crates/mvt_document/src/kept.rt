@@ -7,7 +7,7 @@ ghost use Rattle.mvt_document.specs.Splicing.{moved, splice};
 ghost use Rattle.mvt_document.specs.KeptForms.{known_of};
 
 use crate::exchange::{exchange, move_item};
-use crate::measure::Measured;
+use crate::item::Item;
 use crate::run::Runs;
 use std::alloc::Global;
 use std::marker::Model;
@@ -174,7 +174,7 @@ impl Kept {
     }
 
     /// Keeps the hash of an item that takes the place of another, where that one's was kept.
-    pub(crate) fn set_hash<T: Measured>(&mut self, index: usize, item: &T)
+    pub(crate) fn set_hash<T: Item>(&mut self, index: usize, item: &T)
         ensures size { self.new.size ≡ self.old.size }
         ensures runs { self.new.runs ≡ self.old.runs }
         ensures hashes { (items : List T) → AreHashes T.id_hash self.old.hashes items → AreHashes T.id_hash self.new.hashes (slice_set items index item.now) }
@@ -199,7 +199,7 @@ impl Kept {
     }
 
     /// Keeps the hash of an item at the position to which it moves, where both positions have hashes.
-    pub(crate) fn move_hash<T: Measured>(&mut self, items: &[T], from: usize, to: usize)
+    pub(crate) fn move_hash<T: Item>(&mut self, items: &[T], from: usize, to: usize)
         requires there { from < length items.now }
         requires within { to < length items.now }
         requires hashes { AreHashes T.id_hash self.old.hashes items.now }
@@ -229,7 +229,7 @@ impl Kept {
     }
 
     /// Keeps the hashes once `taken` items from `index` are exchanged for others.
-    pub(crate) fn exchange_hashes<T: Measured>(&mut self, index: usize, taken: usize, come: &[T])
+    pub(crate) fn exchange_hashes<T: Item>(&mut self, index: usize, taken: usize, come: &[T])
         ensures size { self.new.size ≡ self.old.size }
         ensures runs { self.new.runs ≡ self.old.runs }
         ensures hashes { (items : List T) → AreHashes T.id_hash self.old.hashes items → AreHashes T.id_hash self.new.hashes (splice index taken come.now items) }
@@ -243,7 +243,7 @@ impl Kept {
     }
 
     /// Keeps the hashes of the items before an index, if there is memory for them.
-    pub(crate) fn add_hashes<T: Measured>(&mut self, items: &[T], until: usize)
+    pub(crate) fn add_hashes<T: Item>(&mut self, items: &[T], until: usize)
         requires { AreHashes T.id_hash self.old.hashes items.now }
         ensures size { self.new.size ≡ self.old.size }
         ensures runs { self.new.runs ≡ self.old.runs }
@@ -257,7 +257,7 @@ impl Kept {
 
 /// Adds the hashes of the items before an index to those of the items at the front, if there is memory for
 /// them.
-fn push_hashes<T: Measured>(hashes: &mut Vec<u32>, items: &[T], until: usize)
+fn push_hashes<T: Item>(hashes: &mut Vec<u32>, items: &[T], until: usize)
     requires { AreHashes T.id_hash hashes.old.items items.now }
     ensures { AreHashes T.id_hash hashes.new.items items.now }
 {
@@ -277,7 +277,7 @@ fn push_hashes<T: Measured>(hashes: &mut Vec<u32>, items: &[T], until: usize)
 
 /// Exchanges the hashes of `taken` items from `index` for those of others. If there is no memory
 /// for that, those before `index` stay.
-fn splice_hashes<T: Measured>(hashes: &mut Vec<u32>, index: usize, taken: usize, come: &[T])
+fn splice_hashes<T: Item>(hashes: &mut Vec<u32>, index: usize, taken: usize, come: &[T])
     requires { index + taken ≤ length hashes.old.items }
     ensures { (items : List T) → AreHashes T.id_hash hashes.old.items items → AreHashes T.id_hash hashes.new.items (splice index taken come.now items) }
 {

@@ -1,33 +1,24 @@
 //! The sizes of the messages of a tile, the kinds of items, and the hashes of their ids. The size of a layer comes from the one
 //! that its message keeps.
 
-ghost use Rattle.std.specs.Prelude.{◌≡◌, false};
+ghost use Rattle.std.specs.Prelude.{◌≡◌};
 ghost use Rattle.mvt_document.specs.Wire.{body_bytes, field_bytes, feature_bytes, layer_item_bytes, layer_bytes, tile_item_bytes};
 ghost use Rattle.mvt_document.specs.Bodies.{body_seen};
 ghost use Rattle.mvt_document.specs.Stands.{field_of, feature_of, layer_item_of, layer_of, tile_item_of};
-ghost use Rattle.mvt_document.specs.KindLaws.{of_none, one_in_layer, one_in_tile};
+ghost use Rattle.mvt_document.specs.KindLaws.{one_in_layer, one_in_tile};
 ghost use Rattle.mvt_document.specs.Kinds.{in_layer_of_kind, in_tile_of_kind, is_delimited_field, layer_item_hash};
 
 use crate::body::BodyRef;
 use crate::document::{Layer, LayerItem, TileItem};
 use crate::feature::{Feature, hash_of};
 use crate::field::Field;
+use crate::item::Item;
 use crate::measure::{Measured, delimited_size, message_size, size_of_all, sum_within};
 use crate::run::Kind;
 use crate::tags::{KEYS, NAME, VALUES};
 
 impl Measured for BodyRef<'_> {
     ghost bytes = { λ b. body_bytes (body_seen b) };
-
-    ghost of_kind = { λ _ _. false };
-
-    ghost one_kind = { of_none };
-
-    ghost id_hash = { λ _. 0 };
-
-    fn is_of(&self, _kind: Kind) -> bool {
-        false
-    }
 
     fn size_within(&self, limit: usize) -> Option<usize> {
         match self {
@@ -43,16 +34,6 @@ impl Measured for BodyRef<'_> {
 impl Measured for Field {
     ghost bytes = { λ f. field_bytes (field_of f) };
 
-    ghost of_kind = { λ _ _. false };
-
-    ghost one_kind = { of_none };
-
-    ghost id_hash = { λ _. 0 };
-
-    fn is_of(&self, _kind: Kind) -> bool {
-        false
-    }
-
     fn size_within(&self, limit: usize) -> Option<usize> {
         sum_within(
             self.tag().to_varint().size_within(limit)?,
@@ -64,16 +45,6 @@ impl Measured for Field {
 
 impl Measured for Feature {
     ghost bytes = { λ f. feature_bytes (feature_of f) };
-
-    ghost of_kind = { λ _ _. false };
-
-    ghost one_kind = { of_none };
-
-    ghost id_hash = { λ _. 0 };
-
-    fn is_of(&self, _kind: Kind) -> bool {
-        false
-    }
 
     fn size_within(&self, limit: usize) -> Option<usize> {
         message_size(
@@ -88,6 +59,16 @@ impl Measured for Feature {
 impl Measured for LayerItem {
     ghost bytes = { λ i. layer_item_bytes (layer_item_of i) };
 
+    #[inline(always)]
+    fn size_within(&self, limit: usize) -> Option<usize> {
+        match self {
+            LayerItem::Feature(feature) => feature.size_within(limit),
+            LayerItem::Plain(field) => field.size_within(limit),
+        }
+    }
+}
+
+impl Item for LayerItem {
     ghost of_kind = { in_layer_of_kind };
 
     ghost one_kind = { one_in_layer };
@@ -105,14 +86,6 @@ impl Measured for LayerItem {
         }
     }
 
-    #[inline(always)]
-    fn size_within(&self, limit: usize) -> Option<usize> {
-        match self {
-            LayerItem::Feature(feature) => feature.size_within(limit),
-            LayerItem::Plain(field) => field.size_within(limit),
-        }
-    }
-
     fn id_hash(&self) -> Option<u32> {
         match self {
             LayerItem::Feature(feature) => Some(hash_of(feature.id())),
@@ -123,16 +96,6 @@ impl Measured for LayerItem {
 
 impl Measured for Layer {
     ghost bytes = { λ l. layer_bytes (layer_of l) };
-
-    ghost of_kind = { λ _ _. false };
-
-    ghost one_kind = { of_none };
-
-    ghost id_hash = { λ _. 0 };
-
-    fn is_of(&self, _kind: Kind) -> bool {
-        false
-    }
 
     fn size_within(&self, limit: usize) -> Option<usize> {
         message_size(
@@ -147,6 +110,15 @@ impl Measured for Layer {
 impl Measured for TileItem {
     ghost bytes = { λ i. tile_item_bytes (tile_item_of i) };
 
+    fn size_within(&self, limit: usize) -> Option<usize> {
+        match self {
+            TileItem::Layer(layer) => layer.size_within(limit),
+            TileItem::Plain(field) => field.size_within(limit),
+        }
+    }
+}
+
+impl Item for TileItem {
     ghost of_kind = { in_tile_of_kind };
 
     ghost one_kind = { one_in_tile };
@@ -156,13 +128,6 @@ impl Measured for TileItem {
     #[inline(always)]
     fn is_of(&self, kind: Kind) -> bool {
         matches!((self, kind), (TileItem::Layer(_), Kind::Message))
-    }
-
-    fn size_within(&self, limit: usize) -> Option<usize> {
-        match self {
-            TileItem::Layer(layer) => layer.size_within(limit),
-            TileItem::Plain(field) => field.size_within(limit),
-        }
     }
 }
 

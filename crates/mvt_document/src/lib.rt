@@ -26,7 +26,7 @@
 //!   items of the run are of the kind, after every change too, which the type of the list ensures
 //!   (`AreRunsOf`): `Message::runs`.
 //! - The hash of an id is its last four bytes, and that of an item of a layer is that of its id (`hash_of`,
-//!   `Measured::id_hash`). A layer may keep the hashes of the items at its front; those that it keeps are right
+//!   `Item::id_hash`). A layer may keep the hashes of the items at its front; those that it keeps are right
 //!   after every change, which the type of the list ensures (`AreHashes`): `Message::id_hashes`.
 //! - Items of a list change places with as many, more or fewer of another, and an item moves within
 //!   its list: `exchange` and `move_item` of `Items` and of `Message`. If memory runs out nothing
@@ -62,6 +62,7 @@ mod exchange;
 mod feature;
 mod few;
 mod field;
+mod item;
 mod items;
 mod kept;
 pub mod laws;
@@ -82,6 +83,7 @@ pub use body::{Body, BodyRef};
 pub use document::{Document, Layer, LayerItem, TileItem};
 pub use feature::{Feature, FeatureParts, hash_of};
 pub use field::{Field, FieldParts};
+pub use item::Item;
 pub use items::Items;
 pub use measure::{Measured, message_size, size_beside_part, size_of_all, sum_within};
 pub use message::Message;

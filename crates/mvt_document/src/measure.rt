@@ -1,35 +1,19 @@
-//! How many bytes a value takes, of what kind it is, and the hash of its id, in one trait that each type of a
-//! document has.
+//! How many bytes a value takes, in a trait that each type of a document has.
 
-ghost use Rattle.std.specs.Prelude.{◌≡◌, ℕ, ◌+◌, ◌≤◌, Bool, false, IfSome, IsTrue, List, [], ◌++◌, length, max};
+ghost use Rattle.std.specs.Prelude.{ℕ, ◌+◌, ◌≤◌, List, [], ◌++◌, length, max};
 ghost use Rattle.std.specs.Option.{SomeIff};
 ghost use Rattle.std.specs.List.{flat_map};
 ghost use Rattle.mvt_document.specs.declared.TheConstants.{MAX_FILE};
 ghost use Rattle.mvt_document.specs.Wire.{spell, minimal_width};
 ghost use Rattle.mvt_document.specs.Splicing.{splice};
-ghost use Rattle.mvt_document.specs.KindLaws.{of_none};
-ghost use Rattle.mvt_document.specs.declared.run.Kind.{Kind};
 
 use crate::MAX_FILE;
-use crate::run::Kind;
 use crate::tag::Tag;
 use crate::varint::{Varint, least_width};
 
-/// A value that is written as bytes, of which it is known how many bytes those are, what kind it is in the list
-/// of a message, and what hash its id has there.
+/// A value that is written as bytes, of which it is known how many bytes those are.
 pub trait Measured {
     ghost bytes: { Self → List ℕ };
-
-    ghost of_kind: { Kind → Self → Bool };
-
-    /// It is of at most one kind.
-    ghost one_kind: { (is other : Kind) (x : Self) → IsTrue (of_kind is x) → IsTrue (of_kind other x) → is ≡ other };
-
-    ghost id_hash: { Self → ℕ };
-
-    /// Whether it is of this kind.
-    fn is_of(&self, kind: Kind) -> bool
-        ensures { result ≡ of_kind kind self.now };
 
     /// How many bytes it takes, if they are within the limit.
     fn size_within(&self, limit: usize) -> Option<usize>
@@ -40,13 +24,6 @@ pub trait Measured {
         ensures { SomeIff result (length (bytes self.now) ≤ MAX_FILE) (length (bytes self.now)) }
     {
         self.size_within(MAX_FILE)
-    }
-
-    /// The hash of its id, if its kind has one.
-    fn id_hash(&self) -> Option<u32>
-        ensures { IfSome result (λ hash. hash ≡ id_hash self.now) }
-    {
-        None
     }
 }
 
@@ -108,16 +85,6 @@ pub fn message_size(tag: Tag, width: u8, length: usize, limit: usize) -> Option<
 
 impl Measured for Varint {
     ghost bytes = { λ n. spell n.value n.width };
-
-    ghost of_kind = { λ _ _. false };
-
-    ghost one_kind = { of_none };
-
-    ghost id_hash = { λ _. 0 };
-
-    fn is_of(&self, _kind: Kind) -> bool {
-        false
-    }
 
     fn size_within(&self, limit: usize) -> Option<usize> {
         sum_within(usize::from(self.width), 0, limit)

@@ -13,8 +13,9 @@ ghost use Rattle.mvt_document.specs.Runs.{AreRunsOf};
 use crate::MAX_FILE;
 use crate::exchange::move_item;
 use crate::feature::hash_of;
+use crate::item::Item;
 use crate::kept::Kept;
-use crate::measure::{Measured, size_beside_part, size_of_all, sum_within};
+use crate::measure::{size_beside_part, size_of_all, sum_within};
 use crate::put::Put;
 use crate::run::{Kind, Run, Runs, runs_of};
 use std::alloc::{AllocError, AllocFailed};
@@ -27,12 +28,12 @@ const MANY_ITEMS: usize = 32;
 /// The items of a message, how many bytes they take where that is known, and in which runs those of a
 /// kind stand, as far as that is known. Contracts see the items and the room for more.
 #[derive(Drop)]
-pub struct Message<T: Measured> {
+pub struct Message<T: Item> {
     inner: Vec<T>,
     kept: Kept,
 }
 
-impl<T: Measured> Model for Message<T> {
+impl<T: Item> Model for Message<T> {
     ghost use Rattle.std.specs.Prelude.{◌-◌, IfSome, vec_len, vec_capacity};
     ghost use Rattle.mvt_document.specs.Held.{Held};
     ghost use Rattle.mvt_document.specs.Hashes.{AreHashes};
@@ -46,13 +47,13 @@ impl<T: Measured> Model for Message<T> {
     ghost invariant = { λ l. IsKept T.bytes l.inner.items l.kept.size × IfSome l.kept.runs (λ runs. AreRunsOf T.of_kind runs l.inner.items) × AreHashes T.id_hash l.kept.hashes l.inner.items };
 }
 
-impl<T: Measured + fmt::Debug> fmt::Debug for Message<T> {
+impl<T: Item + fmt::Debug> fmt::Debug for Message<T> {
     fn fmt<W: fmt::Write>(&self, f: &mut fmt::Formatter<W>) -> fmt::Result {
         f.debug_list().entries(self.as_slice()).finish()
     }
 }
 
-impl<T: Measured> Message<T> {
+impl<T: Item> Message<T> {
     ghost use Rattle.std.specs.Prelude.{IfSome, slice_get, ◌<◌, ◌∷◌, [], ◌++◌, if◌then◌else◌, is_ok, IsOk};
     ghost use Rattle.std.specs.Option.{IsSomeAnd};
     ghost use Rattle.mvt_document.specs.Splicing.{moved, part, splice};
@@ -202,7 +203,7 @@ impl<T: Measured> Message<T> {
 
     /// The vector that the items are in. The size, the runs and the hashes are no longer known: see `know_size`.
     pub fn as_vec_mut(&mut self) -> &mut Vec<T>
-        ensures* writes_back { sem 𝓛 (LendsVecKept T.row T.Measured self.entry result) }
+        ensures* writes_back { sem 𝓛 (LendsVecKept T.row T.Measured T.Item.own self.entry result) }
         ensures value { held_in result.now ≡ self.old }
     {
         self.kept.set_size(None);
@@ -369,7 +370,7 @@ impl<T: Measured> Message<T> {
 }
 
 /// How many bytes the items take, if it is known how many those other than this one take.
-fn size_with<T: Measured>(items: &[T], index: usize, beside: Option<usize>) -> Option<usize>
+fn size_with<T: Item>(items: &[T], index: usize, beside: Option<usize>) -> Option<usize>
     requires { IfSome beside (λ n. n ≡ bytes_beside T.bytes index items.now) }
     ensures { IsKept T.bytes items.now result }
 {
@@ -379,7 +380,7 @@ fn size_with<T: Measured>(items: &[T], index: usize, beside: Option<usize>) -> O
 }
 
 /// Finds the runs and the hashes of these items, if none were kept and the items are many.
-fn find_runs<T: Measured>(kept: &mut Kept, items: &Vec<T>)
+fn find_runs<T: Item>(kept: &mut Kept, items: &Vec<T>)
     requires runs { kept.old.runs ≡ None }
     requires hashes { AreHashes T.id_hash kept.old.hashes items.now.items }
     ensures size { kept.new.size ≡ kept.old.size }
@@ -397,7 +398,7 @@ fn find_runs<T: Measured>(kept: &mut Kept, items: &Vec<T>)
 
 /// Keeps this size, and these runs in place of those kept, or finds them if none were kept and the items
 /// are now many.
-fn keep<T: Measured>(kept: &mut Kept, items: &Vec<T>, size: Option<usize>, runs: Runs)
+fn keep<T: Item>(kept: &mut Kept, items: &Vec<T>, size: Option<usize>, runs: Runs)
     requires size { IsKept T.bytes items.now.items size }
     requires runs { AreRunsOf T.of_kind runs items.now.items }
     requires hashes { AreHashes T.id_hash kept.old.hashes items.now.items }
@@ -416,7 +417,7 @@ fn keep<T: Measured>(kept: &mut Kept, items: &Vec<T>, size: Option<usize>, runs:
 /// Keeps these runs in place of those kept, and adds the missing hashes. No hash is added if the first feature
 /// has no id, or if less than half of the items up to the last feature of the run are features, so that there
 /// are at most two for each feature.
-fn keep_runs<T: Measured>(kept: &mut Kept, items: &[T], runs: Runs)
+fn keep_runs<T: Item>(kept: &mut Kept, items: &[T], runs: Runs)
     requires runs { AreRunsOf T.of_kind runs items.now }
     requires hashes { AreHashes T.id_hash kept.old.hashes items.now }
     ensures size { kept.new.size ≡ kept.old.size }
@@ -432,7 +433,7 @@ fn keep_runs<T: Measured>(kept: &mut Kept, items: &[T], runs: Runs)
 
 /// Whether the feature at this position has an id. Usually all features of a layer have one, or none
 /// does.
-fn begins_with_id<T: Measured>(items: &[T], first: usize) -> bool {
+fn begins_with_id<T: Item>(items: &[T], first: usize) -> bool {
     match items.get(first) {
         Some(item) => item.id_hash() != Some(hash_of(None)),
         None => false,

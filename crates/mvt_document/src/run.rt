@@ -5,7 +5,7 @@ ghost use Rattle.std.specs.Prelude.{◌≡◌, ◌+◌, Bool, true, List, [], �
 ghost use Rattle.mvt_document.specs.Runs.{IsRun, IsRunOf, AreRunsOf};
 ghost use Rattle.mvt_document.specs.Splicing.{splice};
 
-use crate::measure::Measured;
+use crate::item::Item;
 
 /// How many items are looked at for each kind at a time.
 const PART: usize = 256;
@@ -177,7 +177,7 @@ impl Runs {
 }
 
 /// The run of the items of this kind.
-fn run_of<T: Measured>(items: &[T], kind: Kind) -> Run
+fn run_of<T: Item>(items: &[T], kind: Kind) -> Run
     ensures { IsRunOf (T.of_kind kind) result items.now }
 {
     let first = leading(items, kind, false);
@@ -193,7 +193,7 @@ fn run_of<T: Measured>(items: &[T], kind: Kind) -> Run
 }
 
 /// The run of each kind in the items of a part. Most parts have items of only one kind.
-fn runs_of_part<T: Measured>(part: &[T]) -> Runs
+fn runs_of_part<T: Item>(part: &[T]) -> Runs
     ensures { AreRunsOf T.of_kind result part.now }
 {
     for kind in [Kind::Message, Kind::Key, Kind::Value] {
@@ -210,7 +210,7 @@ fn runs_of_part<T: Measured>(part: &[T]) -> Runs
 }
 
 /// The same, where all items are of this kind.
-fn runs_of_whole<T: Measured>(part: &[T], kind: Kind) -> Runs
+fn runs_of_whole<T: Item>(part: &[T], kind: Kind) -> Runs
     requires { map (T.of_kind kind) part.now ≡ replicate (length part.now) true }
     ensures { AreRunsOf T.of_kind result part.now }
 {
@@ -244,7 +244,7 @@ fn runs_of_whole<T: Measured>(part: &[T], kind: Kind) -> Runs
 
 /// The runs of each kind in `seen` items and in a part after them, where `runs` are those of the
 /// items alone.
-fn runs_with_part<T: Measured>(runs: Runs, seen: usize, part: &[T]) -> Runs
+fn runs_with_part<T: Item>(runs: Runs, seen: usize, part: &[T]) -> Runs
     ensures { (items : List T) → AreRunsOf T.of_kind runs items → seen ≡ length items → AreRunsOf T.of_kind result (items ++ part.now) }
 {
     let following = runs_of_part(part);
@@ -258,7 +258,7 @@ fn runs_with_part<T: Measured>(runs: Runs, seen: usize, part: &[T]) -> Runs
 }
 
 /// The run of each kind. A part of the items is looked at for each kind while it is in the cache.
-pub(crate) fn runs_of<T: Measured>(items: &[T]) -> Runs
+pub(crate) fn runs_of<T: Item>(items: &[T]) -> Runs
     ensures { AreRunsOf T.of_kind result items.now }
 {
     let mut runs = Runs::unknown();
@@ -271,7 +271,7 @@ pub(crate) fn runs_of<T: Measured>(items: &[T]) -> Runs
 }
 
 /// How many items at the front are of the kind, or are not: with a loop of its own for each kind.
-fn leading<T: Measured>(items: &[T], kind: Kind, wanted: bool) -> usize
+fn leading<T: Item>(items: &[T], kind: Kind, wanted: bool) -> usize
     ensures within { result ≤ length items.now }
     ensures items { map (T.of_kind kind) (take result items.now) ≡ replicate result wanted }
 {
@@ -285,7 +285,7 @@ fn leading<T: Measured>(items: &[T], kind: Kind, wanted: bool) -> usize
 
 /// The same, where the kind is known to the compiler.
 #[inline(always)]
-fn leading_of<T: Measured>(items: &[T], kind: Kind, wanted: bool) -> usize
+fn leading_of<T: Item>(items: &[T], kind: Kind, wanted: bool) -> usize
     ensures within { result ≤ length items.now }
     ensures items { map (T.of_kind kind) (take result items.now) ≡ replicate result wanted }
 {

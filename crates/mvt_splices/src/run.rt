@@ -9,7 +9,7 @@ ghost use Rattle.mvt_splices.specs.Splices.{CarriesOut, FindsRoom, FitRun, LeadB
 
 use crate::gap::Gap;
 use crate::splices::Splices;
-use mvt_document::{Items, Measured, Message, size_of_all};
+use mvt_document::{Item, Items, Measured, Message, size_of_all};
 use std::alloc::{AllocError, Global};
 
 /// Carries out the first steps that are on the list at this place, in one pass over it, and turns each into the step
@@ -28,7 +28,7 @@ pub fn splice_items<T: Measured, S: Splices<T>>(
 
 /// The same on a message. Its size, if known afterwards, is the right one; no clause says that it
 /// stays known.
-pub fn splice_message<T: Measured, S: Splices<T>>(
+pub fn splice_message<T: Item, S: Splices<T>>(
     alloc: Global,
     list: &mut Message<T>,
     place: &S::Place,

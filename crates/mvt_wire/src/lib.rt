@@ -8,10 +8,10 @@
 #![tactic(auto)]
 
 pub use mvt_document::{
-    Body, BodyRef, Document, Feature, FeatureParts, Field, FieldParts, Items, Layer, LayerItem,
-    MAX_FILE, MAX_GROUPS, Measured, Message, MessageTag, Tag, TileItem, Varint, last_value, laws,
-    least_width, message_size, put_number, read_varint, size_beside_part, size_of_all, sum_within,
-    tags, value_in,
+    Body, BodyRef, Document, Feature, FeatureParts, Field, FieldParts, Item, Items, Layer,
+    LayerItem, MAX_FILE, MAX_GROUPS, Measured, Message, MessageTag, Tag, TileItem, Varint,
+    last_value, laws, least_width, message_size, put_number, read_varint, size_beside_part,
+    size_of_all, sum_within, tags, value_in,
 };
 pub use mvt_read::{FieldRef, ReadError, field_at_front, read_document};
 pub use mvt_write::{WriteError, size, write_document, write_document_into};

@@ -6,9 +6,9 @@ use Rattle.mvt_document.proofs.message.keep_runs.Goals as goal
 
 pub returns-then-begins_with_id-clause-runs : goal.returns-then-begins_with_id-clause-runs
 returns-then-begins_with_id-clause-runs g c =
-    subst (λ kept. IfSome kept (λ runs. AreRunsOf g.T.Measured.of_kind runs c.args.items.now)) (sym c.add_hashes.ensures.runs)
-    (if_kept c.set_runs.new.self.runs (λ runs. AreRunsOf g.T.Measured.of_kind runs c.args.items.now) c.args.runs c.set_runs.ensures.runs c.requires.runs)
+    subst (λ kept. IfSome kept (λ runs. AreRunsOf g.T.Item.of_kind runs c.args.items.now)) (sym c.add_hashes.ensures.runs)
+    (if_kept c.set_runs.new.self.runs (λ runs. AreRunsOf g.T.Item.of_kind runs c.args.items.now) c.args.runs c.set_runs.ensures.runs c.requires.runs)
 
 pub returns-else-first-count-clause-runs : goal.returns-else-first-count-clause-runs
 returns-else-first-count-clause-runs g c =
-    if_kept c.set_runs.new.self.runs (λ runs. AreRunsOf g.T.Measured.of_kind runs c.args.items.now) c.args.runs c.set_runs.ensures.runs c.requires.runs
+    if_kept c.set_runs.new.self.runs (λ runs. AreRunsOf g.T.Item.of_kind runs c.args.items.now) c.args.runs c.set_runs.ensures.runs c.requires.runs

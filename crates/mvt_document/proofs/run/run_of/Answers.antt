@@ -13,4 +13,4 @@ returns g c =
     let last = take (length rest - count) (drop count rest) in
     let rest_is : rest ≡ drop first items = take_all (length items - first) (drop first items) (omega (arith, length-drop first items)) in
     let last_is : last ≡ drop count rest = take_all (length rest - count) (drop count rest) (omega (arith, length-drop count rest)) in
-    found_run (g.T.Measured.of_kind c.args.kind) items rest last (record { first = first; count = count; until = first + count + others }) rest_is last_is c.leading-first.ensures.items c.leading-count.ensures.items others (omega arith) c.leading-others.ensures.items
+    found_run (g.T.Item.of_kind c.args.kind) items rest last (record { first = first; count = count; until = first + count + others }) rest_is last_is c.leading-first.ensures.items c.leading-count.ensures.items others (omega arith) c.leading-others.ensures.items

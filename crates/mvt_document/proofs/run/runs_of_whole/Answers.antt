@@ -6,8 +6,8 @@ use Rattle.mvt_document.proofs.run.runs_of_whole.Goals as goal
 
 pub returns-in-Name : goal.returns-in-Name
 returns-in-Name g c =
-    let of_kind = g.T.Measured.of_kind in
-    let one = g.T.Measured.one_kind in
+    let of_kind = g.T.Item.of_kind in
+    let one = g.T.Item.one_kind in
     let items = c.args.part.now in
     let none = c.of_same-none.ensures in
     let whole : map (of_kind kind.Name) items ≡ replicate (length items) true = ap (λ k. map (of_kind k) items) (sym c.in-Name.is) ∙ c.requires in
@@ -20,8 +20,8 @@ returns-in-Name g c =
 
 pub returns-in-Message : goal.returns-in-Message
 returns-in-Message g c =
-    let of_kind = g.T.Measured.of_kind in
-    let one = g.T.Measured.one_kind in
+    let of_kind = g.T.Item.of_kind in
+    let one = g.T.Item.one_kind in
     let items = c.args.part.now in
     let none = c.of_same-none.ensures in
     let whole : map (of_kind kind.Message) items ≡ replicate (length items) true = ap (λ k. map (of_kind k) items) (sym c.in-Message.is) ∙ c.requires in
@@ -34,8 +34,8 @@ returns-in-Message g c =
 
 pub returns-in-Key : goal.returns-in-Key
 returns-in-Key g c =
-    let of_kind = g.T.Measured.of_kind in
-    let one = g.T.Measured.one_kind in
+    let of_kind = g.T.Item.of_kind in
+    let one = g.T.Item.one_kind in
     let items = c.args.part.now in
     let none = c.of_same-none.ensures in
     let whole : map (of_kind kind.Key) items ≡ replicate (length items) true = ap (λ k. map (of_kind k) items) (sym c.in-Key.is) ∙ c.requires in
@@ -48,8 +48,8 @@ returns-in-Key g c =
 
 pub returns-in-Value : goal.returns-in-Value
 returns-in-Value g c =
-    let of_kind = g.T.Measured.of_kind in
-    let one = g.T.Measured.one_kind in
+    let of_kind = g.T.Item.of_kind in
+    let one = g.T.Item.one_kind in
     let items = c.args.part.now in
     let none = c.of_same-none.ensures in
     let whole : map (of_kind kind.Value) items ≡ replicate (length items) true = ap (λ k. map (of_kind k) items) (sym c.in-Value.is) ∙ c.requires in

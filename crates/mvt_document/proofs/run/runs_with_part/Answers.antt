@@ -4,7 +4,7 @@ use Rattle.mvt_document.proofs.run.runs_with_part.Goals as goal
 
 pub returns : goal.returns
 returns g c = λ items known all.
-    let of_kind = g.T.Measured.of_kind in
+    let of_kind = g.T.Item.of_kind in
     let part = c.args.part.now in
     let following = c.runs_of_part-following.ensures in
     record {

@@ -6,7 +6,7 @@ use Rattle.mvt_document.proofs.kept.Kept.exchange_hashes.Goals as goal
 
 pub returns-then-taken-hashed-clause-hashes : goal.returns-then-taken-hashed-clause-hashes
 returns-then-taken-hashed-clause-hashes g c items so =
-    let f = g.T.Measured.id_hash in
+    let f = g.T.Item.id_hash in
     let come = c.args.come.now in
     subst (λ hashes. AreHashes f hashes (splice c.args.index c.args.taken come items)) (sym c.cut_hashes.ensures.hashes)
     (cut_spliced_so f c.args.index c.args.taken come c.args.self.now.hashes items so)

@@ -7,7 +7,7 @@ use Rattle.mvt_document.proofs.kept.Kept.move_hash.Goals as goal
 
 pub returns-then-to-count-clause-hashes : goal.returns-then-to-count-clause-hashes
 returns-then-to-count-clause-hashes g c =
-    let f = g.T.Measured.id_hash in
+    let f = g.T.Item.id_hash in
     let items = c.args.items.now in
     let old = c.args.self.now.hashes in
     let many = ap length c.hashes-count.ensures in
@@ -16,7 +16,7 @@ returns-then-to-count-clause-hashes g c =
 
 pub returns-else-from-count-clause-hashes : goal.returns-else-from-count-clause-hashes
 returns-else-from-count-clause-hashes g c =
-    let f = g.T.Measured.id_hash in
+    let f = g.T.Item.id_hash in
     let items = c.args.items.now in
     let old = c.args.self.now.hashes in
     let least = c.min.result in

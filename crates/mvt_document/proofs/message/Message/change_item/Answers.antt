@@ -19,11 +19,11 @@ invariant_of-self g c =
     let same = there.1.1 c.change-result.result new c.change-result.new.arg3 (record { shown = _; given = _; shows = (refl, refl); ended = _; passed = _; met = c.change-result.ensures; leaves = (refl, refl) }) in
     let inside = slice_get_within items c.args.index c.index_mut.result.now there.0 in
     let size = rw c.as_slice.ensures.value at c.size_with-size.ensures in
-    let runs = runs_set g.T.Measured.of_kind c.self.inside.kept.runs items c.args.index c.index_mut.result.now new there.0 same c.self.invariant.1 in (
+    let runs = runs_set g.T.Item.of_kind c.self.inside.kept.runs items c.args.index c.index_mut.result.now new there.0 same c.self.invariant.1 in (
       subst (IsKept g.T.Measured.bytes (slice_set items c.args.index new)) (sym c.set_hash.ensures.size) (if_known c.set_size.new.self.size c.size_with-size.result _ c.set_size.ensures.size size),
-      subst (λ kept. IfSome kept (λ runs. AreRunsOf g.T.Measured.of_kind runs (slice_set items c.args.index new))) (sym (c.set_hash.ensures.runs ∙ c.set_size.ensures.runs)) runs,
-      subst (λ x. AreHashes g.T.Measured.id_hash c.set_hash.new.self.hashes (slice_set items c.args.index x)) (c.index.ensures ∙ get_or-set_same items c.args.index new _ inside)
-          (c.set_hash.ensures.hashes items (subst (λ hashes. AreHashes g.T.Measured.id_hash hashes items) (sym c.set_size.ensures.hashes) c.self.invariant.2)),
+      subst (λ kept. IfSome kept (λ runs. AreRunsOf g.T.Item.of_kind runs (slice_set items c.args.index new))) (sym (c.set_hash.ensures.runs ∙ c.set_size.ensures.runs)) runs,
+      subst (λ x. AreHashes g.T.Item.id_hash c.set_hash.new.self.hashes (slice_set items c.args.index x)) (c.index.ensures ∙ get_or-set_same items c.args.index new _ inside)
+          (c.set_hash.ensures.hashes items (subst (λ hashes. AreHashes g.T.Item.id_hash hashes items) (sym c.set_size.ensures.hashes) c.self.invariant.2)),
     )
 
 pub returns : goal.returns

@@ -6,7 +6,7 @@ use Rattle.mvt_document.proofs.message.Message.exchange.Goals as goal
 
 pub keep-requires-clause-hashes : goal.keep-requires-clause-hashes
 keep-requires-clause-hashes g c =
-    let f = g.T.Measured.id_hash in
+    let f = g.T.Item.id_hash in
     let index = c.args.index in
     let items = c.self.inside.inner.items in
     let put = c.args.put.now.items in

@@ -18,8 +18,8 @@ invariant_of-self g c =
     let runs = rw (← c.self.view_is) at c.runs_moved-runs.ensures in (
       rw (c.set_runs.ensures.size, c.move_hash.ensures.size) (kept_so f items (take c.self.inside.inner.len (new ++ drop (length new) items)) c.self.inside.kept.size
           (ap (λ xs. length (flat_map f xs)) moves ∙ moved_size f c.args.from c.args.to items) c.self.invariant.0),
-      if_kept c.set_runs.new.self.runs (λ kept. AreRunsOf g.T.Measured.of_kind kept (take c.self.inside.inner.len (new ++ drop (length new) items))) c.runs_moved-runs.result c.set_runs.ensures.runs
-          (subst (AreRunsOf g.T.Measured.of_kind c.runs_moved-runs.result) (sym moves) runs),
-      subst (λ hashes. AreHashes g.T.Measured.id_hash hashes (take c.self.inside.inner.len (new ++ drop (length new) items))) (sym c.set_runs.ensures.hashes)
-          (subst (AreHashes g.T.Measured.id_hash c.move_hash.new.self.hashes) (sym moves) (rw c.as_slice.ensures.value at c.move_hash.ensures.hashes)),
+      if_kept c.set_runs.new.self.runs (λ kept. AreRunsOf g.T.Item.of_kind kept (take c.self.inside.inner.len (new ++ drop (length new) items))) c.runs_moved-runs.result c.set_runs.ensures.runs
+          (subst (AreRunsOf g.T.Item.of_kind c.runs_moved-runs.result) (sym moves) runs),
+      subst (λ hashes. AreHashes g.T.Item.id_hash hashes (take c.self.inside.inner.len (new ++ drop (length new) items))) (sym c.set_runs.ensures.hashes)
+          (subst (AreHashes g.T.Item.id_hash c.move_hash.new.self.hashes) (sym moves) (rw c.as_slice.ensures.value at c.move_hash.ensures.hashes)),
     )

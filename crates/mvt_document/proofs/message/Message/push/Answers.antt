@@ -8,7 +8,7 @@ use Rattle.mvt_document.proofs.message.Message.push.Goals as goal
 pub keep-requires-clause-runs : goal.keep-requires-clause-runs
 keep-requires-clause-runs g c =
     let runs = rw (← c.self.view_is) at c.runs_pushed-runs.ensures in
-    subst (AreRunsOf g.T.Measured.of_kind c.runs_pushed-runs.result) (sym c.in_ok-push.ensures.items) runs
+    subst (AreRunsOf g.T.Item.of_kind c.runs_pushed-runs.result) (sym c.in_ok-push.ensures.items) runs
 
 pub invariant_of-self-2 : goal.invariant_of-self-2
 invariant_of-self-2 g c =
@@ -21,6 +21,6 @@ keep-requires-clause-size g c =
 
 pub keep-requires-clause-hashes : goal.keep-requires-clause-hashes
 keep-requires-clause-hashes g c =
-    let f = g.T.Measured.id_hash in
+    let f = g.T.Item.id_hash in
     let kept = c.self.inside.kept.hashes in
     subst (AreHashes f kept) (sym c.in_ok-push.ensures.items) (joined_so f kept c.self.inside.inner.items (c.args.item ∷ []) c.self.invariant.2)

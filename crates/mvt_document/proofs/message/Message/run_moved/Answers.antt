@@ -7,7 +7,7 @@ use Rattle.mvt_document.proofs.message.Message.run_moved.Goals as goal
 
 pub returns : goal.returns
 returns g c =
-    let f = g.T.Measured.of_kind c.args.kind in
+    let f = g.T.Item.of_kind c.args.kind in
     let items = c.args.self.now.items in
     let from = c.args.from in
     let x = c.index-items-from.result in

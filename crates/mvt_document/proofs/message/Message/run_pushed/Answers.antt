@@ -6,7 +6,7 @@ use Rattle.mvt_document.proofs.message.Message.run_pushed.Goals as goal
 
 pub returns : goal.returns
 returns g c =
-    let f = g.T.Measured.of_kind c.args.kind in
+    let f = g.T.Item.of_kind c.args.kind in
     let items = c.args.self.now.items in
     let x = c.args.item.now in
     let one = rw c.is_of.ensures at c.of_one.ensures in

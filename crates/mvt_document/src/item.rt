@@ -1,0 +1,28 @@
+//! Of what kind an item of a tile or of a layer is, and the hash of its id.
+
+ghost use Rattle.std.specs.Prelude.{◌≡◌, ℕ, Bool, IfSome, IsTrue};
+ghost use Rattle.mvt_document.specs.declared.run.Kind.{Kind};
+
+use crate::measure::Measured;
+use crate::run::Kind;
+
+/// An item of a message, of which it is known of what kind it is there, and what hash its id has.
+pub trait Item: Measured {
+    ghost of_kind: { Kind → Self → Bool };
+
+    /// It is of at most one kind.
+    ghost one_kind: { (is other : Kind) (x : Self) → IsTrue (of_kind is x) → IsTrue (of_kind other x) → is ≡ other };
+
+    ghost id_hash: { Self → ℕ };
+
+    /// Whether it is of this kind.
+    fn is_of(&self, kind: Kind) -> bool
+        ensures { result ≡ of_kind kind self.now };
+
+    /// The hash of its id, if its kind has one.
+    fn id_hash(&self) -> Option<u32>
+        ensures { IfSome result (λ hash. hash ≡ id_hash self.now) }
+    {
+        None
+    }
+}
