@@ -2,7 +2,7 @@
 use Rattle.std.proofs.Common.{◌≡◌, ℕ, zero, suc, ◌+◌, Option, Some, Ok, List, [], ◌∷◌, map, slice_get, refl, sym, ap, ◌∙◌, subst}
 use Rattle.mvt_document.specs.Plain.{Layer, LayerItem, OfLayer, PlainInTile, Document}
 use Rattle.mvt_document.specs.Places.{in_layer}
-use Rattle.mvt_command.specs.Command.{LayerChoice, LayersChoice, TheLayer, EachLayer}
+use Rattle.mvt_meaning.specs.Command.{LayerChoice, LayersChoice, TheLayer, EachLayer}
 use Rattle.mvt_messages.specs.Views.{layer_in, layers}
 use Rattle.mvt_meaning.specs.Selection.{is_layer, selected}
 use Rattle.mvt_meaning.specs.Meaning.{change_layer, change_layers}

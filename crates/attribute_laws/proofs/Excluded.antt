@@ -7,8 +7,8 @@ use Rattle.std.specs.Str.{bytes_eq}
 use Rattle.mvt_document.specs.Plain.{Number, Field, Feature, LayerItem, Layer, Document}
 use Rattle.mvt_document.specs.Places.{in_feature}
 use Rattle.mvt_document.proofs.Options.{some_is}
-use Rattle.mvt_command.specs.Command.{FeatureChoice}
-use Rattle.mvt_numbers.specs.Numbers.{numbers}
+use Rattle.mvt_meaning.specs.Command.{FeatureChoice}
+use Rattle.mvt_messages.specs.Numbers.{numbers}
 use Rattle.mvt_renumber.specs.Renumbering.{renumber, renumbered, with_number}
 use Rattle.mvt_renumber.proofs.Redone.{left_is_read}
 use Rattle.mvt_messages.specs.Attributes.{attribute_at, attributes, is_pair, pairs_in, pairs_of}

@@ -5,7 +5,7 @@ use Rattle.std.specs.List.{list_all}
 use Rattle.std.specs.Option.{option_and_then}
 use Rattle.mvt_document.specs.Plain.{Number, Field}
 use Rattle.mvt_renumber.specs.Laws.{read_numbers}
-use Rattle.mvt_numbers.specs.Numbers.{Placed, and_more, numbers}
+use Rattle.mvt_messages.specs.Numbers.{Placed, and_more, numbers}
 use Rattle.mvt_messages.specs.Attributes.{if_pairs, in_pairs, is_pair, pairs_in, values_in}
 use Rattle.mvt_meaning.proofs.Removals.{flat, make_pairs}
 use Rattle.command_laws.proofs.ReadValues.{value_list, values_of_read}

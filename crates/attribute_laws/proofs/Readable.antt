@@ -4,7 +4,7 @@ use Rattle.std.proofs.lemmas.Bool.{cases_Bool, eq-eqb}
 use Rattle.std.specs.List.{AllByRecursion, cons_option, enumerate_from, filter_map, flat_map}
 use Rattle.mvt_document.specs.Plain.{Feature, Layer, Document}
 use Rattle.mvt_document.proofs.EachItem.{one_of_all}
-use Rattle.mvt_command.specs.Command.{LayersChoice, TheLayer, EachLayer}
+use Rattle.mvt_meaning.specs.Command.{LayersChoice, TheLayer, EachLayer}
 use Rattle.mvt_messages.specs.Attributes.{pairs_of}
 use Rattle.mvt_messages.specs.Found.{found_layers, placed_from, with_position}
 use Rattle.mvt_messages.specs.Views.{features, layer_in, layers, ordinals_of}

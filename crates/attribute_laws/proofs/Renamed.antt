@@ -10,7 +10,7 @@ use Rattle.mvt_messages.specs.Attributes.{attribute_at, attributes, pairs_in, pa
 use Rattle.mvt_layers.specs.Laws.{Names}
 use Rattle.mvt_messages.specs.Views.{content_in, contents, features_in, keys, plain_fields, values}
 use Rattle.mvt_layers.proofs.Pairing.{pairs_are_named}
-use Rattle.mvt_numbers.specs.Numbers.{numbers}
+use Rattle.mvt_messages.specs.Numbers.{numbers}
 use Rattle.mvt_meaning.specs.Selection.{selected}
 use Rattle.mvt_meaning.specs.Fields.{with_text}
 use Rattle.mvt_meaning.specs.Tagging.{is_key, renamed_keys}

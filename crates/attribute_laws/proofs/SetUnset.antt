@@ -10,7 +10,7 @@ use Rattle.std.specs.Option.{option_map_or}
 use Rattle.std.specs.Str.{bytes_eq}
 use Rattle.mvt_document.specs.Plain.{Field, Feature, LayerItem, OfFeature, PlainInLayer, Layer}
 use Rattle.mvt_value.specs.Messages.{encoded_value}
-use Rattle.mvt_command.specs.Command.{UnsetAttribute}
+use Rattle.mvt_meaning.specs.Command.{UnsetAttribute}
 use Rattle.mvt_messages.specs.Attributes.{attribute_at, attributes, pairs_of}
 use Rattle.mvt_messages.specs.Views.{content_in, contents, features, key_field, keys, layers, name_of, plain_fields}
 use Rattle.mvt_meaning.specs.Selection.{selected, selected_feature, selected_in}

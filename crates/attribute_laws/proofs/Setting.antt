@@ -19,7 +19,7 @@ use Rattle.mvt_document.proofs.Sizes.{length-message}
 use Rattle.mvt_document.proofs.Spelling.{minimal_spelling}
 use Rattle.mvt_document.proofs.Options.{some_is}
 use Rattle.mvt_value.specs.Messages.{encoded_value}
-use Rattle.mvt_command.specs.Command.{FeatureChoice}
+use Rattle.mvt_meaning.specs.Command.{FeatureChoice}
 use Rattle.mvt_renumber.specs.Laws.{AreShort}
 use Rattle.mvt_renumber.specs.Renumbering.{renumber, renumbered, with_number}
 use Rattle.mvt_renumber.proofs.Redone.{left_is_read}

@@ -9,9 +9,9 @@ use Rattle.mvt_document.specs.Plain.{Number, Field, Feature, LayerItem, OfFeatur
 use Rattle.mvt_document.specs.Lists.{change_at}
 use Rattle.mvt_document.specs.Places.{in_feature, in_layer}
 use Rattle.mvt_document.proofs.Options.{some_is}
-use Rattle.mvt_command.specs.Command.{LayerChoice, LayersChoice, TheLayer, EachLayer, Exclude}
+use Rattle.mvt_meaning.specs.Command.{LayerChoice, LayersChoice, TheLayer, EachLayer, Exclude}
 use Rattle.mvt_renumber.specs.Laws.{keeping}
-use Rattle.mvt_numbers.specs.Numbers.{Placed, numbers}
+use Rattle.mvt_messages.specs.Numbers.{Placed, numbers}
 use Rattle.mvt_renumber.specs.Renumbering.{field_numbers, renumber}
 use Rattle.mvt_renumber.proofs.Redone.{kept_stays}
 use Rattle.mvt_renumber.proofs.Reread.{read_of_fields}

@@ -7,7 +7,7 @@ use Rattle.std.specs.Option.{option_and_then}
 use Rattle.mvt_document.specs.Plain.{Field, Feature, LayerItem, OfFeature, PlainInLayer, Layer}
 use Rattle.mvt_document.specs.Lists.{change_at}
 use Rattle.mvt_document.specs.Places.{in_feature, in_layer}
-use Rattle.mvt_command.specs.Command.{FeatureChoice}
+use Rattle.mvt_meaning.specs.Command.{FeatureChoice}
 use Rattle.mvt_messages.specs.Found.{found_features}
 use Rattle.mvt_messages.specs.Views.{feature_in, features, features_in, id_of, plain_fields}
 use Rattle.mvt_layers.proofs.Placing.{found_count}

@@ -3,7 +3,7 @@ use Rattle.std.proofs.Common.{◌≡◌, ℕ, ◌+◌, Some, List, [], ◌∷◌
 use Rattle.std.proofs.lemmas.Bool.{cases_Bool}
 use Rattle.std.specs.List.{AllByRecursion, enumerate_from, flat_map}
 use Rattle.mvt_document.specs.Plain.{Field, Feature, Layer}
-use Rattle.mvt_numbers.specs.Numbers.{numbers, numbers_in, through_bad}
+use Rattle.mvt_messages.specs.Numbers.{numbers, numbers_in, through_bad}
 use Rattle.mvt_messages.specs.Attributes.{attributes}
 use Rattle.mvt_messages.specs.Views.{features}
 use Rattle.mvt_meaning.specs.Tagging.{is_tags, untagged, without_tags}

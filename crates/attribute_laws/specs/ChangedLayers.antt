@@ -1,7 +1,7 @@
 -- What stays the same in a tile where the selected layers change.
 use Rattle.std.specs.Prelude.{◌≡◌, ℕ, Some, Ok, slice_get}
 use Rattle.mvt_document.specs.Plain.{Layer, Document}
-use Rattle.mvt_command.specs.Command.{LayersChoice, TheLayer, EachLayer}
+use Rattle.mvt_meaning.specs.Command.{LayersChoice, TheLayer, EachLayer}
 use Rattle.mvt_messages.specs.Views.{layers}
 use Rattle.mvt_meaning.specs.Selection.{layer_positions, selected}
 use Rattle.command_laws.specs.Kept.{tile_fields}

@@ -5,7 +5,7 @@ use Rattle.std.specs.Str.{bytes_eq}
 use Rattle.mvt_document.specs.Plain.{Field, Feature, Layer, Document}
 use Rattle.mvt_value.specs.Messages.{encoded_value}
 use Rattle.mvt_value.specs.Values.{Value}
-use Rattle.mvt_command.specs.Command.{LayerChoice, LayersChoice, FeatureChoice, SetAttribute, UnsetAttribute, RenameKey, Exclude, ExcludeAll}
+use Rattle.mvt_meaning.specs.Command.{LayerChoice, LayersChoice, FeatureChoice, SetAttribute, UnsetAttribute, RenameKey, Exclude, ExcludeAll}
 use Rattle.mvt_messages.specs.Attributes.{attributes}
 use Rattle.mvt_messages.specs.Views.{content_in, features, key_field, keys, plain_fields, value_field, values}
 use Rattle.mvt_meaning.specs.Ordinals.{count}

@@ -6,7 +6,7 @@ use Rattle.mvt_document.specs.declared.TheConstants.{MAX_FILE}
 use Rattle.mvt_document.specs.Plain.{Layer, Document}
 use Rattle.mvt_document.specs.Wire.{bytes_of}
 use Rattle.mvt_messages.specs.Views.{features, has_id, layers, ordinals_of, the_one}
-use Rattle.mvt_command.specs.Command.{FeatureChoice, FeatureAtOrdinal, WithId}
+use Rattle.mvt_meaning.specs.Command.{FeatureChoice, FeatureAtOrdinal, WithId}
 use Rattle.mvt_meaning.specs.Selection.{selected_feature, selected_in}
 use Rattle.mvt_meaning.specs.Meaning.{◌>>=◌, refuse_if, within_limit}
 use Rattle.mvt_meaning.specs.declared.refusal.Refusal.{Refusal}

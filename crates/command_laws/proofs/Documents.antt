@@ -16,7 +16,7 @@ use Rattle.mvt_geometry.specs.Shapes.{Geometry, kind_number}
 use Rattle.mvt_geometry.specs.declared.Kind.{Kind}
 use Rattle.mvt_geometry.specs.declared.Kind.TheVariants.{Dots, Lines, Areas}
 use Rattle.mvt_geometry.specs.Integers.{encoded}
-use Rattle.mvt_command.specs.Command.{LayersChoice, TheLayer, EachLayer, Command, IsCommand, RenameLayer, MoveLayer, DropLayer, KeepLayers, InsertFeature, MoveFeature, DropFeature, SetId, ClearId, SetAttribute, UnsetAttribute, RenameKey, Exclude, ExcludeAll, Shift, SetGeometry, CompactKeys, CompactValues, Compact}
+use Rattle.mvt_meaning.specs.Command.{LayersChoice, TheLayer, EachLayer, Command, IsCommand, RenameLayer, MoveLayer, DropLayer, KeepLayers, InsertFeature, MoveFeature, DropFeature, SetId, ClearId, SetAttribute, UnsetAttribute, RenameKey, Exclude, ExcludeAll, Shift, SetGeometry, CompactKeys, CompactValues, Compact}
 use Rattle.mvt_messages.specs.Views.{contents, key_field, layers, plain_fields, value_field}
 use Rattle.mvt_meaning.specs.Ordinals.{change_last, change_nth, without, move_nth, insert_nth}
 use Rattle.mvt_meaning.specs.Selection.{is_feature, is_layer, selected, selected_in, selected_layers}

@@ -4,7 +4,7 @@ use Rattle.std.proofs.lemmas.Bool.{ltb-false, ltb-true, not-false}
 use Rattle.std.specs.List.{filter_map, last_or}
 use Rattle.mvt_document.specs.Plain.{Field, Feature, LayerItem, Layer, Document}
 use Rattle.mvt_geometry.specs.Shapes.{Geometry, IsGeometry}
-use Rattle.mvt_command.specs.Command.{FeatureChoice}
+use Rattle.mvt_meaning.specs.Command.{FeatureChoice}
 use Rattle.mvt_document.specs.Places.{in_feature}
 use Rattle.mvt_messages.specs.Views.{feature_in, features, features_in, layers, plain_in, value_in}
 use Rattle.mvt_meaning.specs.Ordinals.{change_nth, insert_nth, move_nth, without}

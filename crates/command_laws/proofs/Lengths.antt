@@ -11,7 +11,7 @@ use Rattle.mvt_document.specs.Opens.{IsDocument, IsField, IsLayerItem, IsTileIte
 use Rattle.mvt_document.specs.Wire.{field_bytes, layer_item_bytes, tile_item_bytes, bytes_of}
 use Rattle.mvt_document.proofs.Sizes.{length-message_grows}
 use Rattle.mvt_document.specs.Places.{in_layer, in_feature}
-use Rattle.mvt_command.specs.Command.{LayersChoice, TheLayer, EachLayer, Command, RenameLayer, MoveLayer, DropLayer, KeepLayers, InsertFeature, MoveFeature, DropFeature, SetId, ClearId, SetAttribute, UnsetAttribute, RenameKey, Exclude, ExcludeAll, Shift, SetGeometry, CompactKeys, CompactValues, Compact}
+use Rattle.mvt_meaning.specs.Command.{LayersChoice, TheLayer, EachLayer, Command, RenameLayer, MoveLayer, DropLayer, KeepLayers, InsertFeature, MoveFeature, DropFeature, SetId, ClearId, SetAttribute, UnsetAttribute, RenameKey, Exclude, ExcludeAll, Shift, SetGeometry, CompactKeys, CompactValues, Compact}
 use Rattle.mvt_meaning.specs.Ordinals.{from_nth, change_first, change_nth, without, before, after, move_nth, insert_nth}
 use Rattle.mvt_meaning.specs.Selection.{is_feature, is_layer, selected, selected_in, selected_layers}
 use Rattle.mvt_messages.specs.Views.{key_field, layers, value_field}

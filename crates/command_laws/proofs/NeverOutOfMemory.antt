@@ -1,6 +1,6 @@
 -- No command is refused as out of memory by its definition.
 use Rattle.std.proofs.Common.{◌≡◌, ◌≢◌, Result, Ok, Err}
-use Rattle.mvt_command.proofs.Others.{Other}
+use Rattle.mvt_meaning.proofs.Others.{Other}
 use Rattle.mvt_meaning.specs.Meaning.{applied}
 use Rattle.mvt_meaning.specs.declared.refusal.Refusal.{Refusal}
 use Rattle.mvt_meaning.specs.declared.refusal.Refusal.TheVariants.{NoMemory}

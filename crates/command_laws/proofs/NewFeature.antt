@@ -7,9 +7,9 @@ use Rattle.mvt_geometry.specs.Shapes.{Geometry, IsGeometry, kind_number}
 use Rattle.mvt_geometry.specs.Integers.{IsInRange, encoded, integers}
 use Rattle.mvt_geometry.proofs.Checks.{in_range-Decides}
 use Rattle.mvt_geometry.proofs.Small.{packs_integers}
-use Rattle.mvt_numbers.specs.Numbers.{Placed, all_good, and_more, numbers, unpacked, pieces, through_bad}
-use Rattle.mvt_numbers.specs.Laws.{in_a_row}
-use Rattle.mvt_numbers.proofs.Pieces.{row-packed}
+use Rattle.mvt_messages.specs.Numbers.{Placed, all_good, and_more, numbers, unpacked, pieces, through_bad}
+use Rattle.mvt_messages.specs.Laws.{in_a_row}
+use Rattle.mvt_messages.proofs.Pieces.{row-packed}
 use Rattle.mvt_messages.specs.Attributes.{values_in}
 use Rattle.mvt_geometry.specs.Checks.{is_in_range}
 use Rattle.mvt_meaning.specs.Meaning.{new_content, new_number}

@@ -5,7 +5,7 @@ use Rattle.std.specs.List.{flat_map}
 use Rattle.std.specs.Option.{option_map_or}
 use Rattle.mvt_document.specs.Plain.{Number, Field, LayerItem}
 use Rattle.mvt_renumber.specs.Laws.{NoneIsGreater}
-use Rattle.mvt_numbers.specs.Numbers.{Placed, numbers}
+use Rattle.mvt_messages.specs.Numbers.{Placed, numbers}
 use Rattle.mvt_renumber.specs.Renumbering.{field_numbers}
 use Rattle.mvt_renumber.proofs.Reread.{read_of_fields}
 use Rattle.mvt_messages.specs.Views.{contents, key_field, plain_fields, value_field}

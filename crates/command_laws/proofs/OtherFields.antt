@@ -5,7 +5,7 @@ use Rattle.std.proofs.lemmas.List.Elements.{filter-append}
 use Rattle.std.specs.List.{cons_option, filter_map}
 use Rattle.std.specs.Option.{unwrap_or}
 use Rattle.mvt_document.specs.Plain.{Number, Body, Spelled, Eight, Four, Delimited, Group, Field}
-use Rattle.mvt_numbers.specs.Numbers.{Placed, all_good, numbers_in}
+use Rattle.mvt_messages.specs.Numbers.{Placed, all_good, numbers_in}
 use Rattle.mvt_renumber.specs.Renumbering.{field_numbers, renumber, renumbered, renumbered_field, with_left, with_numbers}
 use Rattle.mvt_messages.specs.Views.{content_in, value_in}
 

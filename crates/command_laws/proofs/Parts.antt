@@ -3,7 +3,7 @@ use Rattle.std.proofs.Common.{◌≡◌, ℕ, zero, suc, Some, None, Ok, List, [
 use Rattle.std.specs.List.{filter_map}
 use Rattle.std.specs.Option.{option_map_or}
 use Rattle.mvt_document.specs.Plain.{Field, Feature, LayerItem, OfFeature, PlainInLayer, Layer, TileItem, OfLayer, PlainInTile, Document}
-use Rattle.mvt_command.specs.Command.{LayerChoice, FeatureChoice}
+use Rattle.mvt_meaning.specs.Command.{LayerChoice, FeatureChoice}
 use Rattle.mvt_document.specs.Places.{fields_in, in_feature, in_layer}
 use Rattle.mvt_messages.specs.Views.{feature_in, features, features_in, layer_in, layers, plain_in}
 use Rattle.mvt_meaning.specs.Ordinals.{change_first, change_nth}

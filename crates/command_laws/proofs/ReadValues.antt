@@ -3,7 +3,7 @@ use Rattle.std.proofs.Common.{◌≡◌, ℕ, Option, Some, None, option_map, Li
 use Rattle.std.proofs.lemmas.Simd.{map-map}
 use Rattle.mvt_document.specs.Plain.{Number, Field}
 use Rattle.mvt_renumber.specs.Laws.{read_numbers}
-use Rattle.mvt_numbers.specs.Numbers.{Placed, all_good, numbers}
+use Rattle.mvt_messages.specs.Numbers.{Placed, all_good, numbers}
 use Rattle.mvt_messages.specs.Attributes.{values_in}
 
 abbrev pub value_list : List Number → List ℕ

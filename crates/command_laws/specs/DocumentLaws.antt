@@ -2,7 +2,7 @@
 use Rattle.std.specs.Prelude.{◌≡◌, Ok}
 use Rattle.mvt_document.specs.Plain.{Document}
 use Rattle.mvt_document.specs.Opens.{IsDocument}
-use Rattle.mvt_command.specs.Command.{Command, IsCommand}
+use Rattle.mvt_meaning.specs.Command.{Command, IsCommand}
 use Rattle.mvt_meaning.specs.Meaning.{applied}
 
 -- an accepted command that is valid makes a valid document of a valid document

@@ -3,8 +3,8 @@ use Rattle.std.specs.Prelude.{◌≡◌, ℕ, ◌/◌, List, [], ◌∷◌, ◌+
 use Rattle.std.specs.List.{filter_map, remove}
 use Rattle.mvt_document.specs.Plain.{Feature, Layer, Document}
 use Rattle.mvt_geometry.specs.Shapes.{Geometry, IsGeometry}
-use Rattle.mvt_numbers.specs.Numbers.{numbers}
-use Rattle.mvt_command.specs.Command.{LayerChoice, FeatureChoice, InsertFeature, MoveFeature, DropFeature, SetId, ClearId}
+use Rattle.mvt_messages.specs.Numbers.{numbers}
+use Rattle.mvt_meaning.specs.Command.{LayerChoice, FeatureChoice, InsertFeature, MoveFeature, DropFeature, SetId, ClearId}
 use Rattle.mvt_messages.specs.Views.{features, id_of, plain_fields, value_in}
 use Rattle.mvt_view.specs.FeatureGeometry.{HasFeatureGeometry}
 use Rattle.mvt_meaning.specs.Selection.{selected_feature}

@@ -3,7 +3,7 @@ use Rattle.std.specs.Prelude.{◌≡◌, ◌≢◌, ℕ, ◌-◌, List, Option, 
 use Rattle.std.specs.List.{filter_map, remove}
 use Rattle.mvt_document.specs.Plain.{Field, Feature, LayerItem, Layer, TileItem, OfLayer, PlainInTile, Document}
 use Rattle.mvt_messages.specs.Views.{layers, features, plain_fields}
-use Rattle.mvt_command.specs.Command.{LayerChoice, FeatureChoice}
+use Rattle.mvt_meaning.specs.Command.{LayerChoice, FeatureChoice}
 use Rattle.mvt_meaning.specs.Selection.{layer_positions, feature_positions, selected, selected_feature}
 
 -- ---- one layer of a tile

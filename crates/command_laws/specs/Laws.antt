@@ -1,7 +1,7 @@
 -- Laws of selection, in the words of a tile.
 use Rattle.std.specs.Prelude.{◌≡◌, ◌↔◌, ℕ, List, Some, option_map, slice_get, Ok, Err}
 use Rattle.mvt_document.specs.Plain.{Document}
-use Rattle.mvt_command.specs.Command.{Named}
+use Rattle.mvt_meaning.specs.Command.{Named}
 use Rattle.mvt_messages.specs.Views.{layers, name_of}
 use Rattle.mvt_meaning.specs.Selection.{selected}
 use Rattle.mvt_meaning.specs.declared.refusal.Refusal.TheVariants.{NoLayer}

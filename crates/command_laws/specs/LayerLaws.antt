@@ -2,7 +2,7 @@
 use Rattle.std.specs.Prelude.{◌≡◌, ◌≢◌, ◌⊎◌, ℕ, not, Bool, List, [], ◌∷◌, filter, Some, option_map, slice_get, Ok}
 use Rattle.std.specs.List.{filter_map, list_any, remove}
 use Rattle.mvt_document.specs.Plain.{Layer, Document}
-use Rattle.mvt_command.specs.Command.{LayerChoice, Named, RenameLayer, MoveLayer, DropLayer, KeepLayers}
+use Rattle.mvt_meaning.specs.Command.{LayerChoice, Named, RenameLayer, MoveLayer, DropLayer, KeepLayers}
 use Rattle.mvt_messages.specs.Views.{is_named, layers, name_of}
 use Rattle.mvt_meaning.specs.Selection.{layer_positions, selected}
 use Rattle.mvt_meaning.specs.Meaning.{applied, is_name}

@@ -1,7 +1,7 @@
 -- A law of commands and memory.
 use Rattle.std.specs.Prelude.{◌≢◌, Err}
 use Rattle.mvt_document.specs.Plain.{Document}
-use Rattle.mvt_command.specs.Command.{Command}
+use Rattle.mvt_meaning.specs.Command.{Command}
 use Rattle.mvt_meaning.specs.Meaning.{applied}
 use Rattle.mvt_meaning.specs.declared.refusal.Refusal.TheVariants.{NoMemory}
 

@@ -4,7 +4,7 @@ use Rattle.mvt_document.specs.declared.TheConstants.{MAX_FILE}
 use Rattle.mvt_document.specs.Plain.{Document}
 use Rattle.mvt_document.specs.Opens.{IsDocument}
 use Rattle.mvt_document.specs.Wire.{bytes_of}
-use Rattle.mvt_command.specs.Command.{Command, RenameLayer, InsertFeature, SetId, SetAttribute, RenameKey, Shift, SetGeometry}
+use Rattle.mvt_meaning.specs.Command.{Command, RenameLayer, InsertFeature, SetId, SetAttribute, RenameKey, Shift, SetGeometry}
 use Rattle.mvt_meaning.specs.Meaning.{applied}
 
 -- the kinds of command that may make a tile longer: a rename of a layer or of a key, an insertion, a new id, a value for

@@ -6,7 +6,7 @@ use Rattle.mvt_document.specs.Plain.{Field, Feature, LayerItem, OfFeature, Plain
 use Rattle.mvt_document.specs.Places.{in_feature}
 use Rattle.mvt_document.proofs.Options.{some_is}
 use Rattle.mvt_document.proofs.EachItem.{one_of_all}
-use Rattle.mvt_command.specs.Command.{LayersChoice}
+use Rattle.mvt_meaning.specs.Command.{LayersChoice}
 use Rattle.mvt_messages.specs.Attributes.{attribute_at}
 use Rattle.mvt_messages.specs.Views.{content_in, contents, features, features_in, key_field, plain_fields, plain_in, value_field}
 use Rattle.mvt_meaning.specs.Compaction.{compacted, is_any, is_entry, is_key_used, is_value_used, new_ordinals, staying}

@@ -4,7 +4,7 @@ use Rattle.std.proofs.lemmas.Bool.{ne_eqb}
 use Rattle.std.specs.List.{AllByRecursion, last_or}
 use Rattle.mvt_document.specs.Plain.{LayerItem, Layer, TileItem, OfLayer, PlainInTile, Document}
 use Rattle.mvt_document.specs.Places.{in_layer}
-use Rattle.mvt_command.specs.Command.{LayerChoice, LayersChoice, TheLayer, EachLayer}
+use Rattle.mvt_meaning.specs.Command.{LayerChoice, LayersChoice, TheLayer, EachLayer}
 use Rattle.mvt_messages.specs.Views.{contents, features_in, layers, name_of, plain_fields}
 use Rattle.mvt_meaning.specs.Selection.{selected, selected_layers}
 use Rattle.mvt_meaning.specs.Tagging.{unreadable}

@@ -1,7 +1,7 @@
 -- The laws of compaction about more than one command.
 use Rattle.std.proofs.Common.{◌≡◌, ℕ, Bool, Result, Ok, List, refl, sym, ap, ◌∙◌}
 use Rattle.mvt_document.specs.Plain.{LayerItem, Document}
-use Rattle.mvt_command.specs.Command.{LayersChoice, CompactKeys, CompactValues, Compact}
+use Rattle.mvt_meaning.specs.Command.{LayersChoice, CompactKeys, CompactValues, Compact}
 use Rattle.mvt_messages.specs.Views.{content_in, contents, features_in, key_field, plain_fields, value_field}
 use Rattle.mvt_meaning.specs.Compaction.{compacted, is_any, is_key_used, is_value_used, staying}
 use Rattle.mvt_meaning.specs.Meaning.{◌>>=◌, change_readable}

@@ -8,7 +8,7 @@ use Rattle.std.specs.Option.{option_map_or}
 use Rattle.mvt_document.specs.Plain.{Number, Field, LayerItem, OfFeature, PlainInLayer}
 use Rattle.mvt_document.specs.Places.{in_feature}
 use Rattle.mvt_renumber.specs.Laws.{AreShort}
-use Rattle.mvt_numbers.specs.Numbers.{numbers}
+use Rattle.mvt_messages.specs.Numbers.{numbers}
 use Rattle.mvt_renumber.specs.Renumbering.{renumber, renumbered, with_number}
 use Rattle.mvt_renumber.proofs.Redone.{left_is_read}
 use Rattle.mvt_messages.specs.Attributes.{is_ordinal, is_pair, pairs_in}

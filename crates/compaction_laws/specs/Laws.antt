@@ -4,7 +4,7 @@ use Rattle.std.specs.Prelude.{◌≡◌, ℕ, ◌<◌, ◌==◌, Bool, true, fal
 use Rattle.std.specs.List.{enumerate_from, list_any}
 use Rattle.std.specs.Option.{option_map_or, unwrap_or}
 use Rattle.mvt_document.specs.Plain.{Field, Feature, Layer, Document}
-use Rattle.mvt_command.specs.Command.{LayersChoice, Command, CompactKeys, CompactValues, Compact}
+use Rattle.mvt_meaning.specs.Command.{LayersChoice, Command, CompactKeys, CompactValues, Compact}
 use Rattle.mvt_messages.specs.Attributes.{attributes, pairs_of}
 use Rattle.mvt_messages.specs.Views.{content_in, features, key_field, plain_fields, plain_in, value_field}
 use Rattle.mvt_meaning.specs.Tagging.{without_tags}

@@ -2,7 +2,7 @@
 //! does nothing: its contract is the law.
 #![tactic(auto)]
 
-ghost use Rattle.mvt_command.specs.Command.{Compact, CompactKeys, CompactValues, LayersChoice};
+ghost use Rattle.mvt_meaning.specs.Command.{Compact, CompactKeys, CompactValues, LayersChoice};
 ghost use Rattle.compaction_laws.specs.Laws.{AgainChangesNothing, CompactCompacts, CompactIsBoth, CompactKeysCompacts, CompactValuesCompacts};
 
 /// Where removing the unused keys is accepted, each key of the selected layers is used by a

@@ -14,7 +14,7 @@ use Rattle.mvt_geometry.proofs.Checks.{in_range-Decides}
 use Rattle.mvt_geometry.proofs.Small.{packs_integers}
 use Rattle.mvt_renumber.specs.Deciding.{packed_numbers}
 use Rattle.mvt_renumber.specs.Laws.{read_numbers}
-use Rattle.mvt_numbers.specs.Numbers.{numbers}
+use Rattle.mvt_messages.specs.Numbers.{numbers}
 use Rattle.mvt_renumber.proofs.Decisions.{packed-spellings}
 use Rattle.mvt_renumber.proofs.Reread.{both_found, field_read, fields_read, found_in, read_is}
 use Rattle.mvt_messages.specs.Attributes.{values_in}

@@ -16,7 +16,7 @@ use Rattle.mvt_geometry.specs.Shapes.{Geometry}
 use Rattle.mvt_geometry.proofs.Found.{has_found_geometry}
 use Rattle.mvt_geometry.proofs.Only.{one_geometry}
 use Rattle.mvt_renumber.specs.Laws.{AreShort, read_numbers}
-use Rattle.mvt_numbers.specs.Numbers.{numbers}
+use Rattle.mvt_messages.specs.Numbers.{numbers}
 use Rattle.mvt_renumber.specs.Renumbering.{field_numbers, renumber, renumbered}
 use Rattle.mvt_renumber.proofs.Decisions.{with_number-same}
 use Rattle.mvt_renumber.proofs.Redone.{left_is_read}
@@ -25,7 +25,7 @@ use Rattle.mvt_messages.specs.Attributes.{values_in}
 use Rattle.mvt_view.specs.FeatureGeometry.{HasFeatureGeometry}
 use Rattle.mvt_messages.specs.Views.{kind_of}
 use Rattle.mvt_meaning.specs.Geometries.{can_move, can_move_integers, further, geometry_among, integers_among, moved_integers, moves, shifted}
-use Rattle.mvt_command.specs.Command.{FeatureChoice, LayerChoice, Shift}
+use Rattle.mvt_meaning.specs.Command.{FeatureChoice, LayerChoice, Shift}
 use Rattle.mvt_meaning.specs.Meaning.{◌>>=◌, applied, can_shift, change_feature, is_drawn, refuse_if, within_limit}
 use Rattle.mvt_meaning.specs.Ordinals.{change_nth}
 use Rattle.mvt_meaning.specs.Selection.{is_feature, is_layer, selected, selected_in}

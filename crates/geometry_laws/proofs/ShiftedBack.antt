@@ -16,7 +16,7 @@ use Rattle.mvt_geometry.specs.Found.{geometry_in}
 use Rattle.mvt_geometry.specs.Shapes.{Geometry}
 use Rattle.mvt_geometry.proofs.Found.{found_geometry}
 use Rattle.mvt_renumber.specs.Laws.{read_numbers}
-use Rattle.mvt_numbers.specs.Numbers.{numbers}
+use Rattle.mvt_messages.specs.Numbers.{numbers}
 use Rattle.mvt_renumber.specs.Renumbering.{field_numbers, renumbered, with_number}
 use Rattle.mvt_renumber.proofs.Decisions.{with_number-same}
 use Rattle.mvt_renumber.proofs.Reread.{read_of_fields}

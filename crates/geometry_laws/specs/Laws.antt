@@ -11,9 +11,9 @@ use Rattle.mvt_geometry.specs.Laws.{IsWithin}
 use Rattle.mvt_geometry.specs.Shapes.{Geometry, IsGeometry, kind_number}
 use Rattle.mvt_geometry.specs.declared.shapes.Point.{Point}
 use Rattle.mvt_renumber.specs.Laws.{read_numbers}
-use Rattle.mvt_numbers.specs.Numbers.{numbers}
+use Rattle.mvt_messages.specs.Numbers.{numbers}
 use Rattle.mvt_renumber.specs.Renumbering.{field_numbers, with_number}
-use Rattle.mvt_command.specs.Command.{LayerChoice, FeatureChoice, Shift, SetGeometry}
+use Rattle.mvt_meaning.specs.Command.{LayerChoice, FeatureChoice, Shift, SetGeometry}
 use Rattle.mvt_messages.specs.Attributes.{values_in}
 use Rattle.mvt_view.specs.FeatureGeometry.{HasFeatureGeometry}
 use Rattle.mvt_messages.specs.Views.{features, layers, value_in}

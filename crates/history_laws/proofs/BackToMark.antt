@@ -10,19 +10,19 @@ use Rattle.std.proofs.lemmas.Cmp.{nat_list_cmp_total}
 use Rattle.std.proofs.lemmas.List.{take-append-le, take-take}
 use Rattle.std.proofs.lemmas.Map.Lookups.{exact_bytes}
 use Rattle.mvt_document.specs.Plain.{Document}
-use Rattle.mvt_command.specs.Command.{Command}
+use Rattle.mvt_meaning.specs.Command.{Command}
 use Rattle.mvt_meaning.specs.Meaning.{applied}
 use Rattle.mvt_meaning.specs.declared.refusal.Refusal.{Refusal}
 use Rattle.mvt_document.proofs.EachItem.{all_joined}
 use Rattle.mvt_history_steps.specs.Marks.{Mark, compared, has_name, is_before, is_after, point_of, bound, unbound}
 use Rattle.mvt_history_steps.specs.History.{History, IsSound, after_all, after_steps, document_at, standing_document, commands_in, at_point, with_marks, with_group, with_step, with_command, edited_to, edited, unless_open, undone, redone, marked, unmarked, gone_to, gone_back, opened, ended, closed, cancelled}
-use Rattle.mvt_command.specs.Requests.{HistoryRequest, Edit, Undo, Redo, SetMark, TakeMark, GoBack, Begin, End, Cancel}
+use Rattle.mvt_meaning.specs.Requests.{HistoryRequest, Edit, Undo, Redo, SetMark, TakeMark, GoBack, Begin, End, Cancel}
 use Rattle.mvt_history_steps.specs.Requests.{SetsOther, or_before, asked, asked_all}
 use Rattle.mvt_history_steps.proofs.Sound.{or_before_has}
 use Rattle.history_laws.specs.Laws.{StaysSound, BackToTheMark}
 use Rattle.mvt_history_steps.specs.declared.TheConstants.{MAX_MARKS}
-use Rattle.mvt_history_error.specs.declared.HistoryError.{HistoryError}
-use Rattle.mvt_history_error.specs.declared.HistoryError.TheVariants.{NothingToUndo, NothingToRedo, NoMark, TooManyMarks, NoGroup}
+use Rattle.mvt_history_steps.specs.declared.error.HistoryError.{HistoryError}
+use Rattle.mvt_history_steps.specs.declared.error.HistoryError.TheVariants.{NothingToUndo, NothingToRedo, NoMark, TooManyMarks, NoGroup}
 use Rattle.mvt_meaning.proofs.Elements.{all_filtered}
 use Rattle.mvt_history_steps.proofs.MarkOrder.{all_passed, all_bound}
 use Rattle.history_laws.proofs.UndosRedos.{none_open}

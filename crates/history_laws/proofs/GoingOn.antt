@@ -1,10 +1,10 @@
 -- A `back` or a `cancel` that was stopped, asked again, leads where it would have led.
 use Rattle.std.proofs.Common.{◌≡◌, ℕ, ◌-◌, Some, None, Ok, Err, List, length, take, is_some, if◌then◌else◌, refl, ap, ◌∙◌}
-use Rattle.mvt_command.specs.Command.{Command}
+use Rattle.mvt_meaning.specs.Command.{Command}
 use Rattle.mvt_history_steps.specs.Marks.{point_of}
 use Rattle.mvt_history_steps.specs.History.{History, at_point, with_group, unless_open, gone_to, gone_back, cancelled}
 use Rattle.history_laws.specs.Laws.{StoppedGoesOn}
-use Rattle.mvt_history_error.specs.declared.HistoryError.TheVariants.{NoGroup}
+use Rattle.mvt_history_steps.specs.declared.error.HistoryError.TheVariants.{NoGroup}
 
 goes_to_mark : (name : List ℕ) (point : ℕ) (history : History) → history.group ≡ None → point_of name history.marks ≡ Some point → gone_back name history ≡ Ok (at_point point history)
 goes_to_mark name point history alone marks =

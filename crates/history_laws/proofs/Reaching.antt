@@ -5,7 +5,7 @@ use Rattle.std.proofs.lemmas.List.Sums.{sum_by-cons}
 use Rattle.mvt_document.specs.Plain.{Document}
 use Rattle.mvt_change.specs.Changes.{Change, weight}
 use Rattle.mvt_change.specs.Joining.{go_along}
-use Rattle.mvt_command.specs.Command.{Command}
+use Rattle.mvt_meaning.specs.Command.{Command}
 use Rattle.mvt_meaning.specs.Meaning.{after}
 use Rattle.mvt_history_steps.specs.History.{after_all, after_steps, present_document, commands_in}
 use Rattle.mvt_history_steps.specs.Reached.{LeadsBack, LeadsOn, LeadBack, LeadOn, LeadOut, all_taken_by, all_put_by, step_allowance, singles}

@@ -7,7 +7,7 @@ use Rattle.mvt_document.specs.declared.TheConstants.{MAX_FILE}
 use Rattle.mvt_document.specs.Opens.{IsDocument}
 use Rattle.mvt_document.specs.Plain.{Document}
 use Rattle.mvt_document.specs.Wire.{bytes_of}
-use Rattle.mvt_command.specs.Command.{Command, IsCommand}
+use Rattle.mvt_meaning.specs.Command.{Command, IsCommand}
 use Rattle.mvt_meaning.specs.Meaning.{after, applied}
 use Rattle.mvt_meaning.specs.declared.refusal.Refusal.{Refusal}
 use Rattle.command_laws.proofs.Documents.{command_makes_document}
@@ -15,12 +15,12 @@ use Rattle.command_laws.proofs.Lengths.{command_fits}
 use Rattle.mvt_document.proofs.EachItem.{all_joined, all_taken}
 use Rattle.mvt_history_steps.specs.Marks.{bound, point_of, unbound}
 use Rattle.mvt_history_steps.specs.History.{History, after_all, after_steps, present_document, standing_document, commands_in, at_point, with_marks, with_group, with_step, with_command, edited_to, edited, unless_open, undone, redone, marked, unmarked, gone_to, gone_back, opened, ended, closed, cancelled}
-use Rattle.mvt_command.specs.Requests.{HistoryRequest, Edit, Undo, Redo, SetMark, TakeMark, GoBack, Begin, End, Cancel}
+use Rattle.mvt_meaning.specs.Requests.{HistoryRequest, Edit, Undo, Redo, SetMark, TakeMark, GoBack, Begin, End, Cancel}
 use Rattle.mvt_history_steps.specs.Requests.{asked}
 use Rattle.mvt_history_steps.proofs.Sound.{or_before_has}
 use Rattle.mvt_history_steps.specs.declared.TheConstants.{MAX_MARKS}
-use Rattle.mvt_history_error.specs.declared.HistoryError.{HistoryError}
-use Rattle.mvt_history_error.specs.declared.HistoryError.TheVariants.{NothingToUndo, NothingToRedo, NoMark, TooManyMarks, NoGroup}
+use Rattle.mvt_history_steps.specs.declared.error.HistoryError.{HistoryError}
+use Rattle.mvt_history_steps.specs.declared.error.HistoryError.TheVariants.{NothingToUndo, NothingToRedo, NoMark, TooManyMarks, NoGroup}
 use Rattle.history_laws.specs.Laws.{HasCommands, HistoryFits, HistoryOfDocuments, HoldsThroughout, IsRequest, StaysValid}
 
 -- ---- documents

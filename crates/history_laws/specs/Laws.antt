@@ -7,9 +7,9 @@ use Rattle.mvt_document.specs.Opens.{IsField, IsLayerItem, IsTileItem, IsDocumen
 use Rattle.mvt_document.specs.Wire.{bytes_of, field_bytes, layer_item_bytes, tile_item_bytes}
 use Rattle.mvt_change.specs.Changes.{Change, Step, SpliceStep, MoveStep, Fits, weight}
 use Rattle.mvt_change.specs.Joining.{go_along}
-use Rattle.mvt_command.specs.Command.{Command, IsCommand}
+use Rattle.mvt_meaning.specs.Command.{Command, IsCommand}
 use Rattle.mvt_history_steps.specs.History.{History, IsSound, begun, after_all, document_at, present_document, standing_document, commands_in, edited, undone, redone, marked, gone_back, opened, closed, cancelled}
-use Rattle.mvt_command.specs.Requests.{HistoryRequest, Edit}
+use Rattle.mvt_meaning.specs.Requests.{HistoryRequest, Edit}
 use Rattle.mvt_history_steps.specs.Requests.{SetsOther, LeavesOpen, asked, asked_all, then_times}
 use Rattle.mvt_history_steps.specs.Reached.{all_taken_by, all_put_by, step_allowance}
 use Rattle.mvt_history_steps.specs.Standing.{Standing, changes_in, closed_document}

@@ -1,7 +1,7 @@
 //! `prepare`: the change of a command.
 
 ghost use Rattle.mvt_document.specs.Stands.{document_of};
-ghost use Rattle.mvt_command.specs.CommandStands.{command_of};
+ghost use Rattle.mvt_meaning.specs.CommandStands.{command_of};
 ghost use Rattle.mvt_edit_steps.specs.Prepared.{Prepares};
 
 use mvt_change::Change;

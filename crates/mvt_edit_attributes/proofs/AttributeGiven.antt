@@ -8,7 +8,7 @@ use Rattle.mvt_document.specs.Opens.{IsField}
 use Rattle.mvt_document.specs.Plain.{Feature, Field, Layer, LayerItem}
 use Rattle.mvt_document.specs.Splicing.{part}
 use Rattle.mvt_document.specs.Wire.{field_bytes, layer_item_bytes}
-use Rattle.mvt_numbers.specs.Numbers.{numbers}
+use Rattle.mvt_messages.specs.Numbers.{numbers}
 use Rattle.mvt_messages.specs.Tags.{plain_pairs, tag_pairs}
 use Rattle.mvt_messages.specs.Views.{keys, values}
 use Rattle.mvt_layers.proofs.Pairing.{tags_are_pairs}

@@ -19,7 +19,7 @@ use Rattle.mvt_value.specs.Messages.{encoded_value}
 use Rattle.mvt_value.specs.Values.{Value}
 use Rattle.mvt_change.specs.Changes.{Change, OfTheLayer}
 use Rattle.mvt_change.proofs.Lenses.{list_part}
-use Rattle.mvt_command.specs.Command.{FeatureChoice, LayerChoice, SetAttribute}
+use Rattle.mvt_meaning.specs.Command.{FeatureChoice, LayerChoice, SetAttribute}
 use Rattle.mvt_messages.specs.Views.{contents, key_field, plain_fields, value_field}
 use Rattle.mvt_meaning.specs.Fields.{new_content}
 use Rattle.mvt_meaning.specs.Meaning.{◌>>=◌, applied, change_layer, fields_of, has_pairs, items_of, refuse_if, repeats_key, within_limit}

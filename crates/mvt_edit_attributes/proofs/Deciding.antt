@@ -5,7 +5,7 @@ use Rattle.std.specs.List.{cons_option, list_any}
 use Rattle.std.specs.Option.{option_map_or, unwrap_or}
 use Rattle.std.specs.Str.{bytes_eq}
 use Rattle.mvt_document.specs.Plain.{Feature, Field, Layer, LayerItem, OfFeature, PlainInLayer}
-use Rattle.mvt_numbers.specs.Numbers.{numbers}
+use Rattle.mvt_messages.specs.Numbers.{numbers}
 use Rattle.mvt_messages.specs.Tags.{plain_pairs, tag_pairs}
 use Rattle.mvt_messages.specs.Views.{content_in, contents, key_field, keys, plain_fields, values}
 use Rattle.mvt_layers.proofs.Pairing.{tags_are_pairs}

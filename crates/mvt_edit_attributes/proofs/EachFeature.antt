@@ -2,7 +2,7 @@
 use Rattle.std.proofs.Common.{◌≡◌, ℕ, Ok, Err, List}
 use Rattle.std.specs.List.{AllByRecursion}
 use Rattle.mvt_document.specs.Plain.{Field, Layer, LayerItem, TileItem, Document}
-use Rattle.mvt_command.specs.Command.{LayersChoice}
+use Rattle.mvt_meaning.specs.Command.{LayersChoice}
 use Rattle.mvt_meaning.specs.Meaning.{change_layers}
 use Rattle.mvt_meaning.specs.Selection.{selected_layers}
 use Rattle.mvt_meaning.specs.declared.refusal.Refusal.{Refusal}

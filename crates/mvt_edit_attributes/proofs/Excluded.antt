@@ -13,7 +13,7 @@ use Rattle.mvt_document.specs.declared.document.TileItem.TheVariants as in_tile
 use Rattle.mvt_document.proofs.Lists.{same_each}
 use Rattle.mvt_messages.specs.Views.{features}
 use Rattle.mvt_change.specs.Changes.{Change}
-use Rattle.mvt_command.specs.Command.{LayersChoice, Exclude}
+use Rattle.mvt_meaning.specs.Command.{LayersChoice, Exclude}
 use Rattle.mvt_meaning.specs.Selection.{selected_layers}
 use Rattle.mvt_meaning.specs.Tagging.{losing, losing_in, removals, unreadable, without_attribute}
 use Rattle.mvt_meaning.specs.Weights.{as_after, as_before}

@@ -13,7 +13,7 @@ use Rattle.mvt_document.specs.Opens.{IsLayerItem}
 use Rattle.mvt_document.specs.Wire.{bytes_of, layer_item_bytes}
 use Rattle.mvt_document.specs.Places.{change_items}
 use Rattle.mvt_change.specs.Changes.{Change}
-use Rattle.mvt_command.specs.Command.{LayerChoice, RenameKey}
+use Rattle.mvt_meaning.specs.Command.{LayerChoice, RenameKey}
 use Rattle.mvt_meaning.specs.Fields.{with_content, with_text}
 use Rattle.mvt_meaning.specs.Meaning.{after, applied, change_layer, has_key, items_of, within_limit}
 use Rattle.mvt_meaning.specs.Selection.{layer_positions, selected}

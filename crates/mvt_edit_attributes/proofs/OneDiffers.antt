@@ -8,7 +8,7 @@ use Rattle.std.specs.List.{cons_option, flat_map, list_all, list_any, zip}
 use Rattle.std.specs.Option.{option_and_then}
 use Rattle.mvt_document.specs.Plain.{Field, Number}
 use Rattle.mvt_renumber.specs.Fates.{changes, field_fate}
-use Rattle.mvt_numbers.specs.Numbers.{Placed, all_good, and_more, numbers}
+use Rattle.mvt_messages.specs.Numbers.{Placed, all_good, and_more, numbers}
 use Rattle.mvt_renumber.specs.Renumbering.{field_numbers, is_changed}
 use Rattle.mvt_renumber.specs.declared.fate.Fate.{Fate}
 use Rattle.mvt_renumber.specs.declared.fate.Fate.TheVariants.{Stays, Goes, Becomes}

@@ -3,7 +3,7 @@ use Rattle.std.proofs.Common.{◌≡◌, ℕ, List, true, false, is_some, map, s
 use Rattle.std.specs.List.{list_any}
 use Rattle.mvt_document.specs.Plain.{Feature, OfFeature, Layer, OfLayer, Document}
 use Rattle.mvt_change.specs.Changes.{Change}
-use Rattle.mvt_command.specs.Command.{LayerChoice, FeatureChoice, UnsetAttribute}
+use Rattle.mvt_meaning.specs.Command.{LayerChoice, FeatureChoice, UnsetAttribute}
 use Rattle.mvt_meaning.specs.Meaning.{applied, fields_of, has_key, has_pairs, items_of}
 use Rattle.mvt_meaning.specs.Selection.{feature_positions, layer_positions, selected, selected_feature, selected_in}
 use Rattle.mvt_meaning.specs.Tagging.{is_key, pairs_among, removals, without_attribute}

@@ -21,7 +21,7 @@ use Rattle.mvt_messages.specs.Found.{found_features}
 use Rattle.mvt_messages.specs.Views.{content_of, feature_in, value_of}
 use Rattle.mvt_layers.proofs.Placing.{found_items}
 use Rattle.mvt_change.specs.Changes.{Change}
-use Rattle.mvt_command.specs.Command.{LayersChoice, ExcludeAll}
+use Rattle.mvt_meaning.specs.Command.{LayersChoice, ExcludeAll}
 use Rattle.mvt_meaning.specs.Meaning.{applied}
 use Rattle.mvt_meaning.specs.Selection.{selected_layers}
 use Rattle.mvt_meaning.specs.Tagging.{is_tags, tags_fields, without_tags}

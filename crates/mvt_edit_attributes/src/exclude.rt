@@ -3,10 +3,10 @@
 ghost use Rattle.std.specs.Prelude.{◌≡◌, ℕ, ◌⊎◌, ◌++◌, true, false, List, [], ◌∷◌, is_some, length, Err, IfErr, IfOk, map};
 ghost use Rattle.std.specs.Str.{bytes_eq};
 ghost use Rattle.mvt_document.specs.Stands.{document_of, feature_of, layer_of};
-ghost use Rattle.mvt_numbers.specs.Numbers.{numbers};
+ghost use Rattle.mvt_messages.specs.Numbers.{numbers};
 ghost use Rattle.mvt_change.specs.ChangeStands.{step_of};
-ghost use Rattle.mvt_command.specs.Command.{Exclude};
-ghost use Rattle.mvt_command.specs.CommandStands.{layers_choice_of};
+ghost use Rattle.mvt_meaning.specs.Command.{Exclude};
+ghost use Rattle.mvt_meaning.specs.CommandStands.{layers_choice_of};
 ghost use Rattle.mvt_meaning.specs.Meaning.{refuse_first};
 ghost use Rattle.mvt_meaning.specs.Tagging.{pairs_among, unreadable};
 ghost use Rattle.mvt_meaning.specs.declared.refusal.Refusal.TheVariants.{BadTags, NoMemory};

@@ -3,8 +3,8 @@
 ghost use Rattle.std.specs.Prelude.{◌≡◌, ◌++◌, IfOk, map};
 ghost use Rattle.mvt_document.specs.Stands.{document_of};
 ghost use Rattle.mvt_change.specs.ChangeStands.{step_of};
-ghost use Rattle.mvt_command.specs.Command.{ExcludeAll};
-ghost use Rattle.mvt_command.specs.CommandStands.{layers_choice_of};
+ghost use Rattle.mvt_meaning.specs.Command.{ExcludeAll};
+ghost use Rattle.mvt_meaning.specs.CommandStands.{layers_choice_of};
 ghost use Rattle.mvt_layers.specs.Seen.{found_feature_seen, found_layer_seen};
 ghost use Rattle.mvt_edit_steps.specs.Prepared.{Prepares};
 ghost use Rattle.mvt_edit_steps.specs.EachFeature.{feature_steps, layer_steps};

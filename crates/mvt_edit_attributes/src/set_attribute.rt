@@ -13,12 +13,12 @@ ghost use Rattle.mvt_document.specs.Stands.{document_of, feature_of, field_of, l
 ghost use Rattle.mvt_value.specs.Stands.{new_value_of};
 ghost use Rattle.mvt_change.specs.Changes.{FeatureStep, LayerStep};
 ghost use Rattle.mvt_change.specs.ChangeStands.{change_of, step_of};
-ghost use Rattle.mvt_command.specs.Command.{SetAttribute};
-ghost use Rattle.mvt_command.specs.CommandStands.{feature_choice_of, layer_choice_of};
+ghost use Rattle.mvt_meaning.specs.Command.{SetAttribute};
+ghost use Rattle.mvt_meaning.specs.CommandStands.{feature_choice_of, layer_choice_of};
 ghost use Rattle.mvt_layers.specs.Seen.{found_feature_seen};
 ghost use Rattle.mvt_messages.specs.Tags.{plain_pairs, tag_pairs};
 ghost use Rattle.mvt_messages.specs.Views.{keys, values};
-ghost use Rattle.mvt_numbers.specs.Numbers.{numbers};
+ghost use Rattle.mvt_messages.specs.Numbers.{numbers};
 ghost use Rattle.mvt_meaning.specs.declared.refusal.Refusal.TheVariants.{BadTags, NoMemory};
 ghost use Rattle.mvt_meaning.specs.Ordinals.{count};
 ghost use Rattle.mvt_meaning.specs.Tagging.{revalued};

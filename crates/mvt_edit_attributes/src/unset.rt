@@ -4,8 +4,8 @@ ghost use Rattle.std.specs.Prelude.{◌≡◌, ◌⊎◌, true, false, IfErr, If
 ghost use Rattle.std.specs.List.{list_any};
 ghost use Rattle.mvt_document.specs.Stands.{document_of, feature_of, layer_of};
 ghost use Rattle.mvt_change.specs.ChangeStands.{change_of};
-ghost use Rattle.mvt_command.specs.Command.{UnsetAttribute};
-ghost use Rattle.mvt_command.specs.CommandStands.{feature_choice_of, layer_choice_of};
+ghost use Rattle.mvt_meaning.specs.Command.{UnsetAttribute};
+ghost use Rattle.mvt_meaning.specs.CommandStands.{feature_choice_of, layer_choice_of};
 ghost use Rattle.mvt_layers.specs.Seen.{found_feature_seen};
 ghost use Rattle.mvt_meaning.specs.Tagging.{is_key, pairs_among, removals};
 ghost use Rattle.mvt_meaning.specs.declared.refusal.Refusal.TheVariants.{BadTags, NoKey, NoMemory};

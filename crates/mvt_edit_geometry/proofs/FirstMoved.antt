@@ -3,7 +3,7 @@ use Rattle.std.proofs.Common.{◌≡◌, ℕ, ◌&&◌, Bool, true, false, ℤ, 
 use Rattle.std.specs.Option.{option_and_then, option_map_or}
 use Rattle.std.specs.Result.{result_ok}
 use Rattle.mvt_document.specs.Plain.{Field}
-use Rattle.mvt_numbers.specs.Numbers.{Placed, all_good, and_more}
+use Rattle.mvt_messages.specs.Numbers.{Placed, all_good, and_more}
 use Rattle.mvt_messages.specs.Attributes.{values_in}
 use Rattle.mvt_meaning.specs.Geometries.{can_move, can_move_integers, moved_integers, moves}
 use Rattle.mvt_edit_geometry.proofs.FirstIntegers.{FirstIntegers}

@@ -18,7 +18,7 @@ use Rattle.mvt_geometry.specs.declared.EncodeError.TheVariants as encode_errors
 use Rattle.mvt_geometry.proofs.Checks.{in_range-Decides}
 use Rattle.mvt_change.specs.Changes.{Change, FeatureStep}
 use Rattle.mvt_change.proofs.Splicing.{length-splice}
-use Rattle.mvt_command.specs.Command.{FeatureChoice, LayerChoice, SetGeometry}
+use Rattle.mvt_meaning.specs.Command.{FeatureChoice, LayerChoice, SetGeometry}
 use Rattle.mvt_meaning.specs.Fields.{new_content}
 use Rattle.mvt_meaning.specs.Geometries.{is_geometry_field, is_kind, with_geometry, with_kind}
 use Rattle.mvt_meaning.specs.Meaning.{after, applied, change_feature, fields_of, geometry_refusal, within_limit}

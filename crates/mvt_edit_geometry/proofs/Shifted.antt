@@ -5,7 +5,7 @@ use Rattle.mvt_document.specs.Places.{change_fields}
 use Rattle.mvt_document.specs.Plain.{Feature, OfFeature, Layer, OfLayer, Document}
 use Rattle.mvt_document.specs.Wire.{bytes_of}
 use Rattle.mvt_change.specs.Changes.{Change}
-use Rattle.mvt_command.specs.Command.{LayerChoice, FeatureChoice, Shift}
+use Rattle.mvt_meaning.specs.Command.{LayerChoice, FeatureChoice, Shift}
 use Rattle.mvt_meaning.specs.Geometries.{can_move, geometry_among, moves, shifted}
 use Rattle.mvt_meaning.specs.Meaning.{applied, can_shift, fields_of, is_drawn, within_limit}
 use Rattle.mvt_meaning.specs.Selection.{feature_positions, layer_positions, selected, selected_feature, selected_in}

@@ -8,7 +8,7 @@ use Rattle.mvt_document.specs.Opens.{IsField}
 use Rattle.mvt_document.specs.Wire.{field_bytes, layer_item_bytes, tile_item_bytes}
 use Rattle.mvt_document.specs.Splicing.{part, splice}
 use Rattle.mvt_change.specs.Changes.{OfTheTile, OfTheLayer, Change, Step}
-use Rattle.mvt_command.specs.Command.{LayerChoice, FeatureChoice, DropLayer, DropFeature, ClearId}
+use Rattle.mvt_meaning.specs.Command.{LayerChoice, FeatureChoice, DropLayer, DropFeature, ClearId}
 use Rattle.mvt_meaning.specs.Ordinals.{without}
 use Rattle.mvt_meaning.specs.Selection.{feature_positions, is_feature, is_layer, layer_positions, selected, selected_feature, selected_in}
 use Rattle.mvt_meaning.specs.Meaning.{applied, is_id, without_id}

@@ -18,7 +18,7 @@ use Rattle.mvt_messages.specs.Views.{features_in}
 use Rattle.mvt_document.specs.Lists.{CanSplice}
 use Rattle.mvt_document.specs.Places.{change_items}
 use Rattle.mvt_change.specs.Changes.{FitsStep, LayerStep, go_step}
-use Rattle.mvt_command.specs.Command.{InsertFeature, LayerChoice}
+use Rattle.mvt_meaning.specs.Command.{InsertFeature, LayerChoice}
 use Rattle.mvt_meaning.specs.Meaning.{applied, feature_count, geometry_refusal, new_feature, within_limit}
 use Rattle.mvt_meaning.specs.Ordinals.{insert_nth}
 use Rattle.mvt_meaning.specs.Selection.{is_feature, layer_positions, selected}

@@ -11,7 +11,7 @@ use Rattle.mvt_document.specs.Opens.{IsTileItem}
 use Rattle.mvt_document.specs.Wire.{tile_item_bytes}
 use Rattle.mvt_messages.specs.Views.{is_named, layers}
 use Rattle.mvt_change.specs.Changes.{Change}
-use Rattle.mvt_command.specs.Command.{KeepLayers}
+use Rattle.mvt_meaning.specs.Command.{KeepLayers}
 use Rattle.mvt_meaning.specs.Meaning.{applied, is_kept}
 use Rattle.mvt_meaning.specs.declared.refusal.Refusal.TheVariants.{NoLayer}
 use Rattle.mvt_edit_steps.specs.Prepared.{IsPrepared}

@@ -7,7 +7,7 @@ use Rattle.mvt_document.specs.Splicing.{moved}
 use Rattle.mvt_messages.specs.Views.{feature_in, features_in, layer_in, layers}
 use Rattle.mvt_document.specs.Lists.{CanMove}
 use Rattle.mvt_change.specs.Changes.{MoveStep, OfTheLayer, OfTheTile}
-use Rattle.mvt_command.specs.Command.{FeatureChoice, LayerChoice, MoveFeature, MoveLayer}
+use Rattle.mvt_meaning.specs.Command.{FeatureChoice, LayerChoice, MoveFeature, MoveLayer}
 use Rattle.mvt_meaning.specs.Meaning.{applied, feature_count, layer_count}
 use Rattle.mvt_meaning.specs.Ordinals.{count, move_nth, positions_of}
 use Rattle.mvt_meaning.specs.Selection.{feature_positions, is_feature, is_layer, layer_positions, selected, selected_feature}

@@ -6,7 +6,7 @@ use Rattle.mvt_document.specs.Plain.{Feature, OfFeature, Layer, OfLayer, Documen
 use Rattle.mvt_document.specs.Opens.{IsField, IsLayerItem}
 use Rattle.mvt_document.specs.Wire.{bytes_of, field_bytes, layer_item_bytes}
 use Rattle.mvt_change.specs.Changes.{FeatureStep, FitsStep, LayerStep, Step, go_step, step_weight, turn_step}
-use Rattle.mvt_command.specs.Command.{FeatureChoice, LayerChoice, RenameLayer, SetId}
+use Rattle.mvt_meaning.specs.Command.{FeatureChoice, LayerChoice, RenameLayer, SetId}
 use Rattle.mvt_meaning.specs.Selection.{feature_positions, layer_positions, selected, selected_feature, selected_in}
 use Rattle.mvt_meaning.specs.Meaning.{after, applied, change_feature, change_layer, fields_of, identified, is_id, is_name, is_taken, items_of, named_items, within_limit}
 use Rattle.mvt_meaning.specs.Weights.{of_selected, put_by, taken_by, weigh_last}

@@ -2,8 +2,8 @@
 
 ghost use Rattle.std.specs.Prelude.{◌≡◌};
 ghost use Rattle.mvt_document.specs.Stands.{document_of, field_of};
-ghost use Rattle.mvt_command.specs.Command.{ClearId};
-ghost use Rattle.mvt_command.specs.CommandStands.{feature_choice_of, layer_choice_of};
+ghost use Rattle.mvt_meaning.specs.Command.{ClearId};
+ghost use Rattle.mvt_meaning.specs.CommandStands.{feature_choice_of, layer_choice_of};
 ghost use Rattle.mvt_meaning.specs.Meaning.{is_id};
 ghost use Rattle.mvt_edit_steps.specs.Prepared.{Prepares};
 

@@ -1,8 +1,8 @@
 //! A feature is removed.
 
 ghost use Rattle.mvt_document.specs.Stands.{document_of};
-ghost use Rattle.mvt_command.specs.Command.{DropFeature};
-ghost use Rattle.mvt_command.specs.CommandStands.{feature_choice_of, layer_choice_of};
+ghost use Rattle.mvt_meaning.specs.Command.{DropFeature};
+ghost use Rattle.mvt_meaning.specs.CommandStands.{feature_choice_of, layer_choice_of};
 ghost use Rattle.mvt_edit_steps.specs.Prepared.{Prepares};
 
 use mvt_change::{Change, Place};

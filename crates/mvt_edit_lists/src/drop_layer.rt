@@ -1,8 +1,8 @@
 //! A layer is removed.
 
 ghost use Rattle.mvt_document.specs.Stands.{document_of};
-ghost use Rattle.mvt_command.specs.Command.{DropLayer};
-ghost use Rattle.mvt_command.specs.CommandStands.{layer_choice_of};
+ghost use Rattle.mvt_meaning.specs.Command.{DropLayer};
+ghost use Rattle.mvt_meaning.specs.CommandStands.{layer_choice_of};
 ghost use Rattle.mvt_edit_steps.specs.Prepared.{Prepares};
 
 use mvt_change::{Change, Place};

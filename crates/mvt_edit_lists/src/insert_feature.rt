@@ -5,8 +5,8 @@ ghost use Rattle.mvt_document.specs.Stands.{document_of, field_of, layer_item_of
 ghost use Rattle.mvt_geometry.specs.Shapes.{kind_number};
 ghost use Rattle.mvt_geometry.specs.Integers.{IsInRange};
 ghost use Rattle.mvt_messages.specs.Views.{features_in};
-ghost use Rattle.mvt_command.specs.Command.{InsertFeature};
-ghost use Rattle.mvt_command.specs.CommandStands.{layer_choice_of};
+ghost use Rattle.mvt_meaning.specs.Command.{InsertFeature};
+ghost use Rattle.mvt_meaning.specs.CommandStands.{layer_choice_of};
 ghost use Rattle.mvt_meaning.specs.Meaning.{new_content, new_feature, new_number};
 ghost use Rattle.mvt_meaning.specs.Selection.{is_feature};
 ghost use Rattle.mvt_edit_lists.specs.Placing.{IsPlaceFor};

@@ -6,7 +6,7 @@ ghost use Rattle.std.specs.List.Sorted.{IsPermutation};
 ghost use Rattle.std.specs.Option.{option_copied, option_map_or};
 ghost use Rattle.std.specs.Str.{bytes_eq};
 ghost use Rattle.mvt_document.specs.Stands.{document_of, tile_item_of};
-ghost use Rattle.mvt_command.specs.Command.{KeepLayers};
+ghost use Rattle.mvt_meaning.specs.Command.{KeepLayers};
 ghost use Rattle.mvt_meaning.specs.Meaning.{is_kept};
 ghost use Rattle.mvt_edit_lists.specs.Names.{AreInOrder};
 ghost use Rattle.mvt_edit_steps.specs.Prepared.{Prepares};

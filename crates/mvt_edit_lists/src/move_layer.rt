@@ -1,8 +1,8 @@
 //! A layer moves to another ordinal.
 
 ghost use Rattle.mvt_document.specs.Stands.{document_of};
-ghost use Rattle.mvt_command.specs.Command.{MoveLayer};
-ghost use Rattle.mvt_command.specs.CommandStands.{layer_choice_of};
+ghost use Rattle.mvt_meaning.specs.Command.{MoveLayer};
+ghost use Rattle.mvt_meaning.specs.CommandStands.{layer_choice_of};
 ghost use Rattle.mvt_edit_steps.specs.Prepared.{Prepares};
 
 use mvt_change::{Change, Place, Step};

@@ -8,8 +8,8 @@ ghost use Rattle.mvt_document.specs.Stands.{document_of, layer_item_of, layer_of
 ghost use Rattle.mvt_document.specs.Wire.{layer_item_bytes};
 ghost use Rattle.mvt_change.specs.Changes.{LayerStep};
 ghost use Rattle.mvt_change.specs.ChangeStands.{step_of};
-ghost use Rattle.mvt_command.specs.Command.{RenameLayer};
-ghost use Rattle.mvt_command.specs.CommandStands.{layer_choice_of};
+ghost use Rattle.mvt_meaning.specs.Command.{RenameLayer};
+ghost use Rattle.mvt_meaning.specs.CommandStands.{layer_choice_of};
 ghost use Rattle.mvt_select.specs.Found.{IsFoundLayer};
 ghost use Rattle.mvt_meaning.specs.Meaning.{applied, is_name, is_taken, named_items, new_content, with_text};
 ghost use Rattle.mvt_edit_steps.specs.Prepared.{Prepares};

@@ -19,7 +19,7 @@ use Rattle.mvt_document.specs.declared.document.TileItem.TheVariants as in_tile
 use Rattle.mvt_messages.specs.Attributes.{pairs_of}
 use Rattle.mvt_messages.specs.Views.{content_of, features, ordinals_of}
 use Rattle.mvt_change.specs.Changes.{Change}
-use Rattle.mvt_command.specs.Command.{Command, LayersChoice}
+use Rattle.mvt_meaning.specs.Command.{Command, LayersChoice}
 use Rattle.mvt_meaning.specs.Compaction.{compacted, is_any, is_key_used, is_value_used, new_ordinals}
 use Rattle.mvt_meaning.specs.Meaning.{applied, change_readable, refuse_first}
 use Rattle.mvt_meaning.specs.Selection.{selected_layers}

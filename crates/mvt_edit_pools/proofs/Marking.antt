@@ -5,7 +5,7 @@ use Rattle.std.proofs.lemmas.List.Folds.{flat_map-map, list_any-append}
 use Rattle.std.specs.List.{flat_map}
 use Rattle.std.specs.Option.{unwrap_or}
 use Rattle.mvt_document.specs.Plain.{Feature, Layer, LayerItem}
-use Rattle.mvt_numbers.specs.Numbers.{and_more, numbers}
+use Rattle.mvt_messages.specs.Numbers.{and_more, numbers}
 use Rattle.mvt_messages.specs.Found.{found_features}
 use Rattle.mvt_messages.specs.Tags.{plain_pairs, tag_pairs}
 use Rattle.mvt_messages.specs.Views.{feature_in, keys, values}

@@ -8,7 +8,7 @@ use Rattle.std.specs.List.{flat_map, list_all}
 use Rattle.std.specs.Option.{option_map_or, unwrap_or}
 use Rattle.mvt_document.specs.Plain.{Number, Field, Feature, Layer, LayerItem}
 use Rattle.mvt_renumber.specs.Laws.{NoneIsNew}
-use Rattle.mvt_numbers.specs.Numbers.{Placed, numbers}
+use Rattle.mvt_messages.specs.Numbers.{Placed, numbers}
 use Rattle.mvt_renumber.specs.Renumbering.{field_numbers}
 use Rattle.mvt_renumber.proofs.Reread.{read_of_fields}
 use Rattle.mvt_messages.specs.Attributes.{is_ordinal, is_pair}

@@ -2,7 +2,7 @@
 use Rattle.std.specs.Prelude.{ℕ, ◌+◌, Bool, true, false, not, List, [], ◌∷◌, ◌++◌, if◌then◌else◌}
 use Rattle.mvt_document.specs.Plain.{Field, LayerItem, Layer}
 use Rattle.mvt_change.specs.Changes.{Change}
-use Rattle.mvt_command.specs.Command.{Command, LayersChoice, CompactKeys, CompactValues, Compact}
+use Rattle.mvt_meaning.specs.Command.{Command, LayersChoice, CompactKeys, CompactValues, Compact}
 use Rattle.mvt_messages.specs.Views.{key_field, value_field}
 use Rattle.mvt_meaning.specs.Compaction.{is_any, is_entry, is_key_used, is_value_used, new_ordinals}
 use Rattle.mvt_edit_steps.specs.Decided.{field_fates}

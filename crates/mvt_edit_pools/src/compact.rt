@@ -3,7 +3,7 @@
 ghost use Rattle.std.specs.Prelude.{◌≡◌, ◌⊎◌, ◌++◌, [], ◌∷◌, Err, IfErr, IfOk, length, map};
 ghost use Rattle.mvt_document.specs.Stands.{document_of, layer_of};
 ghost use Rattle.mvt_change.specs.ChangeStands.{step_of};
-ghost use Rattle.mvt_command.specs.CommandStands.{layers_choice_of};
+ghost use Rattle.mvt_meaning.specs.CommandStands.{layers_choice_of};
 ghost use Rattle.mvt_meaning.specs.Compaction.{all_pairs};
 ghost use Rattle.mvt_meaning.specs.Meaning.{refuse_first};
 ghost use Rattle.mvt_meaning.specs.Tagging.{unreadable};

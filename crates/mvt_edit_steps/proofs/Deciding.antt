@@ -2,7 +2,7 @@
 use Rattle.std.proofs.Common.{◌≡◌, ℕ, ◌+◌, Bool, true, false, cond, Option, Some, None, List, [], ◌∷◌, ◌++◌, is_some, length, filter, option_map, append_assoc, refl, sym, ap, ◌∙◌, inl, inr, arith}
 use Rattle.std.proofs.lemmas.Bool.{cases_Bool}
 use Rattle.mvt_document.specs.Plain.{Feature, Layer}
-use Rattle.mvt_numbers.specs.Numbers.{and_more, numbers}
+use Rattle.mvt_messages.specs.Numbers.{and_more, numbers}
 use Rattle.mvt_messages.specs.Tags.{plain_pairs, tag_pairs}
 use Rattle.mvt_messages.specs.Views.{keys, values}
 use Rattle.mvt_layers.proofs.Pairing.{tags_are_pairs}

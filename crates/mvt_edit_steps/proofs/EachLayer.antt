@@ -8,7 +8,7 @@ use Rattle.mvt_document.proofs.EachItem.{one_of_all}
 use Rattle.mvt_change.specs.Changes.{Change, Fits, go, turn, weight}
 use Rattle.mvt_messages.specs.Found.{found_layers, with_position}
 use Rattle.mvt_messages.specs.Views.{layer_in}
-use Rattle.mvt_command.specs.Command.{LayerChoice, LayersChoice, TheLayer, EachLayer}
+use Rattle.mvt_meaning.specs.Command.{LayerChoice, LayersChoice, TheLayer, EachLayer}
 use Rattle.mvt_meaning.specs.Meaning.{change_layers}
 use Rattle.mvt_meaning.specs.Selection.{selected, selected_layers}
 use Rattle.mvt_meaning.specs.declared.refusal.Refusal.{Refusal}

@@ -14,7 +14,7 @@ use Rattle.mvt_document.specs.Places.{change_fields, change_items, fields_at, it
 use Rattle.mvt_change.specs.Changes.{Step, FeatureStep, LayerStep, FitsStep, go_step, step_weight, taken_out, turn_step, weight}
 use Rattle.mvt_change.specs.ChangeStands.{change_of}
 use Rattle.mvt_change.specs.declared.change.Change.{Change}
-use Rattle.mvt_command.specs.Command.{Command}
+use Rattle.mvt_meaning.specs.Command.{Command}
 use Rattle.mvt_meaning.specs.Meaning.{applied}
 use Rattle.mvt_meaning.specs.Weights.{put_by, taken_by}
 use Rattle.mvt_meaning.specs.declared.refusal.Refusal.{Refusal}

@@ -5,7 +5,7 @@ use Rattle.mvt_change.specs.Changes as plain
 use Rattle.mvt_change.specs.Changes.{Fits, go, turn, weight}
 use Rattle.mvt_change.specs.ChangeStands.{change_of}
 use Rattle.mvt_change.specs.declared.change.Change.{Change}
-use Rattle.mvt_command.specs.Command.{Command}
+use Rattle.mvt_meaning.specs.Command.{Command}
 use Rattle.mvt_meaning.specs.Meaning.{applied}
 use Rattle.mvt_meaning.specs.Weights.{put_by, taken_by}
 use Rattle.mvt_meaning.specs.declared.refusal.Refusal.{Refusal}

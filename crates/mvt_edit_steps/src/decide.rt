@@ -5,7 +5,7 @@ ghost use Rattle.std.specs.Prelude.{◌≡◌, ℕ, ◌⊎◌, false, None, Some
 ghost use Rattle.std.specs.Option.{unwrap_or};
 ghost use Rattle.std.specs.Str.{bytes_eq};
 ghost use Rattle.mvt_document.specs.Stands.{field_of};
-ghost use Rattle.mvt_numbers.specs.Numbers.{numbers};
+ghost use Rattle.mvt_messages.specs.Numbers.{numbers};
 ghost use Rattle.mvt_meaning.specs.Ordinals.{count};
 ghost use Rattle.mvt_meaning.specs.Tagging.{is_tags};
 ghost use Rattle.mvt_meaning.specs.declared.refusal.Refusal.TheVariants.{BadTags, NoMemory};

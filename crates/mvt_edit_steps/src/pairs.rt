@@ -6,7 +6,7 @@ ghost use Rattle.std.specs.Fn.{FnReturns};
 ghost use Rattle.std.specs.List.{flat_map};
 ghost use Rattle.std.specs.Result.{IsErrOf};
 ghost use Rattle.mvt_document.specs.Wire.{field_bytes};
-ghost use Rattle.mvt_numbers.specs.Numbers.{numbers};
+ghost use Rattle.mvt_messages.specs.Numbers.{numbers};
 ghost use Rattle.mvt_renumber.specs.Renumbering.{renumber};
 ghost use Rattle.mvt_change.specs.ChangeStands.{step_of};
 ghost use Rattle.mvt_meaning.specs.declared.refusal.Refusal.TheVariants.{BadTags, NoMemory};

@@ -1,7 +1,7 @@
 -- A session that keeps no changes of an open step stands for a history in which no step is open.
 use Rattle.std.proofs.Common.{◌≡◌, Option, Some, None, List, refl, ap, ◌∙◌}
 use Rattle.mvt_document.specs.Plain.{Document}
-use Rattle.mvt_command.specs.Command.{Command}
+use Rattle.mvt_meaning.specs.Command.{Command}
 use Rattle.mvt_change.specs.Changes.{Change}
 use Rattle.mvt_history_steps.specs.History.{History, after_all, present_document, standing_document, commands_in}
 use Rattle.mvt_history_steps.specs.Reached.{LeadOut}

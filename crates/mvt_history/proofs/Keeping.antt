@@ -6,7 +6,7 @@ use Rattle.std.proofs.lemmas.Bool.{cases_Bool}
 use Rattle.std.proofs.lemmas.Bool.Decides.{nat_tests}
 use Rattle.mvt_document.specs.Plain.{Document}
 use Rattle.mvt_document.specs.Opens.{IsDocument}
-use Rattle.mvt_command.specs.Command.{Command}
+use Rattle.mvt_meaning.specs.Command.{Command}
 use Rattle.mvt_change.specs.Changes.{Change, Fits, go}
 use Rattle.mvt_change.specs.Joining.{go_along, FitAlong}
 use Rattle.mvt_change.proofs.Turning.{change_makes}

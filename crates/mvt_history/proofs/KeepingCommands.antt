@@ -7,7 +7,7 @@ use Rattle.std.specs.Result.{IsErrAnd, IsOk, is_ok}
 use Rattle.mvt_document.specs.Plain.{Document}
 use Rattle.mvt_document.specs.Opens.{IsDocument}
 use Rattle.mvt_document.specs.declared.document.Document.{Document as HeldDocument}
-use Rattle.mvt_command.specs.Command.{Command}
+use Rattle.mvt_meaning.specs.Command.{Command}
 use Rattle.mvt_meaning.specs.Meaning.{after, applied}
 use Rattle.mvt_change.specs.declared.change.Change.{Change as HeldChange}
 use Rattle.mvt_change.specs.ChangeStands.{change_of}
@@ -20,8 +20,8 @@ use Rattle.mvt_edit_steps.specs.Prepared.{IsPrepared}
 use Rattle.mvt_history_steps.specs.Marks.{between, counted_from}
 use Rattle.mvt_history_steps.specs.declared.marks.Mark.{Mark as HeldMark}
 use Rattle.mvt_history_steps.specs.History.{History, after_all, present_document, commands_in, with_group, with_step, with_command, edited_to, edited, ended, closed, cancelled}
-use Rattle.mvt_history_error.specs.declared.HistoryError.{HistoryError}
-use Rattle.mvt_history_error.specs.declared.HistoryError.TheVariants.{NoMemory}
+use Rattle.mvt_history_steps.specs.declared.error.HistoryError.{HistoryError}
+use Rattle.mvt_history_steps.specs.declared.error.HistoryError.TheVariants.{NoMemory}
 use Rattle.mvt_history_steps.specs.Reached.{LeadsBack, LeadOut}
 use Rattle.mvt_history_steps.specs.Standing.{Standing, changes_in, closed_document}
 use Rattle.mvt_history_steps.specs.Held.{mark_of, from_last, standing_of, IsHeld}

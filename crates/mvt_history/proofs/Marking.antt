@@ -14,8 +14,8 @@ use Rattle.mvt_history_steps.specs.Session.{StandsFor, Answers, IsOnTheWay, Stop
 use Rattle.mvt_history_steps.specs.declared.TheConstants.{MAX_MARKS}
 use Rattle.mvt_history_steps.specs.declared.steps.Direction.{Direction}
 use Rattle.mvt_history_steps.specs.declared.steps.Direction.TheVariants.{Undo, Redo}
-use Rattle.mvt_history_error.specs.declared.HistoryError.{HistoryError}
-use Rattle.mvt_history_error.specs.declared.HistoryError.TheVariants.{NoMark, TooManyMarks, Stopped}
+use Rattle.mvt_history_steps.specs.declared.error.HistoryError.{HistoryError}
+use Rattle.mvt_history_steps.specs.declared.error.HistoryError.TheVariants.{NoMark, TooManyMarks, Stopped}
 use Rattle.mvt_history_steps.proofs.Counting.{counted_point_of, counted_bound, counted_unbound}
 use Rattle.mvt_meaning.proofs.Elements.{all_filtered}
 use Rattle.mvt_history_steps.proofs.MarkOrder.{all_bound, order_bound, order_unbound, few_bound, length_filtered, point_holds}

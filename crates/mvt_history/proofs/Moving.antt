@@ -8,7 +8,7 @@ use Rattle.mvt_document.specs.declared.TheConstants.{MAX_FILE}
 use Rattle.mvt_document.specs.Plain.{Document}
 use Rattle.mvt_document.specs.Wire.{bytes_of}
 use Rattle.mvt_document.specs.Opens.{IsDocument}
-use Rattle.mvt_command.specs.Command.{Command}
+use Rattle.mvt_meaning.specs.Command.{Command}
 use Rattle.mvt_change.specs.Changes.{Change, turn}
 use Rattle.mvt_change.specs.Joining.{FitAlong}
 use Rattle.mvt_change.proofs.Turning.{change_makes, turned_back, turned_fits}
@@ -20,8 +20,8 @@ use Rattle.mvt_history_steps.specs.declared.steps.Direction.TheVariants.{Undo, R
 use Rattle.mvt_history_steps.specs.Standing.{Standing, IsReady}
 use Rattle.mvt_history_steps.specs.Held.{IsReached, IsHeld}
 use Rattle.mvt_history_steps.specs.declared.TheConstants.{MAX_DEPTH}
-use Rattle.mvt_history_error.specs.declared.HistoryError.{HistoryError}
-use Rattle.mvt_history_error.specs.declared.HistoryError.TheVariants.{GroupOpen, NoMemory, NothingToUndo, NothingToRedo}
+use Rattle.mvt_history_steps.specs.declared.error.HistoryError.{HistoryError}
+use Rattle.mvt_history_steps.specs.declared.error.HistoryError.TheVariants.{GroupOpen, NoMemory, NothingToUndo, NothingToRedo}
 use Rattle.mvt_history.specs.Refusing.{ensured_ahead}
 use Rattle.mvt_history_steps.specs.Session.{StandsFor, AnswersWithMemory}
 use Rattle.mvt_history_steps.proofs.Sound.{begins_sound, sound_at_point, sound_with_group}

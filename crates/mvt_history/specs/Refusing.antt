@@ -1,7 +1,7 @@
 -- What a session checks before it refuses.
 use Rattle.std.specs.Prelude.{ℕ, Bool, ◌||◌, ◌==◌, nat_lt, is_some, if◌then◌else◌, List, length, Result, Ok, Err}
-use Rattle.mvt_history_error.specs.declared.HistoryError.{HistoryError}
-use Rattle.mvt_history_error.specs.declared.HistoryError.TheVariants.{NothingToUndo, NothingToRedo}
+use Rattle.mvt_history_steps.specs.declared.error.HistoryError.{HistoryError}
+use Rattle.mvt_history_steps.specs.declared.error.HistoryError.TheVariants.{NothingToUndo, NothingToRedo}
 use Rattle.mvt_history_steps.specs.Marks.{Mark, point_of}
 use Rattle.mvt_history_steps.specs.Standing.{Standing}
 use Rattle.mvt_history_steps.specs.declared.TheConstants.{MAX_MARKS}

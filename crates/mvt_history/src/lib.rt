@@ -25,6 +25,5 @@
 
 mod session;
 
-pub use mvt_history_error::HistoryError;
-pub use mvt_history_steps::{MAX_DEPTH, MAX_MARKS, StartError};
+pub use mvt_history_steps::{HistoryError, MAX_DEPTH, MAX_MARKS, StartError};
 pub use session::Session;

@@ -2,10 +2,10 @@
 //! request.
 
 ghost use Rattle.std.specs.Prelude.{◌≡◌, ◌∷◌, ◌<◌, ◌≤◌, ◌⊎◌, if◌then◌else◌, is_ok, is_some, None, Ok, Err, OnOk, OnErr, IfOk, IfErr, IsSomeAnd, length, option_map, slice_get};
-ghost use Rattle.mvt_history_error.specs.declared.HistoryError.TheVariants.{GroupOpen, NoMemory};
+ghost use Rattle.mvt_history_steps.specs.declared.error.HistoryError.TheVariants.{GroupOpen, NoMemory};
 ghost use Rattle.mvt_document.specs.Stands.{document_of};
 ghost use Rattle.mvt_document.specs.Opens.{IsDocument};
-ghost use Rattle.mvt_command.specs.CommandStands.{command_of};
+ghost use Rattle.mvt_meaning.specs.CommandStands.{command_of};
 ghost use Rattle.mvt_change.specs.ChangeStands.{change_of};
 ghost use Rattle.mvt_change.specs.Changes.{Fits, go, turn};
 ghost use Rattle.mvt_history_steps.specs.declared.TheConstants.{MAX_DEPTH};
@@ -21,11 +21,11 @@ use circular_buffer::HeapCircularBuffer;
 use mvt_change::{Change, flip, join};
 use mvt_document::Document;
 use mvt_edit::{Command, Refusal, prepare};
-use mvt_history_error::HistoryError;
 use mvt_history_steps::{
-    Direction, MAX_MARKS, Mark, StartError, bind, find_point, keep, take_back, unbind, walk, way,
+    Direction, HistoryError, MAX_MARKS, Mark, StartError, bind, find_point, keep, take_back,
+    unbind, walk, way,
 };
-use mvt_write::size;
+use mvt_wire::size;
 use std::alloc::{AllocError, Global};
 use std::marker::Model;
 

@@ -3,7 +3,7 @@
 use Rattle.std.proofs.Common.{◌≡◌, ℕ, zero, suc, ◌+◌, ◌-◌, ◌<◌, ◌≤◌, List, [], ◌∷◌, ◌++◌, length, take, drop, get_or, refl, sym, ap, subst, ◌∙◌, arith}
 use Rattle.std.proofs.lemmas.List.{take_more, get_or-take, take-take}
 use Rattle.mvt_document.specs.Plain.{Document}
-use Rattle.mvt_command.specs.Command.{Command}
+use Rattle.mvt_meaning.specs.Command.{Command}
 use Rattle.mvt_meaning.specs.Meaning.{after}
 use Rattle.mvt_change.specs.Changes.{Change, go}
 use Rattle.mvt_change.specs.Joining.{go_along}

@@ -3,7 +3,7 @@ use Rattle.std.proofs.Common.{◌≡◌, ℕ, zero, suc, ◌+◌, ◌-◌, ◌�
 use Rattle.std.proofs.lemmas.List.{append-nil, length-map, length-drop, take_all, take_at, take_more, take-map, take-take, map-append, get_or_at}
 use Rattle.std.proofs.lemmas.List.Sums.{sum_by-append}
 use Rattle.mvt_document.specs.Plain.{Document}
-use Rattle.mvt_command.specs.Command.{Command}
+use Rattle.mvt_meaning.specs.Command.{Command}
 use Rattle.mvt_meaning.specs.Meaning.{after, applied}
 use Rattle.mvt_change.specs.Changes.{Change, Fits, go, turn, step_weight, weight}
 use Rattle.mvt_change.specs.Joining.{joined, go_along}

@@ -4,16 +4,16 @@ use Rattle.std.specs.List.{AllByRecursion}
 use Rattle.std.proofs.lemmas.Bool.{cases_Bool}
 use Rattle.std.proofs.lemmas.Bool.Decides.{nat_tests}
 use Rattle.mvt_document.specs.Plain.{Document}
-use Rattle.mvt_command.specs.Command.{Command}
+use Rattle.mvt_meaning.specs.Command.{Command}
 use Rattle.mvt_meaning.specs.Meaning.{applied}
 use Rattle.mvt_meaning.specs.declared.refusal.Refusal.{Refusal}
 use Rattle.mvt_history_steps.specs.Marks.{Mark, InOrder, bound, unbound, has_name, point_of}
 use Rattle.mvt_history_steps.specs.History.{History, IsSound, IsWithin, begun, standing_document, at_point, with_marks, with_group, with_step, with_command, edited_to, edited, unless_open, undone, redone, marked, unmarked, gone_to, gone_back, opened, ended, closed, cancelled}
-use Rattle.mvt_command.specs.Requests.{HistoryRequest, Edit, Undo, Redo, SetMark, TakeMark, GoBack, Begin, End, Cancel}
+use Rattle.mvt_meaning.specs.Requests.{HistoryRequest, Edit, Undo, Redo, SetMark, TakeMark, GoBack, Begin, End, Cancel}
 use Rattle.mvt_history_steps.specs.Requests.{or_before, asked}
 use Rattle.mvt_history_steps.specs.declared.TheConstants.{MAX_MARKS}
-use Rattle.mvt_history_error.specs.declared.HistoryError.{HistoryError}
-use Rattle.mvt_history_error.specs.declared.HistoryError.TheVariants.{NothingToUndo, NothingToRedo, NoMark, TooManyMarks}
+use Rattle.mvt_history_steps.specs.declared.error.HistoryError.{HistoryError}
+use Rattle.mvt_history_steps.specs.declared.error.HistoryError.TheVariants.{NothingToUndo, NothingToRedo, NoMark, TooManyMarks}
 use Rattle.mvt_meaning.proofs.Elements.{all_filtered}
 use Rattle.mvt_history_steps.proofs.MarkOrder.{all_passed, all_bound, order_filtered, order_bound, order_unbound, length_filtered, few_bound, point_holds}
 

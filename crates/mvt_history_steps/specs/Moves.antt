@@ -6,7 +6,7 @@ use Rattle.mvt_history_steps.specs.History.{History, undone, redone}
 use Rattle.mvt_history_steps.specs.Standing.{Standing}
 use Rattle.mvt_history_steps.specs.declared.steps.Direction.{Direction}
 use Rattle.mvt_history_steps.specs.declared.steps.Direction.TheVariants.{Undo, Redo}
-use Rattle.mvt_history_error.specs.declared.HistoryError.{HistoryError}
+use Rattle.mvt_history_steps.specs.declared.error.HistoryError.{HistoryError}
 
 -- a document, the changes that lie ahead, and those that lead back, each list with the next one first
 pub record Track : Type 0 where

@@ -2,7 +2,7 @@
 use Rattle.std.specs.Prelude.{◌≡◌, ℕ, zero, suc, ◌+◌, ◌*◌, ◌≤◌, List, [], ◌∷◌, map, length, get_or, take, Option, Some, None}
 use Rattle.mvt_document.specs.Plain.{Document}
 use Rattle.mvt_change.specs.Changes.{Change, Fits, go, turn, weight}
-use Rattle.mvt_command.specs.Command.{Command}
+use Rattle.mvt_meaning.specs.Command.{Command}
 use Rattle.mvt_meaning.specs.Meaning.{after}
 use Rattle.mvt_meaning.specs.Weights.{put_by, taken_by}
 use Rattle.mvt_history_steps.specs.History.{after_all, after_steps}

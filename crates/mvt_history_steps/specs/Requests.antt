@@ -1,9 +1,9 @@
 -- Requests on a history, one after the other.
 use Rattle.std.specs.Prelude.{◌≡◌, ℕ, zero, suc, List, [], ◌∷◌, Result, Ok, Err}
-use Rattle.mvt_command.specs.Requests.{HistoryRequest, Edit, Undo, Redo, SetMark, TakeMark, GoBack, Begin, End, Cancel}
+use Rattle.mvt_meaning.specs.Requests.{HistoryRequest, Edit, Undo, Redo, SetMark, TakeMark, GoBack, Begin, End, Cancel}
 use Rattle.mvt_meaning.specs.declared.refusal.Refusal.{Refusal}
 use Rattle.mvt_history_steps.specs.History.{History, edited, undone, redone, marked, unmarked, gone_back, opened, closed, cancelled}
-use Rattle.mvt_history_error.specs.declared.HistoryError.{HistoryError}
+use Rattle.mvt_history_steps.specs.declared.error.HistoryError.{HistoryError}
 
 -- what is made of the answer to a request: by `edit` where it is a command, else by `other`
 abbrev pub by_answer : {A : Type 0} → (Result History Refusal → A) → (Result History HistoryError → A) → HistoryRequest → History → A

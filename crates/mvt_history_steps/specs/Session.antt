@@ -2,7 +2,7 @@
 use Rattle.std.specs.Prelude.{◌≡◌, ℕ, ◌+◌, ◌-◌, ◌<◌, ◌≤◌, ℤ, pos, ◌-ℤ◌, ◌⊎◌, List, map, length, take, Option, Some, None, Result, Ok, Err, IsOk}
 use Rattle.mvt_document.specs.declared.TheConstants.{MAX_FILE}
 use Rattle.mvt_document.specs.Wire.{bytes_of}
-use Rattle.mvt_command.specs.Command.{Command}
+use Rattle.mvt_meaning.specs.Command.{Command}
 use Rattle.mvt_meaning.specs.declared.refusal.Refusal.{Refusal}
 use Rattle.mvt_meaning.specs.declared.refusal.Refusal.TheVariants as edit
 use Rattle.mvt_history_steps.specs.Marks.{Mark, counted_from, point_of}
@@ -12,11 +12,11 @@ use Rattle.mvt_history_steps.specs.Standing.{Standing}
 use Rattle.mvt_document.specs.declared.document.Document as held
 use Rattle.mvt_document.specs.Stands.{document_of}
 use Rattle.std.specs.Borrow.{Bor}
-use Rattle.mvt_history_error.specs.declared.HistoryError.{HistoryError}
+use Rattle.mvt_history_steps.specs.declared.error.HistoryError.{HistoryError}
 use Rattle.mvt_history_steps.specs.declared.error.StartError.{StartError}
 use Rattle.mvt_history_steps.specs.declared.error.StartError.TheVariants as start
 use Rattle.mvt_history_steps.specs.declared.error.StartError.TheVariants.{TooLarge}
-use Rattle.mvt_history_error.specs.declared.HistoryError.TheVariants.{Stopped, NoMemory}
+use Rattle.mvt_history_steps.specs.declared.error.HistoryError.TheVariants.{Stopped, NoMemory}
 
 -- ---- which history a session holds
 

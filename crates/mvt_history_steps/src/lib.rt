@@ -22,7 +22,7 @@ mod error;
 mod marks;
 mod steps;
 
-pub use error::StartError;
+pub use error::{HistoryError, StartError};
 pub use marks::{Mark, bind, find_point, unbind};
 pub use steps::{Direction, keep, take_back, walk, way};
 

@@ -5,7 +5,7 @@ use Rattle.std.specs.Option.{option_and_then}
 use Rattle.std.proofs.lemmas.Bool.{and_parts, ltb-true}
 use Rattle.std.proofs.lemmas.Option.{cond_some, slice_get-get_or}
 use Rattle.mvt_document.specs.Plain.{Layer}
-use Rattle.mvt_numbers.specs.Numbers.{Placed, numbers, all_good, and_more}
+use Rattle.mvt_messages.specs.Numbers.{Placed, numbers, all_good, and_more}
 use Rattle.mvt_messages.specs.Views.{keys, values}
 use Rattle.mvt_messages.specs.Attributes.{values_in, in_pairs, is_ordinal, is_pair, if_pairs, pairs_in}
 use Rattle.mvt_messages.specs.Tags.{PlacedPair, plain_pairs, tag_pairs}

@@ -2,7 +2,7 @@
 use Rattle.std.specs.Prelude.{◌≡◌, ℕ, List, Some, length, slice_get}
 use Rattle.std.specs.List.{AllByRecursion}
 use Rattle.mvt_document.specs.Plain.{Layer, Feature}
-use Rattle.mvt_numbers.specs.Numbers.{numbers}
+use Rattle.mvt_messages.specs.Numbers.{numbers}
 use Rattle.mvt_messages.specs.Views.{keys, values}
 use Rattle.mvt_messages.specs.Attributes.{pairs_of, attribute_at}
 use Rattle.mvt_messages.specs.Tags.{plain_pairs, tag_pairs}

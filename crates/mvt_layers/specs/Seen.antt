@@ -7,7 +7,7 @@ use Rattle.mvt_layers.specs.declared.views.FeatureView.{FeatureView}
 use Rattle.mvt_layers.specs.declared.found.FoundLayer.{FoundLayer}
 use Rattle.mvt_layers.specs.declared.found.FoundFeature.{FoundFeature}
 use Rattle.mvt_layers.specs.declared.found.FoundEntry.{FoundEntry}
-use Rattle.mvt_numbers.specs.Seen.{placed_of}
+use Rattle.mvt_messages.specs.Seen.{placed_of}
 use Rattle.mvt_messages.specs.Tags.{PlacedPair}
 use Rattle.mvt_layers.specs.declared.attributes.Pair.{Pair}
 use Rattle.mvt_layers.specs.declared.tag_pairs.TagPair.{TagPair}

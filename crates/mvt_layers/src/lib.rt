@@ -23,9 +23,9 @@
 //! - The same pairs in a list (`pairs`), refused only if one is an error (`bad_tags`). Only an
 //!   out-of-memory error may come in place of either: `pairs`.
 //!
-//! Only `pairs` takes an allocator. The crate re-exports the names of `mvt_numbers`. What the
-//! messages say is defined in `mvt_messages`, and the geometry of a feature is read in `mvt_view`.
-//! A value is returned as its bytes: `mvt_value` says which value they are.
+//! Only `pairs` takes an allocator. The crate re-exports the names of `mvt_messages`, which defines
+//! what the messages say; the geometry of a feature is read in `mvt_view`. A value is returned as
+//! its bytes: `mvt_value` says which value they are.
 #![tactic(auto)]
 
 mod attributes;
@@ -43,7 +43,7 @@ pub use attributes::{Pair, PairsError, pairs};
 pub use entries::{Entries, last_name};
 pub use found::{FoundEntry, FoundFeature, FoundLayer};
 pub use lists::{Contents, FeatureViews, LayerViews};
-pub use mvt_numbers::{BadChunk, Number, Numbers};
+pub use mvt_messages::{BadChunk, Number, Numbers};
 pub use select::{
     FeatureError, LayerError, feature_by_id, layer, layer_count, layer_named, layers,
 };

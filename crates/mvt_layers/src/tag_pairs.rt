@@ -1,12 +1,12 @@
 //! The tags of a feature in pairs, as an iterator.
 
 ghost use Rattle.std.specs.Prelude.{◌≡◌};
-ghost use Rattle.mvt_numbers.specs.Seen.{number_seen};
+ghost use Rattle.mvt_messages.specs.Seen.{number_seen};
 ghost use Rattle.mvt_layers.specs.Seen.{tag_pair_seen};
 ghost use Rattle.mvt_messages.specs.Tags.{ordinal_in, pair_in};
 
 use crate::attributes::Pair;
-use mvt_numbers::{BadChunk, Number, Numbers};
+use mvt_messages::{BadChunk, Number, Numbers};
 use std::marker::Model;
 use thiserror::Error;
 

@@ -4,7 +4,7 @@ ghost use Rattle.std.specs.Prelude.{◌≡◌, ◌<◌, ◌^◌, IfErr, length, 
 ghost use Rattle.std.specs.Option.{option_copied};
 ghost use Rattle.std.specs.Result.{result_ok};
 ghost use Rattle.mvt_document.specs.Stands.{feature_of, layer_of};
-ghost use Rattle.mvt_numbers.specs.Numbers.{numbers};
+ghost use Rattle.mvt_messages.specs.Numbers.{numbers};
 ghost use Rattle.mvt_messages.specs.Views.{extent_of, features, id_of, keys, kind_of, name_of, values, version_of};
 ghost use Rattle.mvt_messages.specs.Found.{found_features};
 ghost use Rattle.mvt_layers.specs.Pools.{first_equal, found_keys, found_values};
@@ -19,7 +19,7 @@ use crate::lists::{Contents, FeatureViews};
 use crate::tag_pairs::{PoolSizes, TagPairs};
 use mvt_document::tags::{EXTENT, GEOMETRY, KEYS, KIND, TAGS, VALUES, VERSION};
 use mvt_document::{Feature, Layer, last_value};
-use mvt_numbers::Numbers;
+use mvt_messages::Numbers;
 
 const DEFAULT_VERSION: u64 = 1;
 

@@ -5,7 +5,7 @@ use Rattle.std.specs.List.{list_all}
 use Rattle.std.specs.Option.{option_map_or}
 use Rattle.mvt_document.specs.Plain.{Field, LayerItem}
 use Rattle.mvt_renumber.specs.Laws.{AreShort}
-use Rattle.mvt_numbers.specs.Numbers.{numbers}
+use Rattle.mvt_messages.specs.Numbers.{numbers}
 use Rattle.mvt_messages.specs.Attributes.{is_ordinal, is_pair}
 use Rattle.mvt_messages.specs.Views.{contents, key_field, plain_fields, value_field}
 use Rattle.mvt_meaning.specs.Compaction.{new_ordinal, new_ordinals, repointed}

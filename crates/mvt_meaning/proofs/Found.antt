@@ -9,7 +9,7 @@ use Rattle.mvt_messages.specs.Views.{layer_in, layers}
 use Rattle.mvt_document.specs.Lists.{change_at}
 use Rattle.mvt_document.specs.Places.{change_fields, change_items, fields_at, fields_in, fields_in_at, in_feature, in_layer, items_at, items_in}
 use Rattle.mvt_document.proofs.Placing.{changed_alike}
-use Rattle.mvt_command.specs.Command.{FeatureChoice}
+use Rattle.mvt_meaning.specs.Command.{FeatureChoice}
 use Rattle.mvt_meaning.specs.Ordinals.{change_first, change_nth, from_nth}
 use Rattle.mvt_meaning.specs.Selection.{feature_positions, is_feature, is_layer, layer_positions, selected_feature, selected_in}
 use Rattle.mvt_meaning.specs.Meaning.{change_feature, change_layer, fields_of, items_of}

@@ -12,3 +12,4 @@ pub mod Elements
 pub mod Found
 pub mod NeverOutOfMemory
 pub mod PutOnce
+pub mod Others

@@ -8,7 +8,7 @@ use Rattle.std.specs.Option.{option_and_then, option_map_or}
 use Rattle.std.proofs.lemmas.Option.{same_Some}
 use Rattle.mvt_document.specs.Plain.{Number, Field, LayerItem}
 use Rattle.mvt_renumber.specs.Laws.{AreShort, NoneIsNew}
-use Rattle.mvt_numbers.specs.Numbers.{Placed, all_good, and_more, numbers}
+use Rattle.mvt_messages.specs.Numbers.{Placed, all_good, and_more, numbers}
 use Rattle.mvt_renumber.specs.Renumbering.{field_numbers}
 use Rattle.mvt_renumber.proofs.Reread.{read_of_fields}
 use Rattle.mvt_messages.specs.Attributes.{if_pairs, in_pairs, is_ordinal, is_pair, pairs_in}

@@ -3,7 +3,7 @@ use Rattle.std.specs.Prelude.{ℕ, true, ◌&&◌, ◌||◌, Bool, ℤ, ◌+ℤ�
 use Rattle.std.specs.Option.{option_and_then, option_map_or, unwrap_or}
 use Rattle.mvt_document.specs.Plain.{Field}
 use Rattle.mvt_document.specs.Signed.{unzigzag, zigzag}
-use Rattle.mvt_numbers.specs.Numbers.{numbers}
+use Rattle.mvt_messages.specs.Numbers.{numbers}
 use Rattle.mvt_renumber.specs.Renumbering.{renumber}
 use Rattle.mvt_geometry.specs.Checks.{is_delta}
 use Rattle.mvt_geometry.specs.Found.{geometry_in}

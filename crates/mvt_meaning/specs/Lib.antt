@@ -7,3 +7,6 @@ pub mod Geometries
 pub mod Compaction
 pub mod Meaning
 pub mod Weights
+pub mod Command
+pub mod Requests
+pub mod CommandStands

@@ -17,7 +17,7 @@ use Rattle.mvt_geometry.specs.declared.faults.EncodeError.{EncodeError}
 use Rattle.mvt_geometry.specs.declared.faults.EncodeError.TheVariants as encode_errors
 use Rattle.mvt_messages.specs.Views.{content_in, features_in, is_named, layers, ordinals_of, value_in}
 use Rattle.mvt_document.specs.Places.{fields_in, in_feature, in_layer}
-use Rattle.mvt_command.specs.Command.{LayersChoice, TheLayer, EachLayer, Command, RenameLayer, MoveLayer, DropLayer, KeepLayers, InsertFeature, MoveFeature, DropFeature, SetId, ClearId, SetAttribute, UnsetAttribute, RenameKey, Exclude, ExcludeAll, Shift, SetGeometry, CompactKeys, CompactValues, Compact}
+use Rattle.mvt_meaning.specs.Command.{LayersChoice, TheLayer, EachLayer, Command, RenameLayer, MoveLayer, DropLayer, KeepLayers, InsertFeature, MoveFeature, DropFeature, SetId, ClearId, SetAttribute, UnsetAttribute, RenameKey, Exclude, ExcludeAll, Shift, SetGeometry, CompactKeys, CompactValues, Compact}
 use Rattle.mvt_meaning.specs.Ordinals.{change_nth, without, move_nth, insert_nth, put_last}
 use Rattle.mvt_meaning.specs.Selection.{is_feature, is_layer, selected, selected_in, selected_layers}
 use Rattle.mvt_meaning.specs.Tagging.{attributed, excluded, is_key, pairs_among, pairs_with, renamed_keys, unreadable, untagged, without_attribute}

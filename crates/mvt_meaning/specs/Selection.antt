@@ -5,7 +5,7 @@ use Rattle.std.specs.Result.{result_map_both}
 use Rattle.mvt_document.specs.Plain.{LayerItem, Layer, TileItem, Document}
 use Rattle.mvt_messages.specs.Found.{found_layers}
 use Rattle.mvt_messages.specs.Views.{feature_in, features, has_id, is_named, layer_in, layers, ordinals_of, the_one}
-use Rattle.mvt_command.specs.Command.{LayerChoice, AtOrdinal, Named, LayersChoice, TheLayer, EachLayer, FeatureChoice, FeatureAtOrdinal, WithId}
+use Rattle.mvt_meaning.specs.Command.{LayerChoice, AtOrdinal, Named, LayersChoice, TheLayer, EachLayer, FeatureChoice, FeatureAtOrdinal, WithId}
 use Rattle.mvt_meaning.specs.Ordinals.{positions_of}
 use Rattle.mvt_meaning.specs.declared.refusal.Refusal.{Refusal}
 use Rattle.mvt_meaning.specs.declared.refusal.Refusal.TheVariants.{NoLayer, AmbiguousLayer, NoFeature, AmbiguousFeature}

@@ -6,7 +6,7 @@ use Rattle.std.specs.Str.{bytes_eq}
 use Rattle.mvt_document.specs.Plain.{Body, Delimited, Field, LayerItem, OfFeature, PlainInLayer, Layer}
 use Rattle.mvt_document.specs.Places.{in_feature}
 use Rattle.mvt_document.specs.Wire.{shortest}
-use Rattle.mvt_numbers.specs.Numbers.{numbers}
+use Rattle.mvt_messages.specs.Numbers.{numbers}
 use Rattle.mvt_renumber.specs.Renumbering.{renumber}
 use Rattle.mvt_messages.specs.Attributes.{pairs_in, pairs_of}
 use Rattle.mvt_messages.specs.Views.{content_in, contents, features, key_field, ordinals_of, plain_fields, value_field, value_in}

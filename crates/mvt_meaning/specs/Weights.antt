@@ -6,7 +6,7 @@ use Rattle.mvt_document.specs.Plain.{Field, LayerItem, Layer, Document}
 use Rattle.mvt_document.specs.Wire.{field_bytes, layer_item_bytes, tile_item_bytes}
 use Rattle.mvt_value.specs.Messages.{encoded_value}
 use Rattle.mvt_messages.specs.Views.{key_field, value_field}
-use Rattle.mvt_command.specs.Command.{LayerChoice, LayersChoice, FeatureChoice, Command, RenameLayer, DropLayer, KeepLayers, InsertFeature, DropFeature, SetId, ClearId, SetAttribute, UnsetAttribute, RenameKey, Exclude, ExcludeAll, Shift, SetGeometry, CompactKeys, CompactValues, Compact}
+use Rattle.mvt_meaning.specs.Command.{LayerChoice, LayersChoice, FeatureChoice, Command, RenameLayer, DropLayer, KeepLayers, InsertFeature, DropFeature, SetId, ClearId, SetAttribute, UnsetAttribute, RenameKey, Exclude, ExcludeAll, Shift, SetGeometry, CompactKeys, CompactValues, Compact}
 pub use Rattle.mvt_meaning.specs.Decided.{as_before, as_renumbered}
 use Rattle.mvt_meaning.specs.Compaction.{is_any, is_key_used, is_value_used, leaving, repointing}
 use Rattle.mvt_meaning.specs.Geometries.{is_geometry_field, is_kind, shifting}

@@ -3,7 +3,7 @@ use Rattle.std.specs.Prelude.{ℕ, ◌^◌, ◌&&◌, Bool, List, [], ◌∷◌,
 use Rattle.std.specs.List.{list_all}
 use Rattle.std.specs.Option.{option_and_then}
 use Rattle.mvt_document.specs.Plain.{Layer, Feature}
-use Rattle.mvt_numbers.specs.Numbers.{Placed, numbers, all_good, and_more}
+use Rattle.mvt_messages.specs.Numbers.{Placed, numbers, all_good, and_more}
 use Rattle.mvt_messages.specs.Views.{keys, values}
 
 -- the values of numbers, where no chunk among them is bad

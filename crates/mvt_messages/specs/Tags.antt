@@ -1,6 +1,6 @@
 -- The tags of a feature pair by pair, each pair with the two numbers that make it.
 use Rattle.std.specs.Prelude.{ℕ, List, [], ◌∷◌, Option, Some, None, Result, Ok, Err, map, option_map, if◌then◌else◌}
-use Rattle.mvt_numbers.specs.Numbers.{Placed, all_good}
+use Rattle.mvt_messages.specs.Numbers.{Placed, all_good}
 use Rattle.mvt_messages.specs.Attributes.{is_ordinal, is_pair}
 
 -- the number as an ordinal, where it is below the count and below 2^32 (tiles 4.4)

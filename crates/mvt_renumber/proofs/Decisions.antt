@@ -8,10 +8,10 @@ use Rattle.mvt_document.specs.Plain.{Number}
 use Rattle.mvt_document.specs.Wire.{spelling, minimal}
 use Rattle.mvt_document.specs.Groups.{IsNumber}
 use Rattle.mvt_document.proofs.Lists.{cons_no_more}
-use Rattle.mvt_numbers.specs.Numbers.{Placed, pieces, number_in, chunk_at, unpacked, all_good, and_more}
+use Rattle.mvt_messages.specs.Numbers.{Placed, pieces, number_in, chunk_at, unpacked, all_good, and_more}
 use Rattle.mvt_renumber.specs.Renumbering.{with_number, decided, renumbered, some_changed}
 use Rattle.mvt_renumber.specs.Deciding.{packed_numbers}
-use Rattle.mvt_numbers.proofs.Pieces.{packed-spelling, packed-bad}
+use Rattle.mvt_messages.proofs.Pieces.{packed-spelling, packed-bad}
 
 -- ---- decisions
 

@@ -14,12 +14,12 @@ use Rattle.mvt_document.specs.Opens.{IsField}
 use Rattle.mvt_document.proofs.EachItem.{all_dropped, all_joined}
 use Rattle.mvt_document.proofs.Spelling.{minimal_spelling, length-spell, width_within_grows}
 use Rattle.mvt_document.proofs.Sizes.{length-delimited}
-use Rattle.mvt_numbers.specs.Numbers.{Placed, pieces, unpacked, numbers_of, all_good}
+use Rattle.mvt_messages.specs.Numbers.{Placed, pieces, unpacked, numbers_of, all_good}
 use Rattle.mvt_renumber.specs.Renumbering.{with_number, decided, renumbered, with_numbers, field_numbers, with_left, renumbered_field, renumber}
 use Rattle.mvt_renumber.specs.Deciding.{packed_numbers, packed_field}
-use Rattle.mvt_numbers.specs.Laws.{spellings, AreNumbers}
+use Rattle.mvt_messages.specs.Laws.{spellings, AreNumbers}
 use Rattle.mvt_renumber.specs.Laws.{AreShort, keeping, NoneIsGreater, NoneIsNew, LeftIsRead, KeptStays, FieldNoLonger, LowerNoLonger, NoLonger, OthersStay, StaysValid}
-use Rattle.mvt_numbers.proofs.Pieces.{found_spelled}
+use Rattle.mvt_messages.proofs.Pieces.{found_spelled}
 use Rattle.mvt_renumber.proofs.Decisions.{plain_numbers, packed-spellings, renumbered-none, renumbered_more, renumbered-no_more, with_number-same}
 use Rattle.mvt_renumber.proofs.Reread.{found_in, both_found, both_some, field_read, fields_read, fields_read-append, read_is}
 

@@ -5,7 +5,7 @@ use Rattle.std.specs.Option.{unwrap_or}
 use Rattle.std.specs.List.{flat_map, enumerate_from}
 use Rattle.std.proofs.lemmas.Bool.{cond-true, cond-false, cond_both}
 use Rattle.mvt_document.specs.Plain.{Number, Body, Spelled, Eight, Four, Delimited, Group, Field}
-use Rattle.mvt_numbers.specs.Numbers.{Placed, pieces, numbers_of, numbers_in, through_bad, all_good, and_more}
+use Rattle.mvt_messages.specs.Numbers.{Placed, pieces, numbers_of, numbers_in, through_bad, all_good, and_more}
 use Rattle.mvt_renumber.specs.Renumbering.{field_numbers}
 use Rattle.mvt_renumber.specs.Laws.{read_numbers, ReadOfFields, AppendedIsRead}
 use Rattle.mvt_renumber.proofs.Decisions.{plain_numbers, and_more-plain, unplaced}

@@ -5,7 +5,7 @@ use Rattle.std.specs.Option.{unwrap_or}
 use Rattle.mvt_document.specs.Plain.{Number, Delimited, Field}
 use Rattle.mvt_document.specs.Wire.{spelling}
 use Rattle.mvt_document.specs.Groups.{IsNumber}
-use Rattle.mvt_numbers.specs.Numbers.{Placed, pieces, unpacked, all_good}
+use Rattle.mvt_messages.specs.Numbers.{Placed, pieces, unpacked, all_good}
 use Rattle.mvt_renumber.specs.Renumbering.{renumbered, some_changed}
 use Rattle.mvt_renumber.specs.declared.renumber.Scan.{Scan}
 use Rattle.mvt_renumber.specs.declared.renumber.Scan.TheVariants as scan

@@ -5,7 +5,7 @@ use Rattle.mvt_document.specs.Plain.{Number, Field}
 use Rattle.mvt_document.specs.Wire.{spelling, field_bytes}
 use Rattle.mvt_document.specs.Groups.{IsNumber}
 use Rattle.mvt_document.specs.Opens.{IsField}
-use Rattle.mvt_numbers.specs.Numbers.{Placed, numbers, all_good}
+use Rattle.mvt_messages.specs.Numbers.{Placed, numbers, all_good}
 use Rattle.mvt_renumber.specs.Renumbering.{with_number, field_numbers, renumber, renumbered, renumbered_field}
 use Rattle.mvt_renumber.specs.Deciding.{packed_field}
 

@@ -5,7 +5,7 @@ use Rattle.std.specs.List.{filter_map, flat_map, list_any, zip}
 use Rattle.std.specs.Option.{option_map_or, unwrap_or}
 use Rattle.mvt_document.specs.Plain.{Number, Body, Spelled, Delimited, Field}
 use Rattle.mvt_document.specs.Wire.{minimal, spelling}
-use Rattle.mvt_numbers.specs.Numbers.{Placed, numbers_in, all_good}
+use Rattle.mvt_messages.specs.Numbers.{Placed, numbers_in, all_good}
 
 -- the old number as it is spelled, where it has this value; else this value in its shortest spelling
 abbrev pub with_number : ℕ → Number → Number

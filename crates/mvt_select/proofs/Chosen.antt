@@ -5,7 +5,7 @@ use Rattle.std.proofs.lemmas.Option.{slice_get-get_or}
 use Rattle.std.specs.List.{enumerate_from}
 use Rattle.mvt_document.specs.Plain.{Layer, OfLayer, Document}
 use Rattle.mvt_document.specs.Stands.{layer_of}
-use Rattle.mvt_command.specs.Command.{LayerChoice, TheLayer}
+use Rattle.mvt_meaning.specs.Command.{LayerChoice, TheLayer}
 use Rattle.mvt_messages.specs.Found.{found_layers, placed_from}
 use Rattle.mvt_layers.specs.Seen.{found_layer_seen}
 use Rattle.mvt_messages.specs.Views.{layer_in}

@@ -8,7 +8,7 @@ use Rattle.std.specs.Option.{ok_or, option_and_then}
 use Rattle.std.specs.Result.{IfErr, IfOk, result_map_both}
 use Rattle.mvt_document.specs.Plain as plain
 use Rattle.mvt_document.specs.Stands.{feature_of, layer_of}
-use Rattle.mvt_command.specs.Command.{LayerChoice, AtOrdinal, Named, FeatureChoice, FeatureAtOrdinal, WithId}
+use Rattle.mvt_meaning.specs.Command.{LayerChoice, AtOrdinal, Named, FeatureChoice, FeatureAtOrdinal, WithId}
 use Rattle.mvt_messages.specs.Found.{with_position, placed_from, found_in, found_layers, found_features}
 use Rattle.mvt_layers.specs.Seen.{found_feature_seen, found_layer_seen}
 use Rattle.mvt_messages.specs.Views.{feature_in, features, has_id, is_named, layer_in, layers, ordinals_of, the_one}

@@ -3,7 +3,7 @@ use Rattle.std.specs.Prelude.{◌≡◌, ℕ, List, [], slice_get, option_map, S
 use Rattle.std.specs.List.{cons_option}
 use Rattle.mvt_document.specs.Plain as plain
 use Rattle.mvt_document.specs.Stands.{feature_of, layer_of}
-use Rattle.mvt_command.specs.Command.{LayerChoice, FeatureChoice}
+use Rattle.mvt_meaning.specs.Command.{LayerChoice, FeatureChoice}
 use Rattle.mvt_meaning.specs.Selection.{feature_positions, layer_positions, selected, selected_feature}
 use Rattle.mvt_layers.specs.Seen.{found_layer_seen}
 use Rattle.mvt_layers.specs.declared.found.FoundLayer.{FoundLayer}

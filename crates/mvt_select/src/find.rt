@@ -6,19 +6,18 @@ ghost use Rattle.mvt_document.specs.Stands.{document_of, layer_of};
 ghost use Rattle.mvt_messages.specs.Found.{found_features, found_layers};
 ghost use Rattle.mvt_layers.specs.Seen.{found_feature_seen, found_layer_seen};
 ghost use Rattle.mvt_messages.specs.Views.{has_id, is_named, the_one};
-ghost use Rattle.mvt_command.specs.CommandStands.{feature_choice_of, layer_choice_of};
+ghost use Rattle.mvt_meaning.specs.CommandStands.{feature_choice_of, layer_choice_of};
 ghost use Rattle.mvt_meaning.specs.Selection.{feature_positions, layer_positions, selected, selected_feature};
 ghost use Rattle.mvt_meaning.specs.declared.refusal.Refusal.TheVariants.{AmbiguousFeature, AmbiguousLayer, NoFeature, NoLayer};
 ghost use Rattle.mvt_select.specs.Found.{IsFoundFeature, IsFoundLayer};
 ghost use Rattle.mvt_select.specs.Refused.{feature_refusal, layer_refusal};
 
-use mvt_command::{FeatureChoice, LayerChoice};
 use mvt_document::{Document, Layer};
 use mvt_layers::{
     FeatureError, FoundFeature, FoundLayer, LayerError, LayerView, feature_by_id, layer,
     layer_named,
 };
-use mvt_meaning::Refusal;
+use mvt_meaning::{FeatureChoice, LayerChoice, Refusal};
 
 /// The selected layer.
 pub fn find_layer<'a>(

@@ -2,15 +2,14 @@
 
 ghost use Rattle.std.specs.Prelude.{◌≡◌, Ok, Err, IfErr, IfOk};
 ghost use Rattle.mvt_document.specs.Stands.{document_of};
-ghost use Rattle.mvt_command.specs.CommandStands.{layers_choice_of};
+ghost use Rattle.mvt_meaning.specs.CommandStands.{layers_choice_of};
 ghost use Rattle.mvt_meaning.specs.Selection.{selected_layers};
 ghost use Rattle.mvt_select.specs.Found.{layers_left};
 
 use crate::find::find_layer;
-use mvt_command::LayersChoice;
 use mvt_document::Document;
 use mvt_layers::{FoundLayer, LayerViews, layers};
-use mvt_meaning::Refusal;
+use mvt_meaning::{LayersChoice, Refusal};
 
 /// The selected layers, in order, each with its ordinal and its position.
 #[derive(Drop)]

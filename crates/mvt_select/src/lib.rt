@@ -18,7 +18,6 @@ mod taken;
 pub use find::{find_feature, find_layer, place_of_feature, place_of_layer};
 pub use last::last_name;
 pub use layers::{SelectedLayers, find_layers};
-pub use mvt_command::{FeatureChoice, LayerChoice, LayersChoice};
 pub use mvt_layers::{FoundFeature, FoundLayer};
-pub use mvt_meaning::Refusal;
+pub use mvt_meaning::{FeatureChoice, LayerChoice, LayersChoice, Refusal};
 pub use taken::find_and_taken;

@@ -8,18 +8,17 @@ ghost use Rattle.mvt_messages.specs.Found.{found_layers};
 ghost use Rattle.mvt_layers.specs.Seen.{found_layer_seen};
 ghost use Rattle.mvt_messages.specs.Views.{is_named, the_one};
 ghost use Rattle.mvt_layers.specs.declared.found.FoundLayer.{FoundLayer};
-ghost use Rattle.mvt_command.specs.Command.{Named};
-ghost use Rattle.mvt_command.specs.CommandStands.{layer_choice_of};
+ghost use Rattle.mvt_meaning.specs.Command.{Named};
+ghost use Rattle.mvt_meaning.specs.CommandStands.{layer_choice_of};
 ghost use Rattle.mvt_meaning.specs.Meaning.{is_taken};
 ghost use Rattle.mvt_meaning.specs.Selection.{selected};
 ghost use Rattle.mvt_meaning.specs.declared.refusal.Refusal.TheVariants.{AmbiguousLayer, NoLayer};
 ghost use Rattle.mvt_select.specs.Found.{IsFoundLayer};
 
 use crate::find::{find_layer, find_named};
-use mvt_command::LayerChoice;
 use mvt_document::Document;
 use mvt_layers::{FoundLayer, layers};
-use mvt_meaning::Refusal;
+use mvt_meaning::{LayerChoice, Refusal};
 
 /// The selected layer, and whether a layer of another ordinal has the name. Each layer's name is
 /// looked up once.

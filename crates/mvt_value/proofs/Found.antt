@@ -10,8 +10,8 @@ use Rattle.mvt_document.specs.Wire.{spell, spelling, delimited, body_bytes, fiel
 use Rattle.mvt_document.specs.Groups.{IsNumber, wire_type, IsBodyWith, IsGroup, StoresBody, StoresField}
 use Rattle.mvt_document.specs.Opens.{IsField}
 use Rattle.mvt_document.proofs.Spelling.{max_spelling, spelling_some}
-use Rattle.mvt_numbers.specs.Numbers.{pieces, number_in}
-use Rattle.mvt_numbers.proofs.Pieces.{pieces-joined, pieces-spelling, number_in-spell, spelling_of_piece}
+use Rattle.mvt_messages.specs.Numbers.{pieces, number_in}
+use Rattle.mvt_messages.proofs.Pieces.{pieces-joined, pieces-spelling, number_in-spell, spelling_of_piece}
 use Rattle.mvt_value.specs.Values.{Value, OfText, OfFloat, OfDouble, OfInt, OfUint, OfSint, OfBool}
 use Rattle.mvt_value.specs.Messages.{BodyHas, FieldHas, HasValue}
 use Rattle.mvt_document.specs.Signed.{unzigzag}

@@ -3,7 +3,7 @@
 use Rattle.std.specs.Prelude.{ℕ, ◌+◌, ◌*◌, ◌==◌, not, List, [], ◌∷◌, length, Option, Some, None, option_map, option_and_then, if◌then◌else◌}
 use Rattle.std.specs.List.{flat_map}
 use Rattle.mvt_document.specs.Plain.{Number}
-use Rattle.mvt_numbers.specs.Numbers.{pieces, number_in}
+use Rattle.mvt_messages.specs.Numbers.{pieces, number_in}
 use Rattle.mvt_value.specs.Values.{Value, OfText, OfFloat, OfDouble, OfInt, OfUint, OfSint, OfBool}
 use Rattle.mvt_document.specs.Signed.{unzigzag}
 use Rattle.mvt_value.specs.Signed.{signed}

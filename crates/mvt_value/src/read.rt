@@ -3,7 +3,7 @@
 ghost use Rattle.std.specs.Prelude.{◌≡◌, ◌/◌, Some, IfSome, IsSomeAnd, IfNone};
 ghost use Rattle.mvt_document.specs.Plain.{Spelled};
 ghost use Rattle.mvt_document.specs.Bodies.{number_of};
-ghost use Rattle.mvt_read.specs.Fronts.{front_of};
+ghost use Rattle.mvt_wire.specs.Fronts.{front_of};
 ghost use Rattle.mvt_value.specs.Values.{Value as PlainValue};
 ghost use Rattle.mvt_value.specs.Messages.{BodyHas, FieldHas, HasValue};
 ghost use Rattle.mvt_value.specs.Stands.{shown_by, raw_of};
@@ -11,7 +11,7 @@ ghost use Rattle.mvt_value.specs.Stands.{shown_by, raw_of};
 use crate::tags::{BOOL, DOUBLE, FLOAT, INT, SINT, STRING, UINT};
 use crate::value::Value;
 use mvt_document::{BodyRef, Varint, from_zigzag};
-use mvt_read::{FieldRef, field_at_front};
+use mvt_wire::{FieldRef, field_at_front};
 
 /// The value whose bytes these are: those of one field with a number and a wire type that a value
 /// may have. All other bytes are `Raw`.

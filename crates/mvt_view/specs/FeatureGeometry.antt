@@ -3,7 +3,7 @@ use Rattle.std.specs.Prelude.{◌≡◌, ℕ, ◌^◌, Bool, List, Option, Some,
 use Rattle.std.specs.List.{list_all}
 use Rattle.std.specs.Option.{option_and_then}
 use Rattle.mvt_document.specs.Plain.{Feature}
-use Rattle.mvt_numbers.specs.Numbers.{Placed, numbers}
+use Rattle.mvt_messages.specs.Numbers.{Placed, numbers}
 use Rattle.mvt_geometry.specs.Shapes.{Geometry}
 use Rattle.mvt_geometry.specs.Integers.{HasGeometry}
 use Rattle.mvt_messages.specs.Views.{kind_of}

@@ -2,15 +2,15 @@
 
 ghost use Rattle.std.specs.Prelude.{◌≡◌, Some, None, IfOk, is_some};
 ghost use Rattle.std.specs.Result.{IsErrOf};
-ghost use Rattle.mvt_numbers.specs.Numbers.{numbers};
-ghost use Rattle.mvt_numbers.specs.Seen.{number_seen};
+ghost use Rattle.mvt_messages.specs.Numbers.{numbers};
+ghost use Rattle.mvt_messages.specs.Seen.{number_seen};
 ghost use Rattle.mvt_geometry.specs.Shapes.{Geometry as PlainGeometry};
 ghost use Rattle.mvt_view.specs.FeatureGeometry.{HasFeatureGeometry, integer_in, integers_in};
 ghost use Rattle.mvt_layers.specs.Seen.{feature_seen};
 
 use mvt_geometry::{Geometry, GeometryError, geometry_of};
 use mvt_layers::FeatureView;
-use mvt_numbers::{BadChunk, Number, Numbers};
+use mvt_messages::{BadChunk, Number, Numbers};
 use std::alloc::Global;
 
 /// The geometry whose numbers the feature has, for its kind. If one of them can't be read, or has

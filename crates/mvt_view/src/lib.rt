@@ -6,7 +6,7 @@
 //!   kind. Only an out-of-memory error may come in place of either: `geometry`.
 //!
 //! `geometry` takes an allocator. The crate re-exports the names of `mvt_layers`, which has the
-//! views, of `mvt_numbers` and of `mvt_geometry`, so it has everything that is seen of a tile, and
+//! views, of `mvt_messages` and of `mvt_geometry`, so it has everything that is seen of a tile, and
 //! the encoder of geometries. Definitions of these have paths in this crate too:
 //! `Rattle.mvt_view.specs.Views` is the Views of `mvt_messages`.
 #![tactic(auto)]
@@ -22,4 +22,4 @@ pub use mvt_layers::{
     FoundLayer, LayerError, LayerView, LayerViews, Pair, PairsError, PoolSizes, TagPair, TagPairs,
     feature_by_id, last_name, laws, layer, layer_count, layer_named, layers, pairs,
 };
-pub use mvt_numbers::{BadChunk, Number, Numbers};
+pub use mvt_messages::{BadChunk, Number, Numbers};

@@ -5,3 +5,8 @@ pub use Rattle.mvt_document.proofs.Settling
 pub use Rattle.mvt_document.proofs.Sizes
 pub use Rattle.mvt_document.proofs.Spelling
 pub use Rattle.mvt_document.proofs.Steps
+pub mod Begins
+pub mod Documents
+pub mod GroupSteps
+pub mod OpenBytes
+pub mod Reaches

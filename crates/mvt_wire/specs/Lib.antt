@@ -12,6 +12,8 @@ pub use Rattle.mvt_document.specs.LendingKept
 pub use Rattle.mvt_document.specs.Stands
 pub use Rattle.mvt_document.specs.Values
 pub use Rattle.mvt_document.specs.Settle
-pub use Rattle.mvt_read.specs.Fronts
 pub use Rattle.mvt_document.specs.declared.TheConstants
 pub use Rattle.mvt_document.specs.Splicing
+pub mod Open
+pub mod Fronts
+pub mod Stops

@@ -5,7 +5,7 @@ use Rattle.std.specs.List.{AllByRecursion, flat_map}
 use Rattle.std.proofs.lemmas.Bool.{cases_Bool}
 use Rattle.std.proofs.lemmas.List.Elements.{recursion_from_All}
 use Rattle.mvt_document.proofs.EachItem.{all_apart}
-use Rattle.tile_request.specs.Request.{Request}
+use Rattle.tile_arguments.specs.Request.{Request}
 use Rattle.tile_script.specs.Line.{answer_to}
 use Rattle.tile_lines.specs.Lines.{is_line_feed, lines_of, HasNoLineFeed, with_feed, EndsWithALine}
 use Rattle.tile_lines.proofs.LineCuts.{none_of_none}
@@ -14,16 +14,16 @@ use Rattle.tile_listing.specs.Printed.{MayBePrinted, AreLinesToPrint}
 use Rattle.tile_listing.proofs.Printing.{uncut-append, decimal_uncut}
 use Rattle.tile_course.specs.Answering.{Answer, carried_out}
 use Rattle.tile_course.proofs.AnswerLaws.{requests_print_lines, no_request_is_out_of_memory}
-use Rattle.tile_reply.specs.Replies.{accepted_reply, refused_front, refused_reply, refusal_number, refusal_name, place_text, after_name, IsOutOfMemory, NoneIsOutOfMemory}
+use Rattle.tile_course.specs.Replies.{accepted_reply, refused_front, refused_reply, refusal_number, refusal_name, place_text, after_name, IsOutOfMemory, NoneIsOutOfMemory}
 use Rattle.tile_course.specs.Run.{Progress, at_first, ran, settled_by, answered_by, after_line, is_over, after_lines}
 use Rattle.run_laws.specs.RunLaws.{NoRunIsOutOfMemory}
 use Rattle.mvt_meaning.specs.declared.refusal.Refusal.TheVariants as edit
-use Rattle.mvt_history_error.specs.declared.HistoryError.TheVariants as history
-use Rattle.tile_words.specs.declared.parse_error.ParseError.{ParseError}
-use Rattle.tile_words.specs.declared.parse_error.ParseError.TheVariants as parse
-use Rattle.tile_reply.specs.declared.refused.Refused.{Refused}
-use Rattle.tile_reply.specs.declared.refused.Refused.TheVariants as refused
-use Rattle.mvt_command.proofs.Others.{Other}
+use Rattle.mvt_history_steps.specs.declared.error.HistoryError.TheVariants as history
+use Rattle.tile_lines.specs.declared.parse_error.ParseError.{ParseError}
+use Rattle.tile_lines.specs.declared.parse_error.ParseError.TheVariants as parse
+use Rattle.tile_course.specs.declared.refused.Refused.{Refused}
+use Rattle.tile_course.specs.declared.refused.Refused.TheVariants as refused
+use Rattle.mvt_meaning.proofs.Others.{Other}
 use Rattle.tile_script.proofs.ParseRefusals.{answer_other}
 use Rattle.tile_course.proofs.Prefixes.{first_lines}
 use Rattle.tile_course.proofs.ReplyEnds.{ends-append, before_name, refused_text, refused_ends, runs_out, runs_out_not, other_is_not_out_of_memory}

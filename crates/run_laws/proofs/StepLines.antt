@@ -8,8 +8,8 @@ use Rattle.history_laws.proofs.NoTrace.{cancel_leaves_no_trace}
 use Rattle.history_laws.proofs.HistoryLaws.{step_undoes_whole}
 use Rattle.history_laws.proofs.BackToMark.{back_to_mark}
 use Rattle.history_laws.proofs.HistoryLaws.{stays_sound}
-use Rattle.mvt_command.specs.Requests.{Begin, End, Cancel, Undo, SetMark, GoBack}
-use Rattle.tile_request.specs.Request.{Request, OnHistory}
+use Rattle.mvt_meaning.specs.Requests.{Begin, End, Cancel, Undo, SetMark, GoBack}
+use Rattle.tile_arguments.specs.Request.{Request, OnHistory}
 use Rattle.tile_script.specs.Line.{answer_to}
 use Rattle.tile_course.specs.Run.{Progress, after_lines}
 use Rattle.run_laws.specs.RunLaws.{asked_of, asked_in, requests_of, CancelInARun, StepUndoneInARun, BackInARun}

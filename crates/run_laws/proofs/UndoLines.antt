@@ -2,12 +2,12 @@
 use Rattle.std.proofs.Common.{◌≡◌, ℕ, Bool, false, List, [], ◌∷◌, ◌++◌, Some, Ok, refl, ap, ◌∙◌, inl, append_assoc}
 use Rattle.mvt_document.specs.Plain.{Document}
 use Rattle.mvt_document.specs.Wire.{bytes_of}
-use Rattle.mvt_command.specs.Requests.{Edit, Undo}
-use Rattle.tile_request.specs.Request.{Request, OnHistory}
+use Rattle.mvt_meaning.specs.Requests.{Edit, Undo}
+use Rattle.tile_arguments.specs.Request.{Request, OnHistory}
 use Rattle.tile_script.specs.Line.{answer_to}
 use Rattle.tile_lines.specs.Lines.{lines_of, HasNoLineFeed, with_feed, EndsWithALine}
 use Rattle.mvt_history_steps.specs.History.{History, with_command, edited_to, edited}
-use Rattle.tile_reply.specs.declared.refused.Refused.TheVariants as refused
+use Rattle.tile_course.specs.declared.refused.Refused.TheVariants as refused
 use Rattle.tile_course.specs.Answering.{Answer, answer_of_change, carried_out}
 use Rattle.tile_course.specs.Run.{Progress, accepted, answered_by, settled_by, after_line, is_over, after_lines, ran, tile_of}
 use Rattle.run_laws.specs.RunLaws.{UndoInARun, UndoInAScript}

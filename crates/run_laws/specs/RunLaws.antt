@@ -2,20 +2,20 @@
 use Rattle.std.specs.Prelude.{◌≡◌, ℕ, ◌+◌, ◌≤◌, Bool, true, false, List, [], ◌∷◌, ◌++◌, take, Option, Some, None, Result, Ok, Err}
 use Rattle.std.specs.List.{AllByRecursion, flat_map}
 use Rattle.mvt_document.specs.Plain.{Document}
-use Rattle.mvt_command.specs.Command.{Command}
-use Rattle.mvt_command.specs.Requests.{HistoryRequest, Edit, Undo, SetMark, GoBack, Begin, End, Cancel}
-use Rattle.tile_request.specs.Request.{Request, OnHistory}
+use Rattle.mvt_meaning.specs.Command.{Command}
+use Rattle.mvt_meaning.specs.Requests.{HistoryRequest, Edit, Undo, SetMark, GoBack, Begin, End, Cancel}
+use Rattle.tile_arguments.specs.Request.{Request, OnHistory}
 use Rattle.mvt_meaning.specs.Meaning.{applied}
 use Rattle.tile_script.specs.Line.{answer_to}
 use Rattle.tile_lines.specs.Lines.{lines_of, HasNoLineFeed, with_feed, EndsWithALine}
 use Rattle.mvt_history_steps.specs.History.{History, IsSound, commands_in, standing_document, marked, gone_back}
 use Rattle.mvt_history_steps.specs.Requests.{SetsOther, LeavesOpen, asked_all}
-use Rattle.tile_words.specs.declared.parse_error.ParseError.{ParseError}
+use Rattle.tile_lines.specs.declared.parse_error.ParseError.{ParseError}
 use Rattle.tile_course.specs.AnswerLaws.{Looks}
-use Rattle.tile_reply.specs.Replies.{accepted_reply, refused_reply, NoneIsOutOfMemory}
+use Rattle.tile_course.specs.Replies.{accepted_reply, refused_reply, NoneIsOutOfMemory}
 use Rattle.tile_course.specs.Run.{Progress, after_line, after_lines, is_over, ran, tile_of, Walk}
 use Rattle.tile_course.specs.declared.outcome.Options.{Options}
-use Rattle.tile_reply.specs.declared.refused.Refused.{Refused}
+use Rattle.tile_course.specs.declared.refused.Refused.{Refused}
 
 -- ---- prefixes
 

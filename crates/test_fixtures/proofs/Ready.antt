@@ -3,7 +3,7 @@ use Rattle.std.proofs.Common.{◌≡◌, Bool, true, false, Ok, if◌then◌else
 use Rattle.mvt_wire.specs.Plain.{Document}
 use Rattle.mvt_change.specs.Changes.{Change, Fits, go, turn}
 use Rattle.mvt_change.proofs.Turning.{change_makes, fits_joined, go_joined, turned_fits}
-use Rattle.mvt_command.specs.Command.{Command}
+use Rattle.mvt_meaning.specs.Command.{Command}
 use Rattle.mvt_meaning.specs.Meaning.{applied}
 use Rattle.test_fixtures.specs.Edits.{Edit, CanFlip, Series, IsSeries}
 

@@ -9,8 +9,8 @@ use Rattle.std.proofs.lemmas.Bool.{ltb-true, ltb-false, lt-ltb, le-leb, lt-leb, 
 use Rattle.std.proofs.lemmas.Bool.Decides.{nat_tests}
 use Rattle.std.proofs.lemmas.List.{take-append-drop, map-append}
 use Rattle.std.proofs.lemmas.Int.Digits.{digits_value_is, digits_value_more, number_after_append, number_after_ge}
-use Rattle.tile_words.specs.declared.parse_error.ParseError.TheVariants.{BadNumber}
-use Rattle.tile_words.specs.declared.parse_error.ParseError.{ParseError}
+use Rattle.tile_lines.specs.declared.parse_error.ParseError.TheVariants.{BadNumber}
+use Rattle.tile_lines.specs.declared.parse_error.ParseError.{ParseError}
 use Rattle.tile_arguments.specs.Arguments.{are_digits, is_number, number_of, number_up_to}
 
 -- the value so far is no more than the whole

@@ -2,8 +2,8 @@
 use Rattle.std.proofs.Common.{◌≡◌, ℕ, ◌+◌, ◌<◌, ◌≤◌, Bool, true, false, cond, List, [], ◌∷◌, ◌++◌, map, length, drop, get_or, Result, Ok, Err, refl, sym, ap, ◌∙◌, append_assoc}
 use Rattle.std.specs.List.{slice_split, onto_first}
 use Rattle.std.proofs.lemmas.List.{append-nil, at_drop_more, at_drop_all}
-use Rattle.tile_words.specs.Answers.{◌>>=◌}
-use Rattle.tile_words.specs.declared.parse_error.ParseError.{ParseError}
+use Rattle.tile_lines.specs.Answers.{◌>>=◌}
+use Rattle.tile_lines.specs.declared.parse_error.ParseError.{ParseError}
 use Rattle.tile_arguments.specs.Arguments.{each}
 
 -- those that were read, and what is read of the rest

@@ -2,13 +2,13 @@
 use Rattle.std.proofs.Common.{◌≡◌, ◌≢◌, Bool, true, false, cond, List, [], ◌∷◌, map, Option, Some, None, Result, Ok, Err, refl, sym, ap, ◌∙◌}
 use Rattle.std.specs.Prelude.{◌&&◌, ◌||◌, is_ok, ok_or, option_and_then}
 use Rattle.std.specs.List.{list_all, slice_split, onto_first}
-use Rattle.mvt_command.proofs.Others.{Other}
-use Rattle.tile_words.specs.Answers.{◌>>=◌}
-use Rattle.tile_words.specs.Words.{Word}
-use Rattle.tile_words.specs.WordStands.{word_of}
-use Rattle.tile_words.specs.declared.words.Word as program
-use Rattle.tile_words.specs.declared.parse_error.ParseError.{ParseError}
-use Rattle.tile_words.specs.declared.parse_error.ParseError.TheVariants as parse
+use Rattle.mvt_meaning.proofs.Others.{Other}
+use Rattle.tile_lines.specs.Answers.{◌>>=◌}
+use Rattle.tile_lines.specs.Words.{Word}
+use Rattle.tile_lines.specs.WordStands.{word_of}
+use Rattle.tile_lines.specs.declared.words.Word as program
+use Rattle.tile_lines.specs.declared.parse_error.ParseError.{ParseError}
+use Rattle.tile_lines.specs.declared.parse_error.ParseError.TheVariants as parse
 use Rattle.tile_arguments.specs.Arguments.{bare_in, text_in, text_of, each, texts_of, point_in, point_of, part_of, is_bar, parts_of}
 
 -- where it is refused, it is for this reason

@@ -4,8 +4,8 @@ use Rattle.std.specs.Prelude.{codes}
 use Rattle.std.specs.Char.{is_ascii_digit}
 use Rattle.std.specs.Str.Parse.{digits_value}
 use Rattle.std.proofs.lemmas.Bool.Decides.{nat_tests}
-use Rattle.mvt_command.specs.Command.{AtOrdinal, Named, FeatureAtOrdinal, WithId}
-use Rattle.tile_words.specs.Words.{Bare, Quoted}
+use Rattle.mvt_meaning.specs.Command.{AtOrdinal, Named, FeatureAtOrdinal, WithId}
+use Rattle.tile_lines.specs.Words.{Bare, Quoted}
 use Rattle.tile_arguments.specs.Arguments.{after_mark, is_number, text_in, text_of, layer_of, feature_by, feature_of}
 use Rattle.tile_arguments.proofs.Digits.{is_number_parts, digit_among, number_is}
 

@@ -4,7 +4,7 @@ use Rattle.std.specs.Prelude.{◌==◌}
 use Rattle.std.specs.List.{position, position_or_len}
 use Rattle.std.proofs.lemmas.Bool.{ltb-true, ltb-false}
 use Rattle.std.proofs.lemmas.List.{drop_all}
-use Rattle.tile_words.proofs.Places.{place_le}
+use Rattle.tile_lines.proofs.Places.{place_le}
 use Rattle.tile_arguments.specs.Arguments.{after_mark, number_up_to, signed_of, delta_of, point_at, point_in}
 
 place_found : (p : ℕ → Bool) (xs : List ℕ) (k : ℕ) → position p xs ≡ Some k → (position_or_len p xs ≡ k) × (k < length xs)

@@ -5,12 +5,12 @@ use Rattle.std.specs.List.{find}
 use Rattle.std.specs.Str.{bytes_eq}
 use Rattle.mvt_geometry.specs.declared.shapes.Point.{Point}
 use Rattle.mvt_geometry.specs.declared.shapes.Kind.{Kind}
-use Rattle.mvt_command.specs.Command.{AtOrdinal, Named, TheLayer, EachLayer, FeatureAtOrdinal, WithId}
-use Rattle.tile_words.specs.Words.{Word, Bare, Quoted}
-use Rattle.tile_words.specs.Answers.{◌>>=◌}
-use Rattle.tile_words.specs.declared.parse_error.ParseError.{ParseError}
-use Rattle.tile_words.specs.declared.parse_error.ParseError.TheVariants as parse
-use Rattle.mvt_command.proofs.Others.{Other, either}
+use Rattle.mvt_meaning.specs.Command.{AtOrdinal, Named, TheLayer, EachLayer, FeatureAtOrdinal, WithId}
+use Rattle.tile_lines.specs.Words.{Word, Bare, Quoted}
+use Rattle.tile_lines.specs.Answers.{◌>>=◌}
+use Rattle.tile_lines.specs.declared.parse_error.ParseError.{ParseError}
+use Rattle.tile_lines.specs.declared.parse_error.ParseError.TheVariants as parse
+use Rattle.mvt_meaning.proofs.Others.{Other, either}
 use Rattle.tile_arguments.proofs.Judged.{only_other, texts_only, parts_only}
 use Rattle.tile_arguments.specs.Arguments.{after_mark, is_number, number_of, number_in, delta_of, distance_of, text_in, text_of, texts_of, layer_by, layer_of, is_star, layers_of, feature_by, feature_of, parts_of, kinds, kind_word, kind_of, are_parts, shaped, geometry_of, value_in, value_of}
 

@@ -7,10 +7,10 @@ use Rattle.std.proofs.lemmas.Bool.{leb-true, le-leb, and_parts}
 use Rattle.mvt_geometry.specs.Shapes.{Geometry, least_points, IsPlaced, IsPart, IsGeometry}
 use Rattle.mvt_geometry.specs.declared.shapes.Point.{Point}
 use Rattle.mvt_geometry.specs.declared.shapes.Kind.{Kind}
-use Rattle.tile_words.specs.Answers.{◌>>=◌}
-use Rattle.tile_words.specs.Words.{Word}
-use Rattle.tile_words.specs.declared.parse_error.ParseError.{ParseError}
-use Rattle.tile_words.specs.declared.parse_error.ParseError.TheVariants.{BadGeometryText}
+use Rattle.tile_lines.specs.Answers.{◌>>=◌}
+use Rattle.tile_lines.specs.Words.{Word}
+use Rattle.tile_lines.specs.declared.parse_error.ParseError.{ParseError}
+use Rattle.tile_lines.specs.declared.parse_error.ParseError.TheVariants.{BadGeometryText}
 use Rattle.mvt_geometry.specs.Checks.{is_part_count}
 use Rattle.mvt_geometry.proofs.Checks.{counted-Decides}
 use Rattle.tile_arguments.specs.Arguments.{after_mark, are_digits, number_up_to, signed_by, signed_of, delta_of, each, point_at, point_in, bare_in, point_of, part_of, is_bar, parts_of, are_parts, shaped}

@@ -6,17 +6,17 @@ use Rattle.std.specs.Result.{result_ok}
 use Rattle.std.specs.Str.{bytes_eq, all_ascii_digits}
 use Rattle.std.specs.Str.Parse.{digits_value}
 use Rattle.hex.specs.Hex.{decode_of, decode_sized}
-use Rattle.mvt_command.specs.Command.{LayerChoice, AtOrdinal, Named, LayersChoice, TheLayer, EachLayer, FeatureChoice, FeatureAtOrdinal, WithId}
+use Rattle.mvt_meaning.specs.Command.{LayerChoice, AtOrdinal, Named, LayersChoice, TheLayer, EachLayer, FeatureChoice, FeatureAtOrdinal, WithId}
 use Rattle.mvt_geometry.specs.Shapes.{Geometry, least_points}
 use Rattle.mvt_geometry.specs.Checks.{is_part_count}
 use Rattle.mvt_geometry.specs.declared.shapes.Point.{Point}
 use Rattle.mvt_geometry.specs.declared.shapes.Kind.{Kind}
 use Rattle.mvt_geometry.specs.declared.shapes.Kind.TheVariants.{Dots, Lines, Areas}
 use Rattle.mvt_value.specs.Values.{Value, OfText, OfFloat, OfDouble, OfInt, OfUint, OfSint, OfBool}
-use Rattle.tile_words.specs.Words.{Word, Bare, Quoted}
-use Rattle.tile_words.specs.Answers.{◌>>=◌}
-use Rattle.tile_words.specs.declared.parse_error.ParseError.{ParseError}
-use Rattle.tile_words.specs.declared.parse_error.ParseError.TheVariants.{BadArguments, BadNumber, BadValue, BadGeometryText}
+use Rattle.tile_lines.specs.Words.{Word, Bare, Quoted}
+use Rattle.tile_lines.specs.Answers.{◌>>=◌}
+use Rattle.tile_lines.specs.declared.parse_error.ParseError.{ParseError}
+use Rattle.tile_lines.specs.declared.parse_error.ParseError.TheVariants.{BadArguments, BadNumber, BadValue, BadGeometryText}
 
 -- what follows a mark, where the bytes begin with it
 abbrev pub after_mark : List ℕ → List ℕ → Option (List ℕ)

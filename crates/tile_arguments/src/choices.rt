@@ -2,17 +2,17 @@
 
 ghost use Rattle.std.specs.Prelude.{◌≡◌, IsSome};
 ghost use Rattle.std.specs.Result.{IsErrOf};
-ghost use Rattle.mvt_command.specs.CommandStands.{layer_choice_of, layers_choice_of, feature_choice_of};
-ghost use Rattle.tile_words.specs.Answers.{Gives, GivesAlways};
-ghost use Rattle.tile_words.specs.WordStands.{word_of};
+ghost use Rattle.mvt_meaning.specs.CommandStands.{layer_choice_of, layers_choice_of, feature_choice_of};
+ghost use Rattle.tile_lines.specs.Answers.{Gives, GivesAlways};
+ghost use Rattle.tile_lines.specs.WordStands.{word_of};
 ghost use Rattle.tile_arguments.specs.Arguments.{text_in, layer_of, is_star, layers_of, feature_of};
 
 use crate::marks::after_mark;
 use crate::numbers::number;
 use crate::texts::text_argument;
-use mvt_command::{FeatureChoice, LayerChoice, LayersChoice};
+use mvt_meaning::{FeatureChoice, LayerChoice, LayersChoice};
 use std::alloc::Global;
-use tile_words::{ParseError, Word};
+use tile_lines::{ParseError, Word};
 
 /// The layer that a word means.
 #[tactic(auto, unfolding(crate::specs::Arguments::layer_of))]

@@ -5,15 +5,15 @@ ghost use Rattle.std.specs.List.{AllByRecursion, list_all};
 ghost use Rattle.std.specs.Result.{IsErrOf};
 ghost use Rattle.mvt_geometry.specs.Shapes.{IsPlaced};
 ghost use Rattle.mvt_geometry.specs.Stands.{points_of};
-ghost use Rattle.tile_words.specs.Answers.{Gives};
-ghost use Rattle.tile_words.specs.WordStands.{word_of};
+ghost use Rattle.tile_lines.specs.Answers.{Gives};
+ghost use Rattle.tile_lines.specs.WordStands.{word_of};
 ghost use Rattle.tile_arguments.specs.Arguments.{point_in, point_of, part_of, is_bar, parts_of, shaped, kind_word, kind_of, geometry_of, DrawsPoints};
 
 use crate::numbers::delta;
 use mvt_document::Items;
 use mvt_geometry::{Geometry, Kind, Part, Point};
 use std::alloc::Global;
-use tile_words::{ParseError, Word};
+use tile_lines::{ParseError, Word};
 
 /// The geometry that words say: the name of its kind, and its points.
 #[tactic(auto, unfolding(crate::specs::Arguments::geometry_of))]

@@ -2,11 +2,11 @@
 
 ghost use Rattle.std.specs.Prelude.{◌≡◌, ◌+◌, ◌*◌, ◌^◌, ◌<◌, ◌≤◌, neg_ℤ, pos, IfSome};
 ghost use Rattle.std.specs.Option.{SomeIff};
-ghost use Rattle.tile_words.specs.WordStands.{word_of};
+ghost use Rattle.tile_lines.specs.WordStands.{word_of};
 ghost use Rattle.tile_arguments.specs.Arguments.{number_of, number_in, number_up_to, signed_of, delta_of, distance_of};
 
 use crate::marks::after_mark;
-use tile_words::{ParseError, Word};
+use tile_lines::{ParseError, Word};
 
 /// The farthest that points move or lie.
 const FARTHEST: u64 = 2_147_483_647;

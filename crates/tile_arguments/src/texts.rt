@@ -4,14 +4,14 @@ ghost use Rattle.std.specs.Prelude.{◌≡◌, is_ok, is_some, IfOk, IsErr, IsOk
 ghost use Rattle.std.specs.List.{list_all};
 ghost use Rattle.std.specs.Result.{IsErrOf};
 ghost use Rattle.hex.specs.Hex.{is_hex_digit};
-ghost use Rattle.tile_words.specs.Answers.{Gives};
-ghost use Rattle.tile_words.specs.WordStands.{word_of};
+ghost use Rattle.tile_lines.specs.Answers.{Gives};
+ghost use Rattle.tile_lines.specs.WordStands.{word_of};
 ghost use Rattle.tile_arguments.specs.Arguments.{text_in, text_of, texts_of, bytes_in};
 
 use crate::marks::after_mark;
 use mvt_document::Items;
 use std::alloc::{AllocError, Global};
-use tile_words::{ParseError, Word, text};
+use tile_lines::{ParseError, Word, text};
 
 /// The text that a word says.
 #[tactic(auto, unfolding(crate::specs::Arguments::text_of))]

@@ -4,9 +4,9 @@ ghost use Rattle.std.specs.Prelude.{◌≡◌, codes, IfOk, IsErr, IsSome, IsTru
 ghost use Rattle.std.specs.Result.{IsErrOf};
 ghost use Rattle.std.specs.Str.{bytes_eq};
 ghost use Rattle.mvt_value.specs.Stands.{new_value_of};
-ghost use Rattle.tile_words.specs.Answers.{Gives};
-ghost use Rattle.tile_words.specs.Words.{Bare};
-ghost use Rattle.tile_words.specs.WordStands.{word_of};
+ghost use Rattle.tile_lines.specs.Answers.{Gives};
+ghost use Rattle.tile_lines.specs.Words.{Bare};
+ghost use Rattle.tile_lines.specs.WordStands.{word_of};
 ghost use Rattle.tile_arguments.specs.Arguments.{text_in, value_of, value_in, bare_value, pairs_in, integer_of, truth_in};
 
 use crate::numbers::{number, signed};
@@ -14,7 +14,7 @@ use crate::texts::text_in;
 use hex::FromHex;
 use mvt_value::NewValue;
 use std::alloc::{AllocError, Global};
-use tile_words::{ParseError, Word};
+use tile_lines::{ParseError, Word};
 
 /// The value that a word says, of the type that the word before it names.
 #[tactic(auto, unfolding(crate::specs::Arguments::value_of))]

@@ -7,9 +7,9 @@ use Rattle.std.proofs.lemmas.List.Elements.{All-append}
 use Rattle.std.specs.List.{flat_map}
 use Rattle.mvt_document.specs.Plain.{Document}
 use Rattle.mvt_document.specs.Wire.{bytes_of}
-use Rattle.mvt_command.specs.Command.{Command}
-use Rattle.mvt_command.specs.Requests.{Edit, Undo, Redo, SetMark, TakeMark, GoBack, Begin, End, Cancel}
-use Rattle.mvt_command.proofs.Others.{Other}
+use Rattle.mvt_meaning.specs.Command.{Command}
+use Rattle.mvt_meaning.specs.Requests.{Edit, Undo, Redo, SetMark, TakeMark, GoBack, Begin, End, Cancel}
+use Rattle.mvt_meaning.proofs.Others.{Other}
 use Rattle.mvt_meaning.specs.Meaning.{applied}
 use Rattle.mvt_meaning.specs.declared.refusal.Refusal.{Refusal}
 use Rattle.mvt_meaning.specs.declared.refusal.Refusal.TheVariants as edit
@@ -17,18 +17,18 @@ use Rattle.mvt_meaning.proofs.NeverOutOfMemory.{applied_other}
 use Rattle.tile_lines.specs.Lines.{HasNoLineFeed, with_feed}
 use Rattle.tile_text.specs.Texts.{text_form}
 use Rattle.tile_text.proofs.Feeds.{text_form_feedless}
-use Rattle.tile_request.specs.Request.{OnHistory, ListMarks, PrintHistory, Size, Lists}
+use Rattle.tile_arguments.specs.Request.{OnHistory, ListMarks, PrintHistory, Size, Lists}
 use Rattle.tile_listing.specs.Listing.{listed}
 use Rattle.tile_listing.specs.Printed.{MayBePrinted, AreLinesToPrint}
 use Rattle.tile_listing.proofs.Printing.{uncut-append, decimal_uncut, none_to_print, one_to_print}
 use Rattle.tile_listing.proofs.ListingLaws.{listings_are_lines, no_listing_is_out_of_memory}
 use Rattle.mvt_history_steps.specs.Marks.{Mark}
 use Rattle.mvt_history_steps.specs.History.{History, standing_document, unless_open, gone_to, ended, edited_to, edited, undone, redone, marked, unmarked, gone_back, opened, closed, cancelled}
-use Rattle.mvt_history_error.specs.declared.HistoryError.{HistoryError}
-use Rattle.mvt_history_error.specs.declared.HistoryError.TheVariants as history_errors
-use Rattle.tile_reply.specs.Replies.{IsOutOfMemory}
-use Rattle.tile_reply.specs.declared.refused.Refused.{Refused}
-use Rattle.tile_reply.specs.declared.refused.Refused.TheVariants as refused
+use Rattle.mvt_history_steps.specs.declared.error.HistoryError.{HistoryError}
+use Rattle.mvt_history_steps.specs.declared.error.HistoryError.TheVariants as history_errors
+use Rattle.tile_course.specs.Replies.{IsOutOfMemory}
+use Rattle.tile_course.specs.declared.refused.Refused.{Refused}
+use Rattle.tile_course.specs.declared.refused.Refused.TheVariants as refused
 use Rattle.tile_course.specs.Answering.{Answer, answer_of_change, answer_of_look, mark_line, mark_lines, reach_line, open_line, history_lines, size_line}
 use Rattle.tile_course.specs.AnswerLaws.{RequestsPrintLines, NoRequestIsOutOfMemory, LooksLeaveHistory}
 

@@ -15,7 +15,7 @@ use Rattle.tile_lines.specs.Lines.{lines_of, whole_lines}
 use Rattle.tile_course.specs.Course.{Course, OpensAgain, retries_in, start_of, IsOpened, IsEdited, IsWritten, CarriesThrough, StopsBetween, StopsStrictly, IsFaultOf, IsFaulty, lines_in}
 use Rattle.tile_course.specs.DeviceLaws.{HaveLowCounts}
 use Rattle.tile_course.specs.Headline.{Devices, HasLowCounts, Serves, AllServe, interruptions_between, all_interruptions, WritesNoneOutOfMemory, outcome_of, tile_written, IsRunOf, Premises, Headline, RefusesTile, Runs, WritesATile}
-use Rattle.tile_reply.specs.Replies.{NoneIsOutOfMemory}
+use Rattle.tile_course.specs.Replies.{NoneIsOutOfMemory}
 use Rattle.tile_course.specs.Run.{Progress, after_lines, is_over, ran, tile_of, Walk}
 use Rattle.tile_course.specs.declared.limits.TheConstants.{MAX_RETRIES, MAX_SCRIPT}
 use Rattle.tile_course.specs.declared.outcome.Options.{Options}

@@ -7,12 +7,12 @@ use Rattle.std.proofs.lemmas.Bool.{cases_Bool}
 use Rattle.std.proofs.lemmas.Bool.Decides.{nat_tests}
 use Rattle.std.proofs.lemmas.List.{append_cancel_right}
 use Rattle.tile_lines.specs.Lines.{with_feed, EndsWithALine}
-use Rattle.tile_reply.specs.Replies.{accepted_reply, refused_front, refused_reply, refusal_number, refusal_name, after_name, IsOutOfMemory}
+use Rattle.tile_course.specs.Replies.{accepted_reply, refused_front, refused_reply, refusal_number, refusal_name, after_name, IsOutOfMemory}
 use Rattle.mvt_meaning.specs.declared.refusal.Refusal.TheVariants as edit
-use Rattle.mvt_history_error.specs.declared.HistoryError.TheVariants as history
-use Rattle.tile_words.specs.declared.parse_error.ParseError.TheVariants as parse
-use Rattle.tile_reply.specs.declared.refused.Refused.{Refused}
-use Rattle.tile_reply.specs.declared.refused.Refused.TheVariants as refused
+use Rattle.mvt_history_steps.specs.declared.error.HistoryError.TheVariants as history
+use Rattle.tile_lines.specs.declared.parse_error.ParseError.TheVariants as parse
+use Rattle.tile_course.specs.declared.refused.Refused.{Refused}
+use Rattle.tile_course.specs.declared.refused.Refused.TheVariants as refused
 
 -- ---- texts of whole lines
 

@@ -2,18 +2,18 @@
 use Rattle.std.proofs.Common.{◌≡◌, ℕ, ◌+◌, Bool, List, [], ◌∷◌, ◌++◌, Option, Some, None, Result, Ok, Err, refl, sym, ap, subst, ◌∙◌, inl, inr, append_assoc, append-nil}
 use Rattle.std.proofs.lemmas.Bool.{cases_Bool}
 use Rattle.std.proofs.lemmas.List.{append_cancel_left}
-use Rattle.tile_request.specs.Request.{Request}
+use Rattle.tile_arguments.specs.Request.{Request}
 use Rattle.tile_script.specs.Line.{answer_to}
 use Rattle.tile_lines.specs.Lines.{EndsWithALine}
 use Rattle.tile_course.specs.Answering.{Answer, carried_out}
-use Rattle.tile_reply.specs.Replies.{accepted_reply, refused_reply, IsOutOfMemory, NoneIsOutOfMemory}
+use Rattle.tile_course.specs.Replies.{accepted_reply, refused_reply, IsOutOfMemory, NoneIsOutOfMemory}
 use Rattle.tile_course.specs.Run.{Progress, settled_by, answered_by, after_line, is_over, after_lines, MayFollow, Walk}
-use Rattle.mvt_history_error.specs.declared.HistoryError.TheVariants.{Stopped}
+use Rattle.mvt_history_steps.specs.declared.error.HistoryError.TheVariants.{Stopped}
 use Rattle.tile_course.specs.RunLaws.{WalksNeverOutOfMemoryAreRuns}
-use Rattle.tile_words.specs.declared.parse_error.ParseError.{ParseError}
-use Rattle.tile_words.specs.declared.parse_error.ParseError.TheVariants as parse
-use Rattle.tile_reply.specs.declared.refused.Refused.{Refused}
-use Rattle.tile_reply.specs.declared.refused.Refused.TheVariants as refused
+use Rattle.tile_lines.specs.declared.parse_error.ParseError.{ParseError}
+use Rattle.tile_lines.specs.declared.parse_error.ParseError.TheVariants as parse
+use Rattle.tile_course.specs.declared.refused.Refused.{Refused}
+use Rattle.tile_course.specs.declared.refused.Refused.TheVariants as refused
 use Rattle.tile_course.proofs.ReplyEnds.{ends-append, refused_ends, accepted_ends}
 use Rattle.tile_course.proofs.Overs.{walk_over, walk_on}
 

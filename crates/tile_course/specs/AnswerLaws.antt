@@ -1,10 +1,10 @@
 -- Laws of what requests print.
 use Rattle.std.specs.Prelude.{◌≡◌, Ok, Err}
-use Rattle.tile_request.specs.Request.{Request, OnHistory}
+use Rattle.tile_arguments.specs.Request.{Request, OnHistory}
 use Rattle.tile_listing.specs.Printed.{AreLinesToPrint}
 use Rattle.mvt_history_steps.specs.History.{History}
-use Rattle.tile_reply.specs.Replies.{IsOutOfMemory}
-use Rattle.tile_reply.specs.declared.refused.Refused.{Refused}
+use Rattle.tile_course.specs.Replies.{IsOutOfMemory}
+use Rattle.tile_course.specs.declared.refused.Refused.{Refused}
 use Rattle.tile_course.specs.Answering.{Answer, carried_out}
 
 -- what a request prints is whole lines, and none of them looks like a refusal

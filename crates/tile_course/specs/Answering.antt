@@ -7,13 +7,13 @@ use Rattle.mvt_document.specs.Plain.{Document}
 use Rattle.mvt_document.specs.Wire.{bytes_of}
 use Rattle.mvt_meaning.specs.declared.refusal.Refusal.{Refusal}
 use Rattle.tile_text.specs.Texts.{text_form}
-use Rattle.tile_request.specs.Request.{Request, OnHistory, ListMarks, PrintHistory, Size, Lists}
+use Rattle.tile_arguments.specs.Request.{Request, OnHistory, ListMarks, PrintHistory, Size, Lists}
 use Rattle.tile_listing.specs.Listing.{listed}
 use Rattle.mvt_history_steps.specs.Marks.{Mark}
 use Rattle.mvt_history_steps.specs.History.{History, standing_document}
 use Rattle.mvt_history_steps.specs.Requests.{by_answer}
-use Rattle.tile_reply.specs.declared.refused.Refused.{Refused}
-use Rattle.tile_reply.specs.declared.refused.Refused.TheVariants as refused
+use Rattle.tile_course.specs.declared.refused.Refused.{Refused}
+use Rattle.tile_course.specs.declared.refused.Refused.TheVariants as refused
 
 -- what an accepted request returns: the lines that it prints, and the history after it
 pub record Answer : Type 0 where

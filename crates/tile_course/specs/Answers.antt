@@ -1,15 +1,15 @@
 -- How a session answers a request.
 use Rattle.std.specs.Prelude.{◌≡◌, ◌⊎◌, ℕ, Result, Ok, Err, IsOk}
 use Rattle.mvt_document.specs.Held.{Held}
-use Rattle.mvt_command.specs.Requests.{Edit, TakeMark, GoBack, Begin, Cancel}
-use Rattle.tile_request.specs.Request.{Request, OnHistory, Lists}
+use Rattle.mvt_meaning.specs.Requests.{Edit, TakeMark, GoBack, Begin, Cancel}
+use Rattle.tile_arguments.specs.Request.{Request, OnHistory, Lists}
 use Rattle.mvt_history_steps.specs.History.{History}
 use Rattle.mvt_history_steps.specs.Session.{StandsFor, StopsAt, StopsWithin}
 use Rattle.mvt_history_steps.specs.Standing.{Standing}
-use Rattle.mvt_history_error.specs.declared.HistoryError.TheVariants.{Stopped}
-use Rattle.tile_reply.specs.Replies.{refusal_number}
-use Rattle.tile_reply.specs.declared.refused.Refused.{Refused}
-use Rattle.tile_reply.specs.declared.refused.Refused.TheVariants as refused
+use Rattle.mvt_history_steps.specs.declared.error.HistoryError.TheVariants.{Stopped}
+use Rattle.tile_course.specs.Replies.{refusal_number}
+use Rattle.tile_course.specs.declared.refused.Refused.{Refused}
+use Rattle.tile_course.specs.declared.refused.Refused.TheVariants as refused
 use Rattle.tile_course.specs.Answering.{carried_out}
 
 -- the request may be refused with 60, out of memory: not one that takes no memory (to remove a mark, to open a step),

@@ -16,7 +16,7 @@ use Rattle.tile_course.specs.declared.outcome.DeviceName.TheVariants as devices
 use Rattle.tile_course.specs.declared.outcome.TileFault.{TileFault}
 use Rattle.tile_course.specs.Course.{Course, Ends, IsPatient, OpensAgain, IsFaultOf}
 use Rattle.tile_course.specs.Outcomes.{edited_outcome}
-use Rattle.tile_reply.specs.Replies.{NoneIsOutOfMemory}
+use Rattle.tile_course.specs.Replies.{NoneIsOutOfMemory}
 use Rattle.tile_lines.specs.Lines.{lines_of}
 use Rattle.tile_course.specs.Run.{Progress, after_lines, is_over, ran, tile_of}
 use Rattle.tile_device.specs.Seen.{Seen, source_at, sink_at, Supplies, Receives}

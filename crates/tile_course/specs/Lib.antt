@@ -7,3 +7,4 @@ pub mod Course
 pub mod Headline
 pub mod DeviceLaws
 pub mod Outcomes
+pub mod Replies

@@ -2,19 +2,19 @@
 use Rattle.std.specs.Prelude.{◌≡◌, ℕ, ◌+◌, Bool, true, false, ◌&&◌, if◌then◌else◌, MatchBool, List, [], ◌∷◌, ◌++◌, Option, Some, None, Result, Ok, Err, ◌⊎◌}
 use Rattle.mvt_document.specs.Plain.{Document}
 use Rattle.mvt_document.specs.Wire.{bytes_of}
-use Rattle.tile_request.specs.Request.{Request}
+use Rattle.tile_arguments.specs.Request.{Request}
 use Rattle.tile_script.specs.Line.{answer_to, TakesMemory}
 use Rattle.tile_lines.specs.Lines.{lines_of}
 use Rattle.mvt_history_steps.specs.History.{History, begun, standing_document}
-use Rattle.mvt_history_error.specs.declared.HistoryError.TheVariants.{Stopped}
-use Rattle.tile_reply.specs.Replies.{accepted_reply, refused_reply}
+use Rattle.mvt_history_steps.specs.declared.error.HistoryError.TheVariants.{Stopped}
+use Rattle.tile_course.specs.Replies.{accepted_reply, refused_reply}
 use Rattle.tile_course.specs.Answering.{Answer, carried_out}
 use Rattle.tile_course.specs.Answers.{MayStop, NeedsMemory}
 use Rattle.tile_course.specs.declared.outcome.Options.{Options}
-use Rattle.tile_words.specs.declared.parse_error.ParseError.{ParseError}
-use Rattle.tile_words.specs.declared.parse_error.ParseError.TheVariants as parse
-use Rattle.tile_reply.specs.declared.refused.Refused.{Refused}
-use Rattle.tile_reply.specs.declared.refused.Refused.TheVariants as refused
+use Rattle.tile_lines.specs.declared.parse_error.ParseError.{ParseError}
+use Rattle.tile_lines.specs.declared.parse_error.ParseError.TheVariants as parse
+use Rattle.tile_course.specs.declared.refused.Refused.{Refused}
+use Rattle.tile_course.specs.declared.refused.Refused.TheVariants as refused
 
 -- what a script has come to: how many lines were carried out, the history, the replies, and whether a line was refused
 pub record Progress : Type 0 where

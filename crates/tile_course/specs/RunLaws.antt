@@ -2,7 +2,7 @@
 use Rattle.std.specs.Prelude.{◌≡◌, ℕ, Bool, List, ◌++◌}
 use Rattle.mvt_document.specs.Plain.{Document}
 use Rattle.tile_lines.specs.Lines.{lines_of, EndsWithALine}
-use Rattle.tile_reply.specs.Replies.{NoneIsOutOfMemory}
+use Rattle.tile_course.specs.Replies.{NoneIsOutOfMemory}
 use Rattle.tile_course.specs.Run.{Progress, after_lines, ran, Walk}
 use Rattle.tile_course.specs.declared.outcome.Options.{Options}
 

@@ -1,5 +1,9 @@
-//! What requests print and make of a history, what a run comes to, as definitions, and how it ends.
+//! Refusals and replies; what requests print and make of a history, and what a run comes to, as
+//! definitions; and how a run ends.
 //!
+//! - The numbers and names of refusals are the stated ones: `Refused::number`, `Refused::name`.
+//! - The reply to a line is its lines and then `ok`, or its refusal. It is sent as a whole, or,
+//!   before a trouble, a prefix of it, and the budget of retries pays for it: `reply`.
 //! - What a request prints and makes of a history is a definition (`Answering`), and so is how a
 //!   session may answer it (`Answers`). What is printed is whole lines, none of which looks like a
 //!   refusal; none is refused as out of memory by its definition; and a look leaves the history as it
@@ -14,8 +18,12 @@
 pub mod laws;
 mod limits;
 mod outcome;
+mod refused;
+mod replies;
 
 pub use limits::{MAX_RETRIES, MAX_SCRIPT};
 pub use outcome::{
     DeviceName, LineStop, Options, Outcome, ScriptStop, TileFault, Unopened, Unwritten,
 };
+pub use refused::Refused;
+pub use replies::reply;

@@ -2,3 +2,9 @@ pub mod LineCuts
 pub mod LineLaws
 pub mod WholeLines
 pub mod Cutting
+pub mod Again
+pub mod Found
+mod Lone
+pub mod Places
+pub mod Repeats
+pub mod Short

@@ -3,7 +3,7 @@ use Rattle.std.proofs.Common.{◌≡◌, Result, Ok, Err, refl}
 use Rattle.std.specs.Result.{IfErr, IfOk}
 use Rattle.mvt_document.specs.Plain as plain
 use Rattle.mvt_document.specs.Stands.{layer_of}
-use Rattle.mvt_command.specs.Command.{FeatureChoice, LayerChoice}
+use Rattle.mvt_meaning.specs.Command.{FeatureChoice, LayerChoice}
 use Rattle.mvt_messages.specs.Views.{feature_in}
 use Rattle.mvt_layers.specs.declared.found.FoundFeature.{FoundFeature}
 use Rattle.mvt_layers.specs.declared.found.FoundLayer.{FoundLayer}

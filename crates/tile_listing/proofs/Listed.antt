@@ -1,9 +1,9 @@
 -- What is listed, case by case.
 use Rattle.std.proofs.Common.{◌≡◌, ℕ, List, [], ◌++◌, Ok, Err, refl, sym, ap, ◌∙◌}
 use Rattle.mvt_document.specs.Plain.{Document, Feature, Layer}
-use Rattle.mvt_command.specs.Command.{FeatureChoice, LayerChoice}
+use Rattle.mvt_meaning.specs.Command.{FeatureChoice, LayerChoice}
 use Rattle.mvt_meaning.specs.declared.refusal.Refusal.{Refusal}
-use Rattle.tile_request.specs.Request.{What, OneLayer, OneFeature}
+use Rattle.tile_arguments.specs.Request.{What, OneLayer, OneFeature}
 use Rattle.tile_listing.specs.Listing.{chosen_feature, chosen_layer, joined_lines, lines_of_feature, lines_of_layer, listed, shown}
 
 -- ---- what is shown

@@ -4,13 +4,13 @@ use Rattle.std.specs.Prelude.{if◌then◌else◌, nat_lt, slice_get}
 use Rattle.std.specs.Option.{ok_or}
 use Rattle.std.proofs.lemmas.List.Elements.{All-from_recursion}
 use Rattle.mvt_document.specs.Plain.{Document, Layer}
-use Rattle.mvt_command.specs.Command.{LayerChoice, FeatureChoice, AtOrdinal, Named, FeatureAtOrdinal, WithId}
+use Rattle.mvt_meaning.specs.Command.{LayerChoice, FeatureChoice, AtOrdinal, Named, FeatureAtOrdinal, WithId}
 use Rattle.mvt_messages.specs.Views.{features, has_id, is_named, layers, ordinals_of, the_one}
 use Rattle.mvt_meaning.specs.Meaning.{◌>>=◌}
 use Rattle.mvt_meaning.specs.Selection.{selected, selected_feature}
 use Rattle.mvt_meaning.specs.declared.refusal.Refusal.{Refusal}
 use Rattle.mvt_meaning.specs.declared.refusal.Refusal.TheVariants.{NoLayer, AmbiguousLayer, NoFeature, AmbiguousFeature, NoMemory}
-use Rattle.tile_request.specs.Request.{What, Whole, OneLayer, OneFeature}
+use Rattle.tile_arguments.specs.Request.{What, Whole, OneLayer, OneFeature}
 use Rattle.tile_listing.specs.Listing.{chosen_feature, chosen_layer, joined_lines, lines_of_feature, lines_of_layer, lines_of_tile, listed, shown, with_ordinal}
 use Rattle.tile_listing.specs.Laws.{ListingsAreLines, NoListingIsOutOfMemory}
 use Rattle.tile_listing.specs.Printed.{MayBePrinted, AreLinesToPrint}

@@ -9,7 +9,7 @@ use Rattle.std.proofs.lemmas.Option.{cond_some}
 use Rattle.std.proofs.lemmas.List.{get_or-map, length-map}
 use Rattle.std.proofs.lemmas.List.Elements.{All-from_recursion}
 use Rattle.mvt_document.specs.Plain.{Feature, Layer}
-use Rattle.mvt_numbers.specs.Numbers.{numbers}
+use Rattle.mvt_messages.specs.Numbers.{numbers}
 use Rattle.mvt_messages.specs.Views.{keys, values}
 use Rattle.mvt_messages.specs.Attributes.{attribute_at, if_pairs, in_pairs, is_ordinal, is_pair, pairs_of, values_in}
 use Rattle.mvt_layers.specs.Seen.{pair_seen}

@@ -8,7 +8,7 @@ use Rattle.mvt_value.specs.Messages.{HasValue}
 use Rattle.mvt_value.specs.Stands.{shown_by, raw_of}
 use Rattle.mvt_value.specs.declared.value.Value.{Value}
 use Rattle.mvt_value.specs.declared.value.Value.TheVariants as shown
-use Rattle.mvt_numbers.specs.Numbers.{numbers}
+use Rattle.mvt_messages.specs.Numbers.{numbers}
 use Rattle.mvt_geometry.specs.Shapes.{Geometry}
 use Rattle.mvt_messages.specs.Views.{kind_of}
 use Rattle.mvt_messages.specs.Attributes.{values_in}

@@ -3,7 +3,7 @@ use Rattle.std.proofs.Common.{◌≡◌, ℕ, zero, suc, ◌<◌, List, [], ◌�
 use Rattle.std.specs.Prelude.{slice_get}
 use Rattle.std.proofs.lemmas.Bool.Decides.{nat_tests}
 use Rattle.mvt_document.specs.Plain.{Layer}
-use Rattle.mvt_command.specs.Command.{FeatureChoice, FeatureAtOrdinal, WithId}
+use Rattle.mvt_meaning.specs.Command.{FeatureChoice, FeatureAtOrdinal, WithId}
 use Rattle.mvt_messages.specs.Views.{features, has_id, layers, ordinals_of, the_one}
 use Rattle.mvt_meaning.specs.Meaning.{◌>>=◌}
 use Rattle.mvt_meaning.specs.Selection.{selected, selected_feature}

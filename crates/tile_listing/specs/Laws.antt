@@ -1,10 +1,10 @@
 -- Laws of listings, which say nothing of what listings show.
 use Rattle.std.specs.Prelude.{◌≡◌, ◌≢◌, ℕ, List, Ok, Err}
 use Rattle.mvt_document.specs.Plain.{Document, Feature, Layer}
-use Rattle.mvt_command.specs.Command.{FeatureChoice, LayerChoice}
+use Rattle.mvt_meaning.specs.Command.{FeatureChoice, LayerChoice}
 use Rattle.mvt_meaning.specs.Selection.{selected, selected_feature}
 use Rattle.mvt_meaning.specs.declared.refusal.Refusal.TheVariants.{NoMemory}
-use Rattle.tile_request.specs.Request.{What}
+use Rattle.tile_arguments.specs.Request.{What}
 use Rattle.tile_listing.specs.Listing.{chosen_feature, chosen_layer, listed}
 use Rattle.tile_listing.specs.Printed.{AreLinesToPrint}
 

@@ -5,7 +5,7 @@ use Rattle.std.specs.Option.{ok_or, option_map_or}
 use Rattle.mvt_document.specs.Held.{Held}
 use Rattle.mvt_document.specs.Plain.{Document, Feature, Layer}
 use Rattle.mvt_geometry.specs.Shapes.{Geometry, kind_number}
-use Rattle.mvt_command.specs.Command.{FeatureChoice, LayerChoice}
+use Rattle.mvt_meaning.specs.Command.{FeatureChoice, LayerChoice}
 use Rattle.mvt_messages.specs.Views.{extent_of, features, id_of, keys, kind_of, layers, name_of, values, version_of}
 use Rattle.mvt_messages.specs.Attributes.{attributes}
 use Rattle.mvt_meaning.specs.Meaning.{◌>>=◌}
@@ -17,7 +17,7 @@ use Rattle.mvt_value.specs.Found.{value_in}
 use Rattle.tile_arguments.specs.Arguments.{kinds, kind_word}
 use Rattle.tile_text.specs.Texts.{geometry_form, raw_form, text_form, value_form}
 use Rattle.tile_lines.specs.Lines.{with_feed}
-use Rattle.tile_request.specs.Request.{What, Whole, OneLayer, OneFeature}
+use Rattle.tile_arguments.specs.Request.{What, Whole, OneLayer, OneFeature}
 
 -- ---- lines
 

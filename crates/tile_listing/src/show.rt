@@ -2,19 +2,19 @@
 
 ghost use Rattle.std.specs.Prelude.{◌≡◌};
 ghost use Rattle.mvt_document.specs.Stands.{document_of, layer_of};
-ghost use Rattle.mvt_command.specs.CommandStands.{feature_choice_of, layer_choice_of};
-ghost use Rattle.tile_request.specs.RequestStands.{what_of};
+ghost use Rattle.mvt_meaning.specs.CommandStands.{feature_choice_of, layer_choice_of};
+ghost use Rattle.tile_arguments.specs.RequestStands.{what_of};
 ghost use Rattle.tile_listing.specs.Listing.{Shows, chosen_feature, chosen_layer};
 ghost use Rattle.tile_listing.specs.ListingStands.{feature_found, layer_found};
 
 use crate::feature::put_feature;
 use crate::layer::put_layer;
 use crate::tile::put_tile;
-use mvt_command::{FeatureChoice, LayerChoice};
 use mvt_document::{Document, Items, Layer};
+use mvt_meaning::{FeatureChoice, LayerChoice};
 use mvt_select::{FoundFeature, FoundLayer, Refusal, find_feature, find_layer};
 use std::alloc::Global;
-use tile_request::What;
+use tile_arguments::What;
 
 /// The lines that show what is asked for, each with its line feed.
 pub fn listing(alloc: Global, document: &Document, what: &What) -> Result<Items<u8>, Refusal>

@@ -8,14 +8,14 @@ use Rattle.tile_device.specs.Device.{trouble_of}
 use Rattle.tile_device.specs.Seen.{Output, Writes}
 use Rattle.tile_device.specs.declared.device.Trouble.{Trouble}
 use Rattle.mvt_history_steps.specs.History.{History}
-use Rattle.tile_reply.specs.Replies.{reply_to}
+use Rattle.tile_course.specs.Replies.{reply_to}
 use Rattle.tile_course.specs.Run.{Progress, is_over, MayFollow, Walk}
 use Rattle.mvt_history_steps.specs.Session.{StandsFor}
 use Rattle.tile_course.specs.Course.{IsCutShort}
 use Rattle.tile_run.specs.Steps.{Moment, Replies, answered, printed_in, settled, ends_line, CarriesOut, IsAt, Advances, AnswersLine, Falters, Comes, ComesTo}
 use Rattle.tile_run.specs.declared.editor.Editor.{Editor}
 use Rattle.tile_course.specs.declared.outcome.LineStop.{LineStop}
-use Rattle.tile_reply.specs.declared.refused.Refused.{Refused}
+use Rattle.tile_course.specs.declared.refused.Refused.{Refused}
 use Rattle.mvt_history.specs.declared.session.Session.{Session}
 use Rattle.tile_device.proofs.Sending.{sends_more, sends_nothing, writes_more}
 use Rattle.tile_course.proofs.Overs.{walk-append, walk_over_any}

@@ -3,10 +3,10 @@ use Rattle.std.proofs.Common.{ℕ, List, Err, ap, inl, inr}
 use Rattle.mvt_history_steps.specs.History.{History}
 use Rattle.mvt_history_steps.specs.Session.{AnswersBack, AnswersCancel}
 use Rattle.mvt_history_steps.specs.Standing.{Standing}
-use Rattle.mvt_history_error.specs.declared.HistoryError.{HistoryError}
-use Rattle.mvt_command.specs.Requests.{GoBack, Cancel}
-use Rattle.tile_request.specs.Request.{OnHistory}
-use Rattle.tile_reply.specs.declared.refused.Refused.TheVariants as refused
+use Rattle.mvt_history_steps.specs.declared.error.HistoryError.{HistoryError}
+use Rattle.mvt_meaning.specs.Requests.{GoBack, Cancel}
+use Rattle.tile_arguments.specs.Request.{OnHistory}
+use Rattle.tile_course.specs.declared.refused.Refused.TheVariants as refused
 use Rattle.tile_course.specs.Answering.{answer_of_change}
 use Rattle.tile_course.specs.Answers.{IsAnswered}
 

@@ -7,8 +7,8 @@ use Rattle.mvt_document.specs.declared.TheConstants.{MAX_FILE}
 use Rattle.mvt_document.specs.declared.Document.{Document}
 use Rattle.mvt_document.specs.Opens.{OpensAs, OpensAsNothing, IsPlace}
 use Rattle.mvt_document.specs.Stands.{document_of}
-use Rattle.mvt_read.specs.declared.faults.ReadError.{ReadError}
-use Rattle.mvt_read.specs.declared.faults.ReadError.TheVariants.{BadWire, FileTooLarge, NoMemory}
+use Rattle.mvt_wire.specs.declared.faults.ReadError.{ReadError}
+use Rattle.mvt_wire.specs.declared.faults.ReadError.TheVariants.{BadWire, FileTooLarge, NoMemory}
 use Rattle.tile_device.specs.Seen.{Intake}
 use Rattle.tile_device.specs.Transfer.{ReadsUpTo}
 use Rattle.tile_run.specs.Steps.{OpensTile, stop_for}

@@ -2,18 +2,18 @@
 use Rattle.std.proofs.Common.{◌≡◌, ℕ, ◌+◌, true, List, ◌++◌, Some, None, sym, ap, ◌∙◌, inl, inr}
 use Rattle.std.specs.Prelude.{Result, Ok, Err}
 use Rattle.mvt_document.specs.Held.{Held}
-use Rattle.tile_request.specs.Request.{Request}
-use Rattle.tile_words.specs.Answers.{Refuses}
+use Rattle.tile_arguments.specs.Request.{Request}
+use Rattle.tile_lines.specs.Answers.{Refuses}
 use Rattle.tile_script.specs.Line.{answer_to, TakesMemory}
 use Rattle.tile_course.specs.Answers.{IsAnswered}
-use Rattle.tile_reply.specs.Replies.{refusal_number}
+use Rattle.tile_course.specs.Replies.{refusal_number}
 use Rattle.tile_course.specs.Run.{Progress, refused_for, settled_by, answered_by, without_memory}
 use Rattle.mvt_history_steps.specs.Session.{StandsFor}
 use Rattle.tile_run.specs.Steps.{CarriesOut, answered}
-use Rattle.tile_words.specs.declared.parse_error.ParseError.{ParseError}
-use Rattle.tile_words.specs.declared.parse_error.ParseError.TheVariants as parse
-use Rattle.tile_reply.specs.declared.refused.Refused.{Refused}
-use Rattle.tile_reply.specs.declared.refused.Refused.TheVariants as refused
+use Rattle.tile_lines.specs.declared.parse_error.ParseError.{ParseError}
+use Rattle.tile_lines.specs.declared.parse_error.ParseError.TheVariants as parse
+use Rattle.tile_course.specs.declared.refused.Refused.{Refused}
+use Rattle.tile_course.specs.declared.refused.Refused.TheVariants as refused
 use Rattle.mvt_history.specs.declared.session.Session.{Session}
 use Rattle.tile_course.proofs.ReplyEnds.{out_of_memory_reply}
 

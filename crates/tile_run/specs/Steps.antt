@@ -4,8 +4,8 @@ use Rattle.mvt_document.specs.declared.Document.{Document}
 use Rattle.mvt_document.specs.declared.TheConstants.{MAX_FILE}
 use Rattle.mvt_document.specs.Held.{Held}
 use Rattle.mvt_document.specs.Stands.{document_of}
-use Rattle.mvt_read.specs.declared.faults.ReadError.{ReadError}
-use Rattle.mvt_read.specs.declared.faults.ReadError.TheVariants as read_errors
+use Rattle.mvt_wire.specs.declared.faults.ReadError.{ReadError}
+use Rattle.mvt_wire.specs.declared.faults.ReadError.TheVariants as read_errors
 use Rattle.tile_device.specs.Seen.{Seen, Intake, Output, IsPrefix, Reads, Receives, Sends, Supplies, Writes, nothing_read, sink_at, source_at}
 use Rattle.tile_device.specs.declared.device.Sink.{Ghosts as SinkMembers}
 use Rattle.tile_device.specs.declared.device.Source.{Ghosts as SourceMembers}
@@ -24,7 +24,7 @@ use Rattle.tile_course.specs.declared.outcome.Unopened.{Unopened}
 use Rattle.tile_course.specs.declared.outcome.Unopened.TheVariants as unopened
 use Rattle.tile_course.specs.declared.outcome.Unwritten.{Unwritten}
 use Rattle.tile_course.specs.declared.outcome.Unwritten.TheVariants as unwritten
-use Rattle.tile_reply.specs.declared.refused.Refused.{Refused}
+use Rattle.tile_course.specs.declared.refused.Refused.{Refused}
 use Rattle.tile_course.specs.declared.limits.TheConstants.{MAX_SCRIPT}
 use Rattle.mvt_history.specs.declared.session.Session.{Session}
 use Rattle.tile_course.specs.Course.{IsOpened, IsFaulty, IsWritten, CarriesThrough, StopsStrictly, StopsAtScript, StopsAtReplies, IsCutShort}

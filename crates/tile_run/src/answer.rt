@@ -3,17 +3,17 @@
 ghost use Rattle.std.specs.Prelude.{◌≡◌, ◌⊎◌, [], IfErr};
 ghost use Rattle.mvt_history_steps.specs.History.{History};
 ghost use Rattle.mvt_history_steps.specs.Session.{StandsFor};
-ghost use Rattle.tile_request.specs.RequestStands.{request_of};
-ghost use Rattle.tile_reply.specs.Replies.{refusal_number};
+ghost use Rattle.tile_arguments.specs.RequestStands.{request_of};
+ghost use Rattle.tile_course.specs.Replies.{refusal_number};
 ghost use Rattle.tile_course.specs.Answers.{IsAnswered};
 
 use crate::printed::{history_lines, mark_lines, size_line};
 use mvt_document::Items;
 use mvt_history::Session;
 use std::alloc::Global;
+use tile_arguments::Request;
+use tile_course::Refused;
 use tile_listing::listing;
-use tile_reply::Refused;
-use tile_request::Request;
 
 /// Carries out a request, and returns the lines that it prints, each with its line feed.
 pub(crate) fn carry_out_request(

@@ -9,7 +9,7 @@ ghost use Rattle.tile_device.specs.Device.{trouble_of};
 ghost use Rattle.tile_lines.specs.CutStands.{cut_seen};
 ghost use Rattle.tile_lines.specs.Cutting.{cut_of, nothing_held};
 ghost use Rattle.tile_lines.specs.Lines.{whole_lines};
-ghost use Rattle.tile_reply.specs.Replies.{answer_seen};
+ghost use Rattle.tile_course.specs.Replies.{answer_seen};
 ghost use Rattle.mvt_history_steps.specs.History.{History, standing_document};
 ghost use Rattle.mvt_history_steps.specs.Session.{StandsFor};
 ghost use Rattle.mvt_history_steps.specs.declared.TheConstants.{MAX_DEPTH};
@@ -20,10 +20,9 @@ use crate::answer::carry_out_request;
 use mvt_document::{Document, Items};
 use mvt_history::Session;
 use std::alloc::Global;
-use tile_course::{LineStop, MAX_SCRIPT, Options, ScriptStop};
+use tile_course::{LineStop, MAX_SCRIPT, Options, Refused, ScriptStop, reply};
 use tile_device::{Retries, Sink, Source, read_some};
 use tile_lines::{Cut, LineCutter};
-use tile_reply::{Refused, reply};
 use tile_script::parse_cut;
 
 /// How many bytes of a script one read asks for at most.

@@ -10,7 +10,7 @@ ghost use Rattle.tile_course.specs.Answering.{history_lines, mark_lines, offset_
 use mvt_document::{Document, Items};
 use mvt_history::Session;
 use mvt_meaning::Refusal;
-use mvt_write::size;
+use mvt_wire::size;
 use std::alloc::{AllocError, Global};
 use tile_text::{put_decimal, put_signed_decimal, put_text};
 

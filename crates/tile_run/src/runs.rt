@@ -13,8 +13,7 @@ ghost use Rattle.tile_run.specs.Steps.{IsAt, Opening, WritesTile, devices_with, 
 
 use crate::editor::Editor;
 use mvt_document::{Document, MAX_FILE};
-use mvt_read::{ReadError, read_document};
-use mvt_write::write_document_into;
+use mvt_wire::{ReadError, read_document, write_document_into};
 use std::alloc::Global;
 use std::mem;
 use tile_course::{MAX_RETRIES, Options, Outcome, TileFault, Unopened, Unwritten};

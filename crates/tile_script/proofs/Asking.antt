@@ -4,14 +4,14 @@ use Rattle.std.specs.Prelude.{◌==◌, slice_get, codes}
 use Rattle.std.specs.Option.{option_map_or}
 use Rattle.std.specs.List.{AllByRecursion}
 use Rattle.std.specs.Str.Parse.{digits_value}
-use Rattle.mvt_command.specs.Command.{Command, AtOrdinal, Named, RenameLayer, FeatureAtOrdinal, WithId}
+use Rattle.mvt_meaning.specs.Command.{Command, AtOrdinal, Named, RenameLayer, FeatureAtOrdinal, WithId}
 use Rattle.tile_arguments.specs.Arguments.{is_number}
 use Rattle.tile_arguments.proofs.Meant.{text_quoted, layer_named, layer_at, feature_at, feature_with_id}
-use Rattle.mvt_command.specs.Requests.{HistoryRequest, Edit, Undo, Redo, SetMark, TakeMark, GoBack, Begin, End, Cancel}
-use Rattle.tile_request.specs.Request.{Request, OnHistory, ListMarks, PrintHistory, Size, Lists, Whole, OneLayer, OneFeature}
-use Rattle.tile_words.specs.Words.{Word, Bare, Quoted, words_of}
-use Rattle.tile_words.specs.Spelling.{SpellsWords}
-use Rattle.tile_words.proofs.Again.{words_only, past_blanks, no_gap}
+use Rattle.mvt_meaning.specs.Requests.{HistoryRequest, Edit, Undo, Redo, SetMark, TakeMark, GoBack, Begin, End, Cancel}
+use Rattle.tile_arguments.specs.Request.{Request, OnHistory, ListMarks, PrintHistory, Size, Lists, Whole, OneLayer, OneFeature}
+use Rattle.tile_lines.specs.Words.{Word, Bare, Quoted, words_of}
+use Rattle.tile_lines.specs.Spelling.{SpellsWords}
+use Rattle.tile_lines.proofs.Again.{words_only, past_blanks, no_gap}
 use Rattle.tile_script.specs.Commands.{chosen_of, command_by, rename_layer_of}
 use Rattle.tile_script.specs.Line.{IsAsking, requests_alone, requests_by_name, alone_of, name_of, list_of, request_by, asked_by, is_remark, request_in, answer_to, IsReadable}
 use Rattle.tile_script.specs.Shapes.{AsksAlone, AsksByName}

@@ -3,7 +3,7 @@ use Rattle.std.proofs.Common.{◌≡◌, ℕ, Bool, true, false, cond, ltb, List
 use Rattle.tile_lines.specs.Cutting.{Whole, TooLong, cut_of}
 use Rattle.tile_script.specs.Line.{answer_to}
 use Rattle.tile_lines.specs.declared.TheConstants.{LINE_LIMIT}
-use Rattle.tile_words.specs.declared.parse_error.ParseError.TheVariants.{LineTooLong}
+use Rattle.tile_lines.specs.declared.parse_error.ParseError.TheVariants.{LineTooLong}
 
 is_long : (b : Bool) (line : List ℕ) → cond b TooLong (Whole line) ≡ TooLong → b ≡ true
 is_long true line e = refl

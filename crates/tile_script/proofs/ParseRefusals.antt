@@ -5,17 +5,17 @@ use Rattle.std.specs.List.{AllByRecursion}
 use Rattle.std.specs.Map.{lookup}
 use Rattle.std.specs.Option.{option_map_or}
 use Rattle.std.specs.Str.{bytes_eq, is_utf8}
-use Rattle.tile_words.specs.Words.{Word, Bare, Quoted, words_of}
+use Rattle.tile_lines.specs.Words.{Word, Bare, Quoted, words_of}
 use Rattle.tile_arguments.specs.Arguments.{text_of, texts_of, number_in, distance_of, layer_of, layers_of, feature_of, geometry_of, value_of}
 use Rattle.tile_arguments.proofs.Refusals.{then_other, text_other, texts_other, number_in_other, distance_other, layer_other, layers_other, feature_other, geometry_other, value_other}
-use Rattle.mvt_command.specs.Requests.{HistoryRequest}
-use Rattle.tile_request.specs.Request.{Request, OnHistory}
+use Rattle.mvt_meaning.specs.Requests.{HistoryRequest}
+use Rattle.tile_arguments.specs.Request.{Request, OnHistory}
 use Rattle.tile_script.specs.Line.{is_remark, requests_alone, requests_by_name, alone_of, name_of, list_of, requests, request_by, asked_by, request_in, answer_to}
 use Rattle.tile_script.specs.Commands.{chosen_of, two_texts_of, layers_alone_of, rename_layer_of, move_layer_of, drop_layer_of, keep_layers_of, insert_feature_of, move_feature_of, drop_feature_of, set_id_of, clear_id_of, set_of, unset_of, rename_key_of, exclude_of, exclude_all_of, shift_of, set_geometry_of, compact_keys_of, compact_values_of, compact_of, commands, read_by, command_by}
-use Rattle.tile_words.specs.Answers.{◌>>=◌}
-use Rattle.tile_words.specs.declared.parse_error.ParseError.{ParseError}
-use Rattle.tile_words.specs.declared.parse_error.ParseError.TheVariants as parse
-use Rattle.mvt_command.proofs.Others.{Other, either}
+use Rattle.tile_lines.specs.Answers.{◌>>=◌}
+use Rattle.tile_lines.specs.declared.parse_error.ParseError.{ParseError}
+use Rattle.tile_lines.specs.declared.parse_error.ParseError.TheVariants as parse
+use Rattle.mvt_meaning.proofs.Others.{Other, either}
 
 chosen_other : (layer feature : Word) → Other parse.NoMemory (chosen_of layer feature)
 unfolding chosen_of

@@ -1,11 +1,11 @@
 -- A line that sets an attribute is refused for the first of its arguments that is refused.
 use Rattle.std.proofs.Common.{◌≡◌, ℕ, ◌<◌, ◌≤◌, List, [], ◌∷◌, length, map, get_or, Ok, refl, inl, inr, arith}
-use Rattle.mvt_command.specs.Command.{LayerChoice, FeatureChoice}
+use Rattle.mvt_meaning.specs.Command.{LayerChoice, FeatureChoice}
 use Rattle.tile_arguments.specs.Arguments.{text_of, value_of}
-use Rattle.tile_words.specs.Answers.{Refuses}
-use Rattle.tile_words.specs.WordStands.{word_of}
-use Rattle.tile_words.specs.declared.parse_error.ParseError.{ParseError}
-use Rattle.tile_words.specs.declared.words.Word.{Word}
+use Rattle.tile_lines.specs.Answers.{Refuses}
+use Rattle.tile_lines.specs.WordStands.{word_of}
+use Rattle.tile_lines.specs.declared.parse_error.ParseError.{ParseError}
+use Rattle.tile_lines.specs.declared.words.Word.{Word}
 use Rattle.tile_script.specs.Commands.{chosen_of, set_of}
 
 pub place_refused : (words : List Word) (first next : Word) (refusal : ParseError) → 5 ≤ length words → length words < 6 → Refuses refusal (chosen_of (word_of (get_or words 0 first)) (word_of (get_or words 1 next))) → Refuses refusal (set_of (map word_of words))

@@ -3,10 +3,10 @@ use Rattle.std.proofs.Common.{◌≡◌, ℕ, false, true, ltb, List, length, So
 use Rattle.std.specs.Str.{is_utf8}
 use Rattle.std.proofs.lemmas.Bool.{le-ltb}
 use Rattle.std.proofs.lemmas.Str.{is_utf8-from_IsUtf8}
-use Rattle.tile_words.specs.Answers.{◌>>=◌}
+use Rattle.tile_lines.specs.Answers.{◌>>=◌}
 use Rattle.tile_script.specs.Line.{request_in, answer_to, IsAsking}
 use Rattle.tile_lines.specs.declared.TheConstants.{LINE_LIMIT}
-use Rattle.tile_words.specs.declared.parse_error.ParseError.{ParseError}
+use Rattle.tile_lines.specs.declared.parse_error.ParseError.{ParseError}
 
 -- a line of words is not such a line
 pub asks_something : {A P : Type 0} (r : Result A ParseError) → (r >>= λ x. Ok (Some x)) ≡ Ok None → P

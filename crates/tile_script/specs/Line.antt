@@ -3,14 +3,14 @@ use Rattle.std.specs.Prelude.{◌≡◌, ℕ, ◌≤◌, Bool, true, false, not,
 use Rattle.std.specs.Option.{option_map_or}
 use Rattle.std.specs.Str.{is_utf8, IsUtf8}
 use Rattle.tile_arguments.specs.Arguments.{text_of, layer_of}
-use Rattle.mvt_command.specs.Requests.{HistoryRequest, Edit, Undo, Redo, SetMark, TakeMark, GoBack, Begin, End, Cancel}
-use Rattle.tile_request.specs.Request.{Request, OnHistory, ListMarks, PrintHistory, Size, Lists, Whole, OneLayer, OneFeature}
-use Rattle.tile_words.specs.Words.{Word, Bare, IsLoneWord, after_blanks, words_of}
-use Rattle.tile_words.specs.Answers.{◌>>=◌}
+use Rattle.mvt_meaning.specs.Requests.{HistoryRequest, Edit, Undo, Redo, SetMark, TakeMark, GoBack, Begin, End, Cancel}
+use Rattle.tile_arguments.specs.Request.{Request, OnHistory, ListMarks, PrintHistory, Size, Lists, Whole, OneLayer, OneFeature}
+use Rattle.tile_lines.specs.Words.{Word, Bare, IsLoneWord, after_blanks, words_of}
+use Rattle.tile_lines.specs.Answers.{◌>>=◌}
 use Rattle.tile_lines.specs.declared.TheConstants.{LINE_LIMIT}
 use Rattle.tile_script.specs.Commands.{chosen_of, read_by, command_by}
-use Rattle.tile_words.specs.declared.parse_error.ParseError.{ParseError}
-use Rattle.tile_words.specs.declared.parse_error.ParseError.TheVariants.{LineTooLong, BadUtf8, BadWord, UnknownCommand, BadArguments}
+use Rattle.tile_lines.specs.declared.parse_error.ParseError.{ParseError}
+use Rattle.tile_lines.specs.declared.parse_error.ParseError.TheVariants.{LineTooLong, BadUtf8, BadWord, UnknownCommand, BadArguments}
 
 -- the words that are a request by themselves, each with the request
 abbrev pub requests_alone : List (List ℕ × Request)

@@ -1,9 +1,9 @@
 -- Lines of the word of a request, and what they ask for.
 use Rattle.std.specs.Prelude.{◌≡◌, ℕ, List, [], ◌∷◌, Some, Ok}
-use Rattle.mvt_command.specs.Requests.{HistoryRequest}
-use Rattle.tile_request.specs.Request.{Request, OnHistory}
-use Rattle.tile_words.specs.Words.{Bare, Quoted}
-use Rattle.tile_words.specs.Spelling.{SpellsWords}
+use Rattle.mvt_meaning.specs.Requests.{HistoryRequest}
+use Rattle.tile_arguments.specs.Request.{Request, OnHistory}
+use Rattle.tile_lines.specs.Words.{Bare, Quoted}
+use Rattle.tile_lines.specs.Spelling.{SpellsWords}
 use Rattle.tile_script.specs.Line.{IsReadable, answer_to}
 
 -- a readable line of the word by itself asks for the request

@@ -2,21 +2,21 @@
 
 ghost use Rattle.std.specs.Prelude.{◌≡◌, ◌≤◌, Err, drop, length, map};
 ghost use Rattle.std.specs.Result.{IsErrOf};
-ghost use Rattle.mvt_command.specs.CommandStands.{command_of, layer_choice_of, layers_choice_of, feature_choice_of};
+ghost use Rattle.mvt_meaning.specs.CommandStands.{command_of, layer_choice_of, layers_choice_of, feature_choice_of};
 ghost use Rattle.std.specs.Str.{bytes_eq};
 ghost use Rattle.tile_script.specs.Commands.{chosen_of, two_texts_of, layers_alone_of, rename_layer_of, move_layer_of, drop_layer_of, keep_layers_of, insert_feature_of, move_feature_of, drop_feature_of, set_id_of, clear_id_of, set_of, unset_of, rename_key_of, exclude_of, exclude_all_of, shift_of, set_geometry_of, compact_keys_of, compact_values_of, compact_of, commands, read_by, command_by};
-ghost use Rattle.tile_words.specs.Answers.{Gives};
-ghost use Rattle.tile_words.specs.declared.parse_error.ParseError.TheVariants.{UnknownCommand};
-ghost use Rattle.tile_words.specs.WordStands.{word_of};
+ghost use Rattle.tile_lines.specs.Answers.{Gives};
+ghost use Rattle.tile_lines.specs.declared.parse_error.ParseError.TheVariants.{UnknownCommand};
+ghost use Rattle.tile_lines.specs.WordStands.{word_of};
 
-use mvt_command::{Command, FeatureChoice, LayerChoice, LayersChoice};
 use mvt_document::Items;
+use mvt_meaning::{Command, FeatureChoice, LayerChoice, LayersChoice};
 use std::alloc::Global;
 use tile_arguments::{
     distance, feature_choice, layer_choice, layers_choice, new_geometry, new_value,
     number_argument, text_argument, text_arguments,
 };
-use tile_words::{ParseError, Word};
+use tile_lines::{ParseError, Word};
 
 /// Whether the bytes are this word.
 pub(crate) fn is(name: &[u8], word: &[u8]) -> bool

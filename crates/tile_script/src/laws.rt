@@ -3,16 +3,16 @@
 ghost use Rattle.std.specs.Prelude.{◌≡◌, ℕ, List, [], ◌∷◌, ◌++◌, Some, Ok, codes, IsTrue};
 ghost use Rattle.std.specs.List.{AllByRecursion};
 ghost use Rattle.std.specs.Str.Parse.{digits_value};
-ghost use Rattle.mvt_command.specs.Command.{AtOrdinal, Named, RenameLayer, FeatureAtOrdinal, WithId};
+ghost use Rattle.mvt_meaning.specs.Command.{AtOrdinal, Named, RenameLayer, FeatureAtOrdinal, WithId};
 ghost use Rattle.tile_arguments.specs.Arguments.{is_number};
-ghost use Rattle.mvt_command.specs.Requests.{Edit};
-ghost use Rattle.tile_request.specs.Request.{OnHistory, Lists, Whole, OneLayer, OneFeature};
+ghost use Rattle.mvt_meaning.specs.Requests.{Edit};
+ghost use Rattle.tile_arguments.specs.Request.{OnHistory, Lists, Whole, OneLayer, OneFeature};
 ghost use Rattle.tile_script.specs.Line.{requests_alone, requests_by_name, IsReadable, answer_to};
 ghost use Rattle.tile_script.specs.Shapes.{AsksAlone, AsksByName};
-ghost use Rattle.tile_words.specs.Spelling.{SpellsWords};
-ghost use Rattle.tile_words.specs.Words.{Bare, Quoted};
+ghost use Rattle.tile_lines.specs.Spelling.{SpellsWords};
+ghost use Rattle.tile_lines.specs.Words.{Bare, Quoted};
 
-pub use tile_words::laws::words_are_spelled;
+pub use tile_lines::laws::words_are_spelled;
 
 /// What some shapes of line ask for, where it is UTF-8 and not too long: each word that takes no
 /// argument (`alone`); `mark`, `unmark` and `back` with a quoted name (`by_name`); `rename-layer`

@@ -12,5 +12,5 @@ mod parse;
 mod requests;
 
 pub use parse::{parse_cut, parse_line};
-pub use tile_request::{Request, What};
-pub use tile_words::ParseError;
+pub use tile_arguments::{Request, What};
+pub use tile_lines::ParseError;

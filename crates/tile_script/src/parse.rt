@@ -4,16 +4,15 @@ ghost use Rattle.std.specs.Prelude.{◌≡◌, ℕ, List, option_map};
 ghost use Rattle.std.specs.Result.{IsErrOf};
 ghost use Rattle.tile_lines.specs.Cutting.{cut_of};
 ghost use Rattle.tile_lines.specs.CutStands.{cut_seen};
-ghost use Rattle.tile_request.specs.RequestStands.{request_of};
+ghost use Rattle.tile_arguments.specs.RequestStands.{request_of};
 ghost use Rattle.tile_script.specs.Line.{request_in, is_remark, answer_to, TakesMemory};
-ghost use Rattle.tile_words.specs.Answers.{Gives};
-ghost use Rattle.tile_words.specs.Words.{IsLoneWord};
+ghost use Rattle.tile_lines.specs.Answers.{Gives};
+ghost use Rattle.tile_lines.specs.Words.{IsLoneWord};
 
 use crate::requests::request;
 use std::alloc::Global;
-use tile_lines::{Cut, LINE_LIMIT};
-use tile_request::Request;
-use tile_words::{ParseError, after_blanks, is_utf8, lone_word, words_of};
+use tile_arguments::Request;
+use tile_lines::{Cut, LINE_LIMIT, ParseError, after_blanks, is_utf8, lone_word, words_of};
 
 /// The request that a line asks for, or nothing where it is blank or a comment.
 #[tactic(auto, unfolding(crate::specs::Line::answer_to), using(crate::proofs::Silent::asks_something))]

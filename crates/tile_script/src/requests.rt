@@ -2,17 +2,16 @@
 
 ghost use Rattle.std.specs.Prelude.{◌≤◌, length, map};
 ghost use Rattle.std.specs.Result.{IsErrOf};
-ghost use Rattle.tile_request.specs.RequestStands.{request_of};
+ghost use Rattle.tile_arguments.specs.RequestStands.{request_of};
 ghost use Rattle.tile_script.specs.Line.{alone_of, name_of, list_of, request_by, asked_by};
-ghost use Rattle.tile_words.specs.Answers.{Gives};
-ghost use Rattle.tile_words.specs.WordStands.{word_of};
+ghost use Rattle.tile_lines.specs.Answers.{Gives};
+ghost use Rattle.tile_lines.specs.WordStands.{word_of};
 
 use crate::commands::{chosen, command, is};
 use mvt_document::Items;
 use std::alloc::Global;
-use tile_arguments::{layer_choice, text_argument};
-use tile_request::{Request, What};
-use tile_words::{ParseError, Word};
+use tile_arguments::{Request, What, layer_choice, text_argument};
+use tile_lines::{ParseError, Word};
 
 /// The request that the words of a line ask for.
 #[tactic(auto, unfolding(crate::specs::Line::asked_by))]

@@ -15,9 +15,9 @@ use Rattle.hex.specs.declared.error.FromHexError.{FromHexError}
 use Rattle.hex.proofs.HexLemmas.{decode_of-encode_lower, decode_sized-encode_lower, length-encode_with}
 use Rattle.mvt_value.specs.Values.{Value, OfText, OfFloat, OfDouble, OfInt, OfUint, OfSint, OfBool}
 use Rattle.mvt_value.specs.Messages.{IsWritable}
-use Rattle.tile_words.specs.Words.{Word, Bare, Quoted, ends_bare}
-use Rattle.tile_words.specs.Spelling.{SpellsWord, SpellsWords}
-use Rattle.tile_words.specs.declared.parse_error.ParseError.TheVariants.{BadArguments, BadValue}
+use Rattle.tile_lines.specs.Words.{Word, Bare, Quoted, ends_bare}
+use Rattle.tile_lines.specs.Spelling.{SpellsWord, SpellsWords}
+use Rattle.tile_lines.specs.declared.parse_error.ParseError.TheVariants.{BadArguments, BadValue}
 use Rattle.tile_arguments.specs.Arguments.{integer_of, bytes_in, text_in, text_of, pairs_in, bare_value, value_in, value_of}
 use Rattle.tile_text.specs.Texts.{quoted, text_form, truth_form, value_words}
 use Rattle.tile_text.specs.ReadBack.{AreBytes, HoldsBytes, IsReadAsText, IsReadAsValue}

@@ -15,11 +15,11 @@ use Rattle.mvt_geometry.specs.Shapes.{Geometry, IsGeometry, IsPart, IsPartCount,
 use Rattle.mvt_geometry.specs.declared.shapes.Point.{Point}
 use Rattle.mvt_geometry.specs.declared.shapes.Kind.{Kind}
 use Rattle.mvt_geometry.specs.declared.shapes.Kind.TheVariants.{Dots, Lines, Areas}
-use Rattle.tile_words.specs.Words.{Word, Bare, ends_bare, ends_word}
-use Rattle.tile_words.specs.Answers.{◌>>=◌}
-use Rattle.tile_words.specs.Spelling.{SpellsWord, SpellsWords}
-use Rattle.tile_words.specs.declared.parse_error.ParseError.{ParseError}
-use Rattle.tile_words.specs.declared.parse_error.ParseError.TheVariants.{BadGeometryText}
+use Rattle.tile_lines.specs.Words.{Word, Bare, ends_bare, ends_word}
+use Rattle.tile_lines.specs.Answers.{◌>>=◌}
+use Rattle.tile_lines.specs.Spelling.{SpellsWord, SpellsWords}
+use Rattle.tile_lines.specs.declared.parse_error.ParseError.{ParseError}
+use Rattle.tile_lines.specs.declared.parse_error.ParseError.TheVariants.{BadGeometryText}
 use Rattle.mvt_geometry.proofs.Checks.{counted-Decides}
 use Rattle.tile_arguments.specs.Arguments.{delta_of, each, point_at, point_in, point_of, part_of, is_bar, parts_of, kind_word, kind_of, shaped, geometry_of}
 use Rattle.tile_arguments.proofs.Shaped.{each_enough}

@@ -6,8 +6,8 @@ use Rattle.std.specs.List.{flat_map}
 use Rattle.std.proofs.lemmas.Bool.{eqb-true, or_cases}
 use Rattle.std.proofs.lemmas.Bool.Decides.{nat_tests}
 use Rattle.hex.specs.Hex.{encode_with, encode_lower, lower_digits}
-use Rattle.tile_words.specs.Words.{Bare, Quoted, ends_bare}
-use Rattle.tile_words.specs.Spelling.{SpellsByte, SpellsText, SpellsWord}
+use Rattle.tile_lines.specs.Words.{Bare, Quoted, ends_bare}
+use Rattle.tile_lines.specs.Spelling.{SpellsByte, SpellsText, SpellsWord}
 use Rattle.tile_text.specs.Texts.{is_mark, quoted_byte, quoted}
 use Rattle.tile_text.proofs.Digits.{passes_at, hex_digit_fails, hex_all}
 

@@ -4,8 +4,8 @@ use Rattle.std.specs.List.{All, AllByRecursion}
 use Rattle.mvt_value.specs.Values.{Value, OfText, OfFloat, OfDouble}
 use Rattle.mvt_geometry.specs.Shapes.{Geometry}
 use Rattle.mvt_geometry.specs.declared.shapes.Point.{Point}
-use Rattle.tile_words.specs.Words.{Word, Bare}
-use Rattle.tile_words.specs.Spelling.{SpellsWord, SpellsWords}
+use Rattle.tile_lines.specs.Words.{Word, Bare}
+use Rattle.tile_lines.specs.Spelling.{SpellsWord, SpellsWords}
 use Rattle.tile_arguments.specs.Arguments.{text_of, value_of, geometry_of}
 use Rattle.tile_text.specs.Texts.{text_form, value_words, value_form, geometry_words, geometry_form}
 

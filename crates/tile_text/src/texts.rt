@@ -9,7 +9,7 @@ ghost use Rattle.tile_text.specs.Texts.{is_escaped, quoted_byte, quoted, text_fo
 use hex::encode_to_slice;
 use mvt_document::Items;
 use std::alloc::{AllocError, Global};
-use tile_words::is_utf8;
+use tile_lines::is_utf8;
 
 /// How many bytes are turned into digits at a time.
 const CHUNK: usize = 64;

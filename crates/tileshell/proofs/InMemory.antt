@@ -12,7 +12,7 @@ use Rattle.tile_course.specs.Course.{IsFaultOf}
 use Rattle.tile_course.specs.DeviceLaws.{GivesUp, HasCause, HaveLowCounts}
 use Rattle.tile_course.specs.Headline.{Devices, AllServe, IsRunOf, Runs, outcome_of, tile_written}
 use Rattle.tileshell.specs.InMemory.{handed_out, bytes_in, tile_given, IsEditOf, EditsTile, RefusesFile, IsReadOf, IsRunInMemory, NamesLongScript}
-use Rattle.tile_reply.specs.Replies.{NoneIsOutOfMemory}
+use Rattle.tile_course.specs.Replies.{NoneIsOutOfMemory}
 use Rattle.tile_course.specs.Run.{Progress, is_over, ran, tile_of}
 use Rattle.tile_course.specs.declared.outcome.DeviceName.{DeviceName}
 use Rattle.tile_course.specs.declared.outcome.DeviceName.TheVariants as devices

@@ -13,7 +13,7 @@ use Rattle.tile_lines.specs.Lines.{whole_lines}
 use Rattle.tile_lines.proofs.WholeLines.{whole_lines-front}
 use Rattle.tile_course.specs.Course.{start_of, lines_in, IsFaulty, IsOpened, IsWritten, CarriesThrough}
 use Rattle.tileshell.specs.InMemory.{handed_out, ran_cut, IsCutOff, CutsLongScript}
-use Rattle.tile_reply.specs.Replies.{NoneIsOutOfMemory}
+use Rattle.tile_course.specs.Replies.{NoneIsOutOfMemory}
 use Rattle.tile_course.specs.Run.{Progress, after_lines, is_over, Walk}
 use Rattle.tile_course.specs.declared.outcome.DeviceName.TheVariants as devices
 use Rattle.tile_course.specs.declared.outcome.Options.{Options}

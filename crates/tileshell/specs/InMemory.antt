@@ -9,7 +9,7 @@ use Rattle.tile_lines.specs.Lines.{whole_lines}
 use Rattle.tile_device.specs.Seen.{Intake}
 use Rattle.tile_course.specs.Course.{Course, Ends, IsFaultOf}
 use Rattle.tile_course.specs.Headline.{outcome_of}
-use Rattle.tile_reply.specs.Replies.{NoneIsOutOfMemory}
+use Rattle.tile_course.specs.Replies.{NoneIsOutOfMemory}
 use Rattle.tile_course.specs.Run.{Progress, after_lines, at_first, is_over, ran, tile_of}
 use Rattle.tileshell.specs.declared.in_memory.Edited.{Edited}
 use Rattle.tile_course.specs.declared.outcome.DeviceName.{DeviceName}

@@ -13,16 +13,15 @@
 mod in_memory;
 
 pub use in_memory::{Edited, edit};
-pub use mvt_command::{Command, FeatureChoice, LayerChoice, LayersChoice};
 pub use mvt_document::laws as wire_laws;
 pub use mvt_history::{HistoryError, MAX_DEPTH, MAX_MARKS};
-pub use mvt_meaning::Refusal;
+pub use mvt_meaning::{Command, FeatureChoice, LayerChoice, LayersChoice, Refusal};
+pub use tile_arguments::{Request, What};
+pub use tile_course::Refused;
 pub use tile_device::{FromRead, FromWrite, Retries, Sink, Source, Trouble};
 pub use tile_files::shell;
 pub use tile_lines::laws as line_laws;
 pub use tile_listing::{laws as listing_laws, listing};
-pub use tile_reply::Refused;
-pub use tile_request::{Request, What};
 pub use tile_run::{
     DeviceName, Ended, MAX_RETRIES, MAX_SCRIPT, Options, Outcome, TileFault, run, run_and_hold,
 };

@@ -4,7 +4,7 @@ use crate::calls::broken::{Answer, Broken};
 use crate::calls::geometries::geometry_shown;
 use crate::calls::given::{Given, shown};
 use crate::calls::values::{as_read, value_shown};
-use mvt_command::LayerChoice;
+use mvt_meaning::LayerChoice;
 use std::alloc::Global;
 use tile_arguments::{
     distance, feature_choice, layer_choice, new_geometry, new_value, number, text_argument,

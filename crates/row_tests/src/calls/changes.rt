@@ -5,10 +5,10 @@
 use crate::calls::broken::{Answer, Broken};
 use crate::calls::given::{Given, said};
 use mvt_change::Step;
-use mvt_command::Command;
+use mvt_meaning::Command;
 use std::alloc::Global;
 use test_fixtures::edits::{Edit, Seen};
-use tile_request::Request;
+use tile_arguments::Request;
 use tile_script::parse_line;
 
 pub fn answer(alloc: Global, call: &str, given: Given<'_>) -> Answer {

@@ -3,7 +3,7 @@
 use crate::calls::broken::{Answer, Broken};
 use std::alloc::Global;
 use std::fmt;
-use tile_words::{Word, words_of};
+use tile_lines::{Word, words_of};
 
 /// A tile, and bytes that stand for everything else.
 #[derive(Clone, Copy)]

@@ -3,16 +3,14 @@
 use crate::calls::arguments::layer_shown;
 use crate::calls::broken::{Answer, Broken};
 use crate::calls::given::{Given, said, shown};
-use mvt_command::Command;
-use mvt_history_error::HistoryError;
-use mvt_meaning::Refusal;
+use mvt_history_steps::HistoryError;
+use mvt_meaning::{Command, Refusal};
 use std::alloc::{AllocError, Global};
+use tile_arguments::{Request, What};
+use tile_course::{Refused, reply};
 use tile_device::{FromWrite, Retries};
-use tile_lines::{Cut, LineCutter};
-use tile_reply::{Refused, reply};
-use tile_request::{Request, What};
+use tile_lines::{Cut, LineCutter, ParseError};
 use tile_script::parse_line;
-use tile_words::ParseError;
 
 pub fn answer(alloc: Global, call: &str, given: Given<'_>) -> Answer {
     match call {

@@ -12,7 +12,7 @@ use mvt_view::{
 use mvt_wire::{Document, read_document};
 use std::alloc::{AllocError, Global};
 use tile_arguments::{feature_choice, layer_choice};
-use tile_words::{Word, words_of};
+use tile_lines::{Word, words_of};
 
 pub fn answer(alloc: Global, call: &str, given: Given<'_>) -> Answer {
     let document = read_document(alloc, given.tile)?;

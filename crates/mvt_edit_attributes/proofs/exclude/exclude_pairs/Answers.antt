@@ -3,7 +3,7 @@ use Rattle.std.proofs.lemmas.Result.{err_from_is_err_and}
 use Rattle.std.specs.Option.{unwrap_or}
 use Rattle.mvt_document.specs.Stands.{feature_of, layer_of}
 use Rattle.mvt_change.specs.ChangeStands.{step_of}
-use Rattle.mvt_numbers.specs.Numbers.{numbers}
+use Rattle.mvt_messages.specs.Numbers.{numbers}
 use Rattle.mvt_layers.specs.Seen.{found_feature_seen}
 use Rattle.mvt_meaning.specs.Tagging.{without_pairs}
 use Rattle.mvt_messages.specs.Tags.{plain_pairs, tag_pairs}

@@ -1,6 +1,6 @@
 use Rattle.std.proofs.Common.{◌≡◌, true, false, is_some, refl, sym, ap, ◌∙◌}
 use Rattle.mvt_document.specs.Stands.{layer_of}
-use Rattle.mvt_numbers.specs.Numbers.{numbers}
+use Rattle.mvt_messages.specs.Numbers.{numbers}
 use Rattle.mvt_layers.specs.Seen.{found_feature_seen}
 use Rattle.mvt_messages.specs.Attributes.{pairs_of}
 use Rattle.mvt_messages.specs.Tags.{plain_pairs, tag_pairs}

@@ -2,7 +2,7 @@ use Rattle.std.proofs.Common.{map, refl, ap, ◌∙◌}
 use Rattle.std.proofs.lemmas.Iterator.Consumers.{YieldsList-at, YieldsList-end, YieldsList-from_first}
 use Rattle.std.specs.List.{flat_map}
 use Rattle.mvt_change.specs.ChangeStands.{step_of}
-use Rattle.mvt_command.specs.CommandStands.{layers_choice_of}
+use Rattle.mvt_meaning.specs.CommandStands.{layers_choice_of}
 use Rattle.mvt_layers.specs.Seen.{found_layer_seen}
 use Rattle.mvt_select.specs.Found.{layers_left}
 use Rattle.mvt_edit_steps.specs.EachFeature.{layer_steps}

@@ -11,8 +11,8 @@ use Rattle.mvt_document.specs.Places.{change_items}
 use Rattle.mvt_change.specs.ChangeStands.{change_of, step_of}
 use Rattle.mvt_change.specs.FileSizes.{IsFileSize}
 use Rattle.mvt_change.proofs.Resized.{items_there}
-use Rattle.mvt_command.specs.Command.{RenameKey}
-use Rattle.mvt_command.specs.CommandStands.{layer_choice_of}
+use Rattle.mvt_meaning.specs.Command.{RenameKey}
+use Rattle.mvt_meaning.specs.CommandStands.{layer_choice_of}
 use Rattle.mvt_meaning.specs.Tagging.{is_key, renamed_keys}
 use Rattle.mvt_edit_steps.specs.Prepared.{IsPrepared}
 use Rattle.mvt_edit_steps.proofs.Heavy.{heavy}

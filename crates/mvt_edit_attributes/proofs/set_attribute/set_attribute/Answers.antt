@@ -10,7 +10,7 @@ use Rattle.mvt_document.specs.Wire.{bytes_of}
 use Rattle.mvt_value.specs.Messages.{encoded_value}
 use Rattle.mvt_value.specs.Stands.{new_value_of}
 use Rattle.mvt_layers.specs.Seen.{layer_seen}
-use Rattle.mvt_command.specs.CommandStands.{feature_choice_of, layer_choice_of}
+use Rattle.mvt_meaning.specs.CommandStands.{feature_choice_of, layer_choice_of}
 use Rattle.mvt_meaning.specs.Tagging.{with_attribute}
 use Rattle.mvt_edit_steps.specs.Fates.{seen, splice_of}
 use Rattle.mvt_edit_steps.proofs.Carrying.{in_feature_at}

@@ -1,7 +1,7 @@
 use Rattle.std.proofs.Common.{Err, inl, inr, sym, ap, ◌∙◌}
 use Rattle.std.proofs.lemmas.Result.{err_from_is_err_and}
 use Rattle.mvt_document.specs.Stands.{document_of, feature_of, layer_of}
-use Rattle.mvt_command.specs.CommandStands.{feature_choice_of, layer_choice_of}
+use Rattle.mvt_meaning.specs.CommandStands.{feature_choice_of, layer_choice_of}
 use Rattle.mvt_meaning.specs.Tagging.{removals}
 use Rattle.mvt_meaning.proofs.Removals.{removals_short}
 use Rattle.mvt_layers.specs.Seen.{found_feature_seen}

@@ -9,7 +9,7 @@ use Rattle.mvt_document.specs.Stands.{document_of, feature_of, field_of, layer_o
 use Rattle.mvt_document.specs.Wire.{bytes_of, field_bytes}
 use Rattle.mvt_geometry.specs.Shapes.{kind_number}
 use Rattle.mvt_change.specs.Changes.{FeatureStep}
-use Rattle.mvt_command.specs.CommandStands.{feature_choice_of, layer_choice_of}
+use Rattle.mvt_meaning.specs.CommandStands.{feature_choice_of, layer_choice_of}
 use Rattle.mvt_meaning.specs.Geometries.{is_geometry_field, is_kind, with_geometry, with_kind}
 use Rattle.mvt_edit_steps.specs.Once.{once_splices}
 use Rattle.mvt_edit_steps.specs.PutsLast.{ReplacesLast}

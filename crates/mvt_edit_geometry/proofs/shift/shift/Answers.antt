@@ -10,7 +10,7 @@ use Rattle.mvt_document.specs.Wire.{bytes_of, field_bytes}
 use Rattle.mvt_renumber.specs.Renumbering.{renumber}
 use Rattle.mvt_change.specs.ChangeStands.{step_of}
 use Rattle.mvt_change.specs.FileSizes.{IsFileSize}
-use Rattle.mvt_command.specs.CommandStands.{feature_choice_of, layer_choice_of}
+use Rattle.mvt_meaning.specs.CommandStands.{feature_choice_of, layer_choice_of}
 use Rattle.mvt_meaning.specs.Geometries.{moves, shifted}
 use Rattle.mvt_meaning.proofs.Moving.{moves_short}
 use Rattle.mvt_edit_steps.specs.Decided.{field_fates}

@@ -5,7 +5,7 @@ use Rattle.mvt_document.specs.Stands.{document_of, feature_of, field_of, layer_o
 use Rattle.mvt_document.specs.Wire.{field_bytes}
 use Rattle.mvt_change.specs.Changes.{FeatureStep}
 use Rattle.mvt_change.specs.ChangeStands.{step_of}
-use Rattle.mvt_command.specs.CommandStands.{feature_choice_of, layer_choice_of}
+use Rattle.mvt_meaning.specs.CommandStands.{feature_choice_of, layer_choice_of}
 use Rattle.mvt_meaning.specs.Meaning.{is_id}
 use Rattle.mvt_edit_steps.specs.Fates.{splices_of}
 use Rattle.mvt_edit_steps.proofs.Carrying.{in_feature_at}

@@ -1,7 +1,7 @@
 use Rattle.std.proofs.Common.{inr}
 use Rattle.std.proofs.lemmas.Result.{err_from_is_err_and}
 use Rattle.mvt_document.specs.Stands.{document_of, feature_of, layer_of}
-use Rattle.mvt_command.specs.CommandStands.{feature_choice_of, layer_choice_of}
+use Rattle.mvt_meaning.specs.CommandStands.{feature_choice_of, layer_choice_of}
 use Rattle.mvt_edit_lists.proofs.Gone.{feature_goes, no_feature_goes}
 use Rattle.mvt_edit_lists.proofs.drop_feature.drop_feature.Goals as goal
 

@@ -1,5 +1,5 @@
 use Rattle.mvt_document.specs.Stands.{document_of, layer_of}
-use Rattle.mvt_command.specs.CommandStands.{layer_choice_of}
+use Rattle.mvt_meaning.specs.CommandStands.{layer_choice_of}
 use Rattle.mvt_edit_lists.proofs.Gone.{layer_goes}
 use Rattle.mvt_edit_lists.proofs.drop_layer.drop_layer.Goals as goal
 

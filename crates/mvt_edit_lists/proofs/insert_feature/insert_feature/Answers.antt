@@ -2,8 +2,8 @@ use Rattle.std.proofs.Common.{inr, Err, ap, [], ◌∷◌}
 use Rattle.std.proofs.lemmas.Result.{err_from_is_err_and}
 use Rattle.mvt_document.specs.Stands.{document_of, layer_of}
 use Rattle.mvt_change.specs.Changes.{LayerStep}
-use Rattle.mvt_command.specs.Command.{InsertFeature}
-use Rattle.mvt_command.specs.CommandStands.{layer_choice_of}
+use Rattle.mvt_meaning.specs.Command.{InsertFeature}
+use Rattle.mvt_meaning.specs.CommandStands.{layer_choice_of}
 use Rattle.mvt_meaning.specs.Meaning.{new_feature}
 use Rattle.mvt_meaning.specs.declared.refusal.Refusal.TheVariants.{BadPlace}
 use Rattle.mvt_edit_lists.proofs.InsertionPrepared.{insertion_fits, insertion_refused, insertion_past, insertion_prepared, insertion_too_large}

@@ -1,7 +1,7 @@
 use Rattle.std.proofs.Common.{inr, sym, ◌∙◌}
 use Rattle.std.proofs.lemmas.Result.{err_from_is_err_and}
 use Rattle.mvt_document.specs.Stands.{document_of, layer_of}
-use Rattle.mvt_command.specs.CommandStands.{feature_choice_of, layer_choice_of}
+use Rattle.mvt_meaning.specs.CommandStands.{feature_choice_of, layer_choice_of}
 use Rattle.mvt_meaning.specs.declared.refusal.Refusal.TheVariants.{BadPlace}
 use Rattle.mvt_edit_lists.proofs.MovesPrepared.{feature_moves, feature_past, feature_refused}
 use Rattle.mvt_edit_steps.proofs.Refusing.{none_refused, some_found}

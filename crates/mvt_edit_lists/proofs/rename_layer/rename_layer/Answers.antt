@@ -1,7 +1,7 @@
 use Rattle.mvt_document.specs.Stands.{document_of, layer_of}
 use Rattle.mvt_change.specs.ChangeStands.{step_of}
-use Rattle.mvt_command.specs.Command.{RenameLayer}
-use Rattle.mvt_command.specs.CommandStands.{layer_choice_of}
+use Rattle.mvt_meaning.specs.Command.{RenameLayer}
+use Rattle.mvt_meaning.specs.CommandStands.{layer_choice_of}
 use Rattle.mvt_edit_lists.proofs.NamesAndIds.{rename_prepared, rename_too_large}
 use Rattle.mvt_edit_steps.proofs.OneStep.{prepared_within_limit}
 use Rattle.mvt_edit_lists.proofs.rename_layer.rename_layer.Goals as goal

@@ -2,8 +2,8 @@ use Rattle.std.proofs.Common.{◌≡◌, inr}
 use Rattle.std.proofs.lemmas.Result.{err_from_is_err_and}
 use Rattle.mvt_document.specs.Stands.{document_of, feature_of, layer_of}
 use Rattle.mvt_change.specs.ChangeStands.{step_of}
-use Rattle.mvt_command.specs.Command.{SetId}
-use Rattle.mvt_command.specs.CommandStands.{feature_choice_of, layer_choice_of}
+use Rattle.mvt_meaning.specs.Command.{SetId}
+use Rattle.mvt_meaning.specs.CommandStands.{feature_choice_of, layer_choice_of}
 use Rattle.mvt_edit_lists.proofs.NamesAndIds.{feature_refused, id_prepared, id_too_large}
 use Rattle.mvt_edit_steps.proofs.OneStep.{prepared_within_limit}
 use Rattle.mvt_edit_lists.proofs.set_id.set_id.Goals as goal

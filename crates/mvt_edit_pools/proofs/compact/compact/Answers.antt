@@ -4,7 +4,7 @@ use Rattle.std.proofs.lemmas.List.{append-nil}
 use Rattle.std.specs.List.{flat_map}
 use Rattle.mvt_change.specs.ChangeStands.{step_of}
 use Rattle.mvt_document.specs.Stands.{document_of}
-use Rattle.mvt_command.specs.CommandStands.{layers_choice_of}
+use Rattle.mvt_meaning.specs.CommandStands.{layers_choice_of}
 use Rattle.mvt_meaning.specs.Tagging.{unreadable}
 use Rattle.mvt_layers.specs.Seen.{found_layer_seen}
 use Rattle.mvt_select.specs.Found.{layers_left}

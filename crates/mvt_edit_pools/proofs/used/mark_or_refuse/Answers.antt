@@ -1,7 +1,7 @@
 use Rattle.std.proofs.Common.{◌≡◌, [], ◌∷◌, ◌++◌, Some, length, map, option_map, subst}
 use Rattle.mvt_layers.specs.Seen.{pair_seen}
 use Rattle.mvt_document.specs.Plain as plain
-use Rattle.mvt_numbers.specs.Numbers.{numbers}
+use Rattle.mvt_messages.specs.Numbers.{numbers}
 use Rattle.mvt_messages.specs.Tags.{plain_pairs, tag_pairs}
 use Rattle.mvt_edit_pools.specs.Marks.{marked, names_key, names_value}
 use Rattle.mvt_edit_pools.proofs.used.mark_or_refuse.Goals as goal

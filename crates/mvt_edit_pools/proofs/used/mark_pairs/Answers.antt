@@ -2,8 +2,8 @@ use Rattle.std.proofs.Common.{◌≡◌, [], ◌∷◌, ◌++◌, Ok, Err, Some,
 use Rattle.mvt_document.proofs.Options.{none_is}
 use Rattle.std.proofs.lemmas.List.{append-nil, map-append}
 use Rattle.mvt_edit_steps.proofs.Deciding.{more_some}
-use Rattle.mvt_numbers.specs.Numbers.{and_more}
-use Rattle.mvt_numbers.specs.Seen.{placed_of}
+use Rattle.mvt_messages.specs.Numbers.{and_more}
+use Rattle.mvt_messages.specs.Seen.{placed_of}
 use Rattle.mvt_layers.specs.Seen.{pair_seen}
 use Rattle.mvt_messages.specs.Tags.{plain_pairs}
 use Rattle.mvt_layers.proofs.Pairing.{plain_more}

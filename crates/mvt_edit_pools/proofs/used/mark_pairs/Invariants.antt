@@ -1,5 +1,5 @@
 use Rattle.std.proofs.Common.{◌≡◌, ◌++◌, is_some, map, option_map}
-use Rattle.mvt_numbers.specs.Numbers.{numbers}
+use Rattle.mvt_messages.specs.Numbers.{numbers}
 use Rattle.mvt_layers.specs.Seen.{feature_seen, pair_seen}
 use Rattle.mvt_messages.specs.Tags.{plain_pairs, tag_pairs}
 use Rattle.mvt_edit_pools.specs.Marks.{marked, names_key, names_value}

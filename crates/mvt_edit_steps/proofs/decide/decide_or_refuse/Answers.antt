@@ -1,7 +1,7 @@
 use Rattle.std.proofs.Common.{ℕ, Bool, false, rules, slice_get, ◌∙◌}
 use Rattle.std.proofs.lemmas.Result.{IfOk-weaker}
 use Rattle.std.specs.Option.{unwrap_or}
-use Rattle.mvt_numbers.specs.Numbers.{numbers}
+use Rattle.mvt_messages.specs.Numbers.{numbers}
 use Rattle.mvt_layers.specs.Seen.{found_feature_seen}
 use Rattle.mvt_messages.specs.Tags.{plain_pairs, tag_pairs}
 use Rattle.mvt_edit_steps.specs.Decided.{said_of}

@@ -3,8 +3,8 @@ use Rattle.mvt_document.proofs.Options.{none_is}
 use Rattle.std.proofs.lemmas.Bool.{cases_Bool}
 use Rattle.std.proofs.lemmas.Fn.{says}
 use Rattle.std.proofs.lemmas.List.{append-nil}
-use Rattle.mvt_numbers.specs.Numbers.{and_more}
-use Rattle.mvt_numbers.specs.Seen.{placed_of}
+use Rattle.mvt_messages.specs.Numbers.{and_more}
+use Rattle.mvt_messages.specs.Seen.{placed_of}
 use Rattle.mvt_layers.specs.Seen.{pair_seen}
 use Rattle.mvt_messages.specs.Tags.{plain_pairs}
 use Rattle.mvt_layers.proofs.Pairing.{plain_more}

@@ -1,6 +1,6 @@
 use Rattle.std.proofs.Common.{subst}
 use Rattle.mvt_document.specs.Plain as plain
-use Rattle.mvt_numbers.specs.Numbers.{numbers}
+use Rattle.mvt_messages.specs.Numbers.{numbers}
 use Rattle.mvt_messages.specs.Tags.{plain_pairs, tag_pairs}
 use Rattle.mvt_edit_steps.specs.Decided.{IsDecided}
 use Rattle.mvt_edit_steps.proofs.pairs.decide_pairs.Goals as goal

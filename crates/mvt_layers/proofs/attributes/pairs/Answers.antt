@@ -1,7 +1,7 @@
 use Rattle.std.proofs.Common.{◌≡◌, ℕ, List, [], ◌∷◌, ◌++◌, Ok, map, option_map, sym, ap, ◌∙◌}
 use Rattle.std.proofs.lemmas.List.{map_push}
-use Rattle.mvt_numbers.specs.Numbers.{and_more}
-use Rattle.mvt_numbers.specs.Seen.{placed_of}
+use Rattle.mvt_messages.specs.Numbers.{and_more}
+use Rattle.mvt_messages.specs.Seen.{placed_of}
 use Rattle.mvt_layers.specs.Seen.{feature_seen, layer_seen, pair_seen}
 use Rattle.mvt_messages.specs.Tags.{plain_pairs}
 use Rattle.mvt_layers.proofs.Pairing.{done_more, done_none, plain_more, tags_are_pairs}

@@ -1,5 +1,5 @@
 use Rattle.mvt_document.specs.Stands.{document_of}
-use Rattle.mvt_command.specs.CommandStands.{layer_choice_of}
+use Rattle.mvt_meaning.specs.CommandStands.{layer_choice_of}
 use Rattle.mvt_select.proofs.Chosen.{one_selected}
 use Rattle.mvt_select.proofs.layers.find_layers.Goals as goal
 

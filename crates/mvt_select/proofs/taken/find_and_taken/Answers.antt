@@ -1,7 +1,7 @@
 use Rattle.std.proofs.Common.{◌≡◌, Err}
 use Rattle.mvt_document.specs.Stands.{document_of}
-use Rattle.mvt_command.specs.Command.{Named}
-use Rattle.mvt_command.specs.CommandStands.{layer_choice_of}
+use Rattle.mvt_meaning.specs.Command.{Named}
+use Rattle.mvt_meaning.specs.CommandStands.{layer_choice_of}
 use Rattle.mvt_meaning.specs.Selection.{selected}
 use Rattle.mvt_select.specs.Found.{IsFoundLayer}
 use Rattle.mvt_select.proofs.Selected.{layer_of_name, named_ordinal, no_layer_of_name}

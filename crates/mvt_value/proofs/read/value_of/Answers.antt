@@ -1,5 +1,5 @@
 use Rattle.std.proofs.Common.{◌≡◌, [], length, arith, append-nil, sym, ◌∙◌}
-use Rattle.mvt_read.specs.Fronts.{front_of}
+use Rattle.mvt_wire.specs.Fronts.{front_of}
 use Rattle.mvt_value.proofs.Fields.{one_message, value_of_field, shown_value}
 use Rattle.mvt_value.proofs.read.value_of.Goals as goal
 use Rattle.mvt_value.proofs.read.value_of.Goals.{in_default-via-in-Some+else-length-bytes, in_default-via-in_default}

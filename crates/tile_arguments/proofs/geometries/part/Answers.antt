@@ -1,8 +1,8 @@
 use Rattle.std.proofs.Common.{◌≡◌, inr, List, Result, Ok, Err, sym, ap, ◌∙◌, rules}
 use Rattle.mvt_geometry.specs.declared.shapes.Point.{Point}
-use Rattle.tile_words.specs.declared.words.Word.{Word}
-use Rattle.tile_words.specs.declared.parse_error.ParseError.{ParseError}
-use Rattle.tile_words.specs.WordStands.{word_of}
+use Rattle.tile_lines.specs.declared.words.Word.{Word}
+use Rattle.tile_lines.specs.declared.parse_error.ParseError.{ParseError}
+use Rattle.tile_lines.specs.WordStands.{word_of}
 use Rattle.tile_arguments.specs.Arguments.{point_of, part_of}
 use Rattle.tile_arguments.proofs.Each.{onto_next, onto_stops, onto_all, each-map}
 use Rattle.tile_arguments.proofs.geometries.part.Goals as goal

@@ -1,5 +1,5 @@
 use Rattle.std.proofs.Common.{◌≡◌, drop}
-use Rattle.tile_words.specs.WordStands.{word_of}
+use Rattle.tile_lines.specs.WordStands.{word_of}
 use Rattle.tile_arguments.specs.Arguments.{each, point_of}
 use Rattle.tile_arguments.proofs.Each.{onto}
 use Rattle.tile_arguments.proofs.geometries.part.Given as goal

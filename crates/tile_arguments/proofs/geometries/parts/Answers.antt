@@ -6,12 +6,12 @@ use Rattle.std.proofs.lemmas.Iterator.Consumers.{YieldsList-turn, YieldsList-end
 use Rattle.mvt_geometry.specs.declared.shapes.Point.{Point}
 use Rattle.mvt_geometry.specs.declared.shapes.Part.{Part}
 use Rattle.mvt_geometry.specs.Stands.{points_of}
-use Rattle.tile_words.specs.declared.words.Word.{Word}
-use Rattle.tile_words.specs.declared.parse_error.ParseError.{ParseError}
-use Rattle.tile_words.specs.WordStands.{word_of}
+use Rattle.tile_lines.specs.declared.words.Word.{Word}
+use Rattle.tile_lines.specs.declared.parse_error.ParseError.{ParseError}
+use Rattle.tile_lines.specs.WordStands.{word_of}
 use Rattle.tile_arguments.specs.Arguments.{each, part_of, is_bar, parts_of}
 use Rattle.tile_arguments.proofs.Each.{onto_next, onto_stops, onto_all, each-map, split-map}
-use Rattle.tile_words.specs.declared.parse_error.ParseError.TheVariants.{BadGeometryText}
+use Rattle.tile_lines.specs.declared.parse_error.ParseError.TheVariants.{BadGeometryText}
 use Rattle.tile_arguments.proofs.Judged.{only_refused, parts_only, parts_said}
 use Rattle.tile_arguments.proofs.geometries.parts.Goals as goal
 

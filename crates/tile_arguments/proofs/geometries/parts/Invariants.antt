@@ -1,7 +1,7 @@
 use Rattle.std.proofs.Common.{◌≡◌, length, drop, map}
 use Rattle.std.specs.List.{slice_split}
 use Rattle.mvt_geometry.specs.Stands.{points_of}
-use Rattle.tile_words.specs.WordStands.{word_of}
+use Rattle.tile_lines.specs.WordStands.{word_of}
 use Rattle.tile_arguments.specs.Arguments.{each, part_of, is_bar}
 use Rattle.tile_arguments.proofs.Each.{onto}
 use Rattle.tile_arguments.proofs.geometries.parts.Given as goal

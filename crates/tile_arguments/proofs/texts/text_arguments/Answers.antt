@@ -1,11 +1,11 @@
 use Rattle.std.proofs.Common.{◌≡◌, ℕ, inl, inr, List, [], ◌∷◌, ◌++◌, map, Result, Ok, Err, sym, ap, ◌∙◌, rules}
 use Rattle.std.proofs.lemmas.List.{map_push}
-use Rattle.tile_words.specs.declared.words.Word.{Word}
-use Rattle.tile_words.specs.declared.parse_error.ParseError.{ParseError}
-use Rattle.tile_words.specs.WordStands.{word_of}
+use Rattle.tile_lines.specs.declared.words.Word.{Word}
+use Rattle.tile_lines.specs.declared.parse_error.ParseError.{ParseError}
+use Rattle.tile_lines.specs.WordStands.{word_of}
 use Rattle.tile_arguments.specs.Arguments.{text_of, texts_of}
 use Rattle.tile_arguments.proofs.Each.{onto_next, onto_stops, onto_all, each-map}
-use Rattle.tile_words.specs.declared.parse_error.ParseError.TheVariants.{BadArguments}
+use Rattle.tile_lines.specs.declared.parse_error.ParseError.TheVariants.{BadArguments}
 use Rattle.tile_arguments.proofs.Judged.{only_refused, texts_only, texts_said}
 use Rattle.tile_arguments.proofs.texts.text_arguments.Goals as goal
 

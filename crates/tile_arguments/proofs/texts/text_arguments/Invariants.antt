@@ -1,5 +1,5 @@
 use Rattle.std.proofs.Common.{◌≡◌, drop, map}
-use Rattle.tile_words.specs.WordStands.{word_of}
+use Rattle.tile_lines.specs.WordStands.{word_of}
 use Rattle.tile_arguments.specs.Arguments.{each, text_of}
 use Rattle.tile_arguments.proofs.Each.{onto}
 use Rattle.tile_arguments.proofs.texts.text_arguments.Given as goal

@@ -1,5 +1,5 @@
 use Rattle.mvt_document.specs.Stands.{layer_of}
-use Rattle.mvt_command.specs.CommandStands.{feature_choice_of}
+use Rattle.mvt_meaning.specs.CommandStands.{feature_choice_of}
 use Rattle.tile_listing.proofs.Choosing.{feature_chosen}
 use Rattle.tile_listing.proofs.show.chosen_feature.Goals as goal
 

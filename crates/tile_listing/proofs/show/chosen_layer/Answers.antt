@@ -1,5 +1,5 @@
 use Rattle.mvt_document.specs.Stands.{document_of}
-use Rattle.mvt_command.specs.CommandStands.{layer_choice_of}
+use Rattle.mvt_meaning.specs.CommandStands.{layer_choice_of}
 use Rattle.tile_listing.proofs.Choosing.{layer_chosen}
 use Rattle.tile_listing.proofs.show.chosen_layer.Goals as goal
 

@@ -2,8 +2,8 @@ use Rattle.std.proofs.Common.{◌++◌, inr, refl, sym, ap, ◌∙◌}
 use Rattle.std.proofs.lemmas.Result.{err_from_is_err_and}
 use Rattle.mvt_document.specs.Stands.{document_of, layer_of}
 use Rattle.mvt_layers.specs.Seen.{feature_seen}
-use Rattle.mvt_command.specs.CommandStands.{feature_choice_of, layer_choice_of}
-use Rattle.tile_request.specs.Request.{Whole}
+use Rattle.mvt_meaning.specs.CommandStands.{feature_choice_of, layer_choice_of}
+use Rattle.tile_arguments.specs.Request.{Whole}
 use Rattle.tile_listing.specs.Listing.{joined_lines, lines_of_feature, lines_of_layer, lines_of_tile}
 use Rattle.tile_listing.proofs.Listed.{feature_layer_refused, feature_refused, feature_shown, layer_refused, layer_shown, put_listed}
 use Rattle.tile_listing.proofs.show.listing.Goals as goal

@@ -1,8 +1,8 @@
 use Rattle.std.proofs.Common.{◌≤◌, ◌<◌, ◌∙◌, Err, ap, length, map, subst, sym, arith}
 use Rattle.std.proofs.lemmas.Result.{err_from_is_err_and}
-use Rattle.mvt_command.specs.CommandStands.{command_of}
-use Rattle.tile_words.specs.Answers.{Gives}
-use Rattle.tile_words.specs.WordStands.{word_of}
+use Rattle.mvt_meaning.specs.CommandStands.{command_of}
+use Rattle.tile_lines.specs.Answers.{Gives}
+use Rattle.tile_lines.specs.WordStands.{word_of}
 use Rattle.tile_script.specs.Commands.{set_of}
 use Rattle.tile_script.proofs.SetRefusals.{key_refused, place_refused, value_refused}
 use Rattle.tile_script.proofs.commands.set.Goals as goal

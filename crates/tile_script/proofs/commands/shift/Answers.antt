@@ -2,9 +2,9 @@ use Rattle.std.proofs.Common.{◌≤◌, ◌<◌, ◌∙◌, Err, ap, length, ma
 use mir.Val.{SFits}
 use Rattle.std.proofs.lemmas.Int.{to_z-of_z}
 use Rattle.std.proofs.lemmas.Result.{err_from_is_err_and}
-use Rattle.mvt_command.specs.CommandStands.{command_of}
-use Rattle.tile_words.specs.Answers.{Gives}
-use Rattle.tile_words.specs.WordStands.{word_of}
+use Rattle.mvt_meaning.specs.CommandStands.{command_of}
+use Rattle.tile_lines.specs.Answers.{Gives}
+use Rattle.tile_lines.specs.WordStands.{word_of}
 use Rattle.tile_script.specs.Commands.{shift_of}
 use Rattle.tile_script.proofs.ShiftRefusals.{along_refused, along_and_down}
 use Rattle.tile_script.proofs.commands.shift.Goals as goal

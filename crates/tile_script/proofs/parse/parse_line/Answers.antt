@@ -2,7 +2,7 @@ use Rattle.std.proofs.Common.{◌≡◌, ◌≤◌, Err, true, false, ap, length
 use Rattle.std.specs.Str.{is_utf8}
 use Rattle.std.proofs.lemmas.Str.{IsUtf8-from_is_utf8}
 use Rattle.std.proofs.lemmas.Result.{err_from_is_err_and}
-use Rattle.tile_words.specs.declared.parse_error.ParseError.TheVariants.{NoMemory}
+use Rattle.tile_lines.specs.declared.parse_error.ParseError.TheVariants.{NoMemory}
 use Rattle.tile_script.specs.Line.{is_remark}
 use Rattle.tile_lines.specs.declared.TheConstants.{LINE_LIMIT}
 use Rattle.tile_script.proofs.parse.parse_line.Goals as goal

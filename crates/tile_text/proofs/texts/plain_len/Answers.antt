@@ -1,5 +1,5 @@
 use Rattle.tile_text.specs.Texts.{is_escaped}
-use Rattle.tile_words.proofs.Places.{place_le, place_from_position}
+use Rattle.tile_lines.proofs.Places.{place_le, place_from_position}
 use Rattle.tile_text.proofs.texts.plain_len.Goals as goal
 
 pub returns : goal.returns

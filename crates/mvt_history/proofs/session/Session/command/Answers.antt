@@ -4,7 +4,7 @@ use Rattle.mvt_document.specs.Stands.{document_of}
 use Rattle.mvt_change.specs.declared.change.Change.{Change}
 use Rattle.mvt_change.specs.ChangeStands.{change_of}
 use Rattle.mvt_change.specs.Changes.{turn}
-use Rattle.mvt_command.specs.CommandStands.{command_of}
+use Rattle.mvt_meaning.specs.CommandStands.{command_of}
 use Rattle.mvt_history_steps.specs.Held.{from_last, standing_of}
 use Rattle.mvt_history.specs.Inside.{seen_in}
 use Rattle.mvt_history_steps.specs.Session.{StandsFor}

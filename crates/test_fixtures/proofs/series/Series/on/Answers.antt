@@ -1,5 +1,5 @@
 use Rattle.mvt_change.specs.ChangeStands.{change_of}
-use Rattle.mvt_command.specs.CommandStands.{command_of}
+use Rattle.mvt_meaning.specs.CommandStands.{command_of}
 use Rattle.test_fixtures.proofs.Ready.{followed}
 use Rattle.test_fixtures.proofs.series.Series.on.Goals as goal
 

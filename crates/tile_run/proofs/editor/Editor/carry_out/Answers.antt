@@ -1,5 +1,5 @@
 use Rattle.std.proofs.Common.{◌∙◌, ◌+◌, ℕ, ap, sym, refl}
-use Rattle.tile_reply.specs.Replies.{answer_seen}
+use Rattle.tile_course.specs.Replies.{answer_seen}
 use Rattle.tile_run.proofs.Running.{advances_silently, settles, falters}
 use Rattle.tile_run.proofs.editor.Editor.carry_out.Goals as goal
 

@@ -1,0 +1,19 @@
+-- The numbers of fields, from a position on.
+use Rattle.std.proofs.Common.{◌≡◌, ℕ, ◌+◌, ◌<◌, List, ◌++◌, length, get_or, map, sym, ap, ◌∙◌, arith}
+use Rattle.std.specs.List.{flat_map, enumerate_from}
+use Rattle.std.proofs.lemmas.List.{drop_more, length-map, get_or-map}
+use Rattle.mvt_document.specs.Plain as plain
+use Rattle.mvt_document.specs.Stands.{field_of}
+use Rattle.mvt_document.specs.declared.Field.{Field}
+use Rattle.mvt_messages.specs.Numbers.{numbers_in}
+use Rattle.mvt_messages.specs.Left.{numbers_from}
+
+-- the numbers from a position on are those in its field, and those from the next position on
+pub numbers_from-more : (number position : ℕ) (fields : List Field) (field : Field) → position < length fields → field ≡ get_or fields position field
+    → numbers_from number position (map field_of fields) ≡ numbers_in number (position, field_of field) ++ numbers_from number (position + 1) (map field_of fields)
+numbers_from-more number position fields field within read =
+    let all : List plain.Field = map field_of fields in
+    let inside : position < length all = omega (arith, length-map fields field_of) in
+    let first : get_or all position (field_of field) ≡ field_of field = get_or-map field_of fields position field (field_of field) within ∙ ap field_of (sym read) in
+    ap (λ (rest : List plain.Field). flat_map (numbers_in number) (enumerate_from position rest)) (drop_more all position (field_of field) inside)
+    ∙ ap (λ (f : plain.Field). numbers_in number (position, f) ++ numbers_from number (position + 1) all) first

@@ -1,7 +1,0 @@
-use Rattle.std.proofs.Common.{◌≡◌, map}
-use Rattle.mvt_document.specs.Stands.{field_of}
-use Rattle.mvt_numbers.specs.Left.{numbers_from}
-use Rattle.mvt_numbers.proofs.elements.first_elements.Given as goal
-
-abbrev pub invariant-loop-position : goal.invariant-loop-position
-invariant-loop-position l = numbers_from l.number l.start (map field_of l.fields) ≡ numbers_from l.number l.position (map field_of l.fields)

@@ -1,5 +1,0 @@
-use Rattle.mvt_numbers.proofs.Pieces.{bad_no_number}
-use Rattle.mvt_numbers.proofs.laws.bad_is_no_number.Goals as goal
-
-pub returns : goal.returns
-returns c = bad_no_number

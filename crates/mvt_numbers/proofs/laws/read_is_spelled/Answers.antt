@@ -1,5 +1,0 @@
-use Rattle.mvt_numbers.proofs.Pieces.{found_spelled}
-use Rattle.mvt_numbers.proofs.laws.read_is_spelled.Goals as goal
-
-pub returns : goal.returns
-returns c = found_spelled

@@ -1,4 +1,0 @@
-pub mod Numbers
-pub mod Left
-pub mod Seen
-pub mod Laws

@@ -1,3 +1,0 @@
-pub mod Open
-pub mod Fronts
-pub mod Stops

@@ -1,6 +1,0 @@
-pub mod Again
-pub mod Found
-mod Lone
-pub mod Places
-pub mod Repeats
-pub mod Short

@@ -1,4 +1,0 @@
-pub mod Words
-pub mod WordStands
-pub mod Spelling
-pub mod Answers
