@@ -1,9 +1,11 @@
 //! A document with a change that fits it, as tests of changes use it.
 
 use crate::weights::known_weight;
-use mvt_change::{Change, flip, weight};
+use mvt_change::{Change, Step, flip, weight};
 use mvt_edit::{Command, Refusal, prepare};
-use mvt_wire::{Document, ReadError, WriteError, read_document, size, write_document};
+use mvt_wire::{
+    Document, Layer, ReadError, TileItem, WriteError, read_document, size, write_document,
+};
 use std::alloc::{AllocError, Global};
 use std::marker::Model;
 
@@ -15,12 +17,13 @@ pub struct Edit {
 }
 
 /// What can be seen of an edit: the bytes of its tile, how many they are by the sizes that its lists
-/// keep, and its change.
+/// keep, its change, and what the layers that the change brings know of their items.
 #[derive(Debug, Drop, PartialEq, Eq)]
 pub struct Seen {
     pub tile: Vec<u8>,
     pub size: Option<u64>,
     pub change: String,
+    pub known: Vec<String>,
 }
 
 impl Model for Edit {
@@ -74,6 +77,7 @@ impl Edit {
             tile: write_document(alloc, &self.document)?,
             size: size(&self.document),
             change: format!(in alloc; "{change:?}")?,
+            known: known_in(alloc, change)?,
         })
     }
 
@@ -96,4 +100,40 @@ impl Edit {
         self.change.in_order();
         flipped
     }
+}
+
+/// What each layer that a change brings knows of its items.
+fn known_in(alloc: Global, change: &Change) -> Result<Vec<String>, AllocError> {
+    let mut known = Vec::new(alloc);
+    for step in change.steps.as_slice() {
+        if let Step::InTile { put, .. } = step {
+            push_known(alloc, put.as_slice(), &mut known)?;
+        }
+    }
+    Ok(known)
+}
+
+fn push_known(
+    alloc: Global,
+    items: &[TileItem],
+    known: &mut Vec<String>,
+) -> Result<(), AllocError> {
+    for item in items {
+        if let TileItem::Layer(layer) = item {
+            known.push(known_of(alloc, layer)?)?;
+        }
+    }
+    Ok(())
+}
+
+/// How many bytes the items of a layer take, where those of each kind stand, and the hashes of their ids.
+fn known_of(alloc: Global, layer: &Layer) -> Result<String, AllocError> {
+    let (size, runs, hashes) = (
+        layer.items.known_size(),
+        layer.items.runs(),
+        layer.items.id_hashes(),
+    );
+    let (names, features) = (runs.names, runs.messages);
+    let (keys, values) = (runs.keys, runs.values);
+    format!(in alloc; "{size:?} {names:?} {features:?} {keys:?} {values:?} {hashes:?}")
 }
