@@ -13,7 +13,7 @@ import sys
 from collections import Counter
 
 # How many parts of a crate are proved at a time, at most, if nearly all of the others wait for it.
-JOBS_OF_A_BASE = 3
+JOBS_OF_A_BASE = 4
 
 
 def load():
