@@ -2,8 +2,8 @@
 //! written.
 //!
 //! - `run` has the headline: docs/PROVED.md has its clauses and premises. It is for a program that
-//!   ends after it, and leaves what it holds to the system. `run_and_hold` hands that back with the
-//!   outcome, and has the clause from which the headline follows (`course`).
+//!   ends after it, and leaves what it holds to the system. `run_and_free` frees that, and has the
+//!   clause from which the headline follows (`course`).
 //! - Private `Editor::carry_out_script` is the step on whose contract both rest: what the lines of
 //!   a script come to as they are read.
 //! - Private `carry_out_request` is how a session answers a request: it is carried out, or refused,
@@ -19,5 +19,5 @@ mod editor;
 mod printed;
 mod runs;
 
-pub use runs::{Ended, run, run_and_hold};
+pub use runs::{run, run_and_free};
 pub use tile_course::{DeviceName, MAX_RETRIES, MAX_SCRIPT, Options, Outcome, TileFault};

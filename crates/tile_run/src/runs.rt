@@ -19,27 +19,11 @@ use std::mem;
 use tile_course::{MAX_RETRIES, Options, Outcome, TileFault, Unopened, Unwritten};
 use tile_device::{Retries, Sink, Source, read_to_limit, write_and_flush};
 
-/// A run that is over: how it ended, and what it still holds, which is freed with this.
-#[derive(Drop)]
-pub struct Ended {
-    pub outcome: Outcome,
-    /// The session with its document, where the tile opened.
-    editor: Option<Editor>,
-}
-
-impl Ended {
-    fn new(outcome: Outcome, editor: Option<Editor>) -> Self
-        ensures { result.outcome ≡ outcome }
-    {
-        Ended { outcome, editor }
-    }
-}
-
 /// Edits the tile by the lines of the script, answers each line that asks for something, and
 /// writes the edited tile.
 ///
 /// What the run still holds at its end, the session with its document, is not freed: it is left to
-/// the system. So this is for a program that ends after it; `run_and_hold` is for one that goes on.
+/// the system. So this is for a program that ends after it; `run_and_free` is for one that goes on.
 pub fn run<R1: Source, R2: Source, W1: Sink, W2: Sink>(
     alloc: Global,
     tile: &mut R1,
@@ -78,42 +62,64 @@ pub fn run<R1: Source, R2: Source, W1: Sink, W2: Sink>(
     ensures script_as_it_was { LeavesReplies result → script.new ≡ script.old }
     ensures replies_as_they_were { LeavesReplies result → replies.new ≡ replies.old }
 {
-    let ended = run_and_hold(alloc, tile, script, replies, out, options);
-    let outcome = ended.outcome;
-    mem::forget(ended);
+    let (outcome, held) = run_and_hold(alloc, tile, script, replies, out, options);
+    mem::forget(held);
     outcome
 }
 
-/// Does what `run` does, and hands back what it still holds with the outcome, so that this can be
-/// freed. What else `run` says follows from `course`.
-pub fn run_and_hold<R1: Source, R2: Source, W1: Sink, W2: Sink>(
+/// Does what `run` does, and frees what that leaves to the system. What else `run` says follows from
+/// `course`.
+pub fn run_and_free<R1: Source, R2: Source, W1: Sink, W2: Sink>(
     alloc: Global,
     tile: &mut R1,
     script: &mut R2,
     replies: &mut W1,
     out: &mut W2,
     options: Options,
-) -> Ended
+) -> Outcome
     requires some_depth { 1 ≤ options.depth }
     requires depth { options.depth ≤ MAX_DEPTH }
     ensures course { Runs options
         (devices_at R1.Source R2.Source W1.Sink W2.Sink tile.old script.old replies.old out.old)
         (devices_at R1.Source R2.Source W1.Sink W2.Sink tile.new script.new replies.new out.new)
-        result.outcome }
-    ensures out_as_it_was { LeavesOut result.outcome → out.new ≡ out.old }
-    ensures script_as_it_was { LeavesReplies result.outcome → script.new ≡ script.old }
-    ensures replies_as_they_were { LeavesReplies result.outcome → replies.new ≡ replies.old }
+        result }
+    ensures out_as_it_was { LeavesOut result → out.new ≡ out.old }
+    ensures script_as_it_was { LeavesReplies result → script.new ≡ script.old }
+    ensures replies_as_they_were { LeavesReplies result → replies.new ≡ replies.old }
+{
+    run_and_hold(alloc, tile, script, replies, out, options).0
+}
+
+/// Does what `run` does, and returns what it still holds, with the outcome: the session with its
+/// document, where the tile opened.
+fn run_and_hold<R1: Source, R2: Source, W1: Sink, W2: Sink>(
+    alloc: Global,
+    tile: &mut R1,
+    script: &mut R2,
+    replies: &mut W1,
+    out: &mut W2,
+    options: Options,
+) -> (Outcome, Option<Editor>)
+    requires some_depth { 1 ≤ options.depth }
+    requires depth { options.depth ≤ MAX_DEPTH }
+    ensures course { Runs options
+        (devices_at R1.Source R2.Source W1.Sink W2.Sink tile.old script.old replies.old out.old)
+        (devices_at R1.Source R2.Source W1.Sink W2.Sink tile.new script.new replies.new out.new)
+        result.0 }
+    ensures out_as_it_was { LeavesOut result.0 → out.new ≡ out.old }
+    ensures script_as_it_was { LeavesReplies result.0 → script.new ≡ script.old }
+    ensures replies_as_they_were { LeavesReplies result.0 → replies.new ≡ replies.old }
 {
     let mut retries = Retries::new(MAX_RETRIES);
     let (document, file) = match open(alloc, tile, &mut retries) {
         Ok(opened) => opened,
-        Err(stop) => return Ended::new(stop.into(), None),
+        Err(stop) => return (stop.into(), None),
     };
     let Some(mut editor) = Editor::start(alloc, document, options) else {
-        return Ended::new(Outcome::NoMemory, None);
+        return (Outcome::NoMemory, None);
     };
     let outcome = edit(alloc, &mut editor, file, script, replies, out, &mut retries);
-    Ended::new(outcome, Some(editor))
+    (outcome, Some(editor))
 }
 
 /// Carries the script out on a document that no line has edited, and writes what it has become. The

@@ -6,7 +6,7 @@ ghost use Rattle.tileshell.specs.InMemory.{EditsTile, RefusesFile, CutsLongScrip
 
 use std::alloc::Global;
 use tile_device::{Counts, Sink, Source, Trouble};
-use tile_run::{DeviceName, Options, Outcome, run_and_hold};
+use tile_run::{DeviceName, Options, Outcome, run_and_free};
 
 /// What an edit of a tile in memory returns.
 #[derive(Debug, Drop)]
@@ -46,15 +46,14 @@ pub fn edit(alloc: Global, tile: &[u8], script: &[u8], options: Options) -> Edit
 {
     let mut replies = Gathered::new(alloc);
     let mut out = Gathered::new(alloc);
-    let outcome = run_and_hold(
+    let outcome = run_and_free(
         alloc,
         &mut Unread { rest: tile },
         &mut Unread { rest: script },
         &mut replies,
         &mut out,
         options,
-    )
-    .outcome;
+    );
     hand_out(outcome, replies.bytes, out.bytes)
 }
 

@@ -5,7 +5,7 @@
 //!   clauses.
 //! - `shell` is the program, from its words to its status; it is re-exported from `tile_files`.
 //!
-//! It re-exports `run`, `run_and_hold` and the types that these take and return, `parse_line`,
+//! It re-exports `run`, `run_and_free` and the types that these take and return, `parse_line`,
 //! `listing`, `quote`, the commands, requests and refusals with their limits, the devices of the
 //! standard library, and modules of laws of the crates below it.
 #![tactic(auto)]
@@ -23,7 +23,7 @@ pub use tile_files::shell;
 pub use tile_lines::laws as line_laws;
 pub use tile_listing::{laws as listing_laws, listing};
 pub use tile_run::{
-    DeviceName, Ended, MAX_RETRIES, MAX_SCRIPT, Options, Outcome, TileFault, run, run_and_hold,
+    DeviceName, MAX_RETRIES, MAX_SCRIPT, Options, Outcome, TileFault, run, run_and_free,
 };
 pub use tile_script::{ParseError, laws as script_laws, parse_line};
 pub use tile_text::{laws as text_laws, quote};
