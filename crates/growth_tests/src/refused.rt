@@ -60,7 +60,7 @@ pub fn prepare(alloc: Global, edit: &mut Edit, command: &Command) -> Result<Refu
 
 /// The change is carried out. Where a growth was refused, nothing had changed. The sizes that lists
 /// keep are those of their items.
-fn flip(alloc: Global, edit: &mut Edit) -> Result<Refused, Fault> {
+pub fn flip(alloc: Global, edit: &mut Edit) -> Result<Refused, Fault> {
     let before = edit.seen(alloc)?;
     let mut refused = Refused::Nowhere;
     if edit.flip(alloc).is_err() {

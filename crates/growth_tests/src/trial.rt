@@ -1,8 +1,8 @@
-//! The trials: for each command one, one for ids that go in two steps, and two for the changes of
-//! several commands as one.
+//! The trials: for each command one, one for a layer that comes back to a full list, one for ids that
+//! go in two steps, and two for the changes of several commands as one.
 
 use crate::fault::Fault;
-use crate::refused::{Refused, flip_twice, prepare};
+use crate::refused::{Refused, flip, flip_twice, prepare};
 use crate::scripts::{IDS_APART, UNUSED};
 use mvt_edit::Command;
 use std::alloc::{AllocError, Global};
@@ -23,6 +23,8 @@ pub enum Trial {
     RenameLayer,
     MoveLayer,
     DropLayer,
+    /// A layer that comes back to a list with no room for it.
+    LayerBack,
     KeepLayers,
     InsertFeature,
     MoveFeature,
@@ -50,10 +52,11 @@ pub enum Trial {
     Series,
 }
 
-const TRIALS: [Trial; 23] = [
+const TRIALS: [Trial; 24] = [
     Trial::RenameLayer,
     Trial::MoveLayer,
     Trial::DropLayer,
+    Trial::LayerBack,
     Trial::KeepLayers,
     Trial::InsertFeature,
     Trial::MoveFeature,
@@ -97,6 +100,7 @@ impl Trial {
             Trial::RenameLayer => "rename-layer",
             Trial::MoveLayer => "move-layer",
             Trial::DropLayer => "drop-layer",
+            Trial::LayerBack => "layer-back",
             Trial::KeepLayers => "keep",
             Trial::InsertFeature => "insert",
             Trial::MoveFeature => "move-feature",
@@ -136,6 +140,7 @@ impl Trial {
         match self {
             Trial::SetTwice => flip_twice(alloc, &mut set_twice(alloc)?),
             Trial::Series => flip_twice(alloc, &mut a_series(alloc)?),
+            Trial::LayerBack => layer_back(alloc, &self.tile(alloc)?),
             _ => there_and_back(alloc, &self.tile(alloc)?, self.command(alloc)?),
         }
     }
@@ -145,6 +150,7 @@ impl Trial {
         match self {
             Trial::MoveLayer
             | Trial::DropLayer
+            | Trial::LayerBack
             | Trial::KeepLayers
             | Trial::Exclude
             | Trial::ExcludeAll => four_items(alloc),
@@ -160,7 +166,7 @@ impl Trial {
         Ok(match self {
             Trial::RenameLayer => rename(alloc, b"a", b"roads")?,
             Trial::MoveLayer => move_layer(1),
-            Trial::DropLayer => drop_layer(),
+            Trial::DropLayer | Trial::LayerBack => drop_layer(),
             Trial::KeepLayers => keep(alloc, b"a")?,
             Trial::InsertFeature => polygon(alloc)?,
             Trial::MoveFeature => move_feature(1),
@@ -193,6 +199,18 @@ fn there_and_back(alloc: Global, tile: &[u8], command: Command) -> Result<Refuse
 fn on(alloc: Global, edit: &mut Edit, command: &Command) -> Result<Refused, Fault> {
     let prepared = prepare(alloc, edit, command)?;
     Ok(prepared.or(flip_twice(alloc, edit)?))
+}
+
+/// A layer is dropped, and comes back to a list that has to grow for it.
+fn layer_back(alloc: Global, tile: &[u8]) -> Result<Refused, Fault> {
+    let mut edit = Edit::read(alloc, tile)?;
+    let prepared = prepare(alloc, &mut edit, &drop_layer())?;
+    let there = flip(alloc, &mut edit)?;
+    if !edit.give_back() {
+        return Err(Fault::NoMemory);
+    }
+    let back = flip(alloc, &mut edit)?;
+    Ok(prepared.or(there).or(back))
 }
 
 /// A ring is inserted after the first feature.

@@ -93,6 +93,18 @@ impl Edit {
         Ok(())
     }
 
+    /// Gives back the room that the tile's list has beyond its items, so that it has to grow for one
+    /// that comes back, and returns whether none is left.
+    pub fn give_back(&mut self) -> bool {
+        let items = &mut self.document.items;
+        let size = items.known_size();
+        let list = items.as_vec_mut();
+        list.shrink_to_fit();
+        let is_full = list.capacity() == list.len();
+        items.know_size(size);
+        is_full
+    }
+
     /// Carries the change out, and turns it. Its steps are then in their order, so that the same
     /// change is always printed the same.
     pub fn flip(&mut self, alloc: Global) -> Result<(), AllocError> {
