@@ -4,16 +4,14 @@ use Rattle.std.proofs.lemmas.Bool.{cond_both, not-false}
 use Rattle.std.proofs.lemmas.Int.{ints}
 use Rattle.std.proofs.lemmas.List.{length-map}
 use Rattle.std.specs.List.{flat_map, last_or}
-use Rattle.std.specs.Option.{option_and_then, option_map_or, unwrap_or}
+use Rattle.std.specs.Option.{option_map_or, unwrap_or}
 use Rattle.mvt_document.specs.declared.TheConstants.{MAX_FILE}
 use Rattle.mvt_document.specs.Places.{in_feature, in_layer}
 use Rattle.mvt_document.specs.Plain.{Number, Field, Feature, LayerItem, OfFeature, PlainInLayer, TileItem, OfLayer, PlainInTile, Document}
 use Rattle.mvt_document.specs.Signed.{unzigzag, zigzag}
 use Rattle.mvt_document.proofs.Signed.{zigzag-unzigzag}
-use Rattle.mvt_geometry.specs.Found.{geometry_in}
 use Rattle.mvt_geometry.specs.Integers.{HasGeometry}
 use Rattle.mvt_geometry.specs.Shapes.{Geometry}
-use Rattle.mvt_geometry.proofs.Found.{has_found_geometry}
 use Rattle.mvt_geometry.proofs.Only.{one_geometry}
 use Rattle.mvt_renumber.specs.Laws.{AreShort, read_numbers}
 use Rattle.mvt_messages.specs.Numbers.{numbers}
@@ -23,6 +21,7 @@ use Rattle.mvt_renumber.proofs.Redone.{left_is_read}
 use Rattle.mvt_renumber.proofs.Reread.{read_of_fields}
 use Rattle.mvt_messages.specs.Attributes.{values_in}
 use Rattle.mvt_view.specs.FeatureGeometry.{HasFeatureGeometry}
+use Rattle.mvt_view.proofs.HasGeometry.{geometry_of}
 use Rattle.mvt_messages.specs.Views.{kind_of}
 use Rattle.mvt_meaning.specs.Geometries.{can_move, can_move_integers, further, geometry_among, integers_among, moved_integers, moves, shifted}
 use Rattle.mvt_meaning.specs.Command.{FeatureChoice, LayerChoice, Shift}
@@ -96,16 +95,6 @@ module _ (dx dy : ℤ) where
 -- the kind of a feature depends on its fields that are not geometry fields
 pub kind_stays : (old new : Feature) → without_geometry new.fields ≡ without_geometry old.fields → kind_of new ≡ kind_of old
 kind_stays old new same = ap (λ (values : List ℕ). unwrap_or (last_or None values) 0) (values_stay 4 3 (λ e. omega (arith, e)) old.fields new.fields same)
-
-found_by : (feature : Feature) (found : Option (List ℕ)) (geometry : Option Geometry) → integers_among feature.fields ≡ found → option_and_then (geometry_in (kind_of feature)) found ≡ geometry → is_some geometry ≡ true → (g : Geometry) × HasFeatureGeometry feature g
-found_by feature None None read is some = absurd cc
-found_by feature None (Some g) read is some = absurd cc
-found_by feature (Some list) None read is some = absurd cc
-found_by feature (Some list) (Some g) read is some = (g, record { integers = list; read = read; has = has_found_geometry (kind_of feature) list g is })
-
--- the geometry of a feature that has one
-pub geometry_of : (feature : Feature) → is_some (geometry_among feature.fields) ≡ true → (g : Geometry) × HasFeatureGeometry feature g
-geometry_of feature some = found_by feature (integers_among feature.fields) (geometry_among feature.fields) refl refl some
 
 pub same_integers : (found : Option (List ℕ)) (a b : List ℕ) → found ≡ Some a → found ≡ Some b → b ≡ a
 same_integers found a b first second = let both = sym first ∙ second in cc

@@ -4,7 +4,7 @@ use Rattle.std.specs.Prelude.{neg_ℤ, unsigned_abs}
 use Rattle.std.proofs.lemmas.Bool.{and_from, cases_Bool, cond_both, eqb-true, le-ltb, lt-ltb}
 use Rattle.std.proofs.lemmas.Int.{ints}
 use Rattle.std.specs.List.{flat_map, last_or}
-use Rattle.std.specs.Option.{option_and_then, option_map_or}
+use Rattle.std.specs.Option.{option_map_or}
 use Rattle.mvt_document.specs.declared.TheConstants.{MAX_FILE}
 use Rattle.mvt_document.specs.Places.{in_feature, in_layer}
 use Rattle.mvt_document.specs.Plain.{Number, Field, Feature, LayerItem, OfFeature, PlainInLayer, Layer, TileItem, OfLayer, PlainInTile, Document}
@@ -12,16 +12,13 @@ use Rattle.mvt_document.specs.Signed.{unzigzag, zigzag}
 use Rattle.mvt_document.specs.Wire.{bytes_of, minimal}
 use Rattle.mvt_document.proofs.Signed.{unzigzag-zigzag, zigzag-unzigzag}
 use Rattle.mvt_geometry.specs.Checks.{is_delta}
-use Rattle.mvt_geometry.specs.Found.{geometry_in}
-use Rattle.mvt_geometry.specs.Shapes.{Geometry}
-use Rattle.mvt_geometry.proofs.Found.{found_geometry}
 use Rattle.mvt_renumber.specs.Laws.{read_numbers}
 use Rattle.mvt_messages.specs.Numbers.{numbers}
 use Rattle.mvt_renumber.specs.Renumbering.{field_numbers, renumbered, with_number}
 use Rattle.mvt_renumber.proofs.Decisions.{with_number-same}
 use Rattle.mvt_renumber.proofs.Reread.{read_of_fields}
 use Rattle.mvt_messages.specs.Attributes.{values_in}
-use Rattle.mvt_view.specs.FeatureGeometry.{HasFeatureGeometry}
+use Rattle.mvt_view.proofs.HasGeometry.{is_found}
 use Rattle.mvt_messages.specs.Views.{contents, id_of, kind_of, name_of}
 use Rattle.mvt_meaning.specs.Geometries.{can_move, can_move_integers, further, geometry_among, moves, shifted}
 use Rattle.mvt_meaning.specs.Meaning.{can_shift, change_feature, fields_of, is_drawn, items_of, within_limit}
@@ -129,10 +126,6 @@ within_so document made same within =
     let fits : nat_lt MAX_FILE (length (bytes_of made)) ≡ false = le-ltb MAX_FILE (length (bytes_of made)) within in
     ap within_limit same ∙ rw fits refl
 
-drawn_again : (feature : Feature) (geometry : Geometry) → HasFeatureGeometry feature geometry → is_some (geometry_among feature.fields) ≡ true
-drawn_again feature geometry h =
-    ap (λ (found : Option Geometry). is_some found) (ap (option_and_then (geometry_in (kind_of feature))) h.read ∙ found_geometry (kind_of feature) h.integers geometry h.has)
-
 -- the first parameters of a feature that was shifted can lead back
 can_back : (dx dy : ℤ) (old new : Feature) → Shifts dx dy old new → can_move (neg_ℤ dx) (neg_ℤ dy) new.fields ≡ true
 can_back dx dy old new s =
@@ -183,6 +176,6 @@ shift_back choice feature dx dy old between valid within shortest e =
     let chosen : selected_feature feature c.present ≡ Ok f.ordinal = feature_again feature c.former c.present f.ordinal f.former f.present f.was f.is f.alone.others id ∙ f.selects in
     let found : selected_in feature c.ordinal between ≡ Ok f.ordinal = ap (λ (layer : Option Layer). option_map_or (selected_feature feature) layer (Err NoLayer)) c.is ∙ chosen in
     let fields : fields_of c.ordinal f.ordinal between ≡ f.present.fields = fields_found between c.ordinal f.ordinal c.present f.present c.is f.is in
-    let drawn : is_drawn c.ordinal f.ordinal between ≡ true = ap (λ (fs : List Field). is_some (geometry_among fs)) fields ∙ drawn_again f.present (moved dx dy s.geometry) s.has in
+    let drawn : is_drawn c.ordinal f.ordinal between ≡ true = ap (λ (fs : List Field). is_some (geometry_among fs)) fields ∙ is_found f.present (moved dx dy s.geometry) s.has in
     let can : can_shift (neg_ℤ dx) (neg_ℤ dy) c.ordinal f.ordinal between ≡ true = ap (can_move (neg_ℤ dx) (neg_ℤ dy)) fields ∙ can_back dx dy f.former f.present s in
     rw (selects, found, drawn, can) (within_so (change_feature (shifted (neg_ℤ dx) (neg_ℤ dy)) c.ordinal f.ordinal between) old returned within)

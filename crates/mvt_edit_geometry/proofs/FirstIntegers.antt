@@ -1,34 +1,14 @@
 -- A feature that has a geometry has at least three integers.
-use Rattle.std.proofs.Common.{◌≡◌, ℕ, true, is_some, Option, Some, None, List, [], ◌∷◌, refl, ap, ◌∙◌, arith}
-use Rattle.std.specs.Option.{option_and_then}
+use Rattle.std.proofs.Common.{◌≡◌, ℕ, true, is_some, Some, List, [], ◌∷◌, refl, ap, ◌∙◌, arith}
 use Rattle.mvt_document.specs.Plain.{Field, Feature}
-use Rattle.mvt_geometry.specs.Found.{geometry_in}
 use Rattle.mvt_geometry.specs.Integers.{integers}
-use Rattle.mvt_geometry.specs.Shapes.{Geometry, IsGeometry}
+use Rattle.mvt_geometry.specs.Shapes.{IsGeometry}
 use Rattle.mvt_geometry.specs.declared.shapes.Kind.{Kind}
 use Rattle.mvt_geometry.specs.declared.shapes.Kind.TheVariants.{Dots, Lines, Areas}
 use Rattle.mvt_geometry.specs.declared.shapes.Point.{Point}
-use Rattle.mvt_geometry.proofs.Found.{found_geometry, has_found_geometry}
 use Rattle.mvt_geometry.proofs.Parts.{with}
-use Rattle.mvt_view.specs.FeatureGeometry.{HasFeatureGeometry}
-use Rattle.mvt_messages.specs.Views.{kind_of}
+use Rattle.mvt_view.proofs.HasGeometry.{geometry_of}
 use Rattle.mvt_meaning.specs.Geometries.{geometry_among, integers_among}
-
--- ---- a feature that has a geometry
-
-found_by : (feature : Feature) (found : Option (List ℕ)) (geometry : Option Geometry) → integers_among feature.fields ≡ found → option_and_then (geometry_in (kind_of feature)) found ≡ geometry → is_some geometry ≡ true → (g : Geometry) × HasFeatureGeometry feature g
-found_by feature None None read is some = absurd cc
-found_by feature None (Some g) read is some = absurd cc
-found_by feature (Some list) None read is some = absurd cc
-found_by feature (Some list) (Some g) read is some = (g, record { integers = list; read = read; has = has_found_geometry (kind_of feature) list g is })
-
--- the geometry of a feature that has one
-pub geometry_of : (feature : Feature) → is_some (geometry_among feature.fields) ≡ true → (g : Geometry) × HasFeatureGeometry feature g
-geometry_of feature some = found_by feature (integers_among feature.fields) (geometry_among feature.fields) refl refl some
-
-pub drawn_again : (feature : Feature) (geometry : Geometry) → HasFeatureGeometry feature geometry → is_some (geometry_among feature.fields) ≡ true
-drawn_again feature geometry h =
-    ap (λ (found : Option Geometry). is_some found) (ap (option_and_then (geometry_in (kind_of feature))) h.read ∙ found_geometry (kind_of feature) h.integers geometry h.has)
 
 -- ---- the first integers
 

@@ -1,3 +1,4 @@
+pub mod HasGeometry
 pub mod Integers
 pub use Rattle.mvt_layers.proofs.Pairing
 pub use Rattle.mvt_layers.proofs.Yielded

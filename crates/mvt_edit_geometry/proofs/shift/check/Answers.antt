@@ -2,8 +2,8 @@ use Rattle.std.proofs.Common.{◌≡◌, false, is_some, Err, refl, ap, subst, i
 use Rattle.std.proofs.lemmas.Bool.{false_from_ne_true}
 use Rattle.mvt_document.specs.Stands.{feature_of}
 use Rattle.mvt_view.specs.FeatureGeometry.{HasFeatureGeometry}
+use Rattle.mvt_view.proofs.HasGeometry.{is_found, geometry_of}
 use Rattle.mvt_meaning.specs.Geometries.{geometry_among}
-use Rattle.mvt_edit_geometry.proofs.FirstIntegers.{drawn_again, geometry_of}
 use Rattle.mvt_edit_geometry.proofs.shift.check.Goals as goal
 use Rattle.mvt_edit_geometry.proofs.shift.check.Goals.{in-Ok, in-Err-BadGeometry, in-Err-NoMemory}
 
@@ -11,7 +11,7 @@ pub returns-clause-drawn : goal.returns-clause-drawn
 returns-clause-drawn c =
     let feature = feature_of c.args.found.feature.now in
     elim c.match-geometry.branch [
-      | in-Ok w ↦ rw w.result-is (drawn_again feature w.in-Ok.field-0 (subst (λ f. HasFeatureGeometry f w.in-Ok.field-0) c.view.ensures w.in-Ok.ensures.found))
+      | in-Ok w ↦ rw w.result-is (is_found feature w.in-Ok.field-0 (subst (λ f. HasFeatureGeometry f w.in-Ok.field-0) c.view.ensures w.in-Ok.ensures.found))
       | in-Err-BadGeometry w ↦ rw w.result-is tt
       | in-Err-NoMemory w ↦ rw w.result-is tt
     ]
