@@ -1,6 +1,6 @@
 -- What the steps that rename the keys of a layer result in.
 use Rattle.std.proofs.Common.{◌≡◌, ℕ, ◌*◌, ◌/◌, ◌≤◌, ◌==◌, Bool, true, false, not, Ok, Err, Some, List, [], ◌∷◌, length, map, filter, nat_lt, slice_get, refl, sym, ap, ◌∙◌, subst, inl, inr, arith}
-use Rattle.std.specs.Prelude.{◌&&◌}
+use Rattle.std.specs.Prelude.{◌&&◌, IfSome, if◌then◌else◌}
 use Rattle.std.proofs.lemmas.Bool.{cases_Bool, or_parts}
 use Rattle.std.proofs.lemmas.List.{length-map}
 use Rattle.std.proofs.lemmas.Slice.Eq.{bytes_eq-Decides}
@@ -11,14 +11,17 @@ use Rattle.mvt_document.specs.declared.TheConstants.{MAX_FILE}
 use Rattle.mvt_document.specs.Plain.{Number, Body, Spelled, Eight, Four, Delimited, Group, LayerItem, OfFeature, PlainInLayer, Layer, OfLayer, Document}
 use Rattle.mvt_document.specs.Opens.{IsLayerItem}
 use Rattle.mvt_document.specs.Wire.{bytes_of, layer_item_bytes}
-use Rattle.mvt_document.specs.Places.{change_items}
+use Rattle.mvt_document.specs.Places.{change_items, items_at}
 use Rattle.mvt_change.specs.Changes.{Change}
+use Rattle.mvt_change.specs.FileSizes.{IsFileSize}
+use Rattle.mvt_change.proofs.Resized.{items_there}
 use Rattle.mvt_meaning.specs.Command.{LayerChoice, RenameKey}
 use Rattle.mvt_meaning.specs.Fields.{with_content, with_text}
-use Rattle.mvt_meaning.specs.Meaning.{after, applied, change_layer, has_key, items_of, within_limit}
+use Rattle.mvt_meaning.specs.Meaning.{◌>>=◌, after, applied, change_layer, has_key, items_of, refuse_if}
 use Rattle.mvt_meaning.specs.Selection.{layer_positions, selected}
 use Rattle.mvt_meaning.specs.Tagging.{is_key, renamed_keys}
 use Rattle.mvt_meaning.specs.Weights.{of_selected, put_by, taken_by, weigh}
+use Rattle.mvt_meaning.specs.declared.refusal.Refusal.{Refusal}
 use Rattle.mvt_meaning.specs.declared.refusal.Refusal.TheVariants.{KeyTaken, NoKey, TooLarge}
 use Rattle.mvt_meaning.proofs.Found.{change_layer_found, items_at_found, items_changed, items_of_found}
 use Rattle.mvt_renumber.specs.Fates.{changes, left_of_fate}
@@ -26,7 +29,8 @@ use Rattle.mvt_edit_steps.specs.Fates.{splices_of}
 use Rattle.mvt_edit_steps.specs.Prepared.{IsPrepared}
 use Rattle.mvt_edit_steps.proofs.CarriedOut.{carries_out, new_in}
 use Rattle.mvt_edit_steps.proofs.Carrying.{carried, in_layer_at, in_the_layer, makes_alike}
-use Rattle.mvt_edit_attributes.specs.KeyFates.{key_fate}
+use Rattle.mvt_edit_attributes.specs.KeyFates.{FindsKeys, key_fate, may_rename}
+use Rattle.mvt_edit_attributes.specs.declared.rename_key.Keys.{Keys}
 
 -- ---- a key that gets other bytes
 
@@ -89,6 +93,33 @@ first_false : (b same : Bool) → same ≡ false → (b && not same) ≡ false �
 first_false true same apart free = absurd (let no = rw apart at free in cc)
 first_false false same apart free = refl
 
+-- ---- the check
+
+-- what is made within the limit is what a check of the limit lets through
+decided : (there taken large : Bool) (made : Document) → (refuse_if (not there) NoKey >>= λ old. refuse_if taken KeyTaken >>= λ free. if large then Err TooLarge else Ok made) ≡ ((refuse_if (not there) NoKey >>= λ old. refuse_if taken KeyTaken >>= λ free. refuse_if large TooLarge) >>= λ ok. Ok made)
+decided false taken large made = refl
+decided true true large made = refl
+decided true false true made = refl
+decided true false false made = refl
+
+by_size : (large : Bool) → refuse_if large TooLarge ≡ (if not large then Ok tt else Err TooLarge)
+by_size true = refl
+by_size false = refl
+
+-- what the walk over the items and the size of the tile decide
+pub may_rename_by : (old new : List ℕ) (position : ℕ) (layer : Layer) (document : Document) (keys : Keys) (fits : Bool) → slice_get document position ≡ Some (OfLayer layer) → FindsKeys old new layer.items keys → not keys.there ≡ false → (keys.taken && not (bytes_eq old new)) ≡ false → ((change : List LayerItem → List LayerItem) → IfSome (items_at position document) (λ items. IsFileSize keys.size (length (flat_map layer_item_bytes (change items)))) → fits ≡ not (nat_lt MAX_FILE (length (bytes_of (change_items change position document))))) → may_rename old new position layer.items document ≡ (if fits then Ok tt else Err TooLarge)
+may_rename_by old new position layer document keys fits at finds there free fit =
+    let has : not (list_any (is_key old) layer.items) ≡ false = ap not (sym finds.old_there) ∙ there in
+    let apart : (list_any (is_key new) layer.items && not (bytes_eq old new)) ≡ false = ap (λ taken. taken && not (bytes_eq old new)) (sym finds.new_there) ∙ free in
+    let answered = fit (renamed_keys old new) (items_there position document layer (λ items. IsFileSize keys.size (length (flat_map layer_item_bytes (renamed_keys old new items)))) at finds.renamed_size) in
+    rw (has, apart, answered) (by_size (nat_lt MAX_FILE (length (bytes_of (change_items (renamed_keys old new) position document)))))
+
+-- a check that passes has found no other key of the new bytes
+untaken : (there taken large : Bool) → (refuse_if (not there) NoKey >>= λ old. refuse_if taken KeyTaken >>= λ free. refuse_if large TooLarge) ≡ Ok tt → taken ≡ false
+untaken false taken large can = absurd cc
+untaken true true large can = absurd cc
+untaken true false large can = refl
+
 -- ---- the change
 
 module _ (choice : LayerChoice) (old new : List ℕ) (document : Document) (ordinal position : ℕ) (layer : Layer) (chosen : selected choice document ≡ Ok ordinal) (placed : slice_get (layer_positions document) ordinal ≡ Some position) (there : slice_get document position ≡ Some (OfLayer layer)) where
@@ -98,74 +129,64 @@ module _ (choice : LayerChoice) (old new : List ℕ) (document : Document) (ordi
   made_there : change_layer (renamed_keys old new) ordinal document ≡ change_items (renamed_keys old new) position document
   made_there = change_layer_found document ordinal position layer placed there (renamed_keys old new)
 
-  pub key_missing : list_any (is_key old) layer.items ≡ false → applied (RenameKey choice old new) document ≡ Err NoKey
-  key_missing none = let no = has_here old ∙ none in rw (chosen, no) refl
+  -- the renaming is made where it is not refused
+  checked : applied (RenameKey choice old new) document ≡ (may_rename old new position layer.items document >>= λ ok. Ok (change_layer (renamed_keys old new) ordinal document))
+  checked =
+      rw (chosen, has_here old, has_here new, made_there)
+      (decided (list_any (is_key old) layer.items) (list_any (is_key new) layer.items && not (bytes_eq old new)) (nat_lt MAX_FILE (length (bytes_of (change_items (renamed_keys old new) position document)))) (change_items (renamed_keys old new) position document))
 
-  module _ (has : list_any (is_key old) layer.items ≡ true) where
-    pub key_taken : list_any (is_key new) layer.items ≡ true → bytes_eq old new ≡ false → applied (RenameKey choice old new) document ≡ Err KeyTaken
-    key_taken taken apart =
-        let yes = has_here old ∙ has in
-        let too = has_here new ∙ taken in
-        rw (chosen, yes, too, apart) refl
+  pub not_renamed : (refusal : Refusal) → may_rename old new position layer.items document ≡ Err refusal → applied (RenameKey choice old new) document ≡ Err refusal
+  not_renamed refusal refused = checked ∙ ap (λ found. found >>= λ ok. Ok (change_layer (renamed_keys old new) ordinal document)) refused
 
-    module _ (free : (list_any (is_key new) layer.items && not (bytes_eq old new)) ≡ false) where
-      limited : applied (RenameKey choice old new) document ≡ within_limit (change_layer (renamed_keys old new) ordinal document)
-      limited =
-          let yes = has_here old ∙ has in
-          let allowed : (has_key new ordinal document && not (bytes_eq old new)) ≡ false = ap (λ b. b && not (bytes_eq old new)) (has_here new) ∙ free in
-          rw (chosen, yes, allowed) refl
+  module _ (can : may_rename old new position layer.items document ≡ Ok tt) where
+    made : applied (RenameKey choice old new) document ≡ Ok (change_layer (renamed_keys old new) ordinal document)
+    made = checked ∙ ap (λ found. found >>= λ ok. Ok (change_layer (renamed_keys old new) ordinal document)) can
 
-      pub keys_too_large : nat_lt MAX_FILE (length (bytes_of (change_items (renamed_keys old new) position document))) ≡ true → applied (RenameKey choice old new) document ≡ Err TooLarge
-      keys_too_large large = limited ∙ ap within_limit made_there ∙ rw large refl
+    taken_keys : taken_by (RenameKey choice old new) document ≡ length (flat_map layer_item_bytes (filter (is_key old) layer.items))
+    taken_keys =
+        ap (λ selects. of_selected selects (λ n. weigh layer_item_bytes (filter (is_key old) (items_of n document)))) chosen
+        ∙ ap (λ items. weigh layer_item_bytes (filter (is_key old) items)) (items_of_found document ordinal position layer placed there)
 
-      module _ (fits : nat_lt MAX_FILE (length (bytes_of (change_items (renamed_keys old new) position document))) ≡ false) where
-        made : applied (RenameKey choice old new) document ≡ Ok (change_layer (renamed_keys old new) ordinal document)
-        made = limited ∙ ap within_limit made_there ∙ rw fits refl ∙ ap Ok (sym made_there)
+    put_keys : put_by (RenameKey choice old new) document ≡ length (flat_map layer_item_bytes (filter (is_key new) (renamed_keys old new layer.items)))
+    put_keys =
+        ap (λ selects. of_selected selects (λ n. weigh layer_item_bytes (filter (is_key new) (items_of n (after (RenameKey choice old new) document))))) chosen
+        ∙ ap (λ result. weigh layer_item_bytes (filter (is_key new) (items_of ordinal (result_unwrap_or result document)))) made
+        ∙ ap (λ items. weigh layer_item_bytes (filter (is_key new) items)) (items_changed document ordinal position layer placed there (renamed_keys old new))
 
-        taken_keys : taken_by (RenameKey choice old new) document ≡ length (flat_map layer_item_bytes (filter (is_key old) layer.items))
-        taken_keys =
-            ap (λ selects. of_selected selects (λ n. weigh layer_item_bytes (filter (is_key old) (items_of n document)))) chosen
-            ∙ ap (λ items. weigh layer_item_bytes (filter (is_key old) items)) (items_of_found document ordinal position layer placed there)
+    -- no step, if both are the same
+    pub keys_stay : old ≡ new → IsPrepared (RenameKey choice old new) document []
+    keys_stay same =
+        let sits = in_the_layer position in
+        let at = items_at_found document ordinal position layer placed there in
+        let none = carried sits document layer.items at [] tt tt in
+        let kept : layer.items ≡ renamed_keys old new layer.items = subst (λ key. layer.items ≡ renamed_keys old key layer.items) same (same_keys old layer.items) in
+        record {
+          fits = none.fits;
+          means = made ∙ ap Ok (sym (none.makes ∙ makes_alike sits document layer.items at (renamed_keys old new) [] kept ∙ sym made_there));
+          puts = omega arith;
+          takes = omega arith;
+          steps = omega arith;
+        }
 
-        put_keys : put_by (RenameKey choice old new) document ≡ length (flat_map layer_item_bytes (filter (is_key new) (renamed_keys old new layer.items)))
-        put_keys =
-            ap (λ selects. of_selected selects (λ n. weigh layer_item_bytes (filter (is_key new) (items_of n (after (RenameKey choice old new) document))))) chosen
-            ∙ ap (λ result. weigh layer_item_bytes (filter (is_key new) (items_of ordinal (result_unwrap_or result document)))) made
-            ∙ ap (λ items. weigh layer_item_bytes (filter (is_key new) items)) (items_changed document ordinal position layer placed there (renamed_keys old new))
-
-        -- no step, if both are the same
-        pub keys_stay : old ≡ new → IsPrepared (RenameKey choice old new) document []
-        keys_stay same =
-            let sits = in_the_layer position in
-            let at = items_at_found document ordinal position layer placed there in
-            let none = carried sits document layer.items at [] tt tt in
-            let kept : layer.items ≡ renamed_keys old new layer.items = subst (λ key. layer.items ≡ renamed_keys old key layer.items) same (same_keys old layer.items) in
-            record {
-              fits = none.fits;
-              means = made ∙ ap Ok (sym (none.makes ∙ makes_alike sits document layer.items at (renamed_keys old new) [] kept ∙ sym made_there));
-              puts = omega arith;
-              takes = omega arith;
-              steps = omega arith;
-            }
-
-        -- otherwise the steps that rename them
-        pub keys_renamed : bytes_eq old new ≡ false → AllByRecursion IsLayerItem (flat_map (λ x. new_in (key_fate old new x)) layer.items) → 2 * length (filter (is_key old) layer.items) ≤ length (flat_map layer_item_bytes (filter (is_key old) layer.items)) → (change : Change) → change ≡ map (in_layer_at position) (splices_of (map (key_fate old new) layer.items)) → IsPrepared (RenameKey choice old new) document change
-        keys_renamed apart valid heavy change steps =
-            let sits = in_the_layer position in
-            let at = items_at_found document ordinal position layer placed there in
-            let splices = splices_of (map (key_fate old new) layer.items) in
-            let all = carries_out (key_fate old new) layer.items in
-            let done = carried sits document layer.items at splices all.there (subst (AllByRecursion IsLayerItem) (sym all.puts) valid) in
-            let makes = done.makes ∙ makes_alike sits document layer.items at (renamed_keys old new) splices (all.leaves ∙ keys_left old new layer.items) ∙ sym made_there in
-            let untaken : list_any (is_key new) layer.items ≡ false = first_false (list_any (is_key new) layer.items) (bytes_eq old new) apart free in
-            let puts = done.puts ∙ ap (λ put. length (flat_map layer_item_bytes put)) (all.puts ∙ keys_put old new layer.items untaken) ∙ sym put_keys in
-            let takes = done.takes ∙ ap (λ gone. length (flat_map layer_item_bytes gone)) (all.takes ∙ keys_taken old new layer.items) ∙ sym taken_keys in
-            let few = all.few in
-            let count = ap length (keys_taken old new layer.items) in
-            rw steps (record {
-              fits = done.fits;
-              means = made ∙ ap Ok (sym makes);
-              puts = omega (arith, puts);
-              takes = omega (arith, takes);
-              steps = omega (arith, few, count, heavy, taken_keys, length-map splices (in_layer_at position));
-            })
+    -- otherwise the steps that rename them
+    pub keys_renamed : bytes_eq old new ≡ false → AllByRecursion IsLayerItem (flat_map (λ x. new_in (key_fate old new x)) layer.items) → 2 * length (filter (is_key old) layer.items) ≤ length (flat_map layer_item_bytes (filter (is_key old) layer.items)) → (change : Change) → change ≡ map (in_layer_at position) (splices_of (map (key_fate old new) layer.items)) → IsPrepared (RenameKey choice old new) document change
+    keys_renamed apart valid heavy change steps =
+        let sits = in_the_layer position in
+        let at = items_at_found document ordinal position layer placed there in
+        let splices = splices_of (map (key_fate old new) layer.items) in
+        let all = carries_out (key_fate old new) layer.items in
+        let done = carried sits document layer.items at splices all.there (subst (AllByRecursion IsLayerItem) (sym all.puts) valid) in
+        let makes = done.makes ∙ makes_alike sits document layer.items at (renamed_keys old new) splices (all.leaves ∙ keys_left old new layer.items) ∙ sym made_there in
+        let free = untaken (list_any (is_key old) layer.items) (list_any (is_key new) layer.items && not (bytes_eq old new)) (nat_lt MAX_FILE (length (bytes_of (change_items (renamed_keys old new) position document)))) can in
+        let none : list_any (is_key new) layer.items ≡ false = first_false (list_any (is_key new) layer.items) (bytes_eq old new) apart free in
+        let puts = done.puts ∙ ap (λ put. length (flat_map layer_item_bytes put)) (all.puts ∙ keys_put old new layer.items none) ∙ sym put_keys in
+        let takes = done.takes ∙ ap (λ gone. length (flat_map layer_item_bytes gone)) (all.takes ∙ keys_taken old new layer.items) ∙ sym taken_keys in
+        let few = all.few in
+        let count = ap length (keys_taken old new layer.items) in
+        rw steps (record {
+          fits = done.fits;
+          means = made ∙ ap Ok (sym makes);
+          puts = omega (arith, puts);
+          takes = omega (arith, takes);
+          steps = omega (arith, few, count, heavy, taken_keys, length-map splices (in_layer_at position));
+        })

@@ -1,10 +1,10 @@
 //! The keys of a layer that have some bytes get other bytes.
 
-ghost use Rattle.std.specs.Prelude.{◌≡◌, ℕ, ◌+◌, List, [], ◌∷◌, ◌++◌, IfOk, IfSome, is_some, length, map};
+ghost use Rattle.std.specs.Prelude.{◌≡◌, ℕ, ◌+◌, List, [], ◌∷◌, ◌++◌, IfOk, IfSome, Some, is_some, length, map, slice_get};
 ghost use Rattle.std.specs.List.{flat_map};
 ghost use Rattle.mvt_document.specs.Plain as plain;
 ghost use Rattle.mvt_document.specs.Bodies.{number_of};
-ghost use Rattle.mvt_document.specs.Stands.{document_of, layer_item_of};
+ghost use Rattle.mvt_document.specs.Stands.{document_of, layer_item_of, layer_of};
 ghost use Rattle.mvt_document.specs.Wire.{layer_item_bytes};
 ghost use Rattle.mvt_change.specs.Changes.{LayerStep};
 ghost use Rattle.mvt_change.specs.ChangeStands.{change_of};
@@ -15,7 +15,7 @@ ghost use Rattle.mvt_meaning.specs.Tagging.{is_key, renamed_keys};
 ghost use Rattle.mvt_renumber.specs.Fates.{fate_seen};
 ghost use Rattle.mvt_edit_steps.specs.Fates.{splices_of};
 ghost use Rattle.mvt_edit_steps.specs.Prepared.{Prepares};
-ghost use Rattle.mvt_edit_attributes.specs.KeyFates.{FindsKeys, key_fate};
+ghost use Rattle.mvt_edit_attributes.specs.KeyFates.{FindsKeys, key_fate, may_rename};
 
 use mvt_change::{Change, fits_with_items};
 use mvt_document::tags::KEYS;
@@ -24,6 +24,7 @@ use mvt_document::{
     message_size, sum_within,
 };
 use mvt_edit_steps::{Fate, carry_out};
+use mvt_layers::FoundLayer;
 use mvt_select::{LayerChoice, Refusal, find_layer};
 use std::alloc::{AllocError, Global};
 
@@ -39,21 +40,31 @@ pub fn rename_key(
     ensures { Prepares (RenameKey (layer_choice_of choice.now) old.now new.now) (document_of document.now) result }
 {
     let found = find_layer(document, choice)?;
+    check(document, found, old, new)?;
+    if old == new {
+        return Ok(Change::new(Vec::new(alloc)));
+    }
     let items = found.layer.items.as_slice();
-    let keys = look_for(items, old, new);
+    Ok(renaming(alloc, found.position, items, old, new)?)
+}
+
+/// Whether the keys of the layer can be renamed: the old one is there, the new one is not, unless
+/// both are the same, and a file can hold the tile that results.
+fn check(document: &Document, found: FoundLayer<'_>, old: &[u8], new: &[u8]) -> Result<(), Refusal>
+    requires { slice_get (document_of document.now) found.position ≡ Some (plain.OfLayer (layer_of found.layer.now)) }
+    ensures { result ≡ may_rename old.now new.now found.entry.position (layer_of found.entry.layer.now).items (document_of document.now) }
+{
+    let keys = look_for(found.layer.items.as_slice(), old, new);
     if !keys.there {
         return Err(Refusal::NoKey);
     }
-    if keys.taken && old != new {
+    if keys.is_taken(old, new) {
         return Err(Refusal::KeyTaken);
     }
     if !fits_with_items(document, found.position, keys.size) {
         return Err(Refusal::TooLarge);
     }
-    if old == new {
-        return Ok(Change::new(Vec::new(alloc)));
-    }
-    Ok(renaming(alloc, found.position, items, old, new)?)
+    Ok(())
 }
 
 /// What a walk over the items of a layer finds of an old key and of a new one: whether they are
@@ -64,6 +75,18 @@ struct Keys {
     there: bool,
     taken: bool,
     size: Option<usize>,
+}
+
+impl Keys {
+    ghost use Rattle.std.specs.Prelude.{◌≡◌, ◌&&◌, not};
+    ghost use Rattle.std.specs.Str.{bytes_eq};
+
+    /// Whether the new key is there, and is not the old one.
+    fn is_taken(self, old: &[u8], new: &[u8]) -> bool
+        ensures { result ≡ (self.taken && not (bytes_eq old.now new.now)) }
+    {
+        self.taken && old != new
+    }
 }
 
 fn look_for(items: &[LayerItem], old: &[u8], new: &[u8]) -> Keys
