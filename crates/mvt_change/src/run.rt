@@ -1,10 +1,10 @@
 //! Consecutive steps on one list: as splices of their list, and carried out in one pass.
 
-ghost use Rattle.std.specs.Prelude.{◌<◌, ◌≤◌, ◌↔◌, length, map, take, IfOk, IfSome, IsTrue};
+ghost use Rattle.std.specs.Prelude.{◌≡◌, ◌<◌, ◌≤◌, ◌↔◌, None, length, map, option_map, take, IfOk, IfSome, IsTrue};
 ghost use Rattle.std.specs.List.{AllByRecursion};
 ghost use Rattle.mvt_document.specs.Stands.{document_of};
-ghost use Rattle.mvt_change.specs.Changes.{Fits, OfTheTile};
-ghost use Rattle.mvt_change.specs.ChangeStands.{place_of, step_of};
+ghost use Rattle.mvt_change.specs.Changes.{Fits, OfTheTile, Place as PlainPlace};
+ghost use Rattle.mvt_change.specs.ChangeStands.{action_of, place_of, spliced_place, step_of};
 ghost use Rattle.mvt_change.specs.Runs.{IsOn};
 ghost use Rattle.mvt_change.specs.Underway.{Advances, carried_out, steps_made};
 
@@ -219,7 +219,7 @@ fn is_in(step: &Step, place: &Place) -> bool
 
 /// The place of the list that the step exchanges items of; none where it moves one.
 fn list_of(step: &Step) -> Option<Place>
-    ensures { IfSome result (λ place. IsOn (place_of place) step.now) }
+    ensures { option_map place_of result ≡ spliced_place (action_of step.now) }
 {
     match *step {
         Step::InTile { .. } => Some(Place::Tile),
@@ -232,7 +232,8 @@ fn list_of(step: &Step) -> Option<Place>
 /// The place of the list that both the first step and the next one exchange items of; none where the
 /// first is alone on its list.
 fn list_of_run(steps: &[Step]) -> Option<Place>
-    ensures { IfSome result (λ place. AllByRecursion (IsOn (place_of place)) (take 1 steps.now)) }
+    ensures some { IfSome result (λ place. AllByRecursion (IsOn (place_of place)) (take 2 steps.now)) }
+    ensures none { result ≡ None → 2 ≤ length steps.now → (place : PlainPlace) → AllByRecursion (IsOn place) (take 2 steps.now) → ⊥ }
 {
     let place = list_of(steps.first()?)?;
     if is_in(steps.get(1)?, &place) {
