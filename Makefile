@@ -67,6 +67,7 @@ check-types:
 	tools/types
 
 check-refused-growths:
+	tools/refused-growths --self-test
 	tools/refused-growths
 
 check-failing-calls:
