@@ -1,5 +1,5 @@
--- The kind of an item, and the hash of its id.
-use Rattle.std.specs.Prelude.{ℕ, ◌/◌, ◌==◌, Bool, true, false, map, if◌then◌else◌}
+-- The kind of an item, whether it has an id, and the hash of that.
+use Rattle.std.specs.Prelude.{ℕ, ◌/◌, ◌==◌, Bool, true, false, map, is_some, if◌then◌else◌}
 use Rattle.mvt_document.specs.declared.body.Body.{Body}
 use Rattle.mvt_document.specs.declared.body.Body.TheVariants as in_body
 use Rattle.mvt_document.specs.declared.field.FieldParts.{FieldParts as Field}
@@ -50,6 +50,11 @@ in_tile_of_kind kind.Name item = false
 in_tile_of_kind kind.Message item = is_layer item
 in_tile_of_kind kind.Key item = false
 in_tile_of_kind kind.Value item = false
+
+-- the item of a layer is a feature that has an id (tiles 4.2)
+abbrev pub layer_item_has_id : LayerItem → Bool
+layer_item_has_id (in_layer.Feature feature) = is_some (last_value 1 (map field_of feature.fields.items))
+layer_item_has_id (in_layer.Plain field) = false
 
 -- the hash of the id of a feature (tiles 4.2); 0 for another field of a layer
 abbrev pub layer_item_hash : LayerItem → ℕ

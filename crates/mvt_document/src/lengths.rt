@@ -1,12 +1,12 @@
 //! The sizes of the messages of a tile, the kinds of items, and the hashes of their ids. The size of a layer comes from the one
 //! that its message keeps.
 
-ghost use Rattle.std.specs.Prelude.{◌≡◌};
+ghost use Rattle.std.specs.Prelude.{◌≡◌, false, Some};
 ghost use Rattle.mvt_document.specs.Wire.{body_bytes, field_bytes, feature_bytes, layer_item_bytes, layer_bytes, tile_item_bytes};
 ghost use Rattle.mvt_document.specs.Bodies.{body_seen};
 ghost use Rattle.mvt_document.specs.Stands.{field_of, feature_of, layer_item_of, layer_of, tile_item_of};
 ghost use Rattle.mvt_document.specs.KindLaws.{one_in_layer, one_in_tile};
-ghost use Rattle.mvt_document.specs.Kinds.{in_layer_of_kind, in_tile_of_kind, is_delimited_field, layer_item_hash};
+ghost use Rattle.mvt_document.specs.Kinds.{in_layer_of_kind, in_tile_of_kind, is_delimited_field, layer_item_has_id, layer_item_hash};
 
 use crate::body::BodyRef;
 use crate::document::{Layer, LayerItem, TileItem};
@@ -73,6 +73,8 @@ impl Item for LayerItem {
 
     ghost one_kind = { one_in_layer };
 
+    ghost has_id = { layer_item_has_id };
+
     ghost id_hash = { layer_item_hash };
 
     #[inline(always)]
@@ -86,7 +88,16 @@ impl Item for LayerItem {
         }
     }
 
-    fn id_hash(&self) -> Option<u32> {
+    fn has_id(&self) -> bool {
+        match self {
+            LayerItem::Feature(feature) => feature.id().is_some(),
+            LayerItem::Plain(_) => false,
+        }
+    }
+
+    fn id_hash(&self) -> Option<u32>
+        ensures { result ≡ Some (layer_item_hash self.now) }
+    {
         match self {
             LayerItem::Feature(feature) => Some(hash_of(feature.id())),
             LayerItem::Plain(_) => Some(0),
@@ -123,11 +134,17 @@ impl Item for TileItem {
 
     ghost one_kind = { one_in_tile };
 
+    ghost has_id = { λ _. false };
+
     ghost id_hash = { λ _. 0 };
 
     #[inline(always)]
     fn is_of(&self, kind: Kind) -> bool {
         matches!((self, kind), (TileItem::Layer(_), Kind::Message))
+    }
+
+    fn has_id(&self) -> bool {
+        false
     }
 }
 

@@ -2,9 +2,9 @@
 //! known from when they were read, and kept across changes. A feature is small, and is measured when it has to
 //! be.
 
-ghost use Rattle.std.specs.Prelude.{◌≡◌, ◌≤◌, ◌+◌, ◌++◌, ℕ, length, Some, None, IfSome};
+ghost use Rattle.std.specs.Prelude.{◌≡◌, ◌≤◌, ◌+◌, ◌++◌, ◌↔◌, ℕ, length, slice_get, Some, None, IfSome, IsTrue};
 ghost use Rattle.std.specs.List.{flat_map};
-ghost use Rattle.std.specs.Option.{SomeIff};
+ghost use Rattle.std.specs.Option.{IsSomeAnd, SomeIff};
 ghost use Rattle.mvt_document.specs.declared.TheConstants.{MAX_FILE};
 ghost use Rattle.mvt_document.specs.Hashes.{AreHashes};
 ghost use Rattle.mvt_document.specs.Kept.{IsKept, bytes_beside};
@@ -12,7 +12,6 @@ ghost use Rattle.mvt_document.specs.Runs.{AreRunsOf};
 
 use crate::MAX_FILE;
 use crate::exchange::move_item;
-use crate::feature::hash_of;
 use crate::item::Item;
 use crate::kept::Kept;
 use crate::measure::{size_beside_part, size_of_all, sum_within};
@@ -22,7 +21,7 @@ use std::alloc::{AllocError, AllocFailed};
 use std::fmt;
 use std::marker::Model;
 
-/// The least number of items of a list that keeps its runs.
+/// The least number of items for which runs are found. A list that had so many keeps its runs when it has fewer.
 const MANY_ITEMS: usize = 32;
 
 /// The items of a message, how many bytes they take where that is known, and in which runs those of a
@@ -159,7 +158,8 @@ impl<T: Item> Message<T> {
     }
 
     /// Changes the item at this index, which stays of its kind, and the values beside it. The size, where it
-    /// was known, is that of the items afterwards, and the runs are the same.
+    /// was known, is that of the items afterwards, or no longer known if they are too long for a file. The runs are
+    /// the same.
     pub(crate) fn change_item<W, R, F: FnOnce(&mut T, &mut [W]) -> R>(
         &mut self,
         index: usize,
@@ -415,8 +415,8 @@ fn keep<T: Item>(kept: &mut Kept, items: &Vec<T>, size: Option<usize>, runs: Run
 }
 
 /// Keeps these runs in place of those kept, and adds the missing hashes. No hash is added if the first feature
-/// has no id, or if less than half of the items up to the last feature of the run are features, so that there
-/// are at most two for each feature.
+/// has no id, or if less than half of the items up to the last feature of the run are features, so that at most
+/// two are added for each feature.
 fn keep_runs<T: Item>(kept: &mut Kept, items: &[T], runs: Runs)
     requires runs { AreRunsOf T.of_kind runs items.now }
     requires hashes { AreHashes T.id_hash kept.old.hashes items.now }
@@ -431,11 +431,12 @@ fn keep_runs<T: Item>(kept: &mut Kept, items: &[T], runs: Runs)
     }
 }
 
-/// Whether the feature at this position has an id. Usually all features of a layer have one, or none
-/// does.
-fn begins_with_id<T: Item>(items: &[T], first: usize) -> bool {
+/// Whether the item at this position has an id. Usually all features of a layer have one, or none does.
+fn begins_with_id<T: Item>(items: &[T], first: usize) -> bool
+    ensures { IsTrue result ↔ IsSomeAnd (slice_get items.now first) (λ item. IsTrue (T.has_id item)) }
+{
     match items.get(first) {
-        Some(item) => item.id_hash() != Some(hash_of(None)),
+        Some(item) => item.has_id(),
         None => false,
     }
 }
